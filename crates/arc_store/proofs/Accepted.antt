@@ -1,12 +1,9 @@
 -- An edit of one vertex that is not refused may change the tables.
-use Rattle.std.proofs.Common.{◌≡◌, ◌≢◌, ◌≤◌, None}
-use Rattle.grid_geometry.specs.Position.{Position}
-use Rattle.ring_machine.specs.Document.{Document}
-use Rattle.ring_machine.specs.Parts.{size}
-use Rattle.ring_machine.specs.Refusals.{first_of, move_refusals, insert_refusals, remove_refusals}
-use Rattle.ring_machine.specs.Vertices.{ins}
-use Rattle.ring_machine.proofs.Accepted.{move-accepted, insert-accepted, remove-accepted}
-use Rattle.arc_store.specs.Edits.{IsMovable, IsPlaceable, IsLeavable}
+use Rattle.kit_words.proofs.Common.{◌≡◌, ◌≢◌, ◌≤◌, None}
+use Rattle.grid_geometry.specs.Common.{Position}
+use Rattle.ring_machine.specs.Common.{Document, size, first_of, move_refusals, insert_refusals, remove_refusals, ins}
+use Rattle.ring_machine.proofs.Common.{move-accepted, insert-accepted, remove-accepted}
+use Rattle.arc_store.specs.Common.{IsMovable, IsPlaceable, IsLeavable}
 
 pub move_may : (d : Document) (p q : Position) → first_of (move_refusals d p q) ≡ None
     → IsMovable d p q

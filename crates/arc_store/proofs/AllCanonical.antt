@@ -1,10 +1,8 @@
 -- Rings begin at their least positions.
-use Rattle.std.proofs.Common.{◌≡◌, true, refl, ap₂, List, [], ◌∷◌, map}
-use Rattle.std.specs.List.{list_all}
-use Rattle.grid_geometry.specs.Position.{Position}
-use Rattle.ring_machine.specs.Ring.{canonical, is_ring}
-use Rattle.ring_machine.proofs.CutRings.{ring_is_canonical}
-use Rattle.ring_machine.proofs.Order.{and_both}
+use Rattle.kit_words.proofs.Common.{◌≡◌, true, refl, ap₂, List, [], ◌∷◌, map, list_all}
+use Rattle.grid_geometry.specs.Common.{Position}
+use Rattle.ring_machine.specs.Common.{canonical, is_ring}
+use Rattle.ring_machine.proofs.Common.{ring_is_canonical, and_both}
 
 pub all_canonical : (rings : List (List Position)) → list_all is_ring rings ≡ true
     → map canonical rings ≡ rings

@@ -1,39 +1,26 @@
 -- What stands around a vertex of a kept map: it is no junction where exactly two are joined to it.
-use Rattle.std.proofs.Common.{◌≡◌, ◌≢◌, ◌↔◌, ◌≤◌, ℕ, arith, length, ◌||◌, ◌&&◌, true, false, refl, sym, ap, ap₂}
-use Rattle.std.proofs.Common.{◌∙◌, subst, List, [], ◌∷◌, ◌⊎◌, inl, inr, Some, None, is_some}
-use Rattle.std.proofs.lemmas.List.{length-map}
-use Rattle.std.specs.Prelude.{not}
+use Rattle.kit_words.proofs.Common.{◌≡◌, ◌≢◌, ◌↔◌, ◌≤◌, ℕ, arith, length, ◌||◌, ◌&&◌, true, false, refl, sym, ap, ap₂}
+use Rattle.kit_words.proofs.Common.{◌∙◌, subst, List, [], ◌∷◌, ◌⊎◌, inl, inr, Some, None, is_some, length-map, not}
+use Rattle.kit_words.proofs.Common.{false≢true, true_from_ne_false, not-false}
 use Rattle.std.specs.FinMap as table
-use Rattle.std.proofs.lemmas.Bool.{false≢true, true_from_ne_false, not-false}
-use Rattle.grid_geometry.specs.Position.{Position}
-use Rattle.grid_geometry.specs.Segment.{Segment, segment, segment_eq, is_end, IsSegment}
-use Rattle.grid_geometry.proofs.Conflicts.{segment-comm}
-use Rattle.ring_machine.specs.Parts.{rings, is_vertex, is_segment}
-use Rattle.ring_machine.specs.Ring.{has, canonical}
-use Rattle.ring_machine.specs.Refusals.{is_bridged}
-use Rattle.ring_machine.specs.Sweep.{holds_other, remove_sweeps}
-use Rattle.ring_machine.specs.Vertices.{del, around, all_equal, is_junction}
-use Rattle.ring_machine.proofs.First.{In}
-use Rattle.ring_machine.proofs.Neighbours.{place_around, has-in, in-has, in-map}
-use Rattle.ring_machine.proofs.RingSegments.{same_ends}
-use Rattle.ring_machine.proofs.StaysProper.{ring_distinct}
-use Rattle.arc_tables.specs.Edited.{AreApart}
+use Rattle.grid_geometry.specs.Common.{Position, Segment, segment, segment_eq, is_end, IsSegment}
+use Rattle.grid_geometry.proofs.Common.{segment-comm}
+use Rattle.ring_machine.specs.Common.{rings, is_vertex, is_segment, has, canonical, is_bridged, holds_other}
+use Rattle.ring_machine.specs.Common.{remove_sweeps, del, around, all_equal, is_junction}
+use Rattle.ring_machine.proofs.Common.{In, place_around, has-in, in-has, in-map, same_ends, ring_distinct, any_in}
+use Rattle.ring_machine.proofs.Common.{in_mapped}
+use Rattle.arc_tables.specs.Common.{AreApart, Edge, times, begins}
 use Rattle.shared_arcs.specs.declared.around.Neighbours.TheVariants as Neighbours
 use Rattle.shared_arcs.specs.declared.around.Neighbours.TheVariants.{One, More}
-use Rattle.shared_arcs.specs.Joined.{Joined, Three, Passes, AreNeighbours}
-use Rattle.arc_tables.specs.Ways.{Edge, times}
-use Rattle.arc_tables.specs.Rings.{begins}
-use Rattle.vertex_index.specs.Placement.{place}
-use Rattle.feature_exchange.specs.Stored.{Stored, positions_along, document_of}
-use Rattle.feature_exchange.specs.Holds.{IsWhole}
-use Rattle.ring_store.proofs.Places.{IsKept, place_is, place_kept, one_key}
-use Rattle.feature_exchange.proofs.Base.{joined_apart, Laid, begin_kept, segment_between, joined_back, key_vertex}
-use Rattle.feature_exchange.proofs.Base.{document_ring, laid_ring, joined_at, joined_kept, joined_around}
-use Rattle.feature_exchange.proofs.Base.{joined_segment, joined_differ}
-use Rattle.feature_exchange.proofs.Ends.{two_positions, end_is, end_of_two}
+use Rattle.shared_arcs.specs.Common.{Joined, Three, Passes, AreNeighbours}
+use Rattle.vertex_index.specs.Common.{place}
+use Rattle.feature_exchange.specs.Common.{Stored, positions_along, document_of, IsWhole}
+use Rattle.ring_store.proofs.Common.{IsKept, place_is, place_kept, one_key, length-canonical, times_edge, edge_times}
+use Rattle.ring_store.proofs.Common.{edge_ends, in_canonical, of_canonical}
+use Rattle.feature_exchange.proofs.Common.{joined_apart, Laid, begin_kept, segment_between, joined_back, key_vertex}
+use Rattle.feature_exchange.proofs.Common.{document_ring, laid_ring, joined_at, joined_kept, joined_around}
+use Rattle.feature_exchange.proofs.Common.{joined_segment, joined_differ, two_positions, end_is, end_of_two}
 use Rattle.arc_store.proofs.Insertions.{AreRings, Comes, segments_come}
-use Rattle.ring_machine.proofs.Members.{any_in, in_mapped}
-use Rattle.ring_store.proofs.KeyRings.{length-canonical, times_edge, edge_times, edge_ends, in_canonical, of_canonical}
 use Rattle.arc_store.proofs.Removals.{segments_del, HasSides, begun_there, spot_is, spot_of, all_equal_in, no_junction}
 use Rattle.arc_store.proofs.Removals.{around_is, bridged_by, sweeps_by}
 use Rattle.arc_store.proofs.RingEdits.{BegunAt, edge_on, edge_back, sides_differ}

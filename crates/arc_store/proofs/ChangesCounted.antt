@@ -1,17 +1,12 @@
 -- How many positions there are in features that are exchanged.
-use Rattle.std.proofs.Common.{◌≡◌, ◌≤◌, ◌<◌, ◌+◌, ℕ, true, false, refl, sym, ap, ap₂, ◌∙◌, ◌++◌, ◌&&◌, ◌||◌}
-use Rattle.std.specs.Prelude.{◌==◌, not}
-use Rattle.std.proofs.Common.{List, [], ◌∷◌, map, length, Option, Some, None, option_map}
-use Rattle.std.specs.List.{flat_map, AllByRecursion}
-use Rattle.std.proofs.lemmas.List.Sums.{sum_by-append, sum_by-cons}
-use Rattle.ring_machine.specs.Document.{Feature, Document}
-use Rattle.ring_machine.specs.Parts.{size}
-use Rattle.ring_machine.specs.WellFormed.{are_distinct}
-use Rattle.edit_records.specs.Places.{LayerTree, Fills, exchanged, had_before, has_place, numbers_placed}
-use Rattle.edit_records.specs.Sizes.{weight, weights}
+use Rattle.kit_words.proofs.Common.{◌≡◌, ◌≤◌, ◌<◌, ◌+◌, ℕ, true, false, refl, sym, ap, ap₂, ◌∙◌, ◌++◌, ◌&&◌, ◌||◌, ◌==◌}
+use Rattle.kit_words.proofs.Common.{not, List, [], ◌∷◌, map, length, Option, Some, None, option_map, flat_map}
+use Rattle.kit_words.proofs.Common.{AllByRecursion, sum_by-append, sum_by-cons}
+use Rattle.ring_machine.specs.Common.{Feature, Document, size, are_distinct}
+use Rattle.edit_records.specs.Common.{LayerTree, Fills, exchanged, had_before, has_place, numbers_placed, weight}
+use Rattle.edit_records.specs.Common.{weights}
 use Rattle.edit_records.proofs.ExchangedSizes.{exchanged-size, had-within}
-use Rattle.feature_exchange.specs.Changed.{feature_seen, seen}
-use Rattle.feature_exchange.specs.Laying.{length_of, asked_rings}
+use Rattle.feature_exchange.specs.Common.{feature_seen, seen, length_of, asked_rings}
 use Rattle.feature_exchange.specs.declared.change.Change.{Change}
 use Rattle.feature_exchange.specs.declared.change.WholeFeature.{WholeFeature}
 

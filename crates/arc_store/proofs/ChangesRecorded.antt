@@ -1,14 +1,11 @@
 -- What is kept of an exchange: the list of the changes afterwards, with what was there.
-use Rattle.std.proofs.Common.{◌≡◌, ℕ, sym, ap, ◌∙◌, ◌++◌, List, length, take, drop, Option, None, Some, option_map}
-use Rattle.std.proofs.Math.Seq.{take-append_seam}
-use Rattle.std.proofs.lemmas.List.{length-map}
-use Rattle.ring_machine.specs.Document.{Document, Feature}
-use Rattle.ring_machine.specs.Parts.{feature}
-use Rattle.edit_records.specs.Places.{LayerTree, had_before}
-use Rattle.edit_records.specs.Records.{Exchanged}
-use Rattle.edit_records.proofs.ExchangesMade.{fills-nowhere}
-use Rattle.map_frame.specs.Placed.{ArePlaced}
-use Rattle.feature_exchange.specs.Changed.{feature_seen, seen}
+use Rattle.kit_words.proofs.Common.{◌≡◌, ℕ, sym, ap, ◌∙◌, ◌++◌, List, length, take, drop, Option, None, Some}
+use Rattle.kit_words.proofs.Common.{option_map, take-append_seam, length-map}
+use Rattle.ring_machine.specs.Common.{Document, Feature, feature}
+use Rattle.edit_records.specs.Common.{LayerTree, had_before, Exchanged}
+use Rattle.edit_records.proofs.Common.{fills-nowhere}
+use Rattle.map_frame.specs.Common.{ArePlaced}
+use Rattle.feature_exchange.specs.Common.{feature_seen, seen}
 use Rattle.feature_exchange.specs.declared.change.Change.{Change}
 use Rattle.arc_store.proofs.PlacedMap.{next_free}
 

@@ -1,37 +1,19 @@
 -- What a path that may cut a feature makes of the document: its segments come, its ends and inner
 -- positions are counted once more, and each ring is one.
-use Rattle.std.proofs.Common.{◌≡◌, ℕ, ◌+◌, ◌*◌, Bool, false, refl, sym, ap, ap₂, ◌∙◌}
-use Rattle.std.proofs.Common.{List, [], ◌∷◌, ◌++◌, map, length, ◌||◌, Some, arith}
-use Rattle.std.specs.Prelude.{not}
-use Rattle.std.specs.List.{list_any, flat_map, filter, sum_by}
-use Rattle.std.proofs.lemmas.List.{append-nil}
-use Rattle.std.proofs.lemmas.List.Concat.{flat_map-append}
-use Rattle.std.proofs.lemmas.List.Filters.{sum_by-filter_both}
-use Rattle.std.proofs.lemmas.List.Sums.{sum_by-append, sum_by-cons}
-use Rattle.grid_geometry.specs.Position.{Position}
-use Rattle.grid_geometry.specs.Segment.{Segment, segment_eq}
-use Rattle.grid_geometry.specs.Ring.{Edge, links}
-use Rattle.ring_machine.specs.Ring.{canonical, has, is_ring, segment_of}
-use Rattle.ring_machine.specs.Document.{Document, Feature, Text}
-use Rattle.ring_machine.specs.Parts.{feature, rings_of, rings, size, is_vertex, is_segment}
-use Rattle.ring_machine.specs.Cut.{Path, cut, instead, stays, first_part}
-use Rattle.ring_machine.specs.Cut.{second_part, first_polygon, second_polygon, goes_first}
-use Rattle.ring_machine.specs.Refusals.{or_else, no_feature, positions_of}
-use Rattle.ring_machine.proofs.CutJoined.{new_part, parts, cut_is}
-use Rattle.ring_machine.proofs.CutRings.{CutRing}
-use Rattle.ring_machine.proofs.First.{In}
-use Rattle.ring_machine.proofs.Found.{has_feature-found, feature_stands}
-use Rattle.ring_machine.proofs.Members.{there}
-use Rattle.ring_machine.proofs.Neighbours.{none_in, all_in}
-use Rattle.ring_machine.proofs.Removal.{none_parts}
+use Rattle.kit_words.proofs.Common.{◌≡◌, ℕ, ◌+◌, ◌*◌, Bool, false, refl, sym, ap, ap₂, ◌∙◌, List, [], ◌∷◌, ◌++◌, map}
+use Rattle.kit_words.proofs.Common.{length, ◌||◌, Some, arith, not, list_any, flat_map, filter, sum_by, append-nil}
+use Rattle.kit_words.proofs.Common.{flat_map-append, sum_by-filter_both, sum_by-append, sum_by-cons}
+use Rattle.grid_geometry.specs.Common.{Position, Segment, segment_eq, Edge, links}
+use Rattle.ring_machine.specs.Common.{canonical, has, is_ring, segment_of, Document, Feature, Text, feature, rings_of}
+use Rattle.ring_machine.specs.Common.{rings, size, is_vertex, is_segment, Path, cut, instead, stays, first_part}
+use Rattle.ring_machine.specs.Common.{second_part, first_polygon, second_polygon, goes_first, or_else, no_feature}
+use Rattle.ring_machine.specs.Common.{positions_of}
+use Rattle.ring_machine.proofs.Common.{new_part, parts, cut_is, CutRing, In, has_feature-found, feature_stands, there}
+use Rattle.ring_machine.proofs.Common.{none_in, all_in, none_parts, SplitDocument, split_document, SplitFeature}
+use Rattle.ring_machine.proofs.Common.{target_there, CutsRing, is_edge_of, cut_of, path_segments}
+use Rattle.ring_machine.proofs.Common.{canonical_parts_segments, parts_length, size-instead_at}
 use Rattle.ring_machine.proofs.SplitBorders.{any_ring_after}
-use Rattle.ring_machine.proofs.SplitDocuments.{SplitDocument, split_document}
-use Rattle.ring_machine.proofs.SplitFeatures.{SplitFeature}
-use Rattle.ring_machine.proofs.SplitProper.{target_there}
-use Rattle.ring_machine.proofs.SplitRings.{CutsRing, is_edge_of, cut_of}
-use Rattle.ring_machine.proofs.SplitSegments.{path_segments, canonical_parts_segments, parts_length}
-use Rattle.ring_machine.proofs.Without.{size-instead_at}
-use Rattle.arc_store.specs.Splits.{IsCuttable}
+use Rattle.arc_store.specs.Common.{IsCuttable}
 use Rattle.arc_store.proofs.Insertions.{has_segment, is_segment_by}
 
 -- what is weaker than a test that none passes

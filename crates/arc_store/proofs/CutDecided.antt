@@ -1,30 +1,20 @@
 -- What the tests of a split say of its refusals.
-use Rattle.std.proofs.Common.{◌≡◌, ℕ, Bool, true, sym, ap, ap₂, ◌∙◌, subst, List, [], arith}
-use Rattle.std.proofs.Common.{◌∷◌, length, ◌||◌, ◌&&◌, Option, None}
-use Rattle.std.specs.Prelude.{not, nat_lt, nat_le}
-use Rattle.std.specs.List.{list_any}
+use Rattle.kit_words.proofs.Common.{◌≡◌, ℕ, Bool, true, sym, ap, ap₂, ◌∙◌, subst, List, [], arith, ◌∷◌, length, ◌||◌}
+use Rattle.kit_words.proofs.Common.{◌&&◌, Option, None, not, nat_lt, nat_le, list_any}
 use Rattle.std.specs.FinSet as set
-use Rattle.grid_geometry.specs.Position.{Position}
-use Rattle.grid_geometry.specs.Segment.{Segment}
-use Rattle.ring_machine.specs.Ring.{is_distinct}
-use Rattle.ring_machine.specs.Command.{Refusal, NoFeature, NoCollection, NotOnOuterRing}
-use Rattle.ring_machine.specs.Command.{RepeatedPoint, Occupied, SegmentExists, WrongSide, TooLarge}
-use Rattle.ring_machine.specs.Document.{Document, Text}
-use Rattle.ring_machine.specs.Parts.{size, is_vertex, all_segments}
-use Rattle.ring_machine.specs.Planar.{least_conflict}
-use Rattle.ring_machine.specs.Cut.{Path, cut, is_cut_by, is_wrong_side, first_that}
-use Rattle.ring_machine.specs.Refusals.{first_of, conflict_of, planar, is_small, ◌unless◌, feature_at, is_layer}
-use Rattle.ring_machine.specs.Refusals.{positions_of, is_path_segment, split_refusals}
-use Rattle.ring_machine.proofs.SplitSegments.{path_segments}
-use Rattle.ring_machine.proofs.Steps.{first_pair-is}
+use Rattle.grid_geometry.specs.Common.{Position, Segment}
+use Rattle.ring_machine.specs.Common.{is_distinct, Refusal, NoFeature, NoCollection, NotOnOuterRing, RepeatedPoint}
+use Rattle.ring_machine.specs.Common.{Occupied, SegmentExists, WrongSide, TooLarge, Document, Text, size, is_vertex}
+use Rattle.ring_machine.specs.Common.{all_segments, least_conflict, Path, cut, is_cut_by, is_wrong_side, first_that}
+use Rattle.ring_machine.specs.Common.{first_of, conflict_of, planar, is_small, ◌unless◌, feature_at, is_layer}
+use Rattle.ring_machine.specs.Common.{positions_of, is_path_segment, split_refusals}
+use Rattle.ring_machine.proofs.Common.{path_segments, first_pair-is}
 use Rattle.segment_index.specs.Candidates.{SegmentSet, has as among}
-use Rattle.local_planarity.specs.Edits.{IsAfter}
+use Rattle.local_planarity.specs.Common.{IsAfter}
 use Rattle.local_planarity.specs.declared.leaving.Leaving.TheVariants.{Nothing}
-use Rattle.ring_store.proofs.SegmentLists.{has-eq, or_nothing}
-use Rattle.feature_exchange.specs.Holds.{IsIndexed}
-use Rattle.arc_store.specs.declared.fault.EditFault.{EditFault}
-use Rattle.arc_store.specs.Faults.{Refuses}
-use Rattle.arc_store.specs.Splits.{IsCuttable, has_room}
+use Rattle.ring_store.proofs.Common.{has-eq, or_nothing}
+use Rattle.feature_exchange.specs.Common.{IsIndexed}
+use Rattle.arc_store.specs.Common.{EditFault, Refuses, IsCuttable, has_room}
 use Rattle.arc_store.proofs.CutBorders.{cut_segments, cut_size}
 use Rattle.arc_store.proofs.MovePlan.{refuses_first}
 

@@ -1,17 +1,13 @@
 -- The plan of a deletion: what is asked of the exchange.
-use Rattle.std.proofs.Common.{◌≡◌, ℕ, true, refl, sym, subst, List, [], ◌∷◌, Option, None, arith}
-use Rattle.ring_machine.specs.Document.{Feature}
-use Rattle.ring_machine.specs.Parts.{has_feature}
-use Rattle.ring_machine.specs.Join.{take_out}
-use Rattle.ring_machine.proofs.StaysFormed.{formed-take_out}
-use Rattle.ring_machine.proofs.Without.{proper-take_out}
-use Rattle.edit_records.specs.Records.{IsMap}
-use Rattle.edit_records.proofs.ExchangesMade.{take_out-made}
-use Rattle.topo_outline.specs.Kept.{KeepsTexts}
-use Rattle.topo_outline.proofs.KeptShapes.{keeps-take_out}
-use Rattle.map_frame.specs.Placed.{ArePlaced}
-use Rattle.arc_store.specs.Exchanged.{MayExchange, asked_document}
-use Rattle.arc_store.specs.State.{State}
+use Rattle.kit_words.proofs.Common.{◌≡◌, ℕ, true, refl, sym, subst, List, [], ◌∷◌, Option, None, arith}
+use Rattle.ring_machine.specs.Common.{Feature, has_feature, take_out}
+use Rattle.ring_machine.proofs.Common.{formed-take_out, proper-take_out}
+use Rattle.edit_records.specs.Common.{IsMap}
+use Rattle.edit_records.proofs.Common.{take_out-made}
+use Rattle.topo_outline.specs.Common.{KeepsTexts}
+use Rattle.topo_outline.proofs.Common.{keeps-take_out}
+use Rattle.map_frame.specs.Common.{ArePlaced}
+use Rattle.arc_store.specs.Common.{MayExchange, asked_document, State}
 use Rattle.arc_store.proofs.FeaturesKept.{gone_size}
 use Rattle.arc_store.proofs.PlacedMap.{there_below}
 

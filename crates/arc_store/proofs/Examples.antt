@@ -1,15 +1,11 @@
 -- A worked example: two squares with a common side, as they are kept and as a document.
-use Rattle.std.proofs.Common.{◌≡◌, ℕ, refl, ap, ap₂, ◌∙◌, List, [], ◌∷◌, map, Some, None}
-use Rattle.std.specs.Prelude.{pos, unwrap_or}
-use Rattle.std.specs.Ordering.{nat_cmp}
+use Rattle.kit_words.proofs.Common.{◌≡◌, ℕ, refl, ap, ap₂, ◌∙◌, List, [], ◌∷◌, map, Some, None, pos, unwrap_or, nat_cmp}
 use Rattle.std.specs.FinMap as table
-use Rattle.grid_geometry.specs.Position.{Position, position}
-use Rattle.ring_machine.specs.Ring.{canonical}
-use Rattle.ring_machine.specs.Document.{DocumentOf, FeatureOf, Polygon, Leaf}
-use Rattle.vertex_index.specs.Placement.{Placement, place}
-use Rattle.arc_tables.specs.Ways.{Edge}
-use Rattle.arc_tables.specs.Rings.{Rings, edges, begins}
-use Rattle.feature_exchange.specs.Stored.{Stored, positions_along, ring_under, document_of}
+use Rattle.grid_geometry.specs.Common.{Position, position}
+use Rattle.ring_machine.specs.Common.{canonical, DocumentOf, FeatureOf, Polygon, Leaf}
+use Rattle.vertex_index.specs.Common.{Placement, place}
+use Rattle.arc_tables.specs.Common.{Edge, Rings, edges, begins}
+use Rattle.feature_exchange.specs.Common.{Stored, positions_along, ring_under, document_of}
 
 abbrev nowhere : Position
 nowhere = position (pos 0) (pos 0)

@@ -1,27 +1,19 @@
 -- The plan of an exchange: what is asked of the tables, and how many positions there are then.
-use Rattle.std.proofs.Common.{◌≡◌, ◌≤◌, ◌<◌, ◌+◌, ◌-◌, ℕ, true, sym, ap, ap₂, ◌∙◌, subst, arith, List, map, Option}
-use Rattle.std.specs.Prelude.{IfSome}
-use Rattle.std.specs.List.{AllByRecursion}
-use Rattle.ring_machine.specs.Document.{Document}
-use Rattle.ring_machine.specs.Parts.{size}
-use Rattle.ring_machine.specs.WellFormed.{are_distinct}
-use Rattle.edit_records.specs.Places.{Fills, had_before, has_place, numbers_placed}
-use Rattle.edit_records.specs.Records.{IsMap, Record}
-use Rattle.edit_records.specs.Sizes.{weights}
-use Rattle.vertex_index.specs.Placement.{Placement}
-use Rattle.segment_index.specs.Candidates.{SegmentSet}
+use Rattle.kit_words.proofs.Common.{◌≡◌, ◌≤◌, ◌<◌, ◌+◌, ◌-◌, ℕ, true, sym, ap, ap₂, ◌∙◌, subst, arith, List, map}
+use Rattle.kit_words.proofs.Common.{Option, IfSome, AllByRecursion}
+use Rattle.ring_machine.specs.Common.{Document, size, are_distinct}
+use Rattle.edit_records.specs.Common.{Fills, had_before, has_place, numbers_placed, IsMap, Record, weights}
+use Rattle.vertex_index.specs.Common.{Placement}
+use Rattle.segment_index.specs.Common.{SegmentSet}
 use Rattle.segment_index.specs.Frames.{Frame as GridFrame}
-use Rattle.arc_tables.specs.Rings.{Rings}
-use Rattle.topo_outline.specs.Kept.{KeepsTexts}
-use Rattle.map_frame.specs.Framed.{Framed}
-use Rattle.map_frame.specs.Placed.{ArePlaced}
-use Rattle.feature_exchange.specs.Changed.{seen, places_after, next_after, number_after, MayGrow, changed_as}
-use Rattle.feature_exchange.specs.Stored.{stored, ring_under, document_of}
+use Rattle.arc_tables.specs.Common.{Rings}
+use Rattle.topo_outline.specs.Common.{KeepsTexts}
+use Rattle.map_frame.specs.Common.{Framed, ArePlaced}
+use Rattle.feature_exchange.specs.Common.{seen, places_after, next_after, number_after, MayGrow, changed_as, stored}
+use Rattle.feature_exchange.specs.Common.{ring_under, document_of}
 use Rattle.feature_exchange.specs.declared.change.Change.{Change}
 use Rattle.feature_exchange.proofs.ExchangedWhole.{whole_size}
-use Rattle.arc_store.specs.Exchanged.{asked_document, exchanged_state, MayExchange}
-use Rattle.arc_store.specs.Kept.{IsKept, state_of}
-use Rattle.arc_store.specs.State.{State}
+use Rattle.arc_store.specs.Common.{asked_document, exchanged_state, MayExchange, IsKept, state_of, State}
 use Rattle.arc_store.proofs.ChangesCounted.{weights_asked, sizes_after, had_few, below_seen, apart_numbers}
 use Rattle.arc_store.proofs.PlacedMap.{placed-in_rings, fills_after}
 

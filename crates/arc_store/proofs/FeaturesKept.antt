@@ -1,31 +1,21 @@
 -- What is kept when features were exchanged.
-use Rattle.std.proofs.Common.{◌≡◌, ◌≤◌, ℕ, ◌+◌, refl, sym, ap, ◌∙◌, subst, Option, None, Some, is_some, length, arith}
-use Rattle.std.specs.List.{sum_by}
-use Rattle.ring_machine.specs.Document.{Document, Feature, Text}
-use Rattle.ring_machine.specs.Machine.{renamed}
-use Rattle.ring_machine.specs.Parts.{feature, size}
-use Rattle.ring_machine.specs.Planar.{Proper}
-use Rattle.ring_machine.specs.WellFormed.{WellFormed}
-use Rattle.ring_machine.specs.Join.{take_out}
-use Rattle.ring_machine.specs.Refusals.{feature_at, or_else, no_feature}
-use Rattle.ring_machine.proofs.FormedRings.{formed-in_rings}
-use Rattle.ring_machine.proofs.Found.{has_feature-found, feature_stands}
-use Rattle.ring_machine.proofs.Renamed.{size-renamed}
-use Rattle.ring_machine.proofs.TakenOut.{take_out_none}
-use Rattle.ring_machine.proofs.Without.{size-take_out_at}
-use Rattle.topo_outline.specs.Kept.{IsJson}
-use Rattle.vertex_index.specs.Placement.{Placement}
-use Rattle.segment_index.specs.Candidates.{SegmentSet}
+use Rattle.kit_words.proofs.Common.{◌≡◌, ◌≤◌, ℕ, ◌+◌, refl, sym, ap, ◌∙◌, subst, Option, None, Some, is_some, length}
+use Rattle.kit_words.proofs.Common.{arith, sum_by}
+use Rattle.ring_machine.specs.Common.{Document, Feature, Text, renamed, feature, size, Proper, WellFormed, take_out}
+use Rattle.ring_machine.specs.Common.{feature_at, or_else, no_feature}
+use Rattle.ring_machine.proofs.Common.{formed-in_rings, has_feature-found, feature_stands, size-renamed, take_out_none}
+use Rattle.ring_machine.proofs.Common.{size-take_out_at}
+use Rattle.topo_outline.specs.Common.{IsJson}
+use Rattle.vertex_index.specs.Common.{Placement}
+use Rattle.segment_index.specs.Common.{SegmentSet}
 use Rattle.segment_index.specs.Frames.{Frame as GridFrame}
-use Rattle.arc_tables.specs.Rings.{Rings}
-use Rattle.map_frame.specs.Framed.{Framed}
-use Rattle.feature_exchange.specs.Holds.{Holds, IsIndexed}
-use Rattle.feature_exchange.specs.Stored.{stored, document_of, ring_under}
-use Rattle.feature_exchange.proofs.Renaming.{named_document, renamed_holds}
-use Rattle.edit_records.specs.Records.{Record}
-use Rattle.arc_store.specs.Kept.{IsKept, state_of}
-use Rattle.arc_store.specs.State.{State}
-use Rattle.ring_parts.proofs.CountedFew.{counted_flat}
+use Rattle.arc_tables.specs.Common.{Rings}
+use Rattle.map_frame.specs.Common.{Framed}
+use Rattle.feature_exchange.specs.Common.{Holds, IsIndexed, stored, document_of, ring_under}
+use Rattle.feature_exchange.proofs.Common.{named_document, renamed_holds}
+use Rattle.edit_records.specs.Common.{Record}
+use Rattle.arc_store.specs.Common.{IsKept, state_of, State}
+use Rattle.ring_parts.proofs.Common.{counted_flat}
 
 module _ {frame : Framed} {rings : Rings} {places : Placement} {held : SegmentSet} {positions : ℕ} where
   pub kept_so : Holds (stored frame rings places) held → positions ≡ size (document_of (stored frame rings places))

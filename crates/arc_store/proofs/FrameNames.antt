@@ -1,22 +1,14 @@
 -- The rings of a frame by their names: each ring has a name, and no two have one.
-use Rattle.std.proofs.Common.{◌≡◌, ℕ, zero, suc, true, refl, sym, ap, ◌∙◌, List, [], ◌∷◌, map, inl, Some, option_map}
-use Rattle.std.specs.Prelude.{◌==◌, slice_get}
-use Rattle.std.specs.List.{flat_map}
-use Rattle.ring_machine.specs.Document.{FeatureOf, DocumentOf}
-use Rattle.ring_machine.specs.Parts.{features, feature, rings, rings_of}
-use Rattle.ring_machine.specs.WellFormed.{are_distinct}
-use Rattle.ring_machine.proofs.First.{In}
-use Rattle.ring_machine.proofs.Found.{found}
-use Rattle.ring_machine.proofs.Members.{in_flat}
+use Rattle.kit_words.proofs.Common.{◌≡◌, ℕ, zero, suc, true, refl, sym, ap, ◌∙◌, List, [], ◌∷◌, map, inl, Some}
+use Rattle.kit_words.proofs.Common.{option_map, ◌==◌, slice_get, flat_map}
+use Rattle.ring_machine.specs.Common.{FeatureOf, DocumentOf, features, feature, rings, rings_of, are_distinct}
+use Rattle.ring_machine.proofs.Common.{In, found, in_flat}
 use Rattle.map_frame.specs.declared.names.RingName.{RingName}
-use Rattle.map_frame.specs.Named.{number_at}
-use Rattle.map_frame.specs.Readers.{element, ring_at}
+use Rattle.map_frame.specs.Common.{number_at, element, ring_at}
 use Rattle.map_frame.proofs.EditedFeatures.{first_distinct}
-use Rattle.map_frame.proofs.NamedForgotten.{element_is}
-use Rattle.map_frame.proofs.NamedOnce.{same_some, in_part, one_part, found_at, ring_in, one_owner, rest_distinct}
-use Rattle.map_frame.proofs.ReadFeatures.{in_get}
-use Rattle.map_frame.proofs.NamedRoom.{of_in}
-use Rattle.ring_store.proofs.KeyedLists.{singles}
+use Rattle.map_frame.proofs.Common.{element_is, same_some, in_part, one_part, found_at, ring_in, one_owner}
+use Rattle.map_frame.proofs.Common.{rest_distinct, in_get, of_in}
+use Rattle.ring_store.proofs.Common.{singles}
 
 -- a ring's number is one of the frame
 pub number_there : (d : DocumentOf ℕ) (name : RingName) (r : ℕ) → number_at d name ≡ Some r → In r (rings d)

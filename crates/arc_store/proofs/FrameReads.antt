@@ -1,15 +1,11 @@
 -- What is read of a frame is what its document shows once rings stand in the place of their numbers.
-use Rattle.std.proofs.Common.{◌≡◌, ℕ, refl, sym, ap, ap₂, ◌∙◌, List, [], ◌∷◌, length, map}
-use Rattle.std.proofs.Common.{Option, Some, None, option_map, is_some}
-use Rattle.std.specs.Prelude.{slice_get}
-use Rattle.std.proofs.lemmas.List.{length-map}
-use Rattle.std.proofs.lemmas.Option.{slice_get-map}
-use Rattle.ring_machine.specs.Document.{FeatureOf, ItemOf, Open, Close, Leaf, Kept, LayerOf, DocumentOf}
-use Rattle.ring_machine.specs.Parts.{features, feature, has_feature, in_feature, in_item, in_layer, in_rings}
-use Rattle.ring_machine.proofs.Found.{feature-in_rings, has_feature-found}
-use Rattle.ring_machine.proofs.Members.{is_some-mapped}
-use Rattle.ring_machine.proofs.RingsOf.{features-in_rings}
-use Rattle.map_frame.specs.Readers.{Opens, Closes, Stands, Keeps, shown, shown_item, shown_layer, shown_frame, element, ring_at}
+use Rattle.kit_words.proofs.Common.{◌≡◌, ℕ, refl, sym, ap, ap₂, ◌∙◌, List, [], ◌∷◌, length, map, Option, Some, None}
+use Rattle.kit_words.proofs.Common.{option_map, is_some, slice_get, length-map, slice_get-map}
+use Rattle.ring_machine.specs.Common.{FeatureOf, ItemOf, Open, Close, Leaf, Kept, LayerOf, DocumentOf, features}
+use Rattle.ring_machine.specs.Common.{feature, has_feature, in_feature, in_item, in_layer, in_rings}
+use Rattle.ring_machine.proofs.Common.{feature-in_rings, has_feature-found, is_some-mapped, features-in_rings}
+use Rattle.map_frame.specs.Common.{Opens, Closes, Stands, Keeps, shown, shown_item, shown_layer, shown_frame, element}
+use Rattle.map_frame.specs.Common.{ring_at}
 
 module _ {R S : Type 0} (g : R → S) where
   -- ---- layers

@@ -1,12 +1,11 @@
 -- What was read with rings of another kind, as a frame.
-use Rattle.std.proofs.Common.{◌≡◌, ℕ, zero, suc, ◌+◌, refl, sym, ap, ap₂, ◌∙◌, List, [], ◌∷◌, map, length, get_or}
-use Rattle.std.proofs.lemmas.Option.{unwrap_or-slice_get}
-use Rattle.grid_geometry.specs.Position.{Position}
-use Rattle.ring_machine.specs.Document.{DocumentOf, Open, Close, Leaf, Kept}
-use Rattle.ring_machine.specs.Parts.{in_feature, in_item, in_layer, in_rings}
+use Rattle.kit_words.proofs.Common.{◌≡◌, ℕ, zero, suc, ◌+◌, refl, sym, ap, ap₂, ◌∙◌, List, [], ◌∷◌, map, length, get_or}
+use Rattle.kit_words.proofs.Common.{unwrap_or-slice_get}
+use Rattle.grid_geometry.specs.Common.{Position}
+use Rattle.ring_machine.specs.Common.{DocumentOf, Open, Close, Leaf, Kept, in_feature, in_item, in_layer, in_rings}
 use Rattle.topo_outline.specs.Shape.{LayerText, Piece, starts, ends, leaf, text}
 use Rattle.topo_outline.specs.Outline.{leaves_in}
-use Rattle.topo_reader.specs.Document.{Opened, polygons_at, numbered, items_from, layers_from, document_of}
+use Rattle.topo_reader.specs.Common.{Opened, polygons_at, numbered, items_from, layers_from, document_of}
 
 -- the shape of what was read, with these rings
 abbrev pub framed : {R : Type 0} → Opened → List (List (List R)) → DocumentOf R

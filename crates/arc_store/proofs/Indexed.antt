@@ -1,29 +1,20 @@
 -- What an index that holds the segments of a document says of the document.
-use Rattle.std.proofs.Common.{◌≡◌, true, false, sym, ap, ◌∙◌, subst, List, [], ◌∷◌, ◌⊎◌, inl, inr, None}
+use Rattle.kit_words.proofs.Common.{◌≡◌, true, false, sym, ap, ◌∙◌, subst, List, [], ◌∷◌, ◌⊎◌, inl, inr, None}
+use Rattle.kit_words.proofs.Common.{false≢true}
 use Rattle.std.specs.FinSet as set
-use Rattle.grid_geometry.specs.Position.{Position}
-use Rattle.grid_geometry.specs.Segment.{Segment, segment_eq, segment_lt, is_end}
-use Rattle.grid_geometry.specs.Ring.{Edge, edges}
-use Rattle.grid_geometry.specs.Conflict.{conflict}
-use Rattle.grid_geometry.proofs.Conflicts.{conflict-comm, conflict-same}
+use Rattle.grid_geometry.specs.Common.{Position, Segment, segment_eq, segment_lt, is_end, Edge, edges, conflict}
+use Rattle.grid_geometry.proofs.Common.{conflict-comm, conflict-same}
 use Rattle.ring_machine.specs.Ring as machine
-use Rattle.ring_machine.specs.Ring.{segment_of, segments}
-use Rattle.ring_machine.specs.Document.{Document}
-use Rattle.ring_machine.specs.Parts.{rings, positions, is_vertex, is_segment, all_segments}
-use Rattle.ring_machine.specs.Planar.{Proper, first_pair, least_conflict}
-use Rattle.ring_machine.proofs.Orders.{segment_ordered}
-use Rattle.ring_machine.proofs.First.{In}
-use Rattle.ring_machine.proofs.Neighbours.{in-map, in-flat_map, has-in, in-has, edge_in, first_end, vertex_in}
-use Rattle.ring_machine.proofs.RingSegments.{segment_eq-true}
-use Rattle.ring_machine.proofs.StaysProper.{edges_start}
-use Rattle.segment_index.specs.Candidates.{SegmentSet, has}
-use Rattle.local_planarity.specs.Edits.{IsEnds}
-use Rattle.feature_exchange.specs.Holds.{IsIndexed}
-use Rattle.ring_store.proofs.SegmentLists.{has-eq}
-use Rattle.ring_machine.proofs.Members.{in_mapped, in_flat, any_in, in_any, same_answer}
-use Rattle.feature_exchange.proofs.Ends.{end_is, end_of_two}
-use Rattle.ring_machine.proofs.Order.{refuted}
-use Rattle.std.proofs.lemmas.Bool.{false≢true}
+use Rattle.ring_machine.specs.Common.{segment_of, segments, Document, rings, positions, is_vertex, is_segment}
+use Rattle.ring_machine.specs.Common.{all_segments, Proper, first_pair, least_conflict}
+use Rattle.ring_machine.proofs.Common.{segment_ordered, In, in-map, in-flat_map, has-in, in-has, edge_in, first_end}
+use Rattle.ring_machine.proofs.Common.{vertex_in, segment_eq-true, edges_start, in_mapped, in_flat, any_in, in_any}
+use Rattle.ring_machine.proofs.Common.{same_answer, refuted}
+use Rattle.segment_index.specs.Common.{SegmentSet, has}
+use Rattle.local_planarity.specs.Common.{IsEnds}
+use Rattle.feature_exchange.specs.Common.{IsIndexed}
+use Rattle.ring_store.proofs.Common.{has-eq}
+use Rattle.feature_exchange.proofs.Common.{end_is, end_of_two}
 use Rattle.ring_machine.proofs.Fewer.{none_bad}
 
 -- ---- segments and vertices of a document

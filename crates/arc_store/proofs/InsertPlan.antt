@@ -1,45 +1,29 @@
 -- The plan of an insertion between two vertices: what comes and goes, and what is kept.
-use Rattle.std.proofs.Common.{◌≡◌, ◌≤◌, ◌+◌, ℕ, true, false, sym, ap, ap₂, ◌∙◌, subst, List, [], ◌∷◌}
-use Rattle.std.proofs.Common.{◌||◌, ◌&&◌, inl, inr, arith, Some, ◌≢◌, Option, None}
-use Rattle.std.specs.Prelude.{not}
+use Rattle.kit_words.proofs.Common.{◌≡◌, ◌≤◌, ◌+◌, ℕ, true, false, sym, ap, ap₂, ◌∙◌, subst, List, [], ◌∷◌, ◌||◌, ◌&&◌}
+use Rattle.kit_words.proofs.Common.{inl, inr, arith, Some, ◌≢◌, Option, None, not, false≢true}
 use Rattle.std.specs.FinMap as table
 use Rattle.std.specs.FinSet as set
-use Rattle.std.proofs.lemmas.Bool.{false≢true}
-use Rattle.grid_geometry.specs.Position.{Position}
-use Rattle.grid_geometry.specs.Segment.{Segment, segment, segment_eq}
-use Rattle.grid_geometry.proofs.Conflicts.{segment-comm}
-use Rattle.ring_machine.specs.Ring.{has}
-use Rattle.ring_machine.specs.Document.{Document}
-use Rattle.ring_machine.specs.Parts.{size, is_vertex, is_segment}
-use Rattle.ring_machine.specs.Refusals.{first_of, insert_refusals}
-use Rattle.ring_machine.specs.Vertices.{ins}
-use Rattle.ring_machine.proofs.First.{In}
-use Rattle.ring_machine.proofs.Neighbours.{has-in}
-use Rattle.ring_machine.proofs.Orders.{segment_ordered}
-use Rattle.vertex_index.specs.Placement.{Placement}
+use Rattle.grid_geometry.specs.Common.{Position, Segment, segment, segment_eq}
+use Rattle.grid_geometry.proofs.Common.{segment-comm}
+use Rattle.ring_machine.specs.Common.{has, Document, size, is_vertex, is_segment, first_of, insert_refusals, ins}
+use Rattle.ring_machine.proofs.Common.{In, has-in, segment_ordered, any_in, refuted}
+use Rattle.vertex_index.specs.Common.{Placement}
 use Rattle.segment_index.specs.Candidates.{SegmentSet, AreSingle, segment_is, has as has_segment}
 use Rattle.segment_index.specs.Frames.{Frame as GridFrame}
-use Rattle.segment_index.proofs.Singles.{same_segment}
-use Rattle.arc_tables.specs.Rings.{Rings, users_of}
-use Rattle.map_frame.specs.Framed.{Framed}
-use Rattle.arc_store.specs.Edits.{IsInsertable, IsPlaceable}
-use Rattle.ring_store.specs.Changes.{IsParting, PutBetween}
-use Rattle.feature_exchange.specs.Holds.{IsIndexed}
-use Rattle.edit_records.specs.Records.{Record}
-use Rattle.arc_store.specs.Kept.{IsKept, state_of}
-use Rattle.arc_store.specs.State.{State}
+use Rattle.segment_index.proofs.Common.{same_segment}
+use Rattle.arc_tables.specs.Common.{Rings, users_of}
+use Rattle.map_frame.specs.Common.{Framed}
+use Rattle.arc_store.specs.Common.{IsInsertable, IsPlaceable, IsKept, state_of, State}
+use Rattle.ring_store.specs.Common.{IsParting, PutBetween, AreNew, Exchanges, spokes}
+use Rattle.feature_exchange.specs.Common.{IsIndexed, stored, Stored, document_of}
+use Rattle.edit_records.specs.Common.{Record}
 use Rattle.arc_store.proofs.Accepted.{insert_may}
-use Rattle.feature_exchange.specs.Stored.{stored, Stored, document_of}
-use Rattle.ring_store.specs.Planned.{AreNew, Exchanges, spokes}
 use Rattle.arc_store.proofs.Around.{come_over}
-use Rattle.feature_exchange.proofs.Base.{vertex_key}
-use Rattle.feature_exchange.proofs.Ends.{two_ends}
+use Rattle.feature_exchange.proofs.Common.{vertex_key, two_ends}
 use Rattle.arc_store.proofs.Indexed.{end_vertex}
 use Rattle.arc_store.proofs.Inserted.{Insertion, document_inserted, reindexed_inserted, holds_inserted, size_inserted}
 use Rattle.arc_store.proofs.Insertions.{Comes}
-use Rattle.ring_machine.proofs.Members.{any_in}
 use Rattle.arc_store.proofs.RingUsers.{users_same}
-use Rattle.ring_machine.proofs.Order.{refuted}
 
 -- ---- lists of one and of two
 

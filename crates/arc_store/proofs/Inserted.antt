@@ -1,46 +1,30 @@
 -- What an insertion of a vertex does to a map that is kept.
-use Rattle.std.proofs.Common.{◌≡◌, ◌≢◌, ◌≤◌, ◌+◌, ℕ, Bool, true, false, refl, sym, ap, ap₂, ◌∙◌, subst, cond, List, []}
-use Rattle.std.proofs.Common.{◌∷◌, map, length, ◌⊎◌, inl, inr, ◌&&◌, ◌||◌, arith, Some, None, is_some}
-use Rattle.std.specs.Prelude.{not, option_map, unwrap_or}
-use Rattle.std.specs.List.{list_any}
+use Rattle.kit_words.proofs.Common.{◌≡◌, ◌≢◌, ◌≤◌, ◌+◌, ℕ, Bool, true, false, refl, sym, ap, ap₂, ◌∙◌, subst, cond}
+use Rattle.kit_words.proofs.Common.{List, [], ◌∷◌, map, length, ◌⊎◌, inl, inr, ◌&&◌, ◌||◌, arith, Some, None, is_some}
+use Rattle.kit_words.proofs.Common.{not, option_map, unwrap_or, list_any, false≢true, ℕ_discrete}
 use Rattle.std.specs.FinMap as table
-use Rattle.std.proofs.lemmas.Bool.{false≢true}
 use Rattle.std.specs.FinSet as set
-use native.Mathlib.Decide.{ℕ_discrete}
-use Rattle.grid_geometry.specs.Position.{Position}
-use Rattle.grid_geometry.specs.Segment.{Segment, segment, segment_eq}
-use Rattle.ring_machine.specs.Ring.{canonical, is_ring, segment_of}
-use Rattle.ring_machine.specs.Parts.{rings, size, is_segment}
-use Rattle.ring_machine.specs.Vertices.{ins, ins_ring}
-use Rattle.ring_machine.specs.Planar.{Proper}
-use Rattle.ring_machine.proofs.Arcs.{g_ins, ins_is}
-use Rattle.ring_machine.proofs.Edges.{starts, starts_of, by_edges}
-use Rattle.ring_machine.proofs.First.{In}
-use Rattle.ring_machine.proofs.InRings.{document-agrees}
-use Rattle.ring_machine.proofs.Neighbours.{all_of, all_in, in-map, in-flat_map}
-use Rattle.ring_machine.proofs.RingSegments.{segment_eq-true}
-use Rattle.ring_machine.proofs.RingsOf.{rings-in_rings}
-use Rattle.ring_machine.proofs.StaysProper.{ins_is_proper}
-use Rattle.ring_machine.proofs.Order.{or_true, refuted}
-use Rattle.vertex_index.proofs.PlacementLemmas.{get-inserted}
+use Rattle.grid_geometry.specs.Common.{Position, Segment, segment, segment_eq}
+use Rattle.ring_machine.specs.Common.{canonical, is_ring, segment_of, rings, size, is_segment, ins, ins_ring, Proper}
+use Rattle.ring_machine.proofs.Common.{g_ins, ins_is, starts, starts_of, by_edges, In, document-agrees, all_of, all_in}
+use Rattle.ring_machine.proofs.Common.{in-map, in-flat_map, segment_eq-true, rings-in_rings, ins_is_proper, or_true}
+use Rattle.ring_machine.proofs.Common.{refuted, contains_in, in_contains, in_mapped, in_flat, is_some-mapped}
+use Rattle.ring_machine.proofs.Common.{mapped_there}
+use Rattle.vertex_index.proofs.Common.{get-inserted}
 use Rattle.segment_index.specs.Candidates.{SegmentSet, has as among}
-use Rattle.arc_tables.specs.Ways.{Edge, is_seg}
-use Rattle.arc_tables.specs.Rings.{Rings, begins}
-use Rattle.shared_arcs.specs.Joined.{Joined}
-use Rattle.arc_tables.specs.Edited.{over, through}
-use Rattle.vertex_index.specs.Placement.{place}
-use Rattle.feature_exchange.specs.Stored.{Stored, positions_along, ring_under, document_of}
-use Rattle.ring_store.specs.Round.{GoesRound}
-use Rattle.feature_exchange.specs.Holds.{Visits, IsWhole, IsIndexed, Holds}
-use Rattle.ring_store.proofs.SegmentLists.{has-eq}
-use Rattle.ring_machine.proofs.Members.{contains_in, in_contains, in_mapped, in_flat, is_some-mapped, mapped_there}
-use Rattle.arc_store.specs.Edits.{IsPlaceable}
+use Rattle.arc_tables.specs.Common.{Edge, is_seg, Rings, begins, over, through}
+use Rattle.shared_arcs.specs.Common.{Joined}
+use Rattle.vertex_index.specs.Common.{place}
+use Rattle.feature_exchange.specs.Common.{Stored, positions_along, ring_under, document_of, Visits, IsWhole, IsIndexed}
+use Rattle.feature_exchange.specs.Common.{Holds}
+use Rattle.ring_store.specs.Common.{GoesRound}
+use Rattle.ring_store.proofs.Common.{has-eq, IsKept, place_is, place_kept, one_key, place_alike, insert_other, laid}
+use Rattle.ring_store.proofs.Common.{edge_ends, ends_is_seg, times_edge}
+use Rattle.arc_store.specs.Common.{IsPlaceable}
 use Rattle.arc_store.proofs.Around.{segment_joined, come_over}
 use Rattle.arc_store.proofs.Insertions.{Comes, segments_ins}
 use Rattle.arc_store.proofs.Numbers.{users_of, size_over}
-use Rattle.ring_store.proofs.Places.{IsKept, place_is, place_kept, one_key, place_alike, insert_other}
-use Rattle.feature_exchange.proofs.Base.{ring_under_is, begin_kept, framed, key_vertex}
-use Rattle.ring_store.proofs.KeyRings.{laid, edge_ends, ends_is_seg, times_edge}
+use Rattle.feature_exchange.proofs.Common.{ring_under_is, begin_kept, framed, key_vertex}
 use Rattle.arc_store.proofs.KeyWays.{edited_along, edited_way, over_keeps, round_way, round_of_way, seg_same}
 use Rattle.arc_store.proofs.RingEdits.{ring_pivot}
 use Rattle.arc_store.proofs.Moved.{inserted_distinct}

@@ -1,36 +1,20 @@
 -- What an insertion of a position makes of the segments and the size of a document.
-use Rattle.std.proofs.Common.{◌≡◌, ◌≢◌, ◌+◌, Bool, true, false, refl, sym, ap, ap₂, ◌∙◌}
-use Rattle.std.proofs.Common.{cond, List, [], ◌∷◌, map, length, ◌⊎◌, inl, inr, ◌&&◌, ◌||◌, arith}
-use Rattle.std.specs.Prelude.{not}
-use Rattle.std.specs.List.{flat_map, list_any, filter, sum_by}
-use Rattle.std.proofs.lemmas.Bool.{false≢true}
-use Rattle.std.proofs.lemmas.List.{length-append, length-map}
-use Rattle.std.proofs.lemmas.List.Folds.{list_any-append}
-use Rattle.grid_geometry.specs.Position.{Position}
-use Rattle.grid_geometry.specs.Segment.{Segment, segment, segment_eq, is_end, IsSegment}
-use Rattle.grid_geometry.specs.Ring.{Edge, edges}
-use Rattle.grid_geometry.proofs.Conflicts.{segment-comm}
-use Rattle.ring_machine.specs.Ring.{is_ring, canonical, segment_of, segments}
-use Rattle.ring_machine.specs.Document.{Document}
-use Rattle.ring_machine.specs.Parts.{rings, size, is_vertex, is_segment}
-use Rattle.ring_machine.specs.Vertices.{ins, ins_ring}
-use Rattle.ring_machine.proofs.Arcs.{g_ins, ins_is, ins-keeps, is_of}
-use Rattle.ring_machine.proofs.Edges.{starts, starts_of, by_edges, closed, edited_chain, starts-flat_map}
-use Rattle.ring_machine.proofs.First.{In}
-use Rattle.ring_machine.proofs.RingSegments.{segment_eq-true, segment_eq-sym, same_ends, ring_once}
-use Rattle.ring_machine.proofs.RingsOf.{rings-in_rings}
-use Rattle.ring_machine.proofs.StaysProper.{ring_distinct, edges_start}
-use Rattle.ring_machine.proofs.StaysRing.{AtMostOne}
-use Rattle.arc_tables.specs.Ways.{one}
-use Rattle.ring_store.proofs.Sums.{sum_by-map, sum_more}
-use Rattle.feature_exchange.proofs.Ends.{two_positions, two_ends, end_of_two}
+use Rattle.kit_words.proofs.Common.{◌≡◌, ◌≢◌, ◌+◌, Bool, true, false, refl, sym, ap, ap₂, ◌∙◌, cond, List, [], ◌∷◌, map}
+use Rattle.kit_words.proofs.Common.{length, ◌⊎◌, inl, inr, ◌&&◌, ◌||◌, arith, not, flat_map, list_any, filter, sum_by}
+use Rattle.kit_words.proofs.Common.{false≢true, length-append, length-map, list_any-append}
+use Rattle.grid_geometry.specs.Common.{Position, Segment, segment, segment_eq, is_end, IsSegment, Edge, edges}
+use Rattle.grid_geometry.proofs.Common.{segment-comm}
+use Rattle.ring_machine.specs.Common.{is_ring, canonical, segment_of, segments, Document, rings, size, is_vertex}
+use Rattle.ring_machine.specs.Common.{is_segment, ins, ins_ring}
+use Rattle.ring_machine.proofs.Common.{g_ins, ins_is, ins-keeps, is_of, starts, starts_of, by_edges, closed}
+use Rattle.ring_machine.proofs.Common.{edited_chain, starts-flat_map, In, segment_eq-true, segment_eq-sym, same_ends}
+use Rattle.ring_machine.proofs.Common.{ring_once, rings-in_rings, ring_distinct, edges_start, AtMostOne, any_alike}
+use Rattle.ring_machine.proofs.Common.{refuted, canonical_turns, ring_chain}
+use Rattle.arc_tables.specs.Common.{one}
+use Rattle.ring_store.proofs.Common.{sum_by-map, sum_more, length-canonical}
+use Rattle.feature_exchange.proofs.Common.{two_positions, two_ends, end_of_two}
 use Rattle.arc_store.proofs.Indexed.{end_vertex}
-use Rattle.ring_machine.proofs.Members.{any_alike}
-use Rattle.ring_store.proofs.KeyRings.{length-canonical}
 use Rattle.arc_store.proofs.RingEdits.{edges_turned}
-use Rattle.ring_machine.proofs.Order.{refuted}
-use Rattle.ring_machine.proofs.CutRings.{canonical_turns}
-use Rattle.ring_machine.proofs.Cycles.{ring_chain}
 
 -- ---- the segments of a ring
 

@@ -1,33 +1,21 @@
 -- Two features joined, as rings that come in the place of the first one's polygon: the document, its
 -- rings and its size.
-use Rattle.std.proofs.Common.{◌≡◌, ◌≤◌, ℕ, ◌+◌, Bool, false, sym, ap, ap₂, ◌∙◌, cond}
-use Rattle.std.proofs.Common.{List, [], ◌∷◌, ◌++◌, map, length, reverse, take, drop, Some, None, arith}
-use Rattle.std.specs.Prelude.{◌==◌, not}
-use Rattle.std.specs.List.{flat_map, filter, sum_by, prefix_len}
-use Rattle.std.proofs.lemmas.Bool.{eqb-true, eqb-false}
-use Rattle.std.proofs.lemmas.List.{append-nil, length-append, length-map, length-reverse, take-append-drop}
-use Rattle.std.proofs.lemmas.List.Sums.{sum_by-append, sum_by-cons}
-use Rattle.grid_geometry.specs.Position.{Position}
-use Rattle.grid_geometry.specs.Ring.{Edge, edges}
-use Rattle.ring_machine.specs.Ring.{canonical}
-use Rattle.ring_machine.specs.Document.{Document, Feature}
-use Rattle.ring_machine.specs.Parts.{feature, rings_of, size}
-use Rattle.ring_machine.specs.WellFormed.{WellFormed}
-use Rattle.ring_machine.specs.Join.{take_out, join, joined, joined_polygons, joined_feature, is_common}
-use Rattle.ring_machine.specs.Join.{passed_alike, off_run}
-use Rattle.ring_machine.specs.Refusals.{feature_at, or_else, no_feature}
-use Rattle.ring_machine.proofs.Found.{feature_stands}
-use Rattle.ring_machine.proofs.MergeAccepted.{MergeAccepted}
-use Rattle.ring_machine.proofs.OtherRings.{join_order}
-use Rattle.ring_machine.proofs.StaysFormed.{formed-take_out}
-use Rattle.ring_machine.proofs.Without.{feature-take_out_other, size-take_out_at, size-instead_at}
-use Rattle.ring_store.proofs.KeyRings.{length-canonical}
-use Rattle.edit_records.specs.Places.{LayerTree, Fills, AreFormed, exchanged}
-use Rattle.edit_records.proofs.ExchangesMade.{join-made, feature-own}
-use Rattle.map_frame.specs.Texts.{texts_of, with_texts}
-use Rattle.arc_store.specs.Exchanged.{with_polygons}
-use Rattle.ring_machine.proofs.Order.{refuted}
-use Rattle.ring_machine.proofs.Cycles.{length_edges}
+use Rattle.kit_words.proofs.Common.{◌≡◌, ◌≤◌, ℕ, ◌+◌, Bool, false, sym, ap, ap₂, ◌∙◌, cond, List, [], ◌∷◌, ◌++◌, map}
+use Rattle.kit_words.proofs.Common.{length, reverse, take, drop, Some, None, arith, ◌==◌, not, flat_map, filter, sum_by}
+use Rattle.kit_words.proofs.Common.{prefix_len, eqb-false, append-nil, length-append, length-map, length-reverse}
+use Rattle.kit_words.proofs.Common.{take-append-drop, sum_by-append, sum_by-cons}
+use Rattle.std.proofs.lemmas.Bool.{eqb-true}
+use Rattle.grid_geometry.specs.Common.{Position, Edge, edges}
+use Rattle.ring_machine.specs.Common.{canonical, Document, Feature, feature, rings_of, size, WellFormed, take_out, join}
+use Rattle.ring_machine.specs.Common.{joined, joined_polygons, joined_feature, is_common, passed_alike, off_run}
+use Rattle.ring_machine.specs.Common.{feature_at, or_else, no_feature}
+use Rattle.ring_machine.proofs.Common.{feature_stands, MergeAccepted, join_order, formed-take_out}
+use Rattle.ring_machine.proofs.Common.{feature-take_out_other, size-take_out_at, size-instead_at, refuted, length_edges}
+use Rattle.ring_store.proofs.Common.{length-canonical}
+use Rattle.edit_records.specs.Common.{LayerTree, Fills, AreFormed, exchanged}
+use Rattle.edit_records.proofs.Common.{join-made, feature-own}
+use Rattle.map_frame.specs.Common.{texts_of, with_texts}
+use Rattle.arc_store.specs.Common.{with_polygons}
 
 -- ---- how long a joined ring is
 

@@ -1,32 +1,22 @@
 -- What the tests of an edit of one vertex say of its refusals.
-use Rattle.std.proofs.Common.{ℕ, ◌≡◌, ◌≤◌, Bool, true, sym, ap, ap₂, ◌∙◌, subst, List, []}
-use Rattle.std.proofs.Common.{◌∷◌, ◌||◌, ◌&&◌, Option, None, arith}
-use Rattle.std.specs.Prelude.{not, nat_le}
-use Rattle.std.specs.List.{list_any}
+use Rattle.kit_words.proofs.Common.{ℕ, ◌≡◌, ◌≤◌, Bool, true, sym, ap, ap₂, ◌∙◌, subst, List, [], ◌∷◌, ◌||◌, ◌&&◌}
+use Rattle.kit_words.proofs.Common.{Option, None, arith, not, nat_le, list_any}
 use Rattle.std.specs.FinSet as set
-use Rattle.grid_geometry.specs.Held.{is_held}
-use Rattle.grid_geometry.specs.Position.{Position}
-use Rattle.grid_geometry.specs.Segment.{Segment, segment, segment_eq}
-use Rattle.grid_geometry.proofs.Conflicts.{segment-comm}
+use Rattle.grid_geometry.specs.Common.{is_held, Position, Segment, segment, segment_eq}
+use Rattle.grid_geometry.proofs.Common.{segment-comm}
 use Rattle.ring_machine.specs.Ring as machine
-use Rattle.ring_machine.specs.Command.{Refusal, NoSegment, Occupied, TooLarge, Sweeps}
-use Rattle.ring_machine.specs.Document.{Document}
-use Rattle.ring_machine.specs.Parts.{positions, size, is_vertex, all_segments}
-use Rattle.ring_machine.specs.Planar.{first_pair, least_conflict}
-use Rattle.ring_machine.specs.Refusals.{first_of, conflict_of, planar, is_small, ◌unless◌, insert_refusals}
-use Rattle.ring_machine.specs.Sweep.{insert_sweeps}
-use Rattle.ring_machine.specs.Vertices.{ins}
+use Rattle.ring_machine.specs.Common.{Refusal, NoSegment, Occupied, TooLarge, Sweeps, Document, positions, size}
+use Rattle.ring_machine.specs.Common.{is_vertex, all_segments, first_pair, least_conflict, first_of, conflict_of}
+use Rattle.ring_machine.specs.Common.{planar, is_small, ◌unless◌, insert_refusals, insert_sweeps, ins}
 use Rattle.segment_index.specs.Candidates.{SegmentSet, has as among}
-use Rattle.local_planarity.specs.Edits.{IsAfter, IsEnds}
+use Rattle.local_planarity.specs.Common.{IsAfter, IsEnds}
 use Rattle.local_planarity.specs.declared.leaving.Leaving.TheVariants.{One}
-use Rattle.arc_store.specs.declared.fault.EditFault.{EditFault}
-use Rattle.arc_store.specs.Edits.{IsInsertable}
-use Rattle.arc_store.specs.Faults.{Refuses}
-use Rattle.ring_store.specs.Planned.{spokes}
-use Rattle.ring_store.proofs.SegmentLists.{has-eq}
+use Rattle.arc_store.specs.Common.{EditFault, IsInsertable, Refuses}
+use Rattle.ring_store.specs.Common.{spokes}
+use Rattle.ring_store.proofs.Common.{has-eq}
 use Rattle.arc_store.proofs.Indexed.{indexed_ends}
 use Rattle.arc_store.proofs.Insertions.{segments_ins}
-use Rattle.ring_machine.proofs.RingSegments.{segment_eq-sym}
+use Rattle.ring_machine.proofs.Common.{segment_eq-sym}
 use Rattle.arc_store.proofs.MovePlan.{refuses_first}
 
 -- ---- what both have in common

@@ -1,28 +1,17 @@
 -- Rings of keys: their edges are a closed way, and an edit of the edges is one of the positions.
-use Rattle.std.proofs.Common.{◌≡◌, ◌≤◌, ℕ, Bool, true, false, refl, sym, ap, ap₂, ◌∙◌, subst, cond}
-use Rattle.std.proofs.Common.{List, [], ◌∷◌, ◌++◌, map, length, inl, inr, arith}
-use Rattle.std.specs.List.{flat_map}
-use Rattle.std.proofs.lemmas.List.{map-append, length-map}
-use Rattle.grid_geometry.specs.Position.{Position}
-use Rattle.grid_geometry.specs.Segment.{segment, segment_eq}
+use Rattle.kit_words.proofs.Common.{◌≡◌, ◌≤◌, ℕ, Bool, true, false, refl, sym, ap, ap₂, ◌∙◌, subst, cond, List, [], ◌∷◌}
+use Rattle.kit_words.proofs.Common.{◌++◌, map, length, inl, inr, arith, flat_map, map-append, length-map}
+use Rattle.grid_geometry.specs.Common.{Position, segment, segment_eq}
 use Rattle.grid_geometry.specs.Ring.{Edge as Side}
-use Rattle.grid_geometry.proofs.Conflicts.{segment-comm}
-use Rattle.ring_machine.specs.Ring.{is_ring, canonical}
-use Rattle.ring_machine.proofs.Orders.{segment_ordered}
-use Rattle.ring_machine.proofs.RingSegments.{same_ends, segment_eq-true}
-use Rattle.ring_machine.proofs.First.{In}
-use Rattle.ring_machine.proofs.Canonical.{Pivot}
-use Rattle.ring_machine.proofs.Edges.{by_edges, canonical_by_edges}
-use Rattle.ring_machine.proofs.StaysProper.{ring_long, ring_distinct}
-use Rattle.arc_tables.specs.Ways.{Edge, links, is_seg}
-use Rattle.arc_tables.specs.Rings.{begins, edges}
-use Rattle.arc_tables.specs.Edited.{over, drawn, onto}
-use Rattle.ring_store.specs.Round.{GoesRound}
+use Rattle.grid_geometry.proofs.Common.{segment-comm}
+use Rattle.ring_machine.specs.Common.{is_ring, canonical}
+use Rattle.ring_machine.proofs.Common.{segment_ordered, same_ends, segment_eq-true, In, Pivot, by_edges}
+use Rattle.ring_machine.proofs.Common.{canonical_by_edges, ring_long, ring_distinct, same_answer}
+use Rattle.arc_tables.specs.Common.{Edge, links, is_seg, begins, edges, over, drawn, onto}
+use Rattle.ring_store.specs.Common.{GoesRound}
 use Rattle.arc_store.proofs.RingEdits.{distinct_turned}
-use Rattle.ring_machine.proofs.Members.{same_answer}
-use Rattle.ring_store.proofs.KeyRings.{length-canonical, laid, edges_round, is_seg_ends, ends_is_seg}
-use Rattle.arc_tables.proofs.Removing.{onto_p, onto_b}
-use Rattle.ring_store.proofs.Places.{keys_distinct}
+use Rattle.ring_store.proofs.Common.{length-canonical, laid, edges_round, is_seg_ends, ends_is_seg, keys_distinct}
+use Rattle.arc_tables.proofs.Common.{onto_p, onto_b}
 
 -- ---- ways
 

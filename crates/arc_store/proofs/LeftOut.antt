@@ -1,23 +1,16 @@
 -- Which two a vertex stood between that was left out.
-use Rattle.std.proofs.Common.{◌≡◌, ◌≢◌, ℕ, refl, sym, ap, ◌∙◌, subst, true, List, Option}
-use Rattle.std.proofs.lemmas.Bool.{false≢true}
-use Rattle.std.specs.Ordering.{is_lt}
-use Rattle.grid_geometry.specs.Position.{Position, position_cmp}
-use Rattle.grid_geometry.specs.Segment.{Segment, segment, segment_eq, IsSegment}
-use Rattle.ring_machine.specs.Vertices.{around}
-use Rattle.ring_machine.proofs.Members.{contains_in}
-use Rattle.ring_machine.proofs.Order.{position_lt-irrefl}
-use Rattle.ring_machine.proofs.Orders.{segment_ordered}
-use Rattle.vertex_index.specs.Placement.{Placement, place}
-use Rattle.segment_index.specs.Candidates.{SegmentSet}
+use Rattle.kit_words.proofs.Common.{◌≡◌, ◌≢◌, ℕ, refl, sym, ap, ◌∙◌, subst, true, List, Option, false≢true, is_lt}
+use Rattle.grid_geometry.specs.Common.{Position, position_cmp, Segment, segment, segment_eq, IsSegment}
+use Rattle.ring_machine.specs.Common.{around}
+use Rattle.ring_machine.proofs.Common.{contains_in, position_lt-irrefl, segment_ordered}
+use Rattle.vertex_index.specs.Common.{Placement, place}
+use Rattle.segment_index.specs.Common.{SegmentSet}
 use Rattle.segment_index.specs.Frames.{Frame as GridFrame}
-use Rattle.arc_tables.specs.Rings.{Rings}
-use Rattle.map_frame.specs.Framed.{Framed}
-use Rattle.edit_records.specs.Records.{Record}
-use Rattle.feature_exchange.specs.Stored.{stored, document_of}
-use Rattle.arc_store.specs.Kept.{state_of}
-use Rattle.arc_store.specs.Recorded.{IsLeftOut}
-use Rattle.arc_store.specs.State.{State}
+use Rattle.arc_tables.specs.Common.{Rings}
+use Rattle.map_frame.specs.Common.{Framed}
+use Rattle.edit_records.specs.Common.{Record}
+use Rattle.feature_exchange.specs.Common.{stored, document_of}
+use Rattle.arc_store.specs.Common.{state_of, IsLeftOut, State}
 use Rattle.arc_store.proofs.Around.{around_two, bridge_two}
 use Rattle.arc_store.proofs.Reading.{ends_make}
 use Rattle.arc_store.proofs.RemovePlan.{IsFound, is_after}

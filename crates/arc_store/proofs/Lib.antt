@@ -55,3 +55,4 @@ pub mod MergePlan
 mod Examples
 pub mod Ranged
 pub mod MarkedRings
+pub mod Common

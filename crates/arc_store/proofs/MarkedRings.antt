@@ -1,21 +1,18 @@
 -- A ring of a kept map, and where borders meet along it.
 use Rattle.std.proofs.Common.{◌≡◌, ℕ, true, sym, ap, ◌∙◌, List, [], get_or, Some, option_map, None as Absent}
-use Rattle.std.specs.Prelude.{unwrap_or}
+use Rattle.kit_words.proofs.Common.{unwrap_or}
 use Rattle.std.specs.FinMap as table
-use Rattle.grid_geometry.specs.Position.{Position}
-use Rattle.ring_machine.specs.Vertices.{is_junction}
-use Rattle.ring_machine.proofs.Members.{in_contains}
-use Rattle.ring_machine.specs.Parts.{rings}
-use Rattle.vertex_index.specs.Placement.{place}
+use Rattle.grid_geometry.specs.Common.{Position}
+use Rattle.ring_machine.specs.Common.{is_junction, rings}
+use Rattle.ring_machine.proofs.Common.{in_contains}
+use Rattle.vertex_index.specs.Common.{place}
 use Rattle.shared_arcs.specs.declared.around.Neighbours.{Neighbours}
 use Rattle.shared_arcs.specs.declared.around.Neighbours.TheVariants.{None, One, Two, More}
-use Rattle.shared_arcs.specs.Joined.{AreNeighbours, AreAllNeighbours}
-use Rattle.map_frame.specs.Readers.{ring_at}
-use Rattle.feature_exchange.specs.Stored.{Stored, document_of, ring_under}
-use Rattle.feature_exchange.specs.Holds.{IsWhole}
-use Rattle.feature_exchange.specs.Marked.{is_meeting, MarksAlong}
-use Rattle.feature_exchange.proofs.PolygonsRead.{along}
-use Rattle.ring_store.proofs.Places.{kept_place}
+use Rattle.shared_arcs.specs.Common.{AreNeighbours, AreAllNeighbours}
+use Rattle.map_frame.specs.Common.{ring_at}
+use Rattle.feature_exchange.specs.Common.{Stored, document_of, ring_under, IsWhole, is_meeting, MarksAlong}
+use Rattle.feature_exchange.proofs.Common.{along}
+use Rattle.ring_store.proofs.Common.{kept_place}
 use Rattle.arc_store.proofs.Around.{two_no_junction, neighbours_none, neighbours_one, neighbours_more}
 use Rattle.arc_store.proofs.FrameNames.{number_there}
 use Rattle.arc_store.proofs.FrameReads.{ring-in_rings}

@@ -1,26 +1,17 @@
 -- The plan of a merge: the rings of both features, and what is asked of the exchange.
-use Rattle.std.proofs.Common.{◌≡◌, ◌<◌, ℕ, true, sym, ap, ap₂, ◌∙◌, subst, List}
-use Rattle.std.proofs.Common.{[], ◌∷◌, length, get_or, Option, Some, None, is_some, arith}
-use Rattle.std.specs.Prelude.{Vec}
-use Rattle.std.proofs.lemmas.List.{length-map}
-use Rattle.grid_geometry.specs.Position.{Position}
-use Rattle.ring_machine.specs.Document.{Document, Feature}
-use Rattle.ring_machine.specs.Parts.{has_feature}
-use Rattle.ring_machine.specs.Join.{join}
-use Rattle.ring_machine.specs.Refusals.{first_of, merge_refusals, feature_at, or_else, no_feature}
-use Rattle.ring_machine.proofs.CutJoined.{formed-join}
-use Rattle.ring_machine.proofs.Found.{has_feature-found}
-use Rattle.ring_machine.proofs.MergeAccepted.{MergeAccepted, merge-accepted}
+use Rattle.kit_words.proofs.Common.{◌≡◌, ◌<◌, ℕ, true, sym, ap, ap₂, ◌∙◌, subst, List, [], ◌∷◌, length, get_or, Option}
+use Rattle.kit_words.proofs.Common.{Some, None, is_some, arith, Vec, length-map}
+use Rattle.grid_geometry.specs.Common.{Position}
+use Rattle.ring_machine.specs.Common.{Document, Feature, has_feature, join, first_of, merge_refusals, feature_at}
+use Rattle.ring_machine.specs.Common.{or_else, no_feature}
+use Rattle.ring_machine.proofs.Common.{formed-join, has_feature-found, MergeAccepted, merge-accepted}
 use Rattle.ring_machine.proofs.MergeProper.{merge_is_proper}
-use Rattle.ring_parts.specs.Merges.{joined_rings}
-use Rattle.ring_parts.specs.Seen.{rings_seen, polygons_seen}
-use Rattle.edit_records.specs.Places.{exchanged}
-use Rattle.edit_records.specs.Records.{IsMap}
-use Rattle.topo_outline.specs.Kept.{KeepsTexts}
-use Rattle.topo_outline.proofs.KeptShapes.{keeps-join}
-use Rattle.map_frame.specs.Placed.{ArePlaced}
-use Rattle.arc_store.specs.Exchanged.{MayExchange, asked_document, with_polygons}
-use Rattle.arc_store.specs.State.{State}
+use Rattle.ring_parts.specs.Common.{joined_rings, rings_seen, polygons_seen}
+use Rattle.edit_records.specs.Common.{exchanged, IsMap}
+use Rattle.topo_outline.specs.Common.{KeepsTexts}
+use Rattle.topo_outline.proofs.Common.{keeps-join}
+use Rattle.map_frame.specs.Common.{ArePlaced}
+use Rattle.arc_store.specs.Common.{MayExchange, asked_document, with_polygons, State}
 use Rattle.arc_store.proofs.ChangesCounted.{two_apart}
 use Rattle.arc_store.proofs.JoinParted.{merged, merge_made, join_size, merged_short, differ}
 use Rattle.arc_store.proofs.PlacedMap.{there_below}

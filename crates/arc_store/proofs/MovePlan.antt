@@ -1,44 +1,29 @@
 -- The plan of a move: what stands around the vertex, what comes and goes, and when it is refused.
-use Rattle.std.proofs.Common.{◌≡◌, ℕ, Bool, true, false, sym, ap, ap₂, ◌∙◌, subst, List, [], ◌∷◌, map, ◌||◌, ◌&&◌, Some}
-use Rattle.std.proofs.Common.{None, Option, Result, Ok, Err, OnOk, OnErr}
-use Rattle.std.specs.Prelude.{not}
-use Rattle.std.specs.List.{list_any}
+use Rattle.kit_words.proofs.Common.{◌≡◌, ℕ, Bool, true, false, sym, ap, ap₂, ◌∙◌, subst, List, [], ◌∷◌, map, ◌||◌, ◌&&◌}
+use Rattle.kit_words.proofs.Common.{Some, None, Option, Result, Ok, Err, OnOk, OnErr, not, list_any, map-map}
 use Rattle.std.specs.FinMap as table
 use Rattle.std.specs.FinSet as set
-use Rattle.std.proofs.lemmas.Simd.{map-map}
-use Rattle.grid_geometry.specs.Position.{Position}
-use Rattle.grid_geometry.specs.Segment.{Segment, segment, is_end}
-use Rattle.ring_machine.specs.Document.{Document}
-use Rattle.ring_machine.specs.Command.{Refusal, NoVertex, Occupied, Sweeps}
-use Rattle.ring_machine.specs.Parts.{is_vertex, is_segment, positions, all_segments}
-use Rattle.ring_machine.specs.Planar.{least_conflict, first_pair}
-use Rattle.ring_machine.specs.Refusals.{first_of, conflict_of, move_refusals, ◌unless◌}
-use Rattle.ring_machine.specs.Sweep.{crosses_on_way, edge_sweeps, move_sweeps}
-use Rattle.ring_machine.specs.Vertices.{put}
-use Rattle.ring_machine.proofs.Order.{and_both}
-use Rattle.vertex_index.specs.Placement.{Placement, place}
+use Rattle.grid_geometry.specs.Common.{Position, Segment, segment, is_end}
+use Rattle.ring_machine.specs.Common.{Document, Refusal, NoVertex, Occupied, Sweeps, is_vertex, is_segment, positions}
+use Rattle.ring_machine.specs.Common.{all_segments, least_conflict, first_pair, first_of, conflict_of, move_refusals}
+use Rattle.ring_machine.specs.Common.{◌unless◌, crosses_on_way, edge_sweeps, move_sweeps, put}
+use Rattle.ring_machine.proofs.Common.{and_both, any_in, in_contains}
+use Rattle.vertex_index.specs.Common.{Placement, place}
 use Rattle.segment_index.specs.Candidates.{SegmentSet, AreAmong, AreSingle, segment_is, has as has_segment}
-use Rattle.segment_index.proofs.Singles.{same_segment}
-use Rattle.arc_tables.specs.Rings.{Rings}
+use Rattle.segment_index.proofs.Common.{same_segment}
+use Rattle.arc_tables.specs.Common.{Rings}
 use Rattle.local_planarity.specs.declared.leaving.Leaving.TheVariants.{EndingAt}
-use Rattle.local_planarity.specs.Edits.{AreApart, IsAfter, IsEnds, IsHeld}
+use Rattle.local_planarity.specs.Common.{AreApart, IsAfter, IsEnds, IsHeld}
 use Rattle.local_planarity.proofs.Least.{apart_if_none}
-use Rattle.arc_store.specs.declared.fault.EditFault.{EditFault}
+use Rattle.arc_store.specs.Common.{EditFault, IsMovable, Refuses, IsKept}
 use Rattle.arc_store.specs.declared.fault.EditFault.TheVariants as edit
-use Rattle.map_frame.specs.Framed.{Framed}
-use Rattle.arc_store.specs.Edits.{IsMovable}
-use Rattle.ring_store.specs.Changes.{HasMoving}
-use Rattle.arc_store.specs.Faults.{Refuses}
+use Rattle.map_frame.specs.Common.{Framed}
+use Rattle.ring_store.specs.Common.{HasMoving, AreAround, AreNew, Exchanges, spokes}
 use Rattle.ring_store.specs.declared.tables.RingTables.{RingTables}
-use Rattle.feature_exchange.specs.Stored.{Stored, document_of, stored, stored_in}
-use Rattle.feature_exchange.specs.Holds.{IsWhole, IsIndexed, Holds}
-use Rattle.arc_store.specs.Kept.{IsKept}
-use Rattle.ring_store.specs.Planned.{AreAround, AreNew, Exchanges, spokes}
-use Rattle.ring_machine.proofs.Members.{any_in, in_contains}
-use Rattle.ring_store.proofs.Places.{place_is}
-use Rattle.feature_exchange.proofs.Base.{joined_kept, joined_apart, segments_to, segments_at, vertex_key}
-use Rattle.feature_exchange.proofs.Base.{sweeps_by_joined}
-use Rattle.ring_store.proofs.SegmentLists.{has-eq}
+use Rattle.feature_exchange.specs.Common.{Stored, document_of, stored, stored_in, IsWhole, IsIndexed, Holds}
+use Rattle.ring_store.proofs.Common.{place_is, has-eq}
+use Rattle.feature_exchange.proofs.Common.{joined_kept, joined_apart, segments_to, segments_at, vertex_key}
+use Rattle.feature_exchange.proofs.Common.{sweeps_by_joined}
 use Rattle.arc_store.proofs.Indexed.{indexed_ends, indexed_has}
 use Rattle.arc_store.proofs.Insertions.{any_mapped}
 use Rattle.arc_store.proofs.Moved.{segments_to_single, not_there, added_new, added_single}

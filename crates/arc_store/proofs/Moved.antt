@@ -1,53 +1,35 @@
 -- What a move of a vertex makes of a map that is kept.
-use Rattle.std.proofs.Common.{◌≡◌, ◌≢◌, ◌≤◌, ◌+◌, ℕ, Bool, true, false, refl, sym, ap, ap₂, ◌∙◌, subst, cond, List, []}
-use Rattle.std.proofs.Common.{◌∷◌, ◌++◌, map, length, ◌||◌, ◌&&◌, inl, inr, arith, Some, is_some}
-use Rattle.std.specs.Prelude.{◌==◌, not, unwrap_or, pos}
-use Rattle.std.specs.List.{list_any, sum_by, fold}
+use Rattle.kit_words.proofs.Common.{◌≡◌, ◌≢◌, ◌≤◌, ◌+◌, ℕ, Bool, true, false, refl, sym, ap, ap₂, ◌∙◌, subst, cond}
+use Rattle.kit_words.proofs.Common.{List, [], ◌∷◌, ◌++◌, map, length, ◌||◌, ◌&&◌, inl, inr, arith, Some, is_some, ◌==◌}
+use Rattle.kit_words.proofs.Common.{not, unwrap_or, pos, list_any, sum_by, fold, false≢true, Decides-eqb, map-append}
+use Rattle.kit_words.proofs.Common.{length-map, ℕ_discrete}
 use Rattle.std.specs.FinMap as table
 use Rattle.std.specs.FinSet as set
-use Rattle.std.proofs.lemmas.Bool.{false≢true}
-use Rattle.std.proofs.lemmas.Bool.Decides.{Decides-eqb}
-use Rattle.std.proofs.lemmas.List.{map-append, length-map}
-use native.Mathlib.Decide.{ℕ_discrete}
-use Rattle.grid_geometry.specs.Position.{Position, position, position_eq}
-use Rattle.grid_geometry.specs.Segment.{Segment, segment, segment_eq, is_end}
-use Rattle.grid_geometry.proofs.Conflicts.{segment-comm}
-use Rattle.ring_machine.specs.Ring.{canonical, has, is_distinct}
-use Rattle.ring_machine.specs.Document.{Document}
-use Rattle.ring_machine.specs.Parts.{rings, size, is_vertex, is_segment, all_segments}
-use Rattle.ring_machine.specs.Vertices.{put, put_ring}
-use Rattle.ring_machine.specs.Planar.{Proper}
-use Rattle.ring_machine.specs.WellFormed.{are_distinct}
-use Rattle.ring_machine.proofs.Canonical.{Pivot, pivot_of, canonical_parts, canonical_swap}
-use Rattle.ring_machine.proofs.First.{In}
-use Rattle.ring_machine.proofs.InRings.{document-agrees}
+use Rattle.grid_geometry.specs.Common.{Position, position, position_eq, Segment, segment, segment_eq, is_end}
+use Rattle.grid_geometry.proofs.Common.{segment-comm}
+use Rattle.ring_machine.specs.Common.{canonical, has, is_distinct, Document, rings, size, is_vertex, is_segment}
+use Rattle.ring_machine.specs.Common.{all_segments, put, put_ring, Proper, are_distinct}
+use Rattle.ring_machine.proofs.Common.{Pivot, pivot_of, canonical_parts, canonical_swap, In, document-agrees, all_of}
+use Rattle.ring_machine.proofs.Common.{none_in, in-map, has-in, in-has, and_both, or_true, or_right, refuted}
+use Rattle.ring_machine.proofs.Common.{segment_ordered, none_parts, not_true, segment_eq-true, rings-in_rings}
+use Rattle.ring_machine.proofs.Common.{put_is_proper, put-distinct, contains_in, in_contains, in_mapped, any_in, in_any}
+use Rattle.ring_machine.proofs.Common.{same_answer}
 use Rattle.ring_machine.proofs.Keys.{shifted, key_moved}
-use Rattle.ring_machine.proofs.Neighbours.{all_of, none_in, in-map, has-in, in-has}
-use Rattle.ring_machine.proofs.Order.{and_both, or_true, or_right, refuted}
-use Rattle.ring_machine.proofs.Orders.{segment_ordered}
-use Rattle.ring_machine.proofs.Removal.{none_parts, not_true}
-use Rattle.ring_machine.proofs.RingSegments.{segment_eq-true}
-use Rattle.ring_machine.proofs.RingsOf.{rings-in_rings}
-use Rattle.ring_machine.proofs.StaysProper.{put_is_proper}
-use Rattle.ring_machine.proofs.StaysRing.{put-distinct}
-use Rattle.vertex_index.specs.Placement.{Placement, AreDistinct, place}
-use Rattle.vertex_index.proofs.PlacementLemmas.{get-inserted}
+use Rattle.vertex_index.specs.Common.{Placement, AreDistinct, place}
+use Rattle.vertex_index.proofs.Common.{get-inserted}
 use Rattle.segment_index.specs.Candidates.{SegmentSet, AreSingle, has as has_segment, segment_is, times_in}
-use Rattle.segment_index.proofs.Singles.{same_segment}
-use Rattle.arc_tables.specs.Ways.{Edge}
-use Rattle.arc_tables.specs.Rings.{begins}
-use Rattle.shared_arcs.specs.Joined.{Joined}
-use Rattle.feature_exchange.specs.Stored.{Stored, positions_along, ring_under, document_of}
-use Rattle.feature_exchange.specs.Holds.{Visits, IsWhole, IsIndexed, Holds}
-use Rattle.ring_machine.proofs.Members.{contains_in, in_contains, in_mapped, any_in, in_any, same_answer}
-use Rattle.feature_exchange.proofs.Ends.{end_of_two, two_ends}
-use Rattle.ring_store.proofs.KeyRings.{in_canonical, length-canonical, has_key}
-use Rattle.ring_store.proofs.Places.{insert_other, IsKept, place_is, kept_place, place_kept, one_key}
-use Rattle.feature_exchange.proofs.Base.{joined_back, framed, ring_laid, key_vertex, begin_kept, positions_distinct}
-use Rattle.feature_exchange.proofs.Base.{positions_long, ring_under_is, segment_between, joined_segment, joined_kept}
-use Rattle.feature_exchange.proofs.Base.{joined_differ, AreJoined, segments_to, segments_at, one_to}
-use Rattle.ring_store.proofs.SegmentLists.{has-eq}
-use Rattle.arc_store.specs.Edits.{IsMovable}
+use Rattle.segment_index.proofs.Common.{same_segment}
+use Rattle.arc_tables.specs.Common.{Edge, begins}
+use Rattle.shared_arcs.specs.Common.{Joined}
+use Rattle.feature_exchange.specs.Common.{Stored, positions_along, ring_under, document_of, Visits, IsWhole, IsIndexed}
+use Rattle.feature_exchange.specs.Common.{Holds}
+use Rattle.feature_exchange.proofs.Common.{end_of_two, two_ends, joined_back, framed, ring_laid, key_vertex, begin_kept}
+use Rattle.feature_exchange.proofs.Common.{positions_distinct, positions_long, ring_under_is, segment_between}
+use Rattle.feature_exchange.proofs.Common.{joined_segment, joined_kept, joined_differ, AreJoined, segments_to}
+use Rattle.feature_exchange.proofs.Common.{segments_at, one_to}
+use Rattle.ring_store.proofs.Common.{in_canonical, length-canonical, has_key, insert_other, IsKept, place_is}
+use Rattle.ring_store.proofs.Common.{kept_place, place_kept, one_key, has-eq}
+use Rattle.arc_store.specs.Common.{IsMovable}
 use Rattle.arc_store.proofs.Indexed.{end_vertex}
 
 -- ---- lists

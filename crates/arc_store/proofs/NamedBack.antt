@@ -1,18 +1,16 @@
 -- A map in which a feature has another id, or none.
-use Rattle.std.proofs.Common.{◌≡◌, ℕ, sym, ap, ◌∙◌, subst, Option, length}
-use Rattle.std.specs.List.{sum_by}
-use Rattle.ring_machine.specs.Document.{Text}
-use Rattle.edit_records.specs.Records.{Record, IsMap, with_id}
-use Rattle.topo_outline.specs.Kept.{KeepsTexts}
-use Rattle.vertex_index.specs.Placement.{Placement}
-use Rattle.segment_index.specs.Candidates.{SegmentSet}
+use Rattle.kit_words.proofs.Common.{◌≡◌, ℕ, sym, ap, ◌∙◌, subst, Option, length, sum_by}
+use Rattle.ring_machine.specs.Common.{Text}
+use Rattle.edit_records.specs.Common.{Record, IsMap, with_id}
+use Rattle.topo_outline.specs.Common.{KeepsTexts}
+use Rattle.vertex_index.specs.Common.{Placement}
+use Rattle.segment_index.specs.Common.{SegmentSet}
 use Rattle.segment_index.specs.Frames.{Frame as GridFrame}
-use Rattle.arc_tables.specs.Rings.{Rings}
-use Rattle.map_frame.specs.Framed.{Framed}
-use Rattle.feature_exchange.specs.Stored.{Stored, stored, document_of}
-use Rattle.feature_exchange.proofs.Renaming.{rings-named, named_document, named_holds}
-use Rattle.arc_store.specs.Kept.{IsKept, state_of}
-use Rattle.arc_store.specs.State.{State}
+use Rattle.arc_tables.specs.Common.{Rings}
+use Rattle.map_frame.specs.Common.{Framed}
+use Rattle.feature_exchange.specs.Common.{Stored, stored, document_of}
+use Rattle.feature_exchange.proofs.Common.{rings-named, named_document, named_holds}
+use Rattle.arc_store.specs.Common.{IsKept, state_of, State}
 use Rattle.arc_store.proofs.FeaturesKept.{kept_as}
 
 module _ {frame : Framed} {rings : Rings} {places : Placement} {held : SegmentSet} {positions : ℕ}

@@ -1,44 +1,27 @@
 -- The rings of a segment by their names.
-use Rattle.std.proofs.Common.{◌≡◌, ◌≢◌, ℕ, zero, suc, ◌+◌, ◌<◌, true, refl, sym, ap, ap₂, ◌∙◌, subst}
-use Rattle.std.proofs.Common.{List, [], ◌∷◌, ◌++◌, map, take, length, get_or, inl, inr, arith, Contains}
-use Rattle.std.proofs.Common.{Option, Some, None, is_some, option_map, append_assoc, ◌⊎◌, ◌≤◌}
-use Rattle.std.specs.Prelude.{slice_get, IfNone}
+use Rattle.kit_words.proofs.Common.{◌≡◌, ◌≢◌, ℕ, zero, suc, ◌+◌, ◌<◌, true, refl, sym, ap, ap₂, ◌∙◌, subst, List, []}
+use Rattle.kit_words.proofs.Common.{◌∷◌, ◌++◌, map, take, length, get_or, inl, inr, arith, Contains, Option, Some, None}
+use Rattle.kit_words.proofs.Common.{is_some, option_map, append_assoc, ◌⊎◌, ◌≤◌, slice_get, IfNone, list_any}
+use Rattle.kit_words.proofs.Common.{AllByRecursion, append-nil, map-append, take_more, slice_get-map}
 use Rattle.std.specs.FinMap as table
-use Rattle.std.specs.List.{list_any, AllByRecursion}
-use Rattle.std.proofs.lemmas.List.{append-nil, map-append, take_more}
-use Rattle.std.proofs.lemmas.Option.{slice_get-map}
-use Rattle.grid_geometry.specs.Position.{Position}
-use Rattle.grid_geometry.specs.Segment.{Segment, segment}
-use Rattle.ring_machine.specs.Document.{DocumentOf}
-use Rattle.ring_machine.specs.Parts.{rings, features}
-use Rattle.ring_machine.specs.WellFormed.{are_distinct}
-use Rattle.ring_machine.proofs.First.{In, filter-in}
-use Rattle.ring_machine.proofs.Members.{contains_in, in_contains, in_mapped, mapped_there}
-use Rattle.ring_machine.proofs.Neighbours.{in-map}
-use Rattle.vertex_index.specs.Placement.{Placement}
-use Rattle.arc_tables.specs.Users.{HasSegment, ListsUsers}
-use Rattle.arc_tables.specs.Rings.{Rings}
-use Rattle.arc_tables.specs.Ways.{Edge, is_seg}
-use Rattle.arc_tables.specs.Stores.{AllDifferent}
-use Rattle.map_frame.specs.Framed.{Framed}
+use Rattle.grid_geometry.specs.Common.{Position, Segment, segment}
+use Rattle.ring_machine.specs.Common.{DocumentOf, rings, features, are_distinct}
+use Rattle.ring_machine.proofs.Common.{In, filter-in, contains_in, in_contains, in_mapped, mapped_there, in-map}
+use Rattle.ring_machine.proofs.Common.{in_recursion}
+use Rattle.vertex_index.specs.Common.{Placement}
+use Rattle.arc_tables.specs.Common.{HasSegment, ListsUsers, Rings, Edge, is_seg, AllDifferent}
+use Rattle.map_frame.specs.Common.{Framed, number_at, ring_at}
 use Rattle.map_frame.specs.declared.names.RingName.{RingName}
-use Rattle.map_frame.specs.Named.{number_at}
-use Rattle.map_frame.specs.Readers.{ring_at}
-use Rattle.map_frame.proofs.NamedOnce.{same_some}
-use Rattle.map_frame.proofs.ReadFeatures.{in_get}
-use Rattle.feature_exchange.specs.Holds.{IsWhole}
-use Rattle.feature_exchange.specs.Stored.{stored, Stored, document_of, ring_under}
-use Rattle.arc_store.specs.Named.{ListsNames, RingHas, AreOnce, ListsRings}
-use Rattle.arc_store.specs.Spots.{users}
-use Rattle.feature_exchange.proofs.Base.{framed, rings_are}
-use Rattle.ring_store.proofs.Places.{place_is, place_kept}
-use Rattle.feature_exchange.proofs.Ends.{segment_ends}
+use Rattle.map_frame.proofs.Common.{same_some, in_get}
+use Rattle.feature_exchange.specs.Common.{IsWhole, stored, Stored, document_of, ring_under}
+use Rattle.arc_store.specs.Common.{ListsNames, RingHas, AreOnce, ListsRings, users}
+use Rattle.feature_exchange.proofs.Common.{framed, rings_are, segment_ends}
+use Rattle.ring_store.proofs.Common.{place_is, place_kept}
 use Rattle.arc_store.proofs.FrameNames.{name_there, number_there, one_name}
 use Rattle.arc_store.proofs.FrameReads.{ring-in_rings}
 use Rattle.arc_store.proofs.Insertions.{has_segment}
 use Rattle.arc_store.proofs.Numbers.{ring_has}
 use Rattle.arc_store.proofs.Reading.{unused_read}
-use Rattle.ring_machine.proofs.SortedOnce.{in_recursion}
 
 -- ---- the names of a list of numbers
 

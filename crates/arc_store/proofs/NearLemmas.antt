@@ -1,14 +1,12 @@
 -- What an index gives near a box, as segments of the document.
-use Rattle.std.proofs.Common.{◌≡◌, ℕ, Bool, true, sym, ◌∙◌, subst, List, Contains}
-use Rattle.grid_geometry.specs.Segment.{Segment, Box, segment_eq}
-use Rattle.ring_machine.specs.Document.{Document}
-use Rattle.ring_machine.proofs.Orders.{segment_ordered}
-use Rattle.ring_machine.proofs.RingSegments.{segment_eq-true}
-use Rattle.segment_index.specs.Candidates.{SegmentSet, Gives}
-use Rattle.feature_exchange.specs.Holds.{IsIndexed}
-use Rattle.arc_store.specs.Near.{ListsNear}
-use Rattle.ring_store.proofs.SegmentLists.{has-eq}
-use Rattle.ring_machine.proofs.Members.{any_in, in_any, contains_in, in_contains}
+use Rattle.kit_words.proofs.Common.{◌≡◌, ℕ, Bool, true, sym, ◌∙◌, subst, List, Contains}
+use Rattle.grid_geometry.specs.Common.{Segment, Box, segment_eq}
+use Rattle.ring_machine.specs.Common.{Document}
+use Rattle.ring_machine.proofs.Common.{segment_ordered, segment_eq-true, any_in, in_any, contains_in, in_contains}
+use Rattle.segment_index.specs.Common.{SegmentSet, Gives}
+use Rattle.feature_exchange.specs.Common.{IsIndexed}
+use Rattle.arc_store.specs.Common.{ListsNear}
+use Rattle.ring_store.proofs.Common.{has-eq}
 
 pub near_listed : (d : Document) (held : SegmentSet) (times : Segment → Box → ℕ) (rect : Box)
     (old new : List Segment) (all : Bool) → IsIndexed d held → all ≡ true

@@ -1,19 +1,9 @@
 -- No junction stands where no vertex does.
-use Rattle.std.proofs.Common.{◌≡◌, Bool, false, refl, sym, ap, ◌∙◌, subst, cond, List, [], ◌∷◌}
-use Rattle.std.proofs.Common.{◌++◌, take, inl, inr, map}
-use Rattle.std.specs.Prelude.{not}
-use Rattle.std.specs.List.{filter, flat_map, list_any}
-use Rattle.std.proofs.lemmas.Bool.{false≢true}
-use Rattle.grid_geometry.specs.Position.{Position, position_eq}
-use Rattle.grid_geometry.specs.Segment.{Segment}
-use Rattle.ring_machine.specs.Ring.{has, between_each, spots}
-use Rattle.ring_machine.specs.Document.{Document}
-use Rattle.ring_machine.specs.Parts.{rings, is_vertex}
-use Rattle.ring_machine.specs.Vertices.{all_equal, is_junction}
-use Rattle.ring_machine.proofs.Order.{position_eq-true, refuted}
-use Rattle.ring_machine.proofs.Removal.{none_parts}
-use Rattle.ring_machine.proofs.First.{In, in-append}
-use Rattle.ring_machine.proofs.Neighbours.{in-has}
+use Rattle.kit_words.proofs.Common.{◌≡◌, Bool, false, refl, sym, ap, ◌∙◌, subst, cond, List, [], ◌∷◌, ◌++◌, take, inl}
+use Rattle.kit_words.proofs.Common.{inr, map, not, filter, flat_map, list_any, false≢true}
+use Rattle.grid_geometry.specs.Common.{Position, position_eq, Segment}
+use Rattle.ring_machine.specs.Common.{has, between_each, spots, Document, rings, is_vertex, all_equal, is_junction}
+use Rattle.ring_machine.proofs.Common.{position_eq-true, refuted, none_parts, In, in-append, in-has}
 
 place_in : (ps : List Position) (p : Position) (s : Segment) → In (p, s) (between_each ps) → In p ps
 place_in (a ∷ b ∷ c ∷ ps) p s (inl e) = inr (inl (ap (λ (spot : Position × Segment). spot.0) e))

@@ -1,30 +1,21 @@
 -- How many rings have a segment, by their numbers.
-use Rattle.std.proofs.Common.{ap₂, ◌+◌, ◌≡◌, ◌≤◌, ◌↔◌, ℕ, true, sym, ap, ◌∙◌, List, [], length, Some}
-use Rattle.std.specs.Prelude.{unwrap_or}
-use Rattle.std.specs.List.{list_any, filter}
+use Rattle.kit_words.proofs.Common.{ap₂, ◌+◌, ◌≡◌, ◌≤◌, ◌↔◌, ℕ, true, sym, ap, ◌∙◌, List, [], length, Some, unwrap_or}
+use Rattle.kit_words.proofs.Common.{list_any, filter}
 use Rattle.std.specs.FinMap as table
-use Rattle.grid_geometry.specs.Segment.{segment}
+use Rattle.grid_geometry.specs.Common.{segment, Position}
 use Rattle.grid_geometry.specs.Ring.{edges as ring_edges}
-use Rattle.grid_geometry.specs.Position.{Position}
-use Rattle.ring_machine.specs.Ring.{canonical}
-use Rattle.ring_machine.specs.Parts.{rings, size}
-use Rattle.ring_machine.specs.Vertices.{ins}
-use Rattle.ring_machine.proofs.Arcs.{is_of}
-use Rattle.ring_machine.proofs.First.{In}
-use Rattle.arc_tables.specs.Ways.{Edge, is_seg, times}
-use Rattle.vertex_index.specs.Placement.{place}
-use Rattle.feature_exchange.specs.Stored.{Stored, positions_along, edges_under, ring_under, document_of}
-use Rattle.feature_exchange.specs.Holds.{IsWhole}
-use Rattle.ring_store.proofs.Places.{place_is, place_kept, IsKept, one_key}
-use Rattle.feature_exchange.proofs.Base.{document_ring, begin_kept, framed, ring_under_is, rings_are}
-use Rattle.ring_store.proofs.Sums.{filter-mapped}
+use Rattle.ring_machine.specs.Common.{canonical, rings, size, ins}
+use Rattle.ring_machine.proofs.Common.{is_of, In, any_in, in_any, canonical_turns}
+use Rattle.arc_tables.specs.Common.{Edge, is_seg, times}
+use Rattle.vertex_index.specs.Common.{place}
+use Rattle.feature_exchange.specs.Common.{Stored, positions_along, edges_under, ring_under, document_of, IsWhole}
+use Rattle.ring_store.proofs.Common.{place_is, place_kept, IsKept, one_key, filter-mapped, laid, edges_round, edge_ends}
+use Rattle.ring_store.proofs.Common.{times_edge, edge_times, is_seg_ends, ends_is_seg}
+use Rattle.feature_exchange.proofs.Common.{document_ring, begin_kept, framed, ring_under_is, rings_are}
 use Rattle.arc_store.proofs.Insertions.{size_ins, has_segment, has_segment_by, any_mapped}
-use Rattle.ring_store.proofs.KeyRings.{laid, edges_round, edge_ends, times_edge, edge_times, is_seg_ends, ends_is_seg}
 use Rattle.arc_store.proofs.KeyWays.{seg_same}
-use Rattle.ring_machine.proofs.Members.{any_in, in_any}
 use Rattle.arc_store.proofs.Removals.{any_alike_in}
 use Rattle.arc_store.proofs.RingEdits.{edges_turned}
-use Rattle.ring_machine.proofs.CutRings.{canonical_turns}
 
 -- a segment is among the edges where it stands there once or more
 pub any_times : (x y : ℕ) (es : List Edge) → (list_any (is_seg x y) es ≡ true) ↔ (1 ≤ times x y es)

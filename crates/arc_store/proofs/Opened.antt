@@ -1,52 +1,35 @@
 -- A map that was opened: its tables belong together, and mean what was read.
-use Rattle.std.proofs.Common.{◌≡◌, ◌≤◌, ℕ, true, refl, sym, ap, ap₂, ◌∙◌, subst, map, List, [], ◌∷◌}
-use Rattle.std.proofs.Common.{length, arith, Option, Some, None, Contains, is_some, option_map}
-use Rattle.std.specs.Prelude.{unwrap_or, Vec}
-use Rattle.std.specs.List.{list_all, flat_map, sum_by}
+use Rattle.kit_words.proofs.Common.{◌≡◌, ◌≤◌, ℕ, true, refl, sym, ap, ap₂, ◌∙◌, subst, map, List, [], ◌∷◌, length}
+use Rattle.kit_words.proofs.Common.{arith, Option, Some, None, Contains, is_some, option_map, unwrap_or, Vec, list_all}
+use Rattle.kit_words.proofs.Common.{flat_map, sum_by, false≢true, length-map, take_all, map-map}
 use Rattle.std.specs.FinMap as table
-use Rattle.std.proofs.lemmas.Bool.{false≢true}
-use Rattle.std.proofs.lemmas.List.{length-map, take_all}
-use Rattle.std.proofs.lemmas.Simd.{map-map}
-use Rattle.grid_geometry.specs.Position.{Position}
-use Rattle.grid_geometry.specs.Segment.{Segment}
-use Rattle.ring_machine.specs.Ring.{canonical, is_ring, segments}
-use Rattle.ring_machine.specs.Parts.{rings, size, features}
-use Rattle.ring_machine.specs.Planar.{Proper, first_pair, least_conflict}
-use Rattle.ring_machine.specs.Document.{DocumentOf}
-use Rattle.ring_machine.specs.WellFormed.{are_distinct, WellFormed}
-use Rattle.ring_machine.proofs.FormedRings.{formed-before_rings}
-use Rattle.ring_machine.proofs.Members.{contains_in}
-use Rattle.ring_machine.proofs.Neighbours.{in-map, all_in}
-use Rattle.topo_outline.specs.Kept.{KeepsTexts}
+use Rattle.grid_geometry.specs.Common.{Position, Segment}
+use Rattle.ring_machine.specs.Common.{canonical, is_ring, segments, rings, size, features, Proper, first_pair}
+use Rattle.ring_machine.specs.Common.{least_conflict, DocumentOf, are_distinct, WellFormed}
+use Rattle.ring_machine.proofs.Common.{formed-before_rings, contains_in, in-map, all_in}
+use Rattle.topo_outline.specs.Common.{KeepsTexts, view_kept}
 use Rattle.topo_outline.specs.Outline.{leaves}
-use Rattle.topo_outline.specs.Views.{view_kept}
-use Rattle.topo_outline.proofs.KeptRings.{keeps-before_rings}
-use Rattle.topo_reader.specs.Document.{IsOfRings}
+use Rattle.topo_outline.proofs.Common.{keeps-before_rings}
+use Rattle.topo_reader.specs.Common.{IsOfRings, view_raw, polygon_positions, feature_positions}
 use Rattle.topo_reader.specs.Document as read
-use Rattle.topo_reader.specs.DocumentView.{view_raw}
-use Rattle.topo_reader.specs.Uses.{polygon_positions, feature_positions}
 use Rattle.topo_reader.specs.declared.document.RawDoc.{RawDoc}
-use Rattle.topo_reader.proofs.Numbering.{rings_document}
-use Rattle.vertex_index.specs.Placement.{Placement, place}
-use Rattle.arc_tables.specs.Ways.{Edge}
-use Rattle.arc_tables.specs.Rings.{begins}
-use Rattle.ring_store.specs.Tables.{ring_in}
+use Rattle.topo_reader.proofs.Common.{rings_document}
+use Rattle.vertex_index.specs.Common.{Placement, place}
+use Rattle.arc_tables.specs.Common.{Edge, begins}
+use Rattle.ring_store.specs.Common.{ring_in}
 use Rattle.ring_store.specs.declared.tables.RingTables.{RingTables}
-use Rattle.map_opening.specs.Flat.{all_rings, shape_of, ring_count, IsFlat, numbers_seen}
-use Rattle.ring_parts.specs.Seen.{rings_seen}
+use Rattle.map_opening.specs.Common.{all_rings, shape_of, ring_count, IsFlat, numbers_seen}
+use Rattle.ring_parts.specs.Common.{rings_seen}
 use Rattle.map_opening.specs.Opened.{AreOpened}
 use Rattle.map_opening.proofs.FlatLists.{length-all_rings}
 use Rattle.map_opening.proofs.NestedLists.{put_again}
-use Rattle.map_frame.specs.Framed.{Framed}
-use Rattle.map_frame.specs.Numbers.{polygon_numbers, feature_numbers}
+use Rattle.map_frame.specs.Common.{Framed, polygon_numbers, feature_numbers, CanStand}
 use Rattle.map_frame.specs.Opened as frame
-use Rattle.map_frame.specs.Opened.{CanStand}
 use Rattle.map_frame.proofs.BuiltAlike.{can_stand, lengths_of}
 use Rattle.map_frame.proofs.BuiltNumbers.{layers_length}
-use Rattle.feature_exchange.specs.Holds.{Holds}
-use Rattle.feature_exchange.specs.Stored.{stored_in, Stored, ring_under, document_of}
+use Rattle.feature_exchange.specs.Common.{Holds, stored_in, Stored, ring_under, document_of}
 use Rattle.feature_exchange.proofs.Whole.{map_holds}
-use Rattle.arc_store.specs.Kept.{IsKept}
+use Rattle.arc_store.specs.Common.{IsKept}
 use Rattle.arc_store.proofs.AllCanonical.{all_canonical}
 use Rattle.arc_store.proofs.FramedDocument.{read_framed}
 use Rattle.arc_store.proofs.FrameReads.{feature_count-in_rings}

@@ -1,13 +1,8 @@
 -- What an edit makes of a map, from how it ended.
-use Rattle.std.proofs.Common.{◌≡◌, ℕ, sym, ap, ap₂, ◌∙◌, subst, Option, None}
-use Rattle.std.specs.Prelude.{Result, Ok, Err, OnOk, IsErrAnd}
-use Rattle.ring_machine.specs.Document.{Document}
-use Rattle.ring_machine.specs.Command.{Refusal}
-use Rattle.edit_records.specs.Records.{Record}
-use Rattle.arc_store.specs.Faults.{Refuses}
-use Rattle.arc_store.specs.Outcomes.{Edits, IsSameMap, edit_begun}
-use Rattle.arc_store.specs.State.{State}
-use Rattle.arc_store.specs.declared.fault.EditFault.{EditFault}
+use Rattle.kit_words.proofs.Common.{◌≡◌, ℕ, sym, ap, ap₂, ◌∙◌, subst, Option, None, Result, Ok, Err, OnOk, IsErrAnd}
+use Rattle.ring_machine.specs.Common.{Document, Refusal}
+use Rattle.edit_records.specs.Common.{Record}
+use Rattle.arc_store.specs.Common.{Refuses, Edits, IsSameMap, edit_begun, State, EditFault}
 
 kept_made : {R : Type 0} (result : Result R EditFault) (reached new : State)
     → OnOk result (IsSameMap reached new) → OnOk result (IsSameMap (record reached { last = new.last }) new)

@@ -1,28 +1,16 @@
 -- The segments of a path that has no position twice: each of them once.
-use Rattle.std.proofs.Common.{◌≡◌, ◌≤◌, ◌+◌, Bool, true, false, refl, sym, ap, ◌∙◌, subst, cond}
-use Rattle.std.proofs.Common.{List, [], ◌∷◌, inl, inr, arith}
-use Rattle.std.specs.Prelude.{not}
-use Rattle.std.proofs.lemmas.Bool.{false≢true}
-use Rattle.grid_geometry.specs.Position.{Position}
-use Rattle.grid_geometry.specs.Segment.{Segment}
-use Rattle.grid_geometry.specs.Ring.{Edge, links}
-use Rattle.ring_machine.specs.Cut.{Path}
-use Rattle.ring_machine.specs.Document.{Document}
-use Rattle.ring_machine.specs.Parts.{is_segment}
-use Rattle.ring_machine.specs.Refusals.{positions_of, is_path_segment}
-use Rattle.ring_machine.specs.Ring.{has, is_distinct, segment_of}
-use Rattle.ring_machine.proofs.First.{In}
-use Rattle.ring_machine.proofs.Members.{in_mapped, any_in}
-use Rattle.ring_machine.proofs.Neighbours.{in-has, none_in}
-use Rattle.ring_machine.proofs.Order.{and_both, refuted}
-use Rattle.ring_machine.proofs.Removal.{not_true}
-use Rattle.ring_machine.proofs.RingSegments.{same_ends}
-use Rattle.ring_machine.proofs.SplitSegments.{path_segments}
+use Rattle.kit_words.proofs.Common.{◌≡◌, ◌≤◌, ◌+◌, Bool, true, false, refl, sym, ap, ◌∙◌, subst, cond, List, [], ◌∷◌}
+use Rattle.kit_words.proofs.Common.{inl, inr, arith, not, false≢true}
+use Rattle.grid_geometry.specs.Common.{Position, Segment, Edge, links}
+use Rattle.ring_machine.specs.Common.{Path, Document, is_segment, positions_of, is_path_segment, has, is_distinct}
+use Rattle.ring_machine.specs.Common.{segment_of}
+use Rattle.ring_machine.proofs.Common.{In, in_mapped, any_in, in-has, none_in, and_both, refuted, not_true, same_ends}
+use Rattle.ring_machine.proofs.Common.{path_segments}
 use Rattle.segment_index.specs.Candidates.{SegmentSet, AreSingle, segment_is, has as has_segment, times_in}
-use Rattle.segment_index.proofs.Singles.{same_segment, times-none}
-use Rattle.ring_parts.proofs.WaySegments.{segments_along}
-use Rattle.feature_exchange.specs.Holds.{IsIndexed}
-use Rattle.ring_store.specs.Planned.{AreNew}
+use Rattle.segment_index.proofs.Common.{same_segment, times-none}
+use Rattle.ring_parts.proofs.Common.{segments_along}
+use Rattle.feature_exchange.specs.Common.{IsIndexed}
+use Rattle.ring_store.specs.Common.{AreNew}
 
 link_ends : (ps : List Position) (e : Edge) → In e (links ps) → In e.0 ps × In e.1 ps
 link_ends (p ∷ q ∷ ps) e (inl h) = (inl (ap (λ (z : Edge). z.0) h), inr (inl (ap (λ (z : Edge). z.1) h)))

@@ -1,31 +1,21 @@
 -- Where the features of a map stand, and what is true of its document.
-use Rattle.std.proofs.Common.{◌≡◌, ◌<◌, ◌≤◌, ℕ, true, false, refl, sym, ap, ◌∙◌, subst, arith, List, Option, Some}
-use Rattle.std.proofs.Common.{None, option_map, is_some}
-use Rattle.std.proofs.lemmas.Bool.{false≢true, true_from_ne_false}
-use Rattle.ring_machine.specs.Document.{DocumentOf, FeatureOf, Document}
-use Rattle.ring_machine.specs.Parts.{feature, in_feature, in_rings, has_feature}
-use Rattle.ring_machine.specs.Refusals.{feature_at, or_else, no_feature}
-use Rattle.ring_machine.proofs.Found.{feature-in_rings, has_feature-found}
-use Rattle.edit_records.specs.Places.{LayerTree, Fills, has_place}
-use Rattle.edit_records.specs.Records.{IsMap, IsHeld, Record}
-use Rattle.edit_records.proofs.ExchangesMade.{fills-nowhere}
-use Rattle.edit_records.proofs.PlacesBack.{fills-grown}
-use Rattle.edit_records.proofs.PlacesFilled.{fills-in_rings}
-use Rattle.vertex_index.specs.Placement.{Placement}
-use Rattle.segment_index.specs.Candidates.{SegmentSet}
+use Rattle.kit_words.proofs.Common.{◌≡◌, ◌<◌, ◌≤◌, ℕ, true, false, refl, sym, ap, ◌∙◌, subst, arith, List, Option, Some}
+use Rattle.kit_words.proofs.Common.{None, option_map, is_some, false≢true, true_from_ne_false}
+use Rattle.ring_machine.specs.Common.{DocumentOf, FeatureOf, Document, feature, in_feature, in_rings, has_feature}
+use Rattle.ring_machine.specs.Common.{feature_at, or_else, no_feature}
+use Rattle.ring_machine.proofs.Common.{feature-in_rings, has_feature-found, refuted}
+use Rattle.edit_records.specs.Common.{LayerTree, Fills, has_place, IsMap, IsHeld, Record}
+use Rattle.edit_records.proofs.Common.{fills-nowhere, fills-grown, fills-in_rings}
+use Rattle.vertex_index.specs.Common.{Placement}
+use Rattle.segment_index.specs.Common.{SegmentSet}
 use Rattle.segment_index.specs.Frames.{Frame as GridFrame}
-use Rattle.arc_tables.specs.Rings.{Rings}
-use Rattle.topo_outline.specs.Kept.{KeepsTexts}
-use Rattle.topo_outline.proofs.KeptRings.{keeps-in_rings}
-use Rattle.map_frame.specs.Framed.{Framed}
-use Rattle.map_frame.specs.Placed.{ArePlaced}
-use Rattle.map_frame.specs.Texts.{Texts, texts_of}
-use Rattle.feature_exchange.specs.Changed.{trees_after}
-use Rattle.feature_exchange.specs.Stored.{stored, ring_under, document_of}
-use Rattle.arc_store.specs.Kept.{IsKept, state_of}
-use Rattle.arc_store.specs.State.{State}
+use Rattle.arc_tables.specs.Common.{Rings}
+use Rattle.topo_outline.specs.Common.{KeepsTexts}
+use Rattle.topo_outline.proofs.Common.{keeps-in_rings}
+use Rattle.map_frame.specs.Common.{Framed, ArePlaced, Texts, texts_of}
+use Rattle.feature_exchange.specs.Common.{trees_after, stored, ring_under, document_of}
+use Rattle.arc_store.specs.Common.{IsKept, state_of, State}
 use Rattle.arc_store.proofs.FeaturesKept.{seen_doc, seen_formed, seen_proper, seen_size, seen_small}
-use Rattle.ring_machine.proofs.Order.{refuted}
 
 -- rings in the place of their numbers leave the places as they are
 pub placed-in_rings : {R S : Type 0} (g : R → S) (trees : List LayerTree) (next : ℕ) (d : DocumentOf R)

@@ -1,12 +1,10 @@
 -- A polygon of those that were read, at its place among them.
-use Rattle.std.proofs.Common.{◌≡◌, ◌<◌, ℕ, false, sym, ap, ◌∙◌, subst, List, [], ◌∷◌, map, length, get_or, take, arith}
-use Rattle.std.specs.Prelude.{Vec}
-use Rattle.std.specs.List.{list_any}
-use Rattle.std.proofs.lemmas.List.{length-map, get_or-map}
-use Rattle.grid_geometry.specs.Position.{Position}
-use Rattle.ring_machine.specs.Cut.{Path, is_cut_by, first_that}
-use Rattle.ring_parts.specs.Seen.{rings_seen, polygons_seen}
-use Rattle.arc_store.specs.Splits.{IsFirstCut}
+use Rattle.kit_words.proofs.Common.{◌≡◌, ◌<◌, ℕ, false, sym, ap, ◌∙◌, subst, List, [], ◌∷◌, map, length, get_or, take}
+use Rattle.kit_words.proofs.Common.{arith, Vec, list_any, length-map, get_or-map}
+use Rattle.grid_geometry.specs.Common.{Position}
+use Rattle.ring_machine.specs.Common.{Path, is_cut_by, first_that}
+use Rattle.ring_parts.specs.Common.{rings_seen, polygons_seen}
+use Rattle.arc_store.specs.Common.{IsFirstCut}
 
 -- an element, seen otherwise, stands at its place among all seen so
 pub at_mapped : {A B : Type 0} (of : A → B) (xs : List A) (i : ℕ) (x : A) (d : B) → i < length xs

@@ -1,28 +1,20 @@
 -- Vertices put back one after the other: what becomes of the vertices and the segments of a document.
-use Rattle.std.proofs.Common.{◌≡◌, ◌≤◌, ◌+◌, Bool, true, false, refl, sym, ap, ap₂, ◌∙◌}
-use Rattle.std.proofs.Common.{cond, List, [], ◌∷◌, ◌++◌, map, ◌⊎◌, inl, inr, ◌&&◌, ◌||◌, arith}
-use Rattle.std.specs.Prelude.{not, reverse}
-use Rattle.std.specs.List.{list_any, fold}
-use Rattle.std.proofs.lemmas.Bool.{false≢true}
-use Rattle.std.proofs.lemmas.List.{map-append, reverse-append}
-use Rattle.grid_geometry.specs.Position.{Position}
-use Rattle.grid_geometry.specs.Segment.{Segment, segment, segment_eq, is_end}
-use Rattle.grid_geometry.proofs.Conflicts.{segment-comm}
-use Rattle.ring_machine.specs.Document.{Document}
-use Rattle.ring_machine.specs.Parts.{is_vertex, is_segment}
-use Rattle.ring_machine.proofs.First.{In}
-use Rattle.ring_machine.proofs.Members.{any_in, in_any}
-use Rattle.ring_machine.proofs.Order.{or_true, or_right, and_both, refuted}
-use Rattle.ring_machine.proofs.Orders.{segment_ordered}
-use Rattle.ring_machine.proofs.RingSegments.{segment_eq-true}
-use Rattle.edit_records.specs.Records.{put_back, IsMap, IsRemoved, AreRemoved}
-use Rattle.segment_index.specs.Candidates.{AreSingle, segment_is, has, times_in}
-use Rattle.segment_index.proofs.Singles.{same_segment, times-none}
-use Rattle.ring_store.proofs.SegmentLists.{segment_is-eq, has-eq}
-use Rattle.feature_exchange.proofs.Ends.{two_ends, end_of_two}
-use Rattle.ring_store.specs.Many.{comings, goings}
+use Rattle.kit_words.proofs.Common.{◌≡◌, ◌≤◌, ◌+◌, Bool, true, false, refl, sym, ap, ap₂, ◌∙◌, cond, List, [], ◌∷◌}
+use Rattle.kit_words.proofs.Common.{◌++◌, map, ◌⊎◌, inl, inr, ◌&&◌, ◌||◌, arith, not, reverse, list_any, fold}
+use Rattle.kit_words.proofs.Common.{false≢true, map-append, reverse-append}
+use Rattle.grid_geometry.specs.Common.{Position, Segment, segment, segment_eq, is_end}
+use Rattle.grid_geometry.proofs.Common.{segment-comm}
+use Rattle.ring_machine.specs.Common.{Document, is_vertex, is_segment}
+use Rattle.ring_machine.proofs.Common.{In, any_in, in_any, or_true, or_right, and_both, refuted, segment_ordered}
+use Rattle.ring_machine.proofs.Common.{segment_eq-true}
+use Rattle.edit_records.specs.Common.{put_back, IsMap, IsRemoved, AreRemoved}
+use Rattle.segment_index.specs.Common.{AreSingle, segment_is, has, times_in}
+use Rattle.segment_index.proofs.Common.{same_segment, times-none}
+use Rattle.ring_store.proofs.Common.{segment_is-eq, has-eq}
+use Rattle.feature_exchange.proofs.Common.{two_ends, end_of_two}
+use Rattle.ring_store.specs.Common.{comings, goings}
 use Rattle.ring_store.specs.declared.removal.Removal.{Removal}
-use Rattle.arc_store.specs.Recorded.{removal_seen}
+use Rattle.arc_store.specs.Common.{removal_seen}
 use Rattle.arc_store.proofs.Indexed.{end_vertex, vertex_end}
 use Rattle.arc_store.proofs.Insertions.{Comes, border_ends, not_segment, over_segments, segments_come, segments_ins}
 

@@ -1,16 +1,13 @@
 -- Each position of a map's rings is in range, since each vertex stands at one.
-use Rattle.std.proofs.Common.{◌≡◌, ℕ, List, [], ◌∷◌, ◌++◌, map, Option, Some, None, refl, sym, subst, arith}
-use Rattle.std.specs.Prelude.{unwrap_or, pos}
-use Rattle.std.specs.List.{AllByRecursion}
+use Rattle.kit_words.proofs.Common.{◌≡◌, ℕ, List, [], ◌∷◌, ◌++◌, map, Option, Some, None, refl, sym, subst, arith}
+use Rattle.kit_words.proofs.Common.{unwrap_or, pos, AllByRecursion}
 use Rattle.std.specs.FinMap as table
-use Rattle.grid_geometry.specs.Position.{Position, InRange, position}
-use Rattle.ring_machine.specs.Ring.{canonical}
-use Rattle.ring_machine.specs.Parts.{rings}
-use Rattle.ring_machine.proofs.Canonical.{canonical_parts}
-use Rattle.ring_machine.proofs.RingsOf.{rings-in_rings}
-use Rattle.vertex_index.specs.Placement.{Placement, place, AreInRange}
-use Rattle.arc_tables.specs.Rings.{begins}
-use Rattle.feature_exchange.specs.Stored.{Stored, edges_under, ring_under, document_of}
+use Rattle.grid_geometry.specs.Common.{Position, InRange, position}
+use Rattle.ring_machine.specs.Common.{canonical, rings}
+use Rattle.ring_machine.proofs.Common.{canonical_parts, rings-in_rings}
+use Rattle.vertex_index.specs.Common.{Placement, place, AreInRange}
+use Rattle.arc_tables.specs.Common.{begins}
+use Rattle.feature_exchange.specs.Common.{Stored, edges_under, ring_under, document_of}
 use Rattle.feature_exchange.proofs.Readied.{all_left, all_right}
 
 each_joined : {A : Type 0} (P : A → Type 0) (xs ys : List A) → AllByRecursion P xs → AllByRecursion P ys → AllByRecursion P (xs ++ ys)

@@ -1,27 +1,19 @@
 -- What a kept map answers on its vertices and on the rings of a segment.
-use Rattle.std.proofs.Common.{◌≡◌, ◌≢◌, ℕ, Bool, true, false, refl, sym, ap, ap₂, ◌∙◌, subst, cond}
-use Rattle.std.proofs.Common.{List, [], ◌∷◌, length, ◌⊎◌, inl, inr, Option, Some, None, is_some}
-use Rattle.std.specs.Prelude.{IfSome, IfNone}
-use Rattle.std.specs.List.{filter}
+use Rattle.kit_words.proofs.Common.{◌≡◌, ◌≢◌, ℕ, Bool, true, false, refl, sym, ap, ap₂, ◌∙◌, subst, cond, List, [], ◌∷◌}
+use Rattle.kit_words.proofs.Common.{length, ◌⊎◌, inl, inr, Option, Some, None, is_some, IfSome, IfNone, filter, is_gt}
 use Rattle.std.specs.FinMap as table
-use Rattle.std.specs.Ordering.{is_gt}
-use Rattle.grid_geometry.specs.Position.{Position}
-use Rattle.grid_geometry.specs.Segment.{Segment, segment, IsSegment}
-use Rattle.ring_machine.specs.Parts.{rings, is_vertex}
-use Rattle.ring_machine.proofs.First.{In}
+use Rattle.grid_geometry.specs.Common.{Position, Segment, segment, IsSegment}
+use Rattle.ring_machine.specs.Common.{rings, is_vertex}
+use Rattle.ring_machine.proofs.Common.{In, in_any, refuted}
 use Rattle.arc_tables.specs.Rings as shared
-use Rattle.vertex_index.specs.Placement.{place}
-use Rattle.feature_exchange.specs.Stored.{Stored, document_of}
-use Rattle.feature_exchange.specs.Holds.{IsWhole}
-use Rattle.arc_store.specs.Spots.{users}
-use Rattle.ring_store.proofs.Places.{place_is, place_kept, kept_place}
-use Rattle.feature_exchange.proofs.Base.{key_vertex, vertex_key, segment_between, joined_kept}
-use Rattle.feature_exchange.proofs.Ends.{segment_ends}
+use Rattle.vertex_index.specs.Common.{place}
+use Rattle.feature_exchange.specs.Common.{Stored, document_of, IsWhole}
+use Rattle.arc_store.specs.Common.{users}
+use Rattle.ring_store.proofs.Common.{place_is, place_kept, kept_place}
+use Rattle.feature_exchange.proofs.Common.{key_vertex, vertex_key, segment_between, joined_kept, segment_ends}
 use Rattle.arc_store.proofs.Insertions.{has_segment, is_segment_by}
-use Rattle.ring_machine.proofs.Members.{in_any}
 use Rattle.arc_store.proofs.Numbers.{users_count}
 use Rattle.arc_store.proofs.RingUsers.{users_same}
-use Rattle.ring_machine.proofs.Order.{refuted}
 
 -- the ends of a segment make it
 pub ends_make : (t : Segment) → IsSegment t → segment t.lo t.hi ≡ t

@@ -1,25 +1,17 @@
 -- What the tests of a removal say of its refusals.
-use Rattle.std.proofs.Common.{◌≡◌, Bool, sym, ap, ap₂, ◌∙◌, subst, List, [], ◌∷◌, ◌||◌, ◌&&◌, Option, None}
-use Rattle.std.specs.Prelude.{not}
-use Rattle.std.specs.List.{list_any}
-use Rattle.grid_geometry.specs.Held.{is_held}
-use Rattle.grid_geometry.specs.Position.{Position}
-use Rattle.grid_geometry.specs.Segment.{Segment, segment_eq, is_end}
+use Rattle.kit_words.proofs.Common.{◌≡◌, Bool, sym, ap, ap₂, ◌∙◌, subst, List, [], ◌∷◌, ◌||◌, ◌&&◌, Option, None, not}
+use Rattle.kit_words.proofs.Common.{list_any}
+use Rattle.grid_geometry.specs.Common.{is_held, Position, Segment, segment_eq, is_end}
 use Rattle.ring_machine.specs.Ring as machine
-use Rattle.ring_machine.specs.Command.{Refusal, NoVertex, Junction, RingShort, SegmentExists, Sweeps}
-use Rattle.ring_machine.specs.Document.{Document}
-use Rattle.ring_machine.specs.Parts.{positions, all_segments}
-use Rattle.ring_machine.specs.Planar.{first_pair, least_conflict}
-use Rattle.ring_machine.specs.Refusals.{first_of, conflict_of, planar, are_long, is_bridged, ◌unless◌, remove_refusals}
-use Rattle.ring_machine.specs.Sweep.{remove_sweeps}
-use Rattle.ring_machine.specs.Vertices.{del, is_junction}
-use Rattle.segment_index.specs.Candidates.{SegmentSet}
-use Rattle.local_planarity.specs.Edits.{IsAfter, IsEnds}
+use Rattle.ring_machine.specs.Common.{Refusal, NoVertex, Junction, RingShort, SegmentExists, Sweeps, Document}
+use Rattle.ring_machine.specs.Common.{positions, all_segments, first_pair, least_conflict, first_of, conflict_of}
+use Rattle.ring_machine.specs.Common.{planar, are_long, is_bridged, ◌unless◌, remove_refusals, remove_sweeps, del}
+use Rattle.ring_machine.specs.Common.{is_junction}
+use Rattle.segment_index.specs.Common.{SegmentSet}
+use Rattle.local_planarity.specs.Common.{IsAfter, IsEnds}
 use Rattle.local_planarity.specs.declared.leaving.Leaving.TheVariants.{EndingAt}
-use Rattle.arc_store.specs.declared.fault.EditFault.{EditFault}
-use Rattle.arc_store.specs.Edits.{IsRemovable}
-use Rattle.arc_store.specs.Faults.{Refuses}
-use Rattle.ring_store.proofs.SegmentLists.{has-eq, or_nothing}
+use Rattle.arc_store.specs.Common.{EditFault, IsRemovable, Refuses}
+use Rattle.ring_store.proofs.Common.{has-eq, or_nothing}
 use Rattle.arc_store.proofs.MovePlan.{refuses_first}
 use Rattle.arc_store.proofs.Indexed.{indexed_ends}
 

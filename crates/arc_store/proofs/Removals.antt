@@ -1,42 +1,24 @@
 -- What a removal of a position makes of the segments and the size of a document, where it has the
 -- same neighbours in each ring; and what stands around it then.
-use Rattle.std.proofs.Common.{◌≡◌, ◌+◌, Bool, true, false, refl, sym, ap, ap₂, ◌∙◌, subst, cond, List, [], ◌∷◌, ◌++◌}
-use Rattle.std.proofs.Common.{length, inl, inr, ◌&&◌, ◌||◌, arith, append_assoc}
-use Rattle.std.specs.Prelude.{not}
-use Rattle.std.specs.List.{flat_map, list_any, list_all, filter, sum_by}
-use Rattle.std.proofs.lemmas.Bool.{false≢true}
-use Rattle.std.proofs.lemmas.List.{length-append}
-use Rattle.std.proofs.lemmas.List.Elements.{filter-append}
-use Rattle.std.proofs.lemmas.List.Folds.{list_any-append}
-use Rattle.grid_geometry.specs.Position.{Position, position_eq}
-use Rattle.grid_geometry.specs.Segment.{Segment, segment, segment_eq, is_end}
-use Rattle.grid_geometry.specs.Ring.{Edge, edges, links}
-use Rattle.grid_geometry.proofs.Conflicts.{segment-comm}
-use Rattle.ring_machine.specs.Ring.{has, is_distinct, is_ring, canonical, segment_of, spots}
-use Rattle.ring_machine.specs.Document.{Document}
-use Rattle.ring_machine.specs.Parts.{rings, size, is_vertex, is_segment}
-use Rattle.ring_machine.specs.Refusals.{is_bridged}
-use Rattle.ring_machine.specs.Sweep.{holds_other, remove_sweeps}
-use Rattle.ring_machine.specs.Vertices.{del, del_ring, around, all_equal, is_junction}
-use Rattle.ring_machine.proofs.Order.{position_eq-true, position_eq-refl, refuted}
-use Rattle.ring_machine.proofs.Orders.{segment_ordered}
-use Rattle.ring_machine.proofs.Arcs.{is_of, links-append}
-use Rattle.ring_machine.proofs.First.{In, in-append, in_left}
-use Rattle.ring_machine.proofs.Neighbours.{all_in, has-in, in-has, edge_in, end_place, place_around}
-use Rattle.ring_machine.proofs.Removal.{others, filter_lacks}
-use Rattle.ring_machine.proofs.RingSegments.{segment_eq-true, segment_eq-sym}
-use Rattle.ring_machine.proofs.RingsOf.{rings-in_rings}
-use Rattle.ring_machine.proofs.Spots.{Rotated}
-use Rattle.ring_machine.proofs.StaysProper.{ring_distinct, ring_long}
-use Rattle.arc_tables.specs.Ways.{one}
-use Rattle.ring_store.proofs.Sums.{sum_by-map, sum_more}
-use Rattle.feature_exchange.proofs.Ends.{two_ends, end_of_two}
+use Rattle.kit_words.proofs.Common.{◌≡◌, ◌+◌, Bool, true, false, refl, sym, ap, ap₂, ◌∙◌, subst, cond, List, [], ◌∷◌}
+use Rattle.kit_words.proofs.Common.{◌++◌, length, inl, inr, ◌&&◌, ◌||◌, arith, append_assoc, not, flat_map, list_any}
+use Rattle.kit_words.proofs.Common.{list_all, filter, sum_by, false≢true, length-append, filter-append, list_any-append}
+use Rattle.grid_geometry.specs.Common.{Position, position_eq, Segment, segment, segment_eq, is_end, Edge, edges, links}
+use Rattle.grid_geometry.proofs.Common.{segment-comm}
+use Rattle.ring_machine.specs.Common.{has, is_distinct, is_ring, canonical, segment_of, spots, Document, rings, size}
+use Rattle.ring_machine.specs.Common.{is_vertex, is_segment, is_bridged, holds_other, remove_sweeps, del, del_ring}
+use Rattle.ring_machine.specs.Common.{around, all_equal, is_junction}
+use Rattle.ring_machine.proofs.Common.{position_eq-true, position_eq-refl, refuted, segment_ordered, is_of}
+use Rattle.ring_machine.proofs.Common.{links-append, In, in-append, in_left, all_in, has-in, in-has, edge_in, end_place}
+use Rattle.ring_machine.proofs.Common.{place_around, others, filter_lacks, segment_eq-true, segment_eq-sym}
+use Rattle.ring_machine.proofs.Common.{rings-in_rings, Rotated, ring_distinct, ring_long, any_in, in_any, same_answer}
+use Rattle.ring_machine.proofs.Common.{in_mapped, in_flat, in_filter, canonical_turns, ring_is_canonical}
+use Rattle.arc_tables.specs.Common.{one}
+use Rattle.ring_store.proofs.Common.{sum_by-map, sum_more, length-canonical, beside_edges}
+use Rattle.feature_exchange.proofs.Common.{two_ends, end_of_two}
 use Rattle.arc_store.proofs.Insertions.{AreRings, has_segment, has_segment_by, is_segment_by, any_mapped, any_parts}
-use Rattle.ring_store.proofs.KeyRings.{length-canonical, beside_edges}
-use Rattle.ring_machine.proofs.Members.{any_in, in_any, same_answer, in_mapped, in_flat, in_filter}
 use Rattle.arc_store.proofs.RingEdits.{edges_turned, edge_turned, BegunAt, begun_at}
 use Rattle.arc_store.proofs.RingEdits.{edge_back, rest_lacks, next_differs, last_differs}
-use Rattle.ring_machine.proofs.CutRings.{canonical_turns, ring_is_canonical}
 
 -- ---- one ring that has p
 

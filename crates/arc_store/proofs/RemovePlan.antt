@@ -1,47 +1,34 @@
 -- The plan of a removal from between two vertices: what comes and goes, and what is kept.
-use Rattle.std.proofs.Common.{◌≡◌, ◌≤◌, ◌+◌, ◌-◌, ℕ, true, false, refl, sym, ap, ap₂, ◌∙◌}
-use Rattle.std.proofs.Common.{subst, List, [], ◌∷◌, inl, inr, arith, Option, Some}
+use Rattle.kit_words.proofs.Common.{◌≡◌, ◌≤◌, ◌+◌, ◌-◌, ℕ, true, false, refl, sym, ap, ap₂, ◌∙◌, subst, List, [], ◌∷◌}
+use Rattle.kit_words.proofs.Common.{inl, inr, arith, Option, Some, false≢true}
 use Rattle.std.specs.FinMap as table
 use Rattle.std.specs.FinSet as set
-use Rattle.std.proofs.lemmas.Bool.{false≢true}
-use Rattle.grid_geometry.specs.Position.{Position}
-use Rattle.grid_geometry.specs.Segment.{Segment, segment}
-use Rattle.ring_machine.specs.Document.{Document}
-use Rattle.ring_machine.specs.Parts.{size, is_segment, is_vertex}
-use Rattle.ring_machine.specs.Refusals.{are_long, is_bridged}
-use Rattle.ring_machine.specs.Vertices.{del, is_junction}
-use Rattle.ring_machine.proofs.First.{In}
-use Rattle.ring_machine.proofs.RingSegments.{segment_eq-true}
-use Rattle.vertex_index.specs.Placement.{Placement, place}
-use Rattle.segment_index.specs.Candidates.{SegmentSet, AreAmong, AreSingle, segment_is}
+use Rattle.grid_geometry.specs.Common.{Position, Segment, segment}
+use Rattle.ring_machine.specs.Common.{Document, size, is_segment, is_vertex, are_long, is_bridged, del, is_junction}
+use Rattle.ring_machine.proofs.Common.{In, segment_eq-true, any_in, refuted}
+use Rattle.vertex_index.specs.Common.{Placement, place}
+use Rattle.segment_index.specs.Common.{SegmentSet, AreAmong, AreSingle, segment_is}
 use Rattle.segment_index.specs.Frames.{Frame as GridFrame}
-use Rattle.segment_index.proofs.Singles.{same_segment}
+use Rattle.segment_index.proofs.Common.{same_segment}
 use Rattle.shared_arcs.specs.declared.around.Neighbours.{Neighbours}
 use Rattle.shared_arcs.specs.declared.around.Neighbours.TheVariants as neighbours
 use Rattle.shared_arcs.specs.declared.around.Neighbours.TheVariants.{One, Two, More}
-use Rattle.arc_tables.specs.Edited.{AreApart}
-use Rattle.shared_arcs.specs.Joined.{Joined, AreNeighbours}
-use Rattle.arc_tables.specs.Rings.{Rings, users_of}
-use Rattle.map_frame.specs.Framed.{Framed}
-use Rattle.edit_records.specs.Records.{Record}
-use Rattle.arc_store.specs.Edits.{IsLeavable, IsRemovable}
-use Rattle.ring_store.specs.Changes.{HasBridging, IsBridging, TakenOut}
-use Rattle.feature_exchange.specs.Holds.{IsWhole, IsIndexed}
-use Rattle.arc_store.specs.Kept.{IsKept, state_of}
-use Rattle.arc_store.specs.State.{State}
-use Rattle.feature_exchange.specs.Stored.{stored, Stored, document_of}
-use Rattle.ring_store.specs.Planned.{Exchanges, spokes}
+use Rattle.arc_tables.specs.Common.{AreApart, Rings, users_of}
+use Rattle.shared_arcs.specs.Common.{Joined, AreNeighbours}
+use Rattle.map_frame.specs.Common.{Framed}
+use Rattle.edit_records.specs.Common.{Record}
+use Rattle.arc_store.specs.Common.{IsLeavable, IsRemovable, IsKept, state_of, State}
+use Rattle.ring_store.specs.Common.{HasBridging, IsBridging, TakenOut, Exchanges, spokes}
+use Rattle.feature_exchange.specs.Common.{IsWhole, IsIndexed, stored, Stored, document_of}
 use Rattle.arc_store.proofs.Around.{bridged_two, segments_two, sweeps_two, unbridged_two}
 use Rattle.arc_store.proofs.Around.{two_apart, neighbours_none, neighbours_one, neighbours_more}
-use Rattle.ring_store.proofs.Places.{place_is}
-use Rattle.feature_exchange.proofs.Base.{joined_kept, joined_apart, joined_back, vertex_key}
-use Rattle.feature_exchange.proofs.Base.{joined_segment, one_to, key_vertex}
+use Rattle.ring_store.proofs.Common.{place_is}
+use Rattle.feature_exchange.proofs.Common.{joined_kept, joined_apart, joined_back, vertex_key, joined_segment, one_to}
+use Rattle.feature_exchange.proofs.Common.{key_vertex}
 use Rattle.arc_store.proofs.InsertPlan.{two_single}
-use Rattle.ring_machine.proofs.Members.{any_in}
 use Rattle.arc_store.proofs.Removed.{Removing, without_vertex, document_removed, reindexed_removed}
 use Rattle.arc_store.proofs.Removed.{holds_removed, size_removed}
 use Rattle.arc_store.proofs.RingUsers.{users_same}
-use Rattle.ring_machine.proofs.Order.{refuted}
 
 -- where a vertex is no junction, the answer on its neighbours gives two
 pub two_neighbours : (s : Stored) → IsWhole s → (m : ℕ) (p : Position) → table.get s.places m ≡ Some p

@@ -1,60 +1,39 @@
 -- What a removal of a vertex does to a map that is kept.
-use Rattle.std.proofs.Common.{◌≡◌, ◌≢◌, ◌≤◌, ◌+◌, ℕ, Bool, true, false, refl, sym, ap, ap₂, ◌∙◌, subst, cond, List, []}
-use Rattle.std.proofs.Common.{◌∷◌, ◌++◌, map, length, inl, inr, ◌&&◌, ◌||◌, arith, Some, is_some}
-use Rattle.std.specs.Prelude.{not, option_map, unwrap_or}
-use Rattle.std.specs.List.{filter, list_any}
+use Rattle.kit_words.proofs.Common.{◌≡◌, ◌≢◌, ◌≤◌, ◌+◌, ℕ, Bool, true, false, refl, sym, ap, ap₂, ◌∙◌, subst, cond}
+use Rattle.kit_words.proofs.Common.{List, [], ◌∷◌, ◌++◌, map, length, inl, inr, ◌&&◌, ◌||◌, arith, Some, is_some, not}
+use Rattle.kit_words.proofs.Common.{option_map, unwrap_or, filter, list_any, false≢true, cases_Bool, ℕ_discrete}
 use Rattle.std.specs.FinMap as table
-use Rattle.std.proofs.lemmas.Bool.{false≢true, cases_Bool}
 use Rattle.std.specs.FinSet as set
-use native.Mathlib.Decide.{ℕ_discrete}
-use Rattle.grid_geometry.specs.Position.{Position, position_eq}
-use Rattle.grid_geometry.specs.Segment.{Segment, segment, segment_eq, is_end}
+use Rattle.grid_geometry.specs.Common.{Position, position_eq, Segment, segment, segment_eq, is_end}
 use Rattle.grid_geometry.specs.Ring as geometry
-use Rattle.grid_geometry.proofs.Conflicts.{segment-comm}
-use Rattle.ring_machine.specs.Ring.{canonical, has, is_ring}
-use Rattle.ring_machine.specs.Parts.{rings, size, is_segment}
-use Rattle.ring_machine.specs.Vertices.{del, del_ring}
-use Rattle.ring_machine.specs.Planar.{Proper}
-use Rattle.ring_machine.proofs.Arcs.{is_of}
-use Rattle.ring_machine.proofs.Orders.{segment_ordered}
-use Rattle.ring_machine.proofs.Order.{position_eq-true, position_eq-refl, refuted}
-use Rattle.ring_machine.proofs.Canonical.{Pivot}
-use Rattle.ring_machine.proofs.Edges.{starts, starts_of, by_edges}
-use Rattle.ring_machine.proofs.First.{In, filter-in}
-use Rattle.ring_machine.proofs.InRings.{document-agrees}
-use Rattle.ring_machine.proofs.Neighbours.{all_of, all_in, in-map, has-in, in-has}
+use Rattle.grid_geometry.proofs.Common.{segment-comm}
+use Rattle.ring_machine.specs.Common.{canonical, has, is_ring, rings, size, is_segment, del, del_ring, Proper}
+use Rattle.ring_machine.proofs.Common.{is_of, segment_ordered, position_eq-true, position_eq-refl, refuted, Pivot}
+use Rattle.ring_machine.proofs.Common.{starts, starts_of, by_edges, In, filter-in, document-agrees, all_of, all_in}
+use Rattle.ring_machine.proofs.Common.{in-map, has-in, in-has, rings-in_rings, ring_long, ring_distinct, del_is_proper}
+use Rattle.ring_machine.proofs.Common.{segment_eq-true, in_any, contains_in, in_contains, in_mapped, in_flat}
+use Rattle.ring_machine.proofs.Common.{same_answer, is_some-mapped, mapped_there, ring_is_canonical}
 use Rattle.ring_machine.proofs.Removal.{g_del, del_is, Beside, others, filter_lacks, onto as drawn_onto}
-use Rattle.ring_machine.proofs.RingsOf.{rings-in_rings}
-use Rattle.ring_machine.proofs.StaysProper.{ring_long, ring_distinct, del_is_proper}
-use Rattle.ring_machine.proofs.RingSegments.{segment_eq-true}
 use Rattle.segment_index.specs.Candidates.{SegmentSet, has as among}
-use Rattle.arc_tables.specs.Ways.{Edge, is_seg}
-use Rattle.arc_tables.specs.Rings.{Rings, begins}
-use Rattle.shared_arcs.specs.Joined.{Joined}
-use Rattle.arc_tables.specs.Edited.{onto, drawn, collapsed}
-use Rattle.vertex_index.specs.Placement.{place}
-use Rattle.feature_exchange.specs.Stored.{Stored, positions_along, edges_under, ring_under, document_of}
-use Rattle.ring_store.specs.Round.{GoesRound}
-use Rattle.feature_exchange.specs.Holds.{IsWhole, IsIndexed, Holds}
-use Rattle.ring_store.proofs.SegmentLists.{has-eq}
-use Rattle.ring_machine.proofs.Members.{in_any, contains_in, in_contains, in_mapped, in_flat}
-use Rattle.ring_machine.proofs.Members.{same_answer, is_some-mapped, mapped_there}
-use Rattle.arc_store.specs.Edits.{IsLeavable}
+use Rattle.arc_tables.specs.Common.{Edge, is_seg, Rings, begins, onto, drawn, collapsed}
+use Rattle.shared_arcs.specs.Common.{Joined}
+use Rattle.vertex_index.specs.Common.{place}
+use Rattle.feature_exchange.specs.Common.{Stored, positions_along, edges_under, ring_under, document_of, IsWhole}
+use Rattle.feature_exchange.specs.Common.{IsIndexed, Holds}
+use Rattle.ring_store.specs.Common.{GoesRound}
+use Rattle.ring_store.proofs.Common.{has-eq, filter-mapped, IsKept, place_is, place_kept, one_key, place_alike}
+use Rattle.ring_store.proofs.Common.{remove_here, remove_other, laid, edge_ends, edge_apart, is_seg_ends, ends_is_seg}
+use Rattle.ring_store.proofs.Common.{in_canonical, of_canonical}
+use Rattle.arc_store.specs.Common.{IsLeavable}
 use Rattle.arc_store.proofs.Around.{AreTwo, two_ways, bridged_two, segments_two}
-use Rattle.ring_store.proofs.Sums.{filter-mapped}
-use Rattle.feature_exchange.proofs.Ends.{two_ends}
+use Rattle.feature_exchange.proofs.Common.{two_ends, AreJoined, segments_at, document_ring, rings_are, ring_under_is}
+use Rattle.feature_exchange.proofs.Common.{begin_kept, framed, ring_is_ring, joined_kept, joined_differ}
 use Rattle.arc_store.proofs.Insertions.{has_segment, has_segment_by}
 use Rattle.arc_store.proofs.Numbers.{users_of, framed_has}
 use Rattle.arc_store.proofs.Removals.{segments_off, size_del}
-use Rattle.ring_store.proofs.Places.{IsKept, place_is, place_kept, one_key, place_alike, remove_here, remove_other}
-use Rattle.feature_exchange.proofs.Base.{AreJoined, segments_at, document_ring, rings_are, ring_under_is, begin_kept}
-use Rattle.feature_exchange.proofs.Base.{framed, ring_is_ring, joined_kept, joined_differ}
-use Rattle.ring_store.proofs.KeyRings.{laid, edge_ends, edge_apart, is_seg_ends, ends_is_seg}
-use Rattle.ring_store.proofs.KeyRings.{in_canonical, of_canonical}
 use Rattle.arc_store.proofs.KeyWays.{edited_along, edited_way, drawn_keeps, round_way, round_of_way, meets_onto}
 use Rattle.arc_store.proofs.RingEdits.{ring_pivot, begun_at, edge_on, edge_back, beside_next, beside_last}
-use Rattle.ring_machine.proofs.CutRings.{ring_is_canonical}
-use Rattle.arc_tables.proofs.Removing.{onto_p, onto_other}
+use Rattle.arc_tables.proofs.Common.{onto_p, onto_other}
 
 -- ---- one ring
 

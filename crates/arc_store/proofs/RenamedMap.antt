@@ -1,18 +1,15 @@
 -- The map as its callers see it, after a feature got another id.
-use Rattle.std.proofs.Common.{◌≡◌, ℕ, refl, sym, ap, ◌∙◌, Option, None, Some, option_map}
-use Rattle.ring_machine.specs.Document.{Feature, FeatureOf, Text}
-use Rattle.ring_machine.specs.Machine.{renamed}
-use Rattle.ring_machine.specs.Parts.{feature, in_feature}
-use Rattle.ring_machine.proofs.Found.{feature-in_rings}
-use Rattle.edit_records.specs.Records.{Record, Renamed}
-use Rattle.vertex_index.specs.Placement.{Placement}
-use Rattle.segment_index.specs.Candidates.{SegmentSet}
+use Rattle.kit_words.proofs.Common.{◌≡◌, ℕ, refl, sym, ap, ◌∙◌, Option, None, Some, option_map}
+use Rattle.ring_machine.specs.Common.{Feature, FeatureOf, Text, renamed, feature, in_feature}
+use Rattle.ring_machine.proofs.Common.{feature-in_rings}
+use Rattle.edit_records.specs.Common.{Record, Renamed}
+use Rattle.vertex_index.specs.Common.{Placement}
+use Rattle.segment_index.specs.Common.{SegmentSet}
 use Rattle.segment_index.specs.Frames.{Frame as GridFrame}
-use Rattle.arc_tables.specs.Rings.{Rings}
-use Rattle.map_frame.specs.Framed.{Framed}
-use Rattle.feature_exchange.specs.Stored.{stored, ring_under}
-use Rattle.arc_store.specs.Kept.{IsKept, state_of}
-use Rattle.arc_store.specs.State.{State}
+use Rattle.arc_tables.specs.Common.{Rings}
+use Rattle.map_frame.specs.Common.{Framed}
+use Rattle.feature_exchange.specs.Common.{stored, ring_under}
+use Rattle.arc_store.specs.Common.{IsKept, state_of, State}
 use Rattle.arc_store.proofs.NamedBack.{state_named}
 
 module _ {frame : Framed} {rings : Rings} {places : Placement} {held : SegmentSet} {positions : ℕ}

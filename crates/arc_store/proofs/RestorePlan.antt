@@ -1,14 +1,11 @@
 -- What a record says of the way back, as the changes of the tables ask it.
-use Rattle.std.proofs.Common.{◌≡◌, ◌<◌, ℕ, List, [], ◌∷◌, Option, None, sym, ap, ◌∙◌, subst}
-use Rattle.std.specs.List.{AllByRecursion}
-use Rattle.grid_geometry.specs.Position.{Position}
-use Rattle.ring_machine.specs.Document.{Document, Feature}
-use Rattle.edit_records.specs.Places.{LayerTree, exchanged}
-use Rattle.edit_records.specs.Records.{Record, Moved, Inserted, Exchanged, back, IsMap, AreChanged, Undoes}
-use Rattle.topo_outline.specs.Kept.{KeepsTexts}
-use Rattle.arc_store.specs.Edits.{IsMovable, IsLeavable}
-use Rattle.arc_store.specs.Exchanged.{MayExchange}
-use Rattle.arc_store.specs.State.{State}
+use Rattle.kit_words.proofs.Common.{◌≡◌, ◌<◌, ℕ, List, [], ◌∷◌, Option, None, sym, ap, ◌∙◌, subst, AllByRecursion}
+use Rattle.grid_geometry.specs.Common.{Position}
+use Rattle.ring_machine.specs.Common.{Document, Feature}
+use Rattle.edit_records.specs.Common.{LayerTree, exchanged, Record, Moved, Inserted, Exchanged, back, IsMap, AreChanged}
+use Rattle.edit_records.specs.Common.{Undoes}
+use Rattle.topo_outline.specs.Common.{KeepsTexts}
+use Rattle.arc_store.specs.Common.{IsMovable, IsLeavable, MayExchange, State}
 
 module _ (trees : List LayerTree) (next : ℕ) (d : Document) where
   pub movable_back : (p q : Position) → Undoes trees next d (Moved p q) → IsMovable d q p

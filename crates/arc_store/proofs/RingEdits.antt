@@ -1,25 +1,13 @@
 -- Rings that are turned: what stays, and what stands beside a position of them.
-use Rattle.std.proofs.Common.{◌≡◌, ◌≢◌, ◌≤◌, Bool, true, false, refl, sym, ap, ◌∙◌, subst, List, []}
-use Rattle.std.proofs.Common.{◌∷◌, ◌++◌, length, inl, inr, ◌||◌, arith}
-use Rattle.std.specs.Prelude.{not}
-use Rattle.std.specs.List.{list_any}
-use Rattle.std.proofs.lemmas.Bool.{false≢true}
-use Rattle.std.proofs.lemmas.List.{length-append}
-use Rattle.std.proofs.lemmas.List.Folds.{list_any-append}
-use Rattle.grid_geometry.specs.Position.{Position}
-use Rattle.grid_geometry.specs.Ring.{Edge, edges, links}
-use Rattle.ring_machine.specs.Ring.{has, is_distinct, is_ring, canonical}
-use Rattle.ring_machine.proofs.Order.{and_both}
-use Rattle.ring_machine.proofs.Canonical.{Pivot, pivot_of, canonical_parts}
-use Rattle.ring_machine.proofs.First.{In, in_right}
-use Rattle.ring_machine.proofs.Neighbours.{in-has}
-use Rattle.ring_machine.proofs.Spots.{Rotated, rotated-trans, rotated_distinct}
-use Rattle.ring_machine.proofs.Removal.{not_true, NextTo, second, last, Beside}
-use Rattle.ring_machine.proofs.StaysProper.{ring_distinct}
-use Rattle.ring_machine.proofs.StaysRing.{distinct_swap}
-use Rattle.ring_machine.proofs.Members.{in_swap}
-use Rattle.ring_store.proofs.KeyRings.{edges_swap}
-use Rattle.ring_machine.proofs.Passed.{in_split}
+use Rattle.kit_words.proofs.Common.{◌≡◌, ◌≢◌, ◌≤◌, Bool, true, false, refl, sym, ap, ◌∙◌, subst, List, [], ◌∷◌, ◌++◌}
+use Rattle.kit_words.proofs.Common.{length, inl, inr, ◌||◌, arith, not, list_any, false≢true, length-append}
+use Rattle.kit_words.proofs.Common.{list_any-append}
+use Rattle.grid_geometry.specs.Common.{Position, Edge, edges, links}
+use Rattle.ring_machine.specs.Common.{has, is_distinct, is_ring, canonical}
+use Rattle.ring_machine.proofs.Common.{and_both, Pivot, pivot_of, canonical_parts, In, in_right, in-has, Rotated}
+use Rattle.ring_machine.proofs.Common.{rotated-trans, rotated_distinct, not_true, NextTo, second, last, Beside}
+use Rattle.ring_machine.proofs.Common.{ring_distinct, distinct_swap, in_swap, in_split}
+use Rattle.ring_store.proofs.Common.{edges_swap}
 
 -- ---- the canonical ring only turns
 

@@ -1,23 +1,14 @@
 -- The ring under a number of the frame, by the keys that the tables have along it.
-use Rattle.std.proofs.Common.{◌≡◌, ℕ, ◌≤◌, true, Option, Some, None, is_some, option_map, refl}
-use Rattle.std.proofs.Common.{sym, ap, ◌∙◌, subst, List, [], ◌∷◌, length, map, arith, inl, inr, Contains}
-use Rattle.std.specs.Prelude.{unwrap_or, IsTrue, IfSome, IfNone}
+use Rattle.kit_words.proofs.Common.{◌≡◌, ℕ, ◌≤◌, true, Option, Some, None, is_some, option_map, refl, sym, ap, ◌∙◌}
+use Rattle.kit_words.proofs.Common.{subst, List, [], ◌∷◌, length, map, arith, inl, inr, Contains, unwrap_or, IsTrue}
+use Rattle.kit_words.proofs.Common.{IfSome, IfNone, sum_by, length-map, sum_by-cons}
 use Rattle.std.specs.FinMap as table
-use Rattle.std.specs.List.{sum_by}
-use Rattle.std.proofs.lemmas.List.{length-map}
-use Rattle.std.proofs.lemmas.List.Sums.{sum_by-cons}
-use Rattle.ring_machine.specs.Parts.{rings, size}
-use Rattle.ring_machine.specs.Ring.{canonical}
-use Rattle.ring_machine.proofs.First.{In}
-use Rattle.ring_machine.proofs.Members.{in_contains}
-use Rattle.ring_machine.proofs.Neighbours.{in-map}
-use Rattle.ring_machine.proofs.RingsOf.{rings-in_rings}
-use Rattle.vertex_index.specs.Placement.{place}
-use Rattle.arc_tables.specs.Rings.{begins}
-use Rattle.arc_tables.specs.Ways.{Edge}
-use Rattle.ring_store.proofs.KeyRings.{length-canonical, begins_round}
-use Rattle.feature_exchange.specs.Holds.{IsWhole}
-use Rattle.feature_exchange.specs.Stored.{Stored, document_of, ring_under}
+use Rattle.ring_machine.specs.Common.{rings, size, canonical}
+use Rattle.ring_machine.proofs.Common.{In, in_contains, in-map, rings-in_rings}
+use Rattle.vertex_index.specs.Common.{place}
+use Rattle.arc_tables.specs.Common.{begins, Edge}
+use Rattle.ring_store.proofs.Common.{length-canonical, begins_round}
+use Rattle.feature_exchange.specs.Common.{IsWhole, Stored, document_of, ring_under}
 
 part_of_sum : {X : Type 0} (f : X → ℕ) (xs : List X) (x : X) → In x xs → f x ≤ sum_by f xs
 part_of_sum f [] x h = absurd h

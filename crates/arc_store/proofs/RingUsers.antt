@@ -1,28 +1,16 @@
 -- How many rings have a segment, counted over the rings that are kept.
-use Rattle.std.proofs.Common.{◌≡◌, ◌≢◌, ◌+◌, ℕ, Bool, true, false, refl, sym, ap, ap₂, ◌∙◌, cond, List, [], ◌∷◌, map}
-use Rattle.std.proofs.Common.{length, ◌||◌, ◌&&◌, inl, inr, arith, Some, None, is_some}
-use Rattle.std.specs.Prelude.{not, ◌==◌, unwrap_or, count_by, T}
-use Rattle.std.specs.List.{filter}
+use Rattle.kit_words.proofs.Common.{◌≡◌, ◌≢◌, ◌+◌, ℕ, Bool, true, false, refl, sym, ap, ap₂, ◌∙◌, cond, List, [], ◌∷◌}
+use Rattle.kit_words.proofs.Common.{map, length, ◌||◌, ◌&&◌, inl, inr, arith, Some, None, is_some, not, ◌==◌, unwrap_or}
+use Rattle.kit_words.proofs.Common.{T, filter, below_all, nat_cmp, is_lt, is_eq, eq_by_cmp, Ordering, Less, Equal}
+use Rattle.kit_words.proofs.Common.{Greater, false≢true, ne_eqb, Decides-eqb, nat_tests, sum_by-cons, ℕ_discrete}
+use Rattle.std.specs.Prelude.{count_by}
 use Rattle.std.specs.FinMap as table
-use Rattle.std.specs.FinMap.Entries.{below_all}
-use Rattle.std.specs.Ordering.{nat_cmp, is_lt, is_eq, eq_by_cmp}
-use Rattle.std.specs.declared.cmp.Ordering.{Ordering}
-use Rattle.std.specs.declared.cmp.Ordering.TheVariants.{Less, Equal, Greater}
-use Rattle.std.proofs.lemmas.Bool.{false≢true, ne_eqb}
-use Rattle.std.proofs.lemmas.Bool.Decides.{Decides-eqb, nat_tests}
-use Rattle.std.proofs.lemmas.List.Sums.{sum_by-cons}
-use native.Mathlib.Decide.{ℕ_discrete}
-use Rattle.ring_machine.specs.Parts.{rings}
-use Rattle.ring_machine.specs.WellFormed.{are_distinct}
-use Rattle.ring_machine.proofs.First.{In, filter-in}
-use Rattle.ring_machine.proofs.Order.{and_both}
-use Rattle.ring_machine.proofs.Removal.{not_true}
-use Rattle.arc_tables.specs.Ways.{one}
+use Rattle.ring_machine.specs.Common.{rings, are_distinct}
+use Rattle.ring_machine.proofs.Common.{In, filter-in, and_both, not_true, contains_in, in_contains, in_filter, in_any}
+use Rattle.arc_tables.specs.Common.{one}
 use Rattle.arc_tables.specs.Rings as shared
-use Rattle.feature_exchange.specs.Holds.{IsWhole}
-use Rattle.feature_exchange.specs.Stored.{Stored}
-use Rattle.ring_store.proofs.KeyRings.{has_key}
-use Rattle.ring_machine.proofs.Members.{contains_in, in_contains, in_filter, in_any}
+use Rattle.feature_exchange.specs.Common.{IsWhole, Stored}
+use Rattle.ring_store.proofs.Common.{has_key}
 use Rattle.arc_store.proofs.Numbers.{users_of}
 
 -- ---- numbers but for one

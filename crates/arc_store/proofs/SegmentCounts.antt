@@ -1,17 +1,15 @@
 -- How many segments an index holds, and a document has.
-use Rattle.std.proofs.Common.{◌≡◌, ◌+◌, Bool, false, sym, ap, ap₂, ◌∙◌, List, [], ◌∷◌, length, ◌||◌, arith, leb}
+use Rattle.kit_words.proofs.Common.{◌≡◌, ◌+◌, Bool, false, sym, ap, ap₂, ◌∙◌, List, [], ◌∷◌, length, ◌||◌, arith, leb}
+use Rattle.kit_words.proofs.Common.{fold}
 use Rattle.std.specs.FinSet as set
-use Rattle.std.specs.List.{fold}
-use Rattle.grid_geometry.specs.Segment.{Segment, segment_cmp}
-use Rattle.ring_machine.specs.Document.{Document}
-use Rattle.ring_machine.specs.Parts.{all_segments}
-use Rattle.ring_machine.specs.Query.{add_segment, distinct_segments}
-use Rattle.segment_index.specs.Candidates.{SegmentSet, AreSingle, segment_is, has, times_in}
-use Rattle.segment_index.proofs.Singles.{segment_total, same_sets, is-itself, has-is}
-use Rattle.feature_exchange.specs.Holds.{IsIndexed}
-use Rattle.ring_store.specs.Planned.{AreNew, Gains}
-use Rattle.ring_store.proofs.SegmentLists.{has-eq, or_nothing, has_all, single_all}
-use Rattle.ring_machine.proofs.Order.{or_right}
+use Rattle.grid_geometry.specs.Common.{Segment, segment_cmp}
+use Rattle.ring_machine.specs.Common.{Document, all_segments, add_segment, distinct_segments}
+use Rattle.segment_index.specs.Common.{SegmentSet, AreSingle, segment_is, has, times_in}
+use Rattle.segment_index.proofs.Common.{segment_total, same_sets, is-itself, has-is}
+use Rattle.feature_exchange.specs.Common.{IsIndexed}
+use Rattle.ring_store.specs.Common.{AreNew, Gains}
+use Rattle.ring_store.proofs.Common.{has-eq, or_nothing, has_all, single_all}
+use Rattle.ring_machine.proofs.Common.{or_right}
 
 or_swap : (a b c : Bool) → (a || (b || c)) ≡ (b || (a || c))
 or_swap a b c = grind arith

@@ -1,30 +1,19 @@
 -- The rings that have a segment in common with a ring, by their names.
-use Rattle.std.proofs.Common.{◌≡◌, ℕ, true, sym, ap, ◌∙◌, subst, List, [], map, Contains, Some, is_some, arith}
-use Rattle.std.proofs.lemmas.List.{append-nil}
-use Rattle.grid_geometry.specs.Position.{Position}
-use Rattle.grid_geometry.specs.Segment.{segment, segment_eq}
+use Rattle.kit_words.proofs.Common.{◌≡◌, ℕ, true, sym, ap, ◌∙◌, subst, List, [], map, Contains, Some, is_some, arith}
+use Rattle.kit_words.proofs.Common.{append-nil}
+use Rattle.grid_geometry.specs.Common.{Position, segment, segment_eq}
 use Rattle.grid_geometry.specs.Ring as geometry
-use Rattle.ring_machine.specs.Document.{Document}
-use Rattle.ring_machine.specs.Parts.{rings, features, is_segment}
-use Rattle.ring_machine.specs.Ring.{segment_of, segments}
-use Rattle.ring_machine.specs.WellFormed.{are_distinct}
-use Rattle.ring_machine.proofs.First.{In}
-use Rattle.ring_machine.proofs.Members.{contains_in, in_contains, in_mapped, any_in, in_any}
-use Rattle.ring_machine.proofs.Neighbours.{in-map}
-use Rattle.ring_machine.proofs.Orders.{segment_ordered}
-use Rattle.ring_machine.proofs.RingSegments.{segment_eq-true}
-use Rattle.vertex_index.specs.Placement.{Placement, place}
-use Rattle.arc_tables.specs.Rings.{Rings}
-use Rattle.arc_tables.specs.Users.{HasSegment, HaveCommon, ListsSharing}
-use Rattle.map_frame.specs.Framed.{Framed}
+use Rattle.ring_machine.specs.Common.{Document, rings, features, is_segment, segment_of, segments, are_distinct}
+use Rattle.ring_machine.proofs.Common.{In, contains_in, in_contains, in_mapped, any_in, in_any, in-map, segment_ordered}
+use Rattle.ring_machine.proofs.Common.{segment_eq-true}
+use Rattle.vertex_index.specs.Common.{Placement, place}
+use Rattle.arc_tables.specs.Common.{Rings, HasSegment, HaveCommon, ListsSharing}
+use Rattle.map_frame.specs.Common.{Framed, number_at}
 use Rattle.map_frame.specs.declared.names.RingName.{RingName}
-use Rattle.map_frame.specs.Named.{number_at}
-use Rattle.ring_store.proofs.Places.{IsKept, kept_place}
-use Rattle.feature_exchange.specs.Holds.{IsWhole}
-use Rattle.feature_exchange.specs.Stored.{stored, Stored, document_of, ring_under}
-use Rattle.feature_exchange.proofs.Base.{framed, rings_are, segment_between, joined_kept}
-use Rattle.arc_store.specs.Named.{ListsNames, RingHas}
-use Rattle.arc_store.specs.Users.{HasOne, ListsUsers}
+use Rattle.ring_store.proofs.Common.{IsKept, kept_place}
+use Rattle.feature_exchange.specs.Common.{IsWhole, stored, Stored, document_of, ring_under}
+use Rattle.feature_exchange.proofs.Common.{framed, rings_are, segment_between, joined_kept}
+use Rattle.arc_store.specs.Common.{ListsNames, RingHas, HasOne, ListsUsers}
 use Rattle.arc_store.proofs.FrameNames.{name_there, number_there}
 use Rattle.arc_store.proofs.Insertions.{has_segment, is_segment_by}
 use Rattle.arc_store.proofs.NamedRings.{has_of, of_has, of_name, to_name}

@@ -1,23 +1,16 @@
 -- A feature that is cut, as two features that come in the places of their numbers.
-use Rattle.std.proofs.Common.{◌≡◌, ◌<◌, ℕ, zero, suc, Bool, true, false, sym, ap, ap₂, ◌∙◌, subst, cond, List, [], ◌∷◌, length, get_or, take, slice_set}
-use Rattle.std.proofs.Common.{Option, Some, arith}
-use Rattle.std.specs.List.{list_any}
-use Rattle.grid_geometry.specs.Position.{Position}
-use Rattle.ring_machine.specs.Document.{Document, Feature, Text, Polygon}
-use Rattle.ring_machine.specs.Parts.{feature}
-use Rattle.ring_machine.specs.Cut.{Path, cut, stays, is_cut_by, first_that, change_first, first_polygon, second_polygon}
-use Rattle.ring_machine.specs.Refusals.{feature_at, or_else, no_feature}
-use Rattle.ring_machine.proofs.CutJoined.{new_part}
-use Rattle.ring_machine.proofs.Found.{has_feature-found}
-use Rattle.ring_machine.proofs.Removal.{none_parts}
-use Rattle.edit_records.specs.Places.{LayerTree, grown, exchanged}
-use Rattle.edit_records.proofs.ExchangesMade.{cut-made, feature-own}
-use Rattle.map_frame.specs.Placed.{ArePlaced}
-use Rattle.map_frame.specs.Texts.{texts_of, with_texts}
-use Rattle.arc_store.specs.Exchanged.{with_polygons, part_of}
-use Rattle.arc_store.specs.Splits.{IsCuttable, IsFirstCut}
+use Rattle.kit_words.proofs.Common.{◌≡◌, ◌<◌, ℕ, zero, suc, Bool, true, false, sym, ap, ap₂, ◌∙◌, subst, cond, List, []}
+use Rattle.kit_words.proofs.Common.{◌∷◌, length, get_or, take, slice_set, Option, Some, arith, list_any}
+use Rattle.grid_geometry.specs.Common.{Position}
+use Rattle.ring_machine.specs.Common.{Document, Feature, Text, Polygon, feature, Path, cut, stays, is_cut_by}
+use Rattle.ring_machine.specs.Common.{first_that, change_first, first_polygon, second_polygon, feature_at, or_else}
+use Rattle.ring_machine.specs.Common.{no_feature}
+use Rattle.ring_machine.proofs.Common.{new_part, has_feature-found, none_parts, there}
+use Rattle.edit_records.specs.Common.{LayerTree, grown, exchanged}
+use Rattle.edit_records.proofs.Common.{cut-made, feature-own}
+use Rattle.map_frame.specs.Common.{ArePlaced, texts_of, with_texts}
+use Rattle.arc_store.specs.Common.{with_polygons, part_of, IsCuttable, IsFirstCut}
 use Rattle.arc_store.proofs.PlacedMap.{next_free}
-use Rattle.ring_machine.proofs.Members.{there}
 
 module _ {A : Type 0} (test : A → Bool) where
   first_passes : (xs : List A) (x : A) → first_that test xs ≡ x ∷ [] → test x ≡ true

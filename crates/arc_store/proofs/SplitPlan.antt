@@ -1,47 +1,30 @@
 -- The plan of a split: what the tests are asked of, what they decide, and what is kept.
-use Rattle.std.proofs.Common.{◌≡◌, ◌≤◌, ◌<◌, ℕ, ◌+◌, Bool, true, false, refl, sym, ap, ap₂, ◌∙◌, subst}
-use Rattle.std.proofs.Common.{List, [], ◌∷◌, map, length, slice_set, Option, Some, None, eqb-true, arith}
-use Rattle.std.specs.Prelude.{Vec, not, nat_le, nat_lt, ◌==◌}
-use Rattle.std.specs.List.{list_any, sum_by}
-use Rattle.std.proofs.lemmas.Bool.Decides.{nat_tests}
-use Rattle.std.proofs.lemmas.List.{length-append, set-set, map-set}
-use Rattle.std.proofs.lemmas.List.Sums.{sum_by-cons, sum_by_more_le}
-use Rattle.grid_geometry.specs.Position.{Position}
-use Rattle.grid_geometry.specs.Segment.{Segment}
-use Rattle.ring_machine.specs.Ring.{is_distinct}
-use Rattle.ring_machine.specs.Command.{WrongSide, TooLarge}
-use Rattle.ring_machine.specs.Document.{Document, Feature, Text}
-use Rattle.ring_machine.specs.Parts.{has_feature, is_vertex, size, all_segments}
-use Rattle.ring_machine.specs.Planar.{Proper, least_conflict}
-use Rattle.ring_machine.specs.WellFormed.{WellFormed}
-use Rattle.ring_machine.specs.Cut.{Path, cut, is_cut_by, is_wrong_side}
-use Rattle.ring_machine.specs.Refusals.{first_of, is_layer, positions_of, is_path_segment}
-use Rattle.ring_machine.specs.Refusals.{feature_at, split_refusals, ◌unless◌}
-use Rattle.ring_machine.proofs.SplitDocuments.{split-accepted}
-use Rattle.ring_machine.proofs.SplitProper.{split_is_proper}
-use Rattle.ring_machine.proofs.SplitSegments.{path_segments}
-use Rattle.ring_parts.specs.Seen.{outer_length, rings_seen, polygons_seen}
-use Rattle.vertex_index.specs.Placement.{Placement}
-use Rattle.segment_index.specs.Candidates.{SegmentSet}
+use Rattle.kit_words.proofs.Common.{◌≡◌, ◌≤◌, ◌<◌, ℕ, ◌+◌, Bool, true, false, refl, sym, ap, ap₂, ◌∙◌, subst, List, []}
+use Rattle.kit_words.proofs.Common.{◌∷◌, map, length, slice_set, Option, Some, None, eqb-true, arith, Vec, not, nat_le}
+use Rattle.kit_words.proofs.Common.{nat_lt, ◌==◌, list_any, sum_by, nat_tests, length-append, set-set, map-set}
+use Rattle.kit_words.proofs.Common.{sum_by-cons, sum_by_more_le}
+use Rattle.grid_geometry.specs.Common.{Position, Segment}
+use Rattle.ring_machine.specs.Common.{is_distinct, WrongSide, TooLarge, Document, Feature, Text, has_feature, is_vertex}
+use Rattle.ring_machine.specs.Common.{size, all_segments, Proper, least_conflict, WellFormed, Path, cut, is_cut_by}
+use Rattle.ring_machine.specs.Common.{is_wrong_side, first_of, is_layer, positions_of, is_path_segment, feature_at}
+use Rattle.ring_machine.specs.Common.{split_refusals, ◌unless◌}
+use Rattle.ring_machine.proofs.Common.{split-accepted, split_is_proper, path_segments, formed-cut}
+use Rattle.ring_parts.specs.Common.{outer_length, rings_seen, polygons_seen}
+use Rattle.vertex_index.specs.Common.{Placement}
+use Rattle.segment_index.specs.Common.{SegmentSet, times_by}
 use Rattle.segment_index.specs.Frames.{Frame as GridFrame}
-use Rattle.segment_index.specs.Times.{times_by}
-use Rattle.arc_tables.specs.Rings.{Rings}
-use Rattle.local_planarity.specs.Edits.{IsAfter}
-use Rattle.local_planarity.specs.Tests.{most_for, most_tests}
+use Rattle.arc_tables.specs.Common.{Rings}
+use Rattle.local_planarity.specs.Common.{IsAfter, most_for, most_tests}
 use Rattle.local_planarity.specs.declared.leaving.Leaving.TheVariants.{Nothing}
-use Rattle.edit_records.specs.Records.{IsMap, Record}
-use Rattle.topo_outline.specs.Kept.{KeepsTexts, IsJson}
-use Rattle.topo_outline.proofs.KeptShapes.{keeps-cut}
-use Rattle.map_frame.specs.Placed.{ArePlaced}
+use Rattle.edit_records.specs.Common.{IsMap, Record}
+use Rattle.topo_outline.specs.Common.{KeepsTexts, IsJson}
+use Rattle.topo_outline.proofs.Common.{keeps-cut}
+use Rattle.map_frame.specs.Common.{ArePlaced, Framed}
 use Rattle.arc_store.proofs.PlacedMap.{next_new, there_below}
 use Rattle.arc_store.proofs.SplitMade.{both_parts, split_made}
 use Rattle.arc_store.proofs.ChangesCounted.{two_apart}
-use Rattle.ring_machine.proofs.CutJoined.{formed-cut}
-use Rattle.map_frame.specs.Framed.{Framed}
-use Rattle.arc_store.specs.Exchanged.{asked_document, MayExchange}
-use Rattle.arc_store.specs.Kept.{IsKept, state_of}
-use Rattle.arc_store.specs.Splits.{IsCuttable, IsFirstCut, IsTested}
-use Rattle.arc_store.specs.State.{State}
+use Rattle.arc_store.specs.Common.{asked_document, MayExchange, IsKept, state_of, IsCuttable, IsFirstCut, IsTested}
+use Rattle.arc_store.specs.Common.{State}
 use Rattle.arc_store.proofs.CutDecided.{split_after, split_passed, split_decided}
 use Rattle.arc_store.proofs.FeaturesKept.{seen_indexed, seen_size, gone_size}
 use Rattle.arc_store.proofs.PathSegments.{path_new, way_single}

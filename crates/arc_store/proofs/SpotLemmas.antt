@@ -1,29 +1,21 @@
 -- What stands around a vertex, from the neighbours of its key and the shortest ring that passes it.
-use Rattle.std.proofs.Common.{◌≡◌, ◌≢◌, ◌≤◌, ℕ, true, refl, sym, ap, ◌∙◌, List, [], ◌∷◌, length, arith, inl, inr, Some}
-use Rattle.std.specs.Prelude.{min}
+use Rattle.kit_words.proofs.Common.{◌≡◌, ◌≢◌, ◌≤◌, ℕ, true, refl, sym, ap, ◌∙◌, List, [], ◌∷◌, length, arith, inl, inr}
+use Rattle.kit_words.proofs.Common.{Some, min, sum_by, is_lt, sum_by-cons}
 use Rattle.std.specs.FinMap as table
-use Rattle.std.specs.List.{sum_by}
-use Rattle.std.specs.Ordering.{is_lt}
-use Rattle.std.proofs.lemmas.List.Sums.{sum_by-cons}
-use Rattle.grid_geometry.specs.Position.{Position}
-use Rattle.grid_geometry.specs.Segment.{segment}
-use Rattle.ring_machine.specs.Parts.{rings, size, is_vertex}
-use Rattle.ring_machine.specs.Ring.{canonical}
-use Rattle.ring_machine.specs.Vertices.{is_junction}
-use Rattle.ring_machine.proofs.First.{In}
+use Rattle.grid_geometry.specs.Common.{Position, segment}
+use Rattle.ring_machine.specs.Common.{rings, size, is_vertex, canonical, is_junction}
+use Rattle.ring_machine.proofs.Common.{In, contains_in, in_contains}
 use Rattle.shared_arcs.specs.declared.around.Neighbours.{Neighbours}
 use Rattle.shared_arcs.specs.declared.around.Neighbours.TheVariants.{One, Two, More}
-use Rattle.shared_arcs.specs.Joined.{Passes, AreNeighbours}
-use Rattle.arc_tables.specs.Ways.{Edge}
-use Rattle.vertex_index.specs.Placement.{place}
-use Rattle.feature_exchange.specs.Stored.{Stored, positions_along, document_of}
-use Rattle.feature_exchange.specs.Holds.{IsWhole}
-use Rattle.arc_store.specs.Spots.{IsBetween, IsShortest}
+use Rattle.shared_arcs.specs.Common.{Passes, AreNeighbours}
+use Rattle.arc_tables.specs.Common.{Edge}
+use Rattle.vertex_index.specs.Common.{place}
+use Rattle.feature_exchange.specs.Common.{Stored, positions_along, document_of, IsWhole}
+use Rattle.arc_store.specs.Common.{IsBetween, IsShortest}
 use Rattle.arc_store.proofs.Around.{is_there, two_no_junction, around_two, bridge_two, neighbours_none}
 use Rattle.arc_store.proofs.Around.{neighbours_one, neighbours_more, ring_length, passes_has, has_passes}
-use Rattle.ring_store.proofs.Places.{IsKept}
-use Rattle.feature_exchange.proofs.Base.{joined_kept, laid_ring, ring_laid}
-use Rattle.ring_machine.proofs.Members.{contains_in, in_contains}
+use Rattle.ring_store.proofs.Common.{IsKept}
+use Rattle.feature_exchange.proofs.Common.{joined_kept, laid_ring, ring_laid}
 use Rattle.arc_store.proofs.Reading.{ends_make}
 
 -- a list is no longer than all together

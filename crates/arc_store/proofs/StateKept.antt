@@ -1,16 +1,14 @@
 -- The map as its callers see it, after its tables changed and nothing else did.
-use Rattle.std.proofs.Common.{◌≡◌, ℕ, sym, ap, ap₂, ◌∙◌, Option}
-use Rattle.ring_machine.specs.Document.{Document}
-use Rattle.edit_records.specs.Records.{Record}
-use Rattle.segment_index.specs.Candidates.{SegmentSet}
+use Rattle.kit_words.proofs.Common.{◌≡◌, ℕ, sym, ap, ap₂, ◌∙◌, Option}
+use Rattle.ring_machine.specs.Common.{Document}
+use Rattle.edit_records.specs.Common.{Record}
+use Rattle.segment_index.specs.Common.{SegmentSet}
 use Rattle.segment_index.specs.Frames.{Frame as GridFrame}
-use Rattle.vertex_index.specs.Placement.{Placement}
-use Rattle.arc_tables.specs.Rings.{Rings}
-use Rattle.map_frame.specs.Framed.{Framed}
-use Rattle.feature_exchange.specs.Stored.{stored, document_of}
-use Rattle.arc_store.specs.Kept.{IsKept, state_of}
-use Rattle.arc_store.specs.Outcomes.{IsSameMap}
-use Rattle.arc_store.specs.State.{State}
+use Rattle.vertex_index.specs.Common.{Placement}
+use Rattle.arc_tables.specs.Common.{Rings}
+use Rattle.map_frame.specs.Common.{Framed}
+use Rattle.feature_exchange.specs.Common.{stored, document_of}
+use Rattle.arc_store.specs.Common.{IsKept, state_of, IsSameMap, State}
 
 module _ {frame : Framed} {rings : Rings} {places : Placement} {held : SegmentSet} {positions : ℕ}
     (kept : IsKept frame rings places held positions) {l : ℕ} {cells : Option GridFrame} {o : Option Record} {now : State}

@@ -1,42 +1,34 @@
 -- How many tests a planned edit takes at most, in the words of its documents.
-use Rattle.std.proofs.Common.{◌≡◌, ◌≤◌, ◌+◌, ℕ, true, false, sym, ap, ap₂, ◌∙◌, subst}
-use Rattle.std.proofs.Common.{List, [], ◌∷◌, ◌&&◌, Option, Some, arith}
-use Rattle.std.specs.Prelude.{not}
+use Rattle.kit_words.proofs.Common.{◌≡◌, ◌≤◌, ◌+◌, ℕ, true, false, sym, ap, ap₂, ◌∙◌, subst, List, [], ◌∷◌, ◌&&◌}
+use Rattle.kit_words.proofs.Common.{Option, Some, arith, not}
 use Rattle.std.specs.FinMap as table
 use Rattle.std.specs.FinSet as set
-use Rattle.grid_geometry.specs.Position.{Position}
-use Rattle.grid_geometry.specs.Segment.{Segment, Box, segment}
-use Rattle.ring_machine.specs.Document.{Document}
-use Rattle.ring_machine.specs.Parts.{size, is_segment, is_vertex, all_segments}
-use Rattle.ring_machine.specs.Query.{distinct_segments}
-use Rattle.ring_machine.specs.Vertices.{put, ins, del}
-use Rattle.vertex_index.specs.Placement.{Placement}
-use Rattle.segment_index.specs.Candidates.{SegmentSet, AreSingle, has, segment_is}
+use Rattle.grid_geometry.specs.Common.{Position, Segment, Box, segment}
+use Rattle.ring_machine.specs.Common.{Document, size, is_segment, is_vertex, all_segments, distinct_segments, put, ins}
+use Rattle.ring_machine.specs.Common.{del}
+use Rattle.vertex_index.specs.Common.{Placement}
+use Rattle.segment_index.specs.Common.{SegmentSet, AreSingle, has, segment_is, times_by}
 use Rattle.segment_index.specs.Frames.{Frame as GridFrame}
-use Rattle.segment_index.specs.Times.{times_by}
-use Rattle.segment_index.proofs.Singles.{same_segment}
-use Rattle.arc_tables.specs.Rings.{Rings}
+use Rattle.segment_index.proofs.Common.{same_segment}
+use Rattle.arc_tables.specs.Common.{Rings}
 use Rattle.local_planarity.specs.declared.leaving.Leaving.{Leaving}
 use Rattle.local_planarity.specs.declared.leaving.Leaving.TheVariants.{EndingAt, One}
-use Rattle.local_planarity.specs.Edits.{IsAfter, IsHeld, stays}
-use Rattle.local_planarity.specs.Tests.{most_given, most_tests, added, most_for, most_for_move}
+use Rattle.local_planarity.specs.Common.{IsAfter, IsHeld, stays, most_given, most_tests, added, most_for, most_for_move}
 use Rattle.local_planarity.proofs.Added.{tests_among}
 use Rattle.local_planarity.proofs.Nearby.{has-filter}
-use Rattle.map_frame.specs.Framed.{Framed}
-use Rattle.feature_exchange.specs.Holds.{IsIndexed}
-use Rattle.edit_records.specs.Records.{Record}
-use Rattle.arc_store.specs.Kept.{IsKept, state_of}
-use Rattle.feature_exchange.specs.Stored.{stored, document_of}
-use Rattle.ring_store.specs.Planned.{AreAround, AreNew, spokes}
-use Rattle.arc_store.specs.State.{State}
+use Rattle.map_frame.specs.Common.{Framed}
+use Rattle.feature_exchange.specs.Common.{IsIndexed, stored, document_of}
+use Rattle.edit_records.specs.Common.{Record}
+use Rattle.arc_store.specs.Common.{IsKept, state_of, State}
+use Rattle.ring_store.specs.Common.{AreAround, AreNew, spokes}
 use Rattle.arc_store.proofs.Indexed.{indexed_has}
 use Rattle.arc_store.proofs.InsertPlan.{insertable, insert_new, insert_single, one_single}
 use Rattle.arc_store.proofs.Judged.{insert_passed}
 use Rattle.arc_store.proofs.MovePlan.{plan_after, plan_new, plan_single}
 use Rattle.arc_store.proofs.RemovalJudged.{remove_after}
 use Rattle.arc_store.proofs.RemovePlan.{IsPlanned}
-use Rattle.ring_store.proofs.SegmentLists.{has_all, or_nothing}
-use Rattle.ring_machine.proofs.Order.{or_right}
+use Rattle.ring_store.proofs.Common.{has_all, or_nothing}
+use Rattle.ring_machine.proofs.Common.{or_right}
 
 -- the segments of a document, each once, are its segments
 has_distinct : (d : Document) (t : Segment) → has (distinct_segments d) t ≡ has (all_segments d) t

@@ -1,39 +1,26 @@
 -- Vertices put back at once: the tables mean the document with each of them put back in turn.
-use Rattle.std.proofs.Common.{◌≡◌, ◌≢◌, ◌≤◌, ◌<◌, ◌^◌, ◌+◌, ◌↔◌, ℕ, true, refl, sym, ap, ap₂, ◌∙◌, subst}
-use Rattle.std.proofs.Common.{List, [], ◌∷◌, map, ◌||◌, ◌&&◌, inl, inr, arith, Option, Some, None, is_some}
-use Rattle.std.specs.Prelude.{not, option_map, T}
+use Rattle.kit_words.proofs.Common.{◌≡◌, ◌≢◌, ◌≤◌, ◌<◌, ◌^◌, ◌+◌, ◌↔◌, ℕ, true, refl, sym, ap, ap₂, ◌∙◌, subst, List}
+use Rattle.kit_words.proofs.Common.{[], ◌∷◌, map, ◌||◌, ◌&&◌, inl, inr, arith, Option, Some, None, is_some, not}
+use Rattle.kit_words.proofs.Common.{option_map, T, nat_cmp, is_lt, below_all, false≢true, ℕ_discrete}
 use Rattle.std.specs.FinMap as table
 use Rattle.std.specs.FinSet as set
 use Rattle.std.specs.Cmp.{nat_cmp_total}
-use Rattle.std.specs.Ordering.{nat_cmp, is_lt}
-use Rattle.std.specs.FinMap.Entries.{below_all}
-use Rattle.std.proofs.lemmas.Bool.{false≢true}
-use native.Mathlib.Decide.{ℕ_discrete}
-use Rattle.grid_geometry.specs.Position.{Position}
-use Rattle.grid_geometry.specs.Segment.{Segment}
-use Rattle.ring_machine.specs.Document.{Document}
-use Rattle.ring_machine.specs.Parts.{size, is_vertex}
-use Rattle.ring_machine.specs.Planar.{Proper}
-use Rattle.vertex_index.specs.Placement.{Placement, IsOccupied}
-use Rattle.vertex_index.proofs.PlacementLemmas.{get-inserted}
-use Rattle.segment_index.specs.Candidates.{SegmentSet, AreSingle, has}
+use Rattle.grid_geometry.specs.Common.{Position, Segment}
+use Rattle.ring_machine.specs.Common.{Document, size, is_vertex, Proper}
+use Rattle.vertex_index.specs.Common.{Placement, IsOccupied}
+use Rattle.vertex_index.proofs.Common.{get-inserted}
+use Rattle.segment_index.specs.Common.{SegmentSet, AreSingle, has}
 use Rattle.arc_tables.specs.declared.batch.Put.{Put}
-use Rattle.arc_tables.specs.Edited.{through, throughs, gained}
-use Rattle.arc_tables.specs.Rings.{Rings}
-use Rattle.map_frame.specs.Framed.{Framed}
-use Rattle.ring_store.proofs.Places.{insert_other}
-use Rattle.edit_records.specs.Records.{IsRemoved, Record}
+use Rattle.arc_tables.specs.Common.{through, throughs, gained, Rings}
+use Rattle.map_frame.specs.Common.{Framed}
+use Rattle.ring_store.proofs.Common.{insert_other}
+use Rattle.edit_records.specs.Common.{IsRemoved, Record}
 use Rattle.segment_index.specs.Frames.{Frame as GridFrame}
-use Rattle.feature_exchange.specs.Stored.{Stored, stored, document_of}
-use Rattle.feature_exchange.specs.Holds.{IsWhole, IsIndexed}
-use Rattle.feature_exchange.proofs.Base.{vertex_key, key_vertex}
-use Rattle.ring_store.specs.Many.{ArePlaceable, comings, goings, AreKeyed, ArePutBack}
-use Rattle.ring_store.specs.Planned.{AreNew, Exchanges}
+use Rattle.feature_exchange.specs.Common.{Stored, stored, document_of, IsWhole, IsIndexed}
+use Rattle.feature_exchange.proofs.Common.{vertex_key, key_vertex}
+use Rattle.ring_store.specs.Common.{ArePlaceable, comings, goings, AreKeyed, ArePutBack, AreNew, Exchanges}
 use Rattle.ring_store.specs.declared.removal.Removal.{Removal}
-use Rattle.arc_store.specs.Edits.{IsPlaceable}
-use Rattle.arc_store.specs.Kept.{IsKept, state_of}
-use Rattle.arc_store.specs.State.{State}
-use Rattle.arc_store.specs.Recorded.{removal_seen}
+use Rattle.arc_store.specs.Common.{IsPlaceable, IsKept, state_of, State, removal_seen}
 use Rattle.arc_store.proofs.Inserted.{Insertion, with_vertex, document_inserted, whole_inserted, size_inserted}
 use Rattle.arc_store.proofs.PutBack.{with_one, with_all, AreOut, vertex_stays, vertex_new, vertex_came, border_there}
 use Rattle.arc_store.proofs.PutBack.{comings_new, comings_single, goings_there, goings_single, segments_back}

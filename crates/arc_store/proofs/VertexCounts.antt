@@ -1,35 +1,19 @@
 -- A kept map has as many vertices as keys.
-use Rattle.std.proofs.Common.{◌≡◌, ℕ, Bool, true, false, refl, sym, ap, ap₂, ◌∙◌, subst, List, []}
-use Rattle.std.proofs.Common.{◌∷◌, map, length, ◌||◌, ◌&&◌, arith, Some}
-use Rattle.std.specs.Prelude.{◌==◌, not, T}
+use Rattle.kit_words.proofs.Common.{◌≡◌, ℕ, Bool, true, false, refl, sym, ap, ap₂, ◌∙◌, subst, List, [], ◌∷◌, map}
+use Rattle.kit_words.proofs.Common.{length, ◌||◌, ◌&&◌, arith, Some, ◌==◌, not, T, list_any, fold, AllByRecursion}
+use Rattle.kit_words.proofs.Common.{IsDistinct, nat_cmp, is_lt, is_eq, eq_by_cmp, Ordering, Less, Equal}
+use Rattle.kit_words.proofs.Common.{eq_by_cmp_equiv, below_all, false≢true, nat_tests, length-map}
+use Rattle.kit_words.proofs.Common.{length-from_same_keys}
 use Rattle.std.specs.FinMap as table
-use Rattle.std.specs.List.{list_any, fold, AllByRecursion, IsDistinct}
-use Rattle.std.specs.Ordering.{nat_cmp, is_lt, is_eq, eq_by_cmp}
-use Rattle.std.specs.declared.cmp.Ordering.{Ordering}
-use Rattle.std.specs.declared.cmp.Ordering.TheVariants.{Less, Equal}
-use Rattle.std.specs.Cmp.{eq_by_cmp_equiv}
-use Rattle.std.specs.FinMap.Entries.{below_all}
-use Rattle.std.proofs.lemmas.Bool.{false≢true}
-use Rattle.std.proofs.lemmas.Bool.Decides.{nat_tests}
-use Rattle.std.proofs.lemmas.List.{length-map}
-use Rattle.std.proofs.lemmas.Map.Made.{length-from_same_keys}
-use Rattle.grid_geometry.specs.Position.{Position, position_cmp, position_eq, position_lt}
-use Rattle.ring_machine.specs.Parts.{rings, positions, is_vertex}
-use Rattle.ring_machine.specs.Query.{add_position, vertices}
-use Rattle.ring_machine.specs.Ring.{has, is_distinct}
-use Rattle.ring_machine.specs.WellFormed.{are_distinct}
-use Rattle.ring_machine.proofs.First.{In}
-use Rattle.ring_machine.proofs.Members.{any_in, in_any, in_mapped, in_flat, same_answer}
-use Rattle.ring_machine.proofs.Neighbours.{in-map, in-flat_map, has-in, in-has}
-use Rattle.ring_machine.proofs.Order.{and_both}
-use Rattle.ring_machine.proofs.Removal.{none_parts, not_true}
-use Rattle.ring_machine.proofs.SortedOnce.{Rising, position_total, ties}
-use Rattle.vertex_index.specs.Placement.{place}
-use Rattle.ring_store.proofs.KeyRings.{has_key}
-use Rattle.ring_store.proofs.Places.{kept_place, place_is, place_kept, distinct_places, IsKept}
-use Rattle.feature_exchange.specs.Holds.{IsWhole}
-use Rattle.feature_exchange.specs.Stored.{Stored, document_of}
-use Rattle.feature_exchange.proofs.Base.{key_vertex, vertex_key}
+use Rattle.grid_geometry.specs.Common.{Position, position_cmp, position_eq, position_lt}
+use Rattle.ring_machine.specs.Common.{rings, positions, is_vertex, add_position, vertices, has, is_distinct}
+use Rattle.ring_machine.specs.Common.{are_distinct}
+use Rattle.ring_machine.proofs.Common.{In, any_in, in_any, in_mapped, in_flat, same_answer, in-map, in-flat_map, has-in}
+use Rattle.ring_machine.proofs.Common.{in-has, and_both, none_parts, not_true, Rising, position_total, ties}
+use Rattle.vertex_index.specs.Common.{place}
+use Rattle.ring_store.proofs.Common.{has_key, kept_place, place_is, place_kept, distinct_places, IsKept}
+use Rattle.feature_exchange.specs.Common.{IsWhole, Stored, document_of}
+use Rattle.feature_exchange.proofs.Common.{key_vertex, vertex_key}
 use Rattle.feature_exchange.proofs.VertexLists.{vertices_rise, in_vertices, of_vertices}
 use Rattle.arc_store.proofs.RingUsers.{first_true, second_true}
 

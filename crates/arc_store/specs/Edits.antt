@@ -1,16 +1,11 @@
 -- What an edit of one vertex is asked of, and what it does to the tables.
 use Rattle.std.specs.Prelude.{◌≡◌, ◌≢◌, ◌≤◌, ◌&&◌, ◌||◌, not, true, false, [], ◌∷◌}
 use Rattle.std.specs.Prelude.{None}
-use Rattle.grid_geometry.specs.Position.{Position}
-use Rattle.grid_geometry.specs.Segment.{Segment, segment, segment_eq, is_end}
-use Rattle.ring_machine.specs.Document.{Document}
-use Rattle.ring_machine.specs.Parts.{is_segment, is_vertex, size}
-use Rattle.ring_machine.specs.Planar.{first_pair}
-use Rattle.ring_machine.specs.Refusals.{are_long, is_bridged}
-use Rattle.ring_machine.specs.Vertices.{put, ins, del, is_junction}
-use Rattle.ring_machine.specs.Sweep.{holds_other, remove_sweeps}
-use Rattle.segment_index.specs.Candidates.{SegmentSet}
-use Rattle.feature_exchange.specs.Holds.{IsIndexed}
+use Rattle.grid_geometry.specs.Common.{Position, Segment, segment, segment_eq, is_end}
+use Rattle.ring_machine.specs.Common.{Document, is_segment, is_vertex, size, first_pair, are_long, is_bridged, put, ins}
+use Rattle.ring_machine.specs.Common.{del, is_junction, holds_other, remove_sweeps}
+use Rattle.segment_index.specs.Common.{SegmentSet}
+use Rattle.feature_exchange.specs.Common.{IsIndexed}
 
 -- ---- when the tables may change, whatever the edit sweeps over
 

@@ -1,15 +1,12 @@
 -- Features exchanged in a map, and the features that an edit asks for.
 use Rattle.std.specs.Prelude.{ℕ, List, [], ◌∷◌, ◌≡◌, ◌<◌, true, map, Option, Some, IfSome}
 use Rattle.std.specs.List.{AllByRecursion}
-use Rattle.grid_geometry.specs.Position.{Position}
-use Rattle.ring_machine.specs.Document.{Text, Polygon, Feature, Document}
-use Rattle.ring_machine.specs.Refusals.{feature_at}
-use Rattle.ring_machine.specs.WellFormed.{are_distinct}
-use Rattle.edit_records.specs.Places.{exchanged}
-use Rattle.edit_records.specs.Records.{IsMap}
-use Rattle.topo_outline.specs.Kept.{KeepsTexts}
-use Rattle.map_frame.specs.Texts.{texts_of, with_texts}
-use Rattle.feature_exchange.specs.Changed.{trees_after, number_after, MayGrow}
+use Rattle.grid_geometry.specs.Common.{Position}
+use Rattle.ring_machine.specs.Common.{Text, Polygon, Feature, Document, feature_at, are_distinct}
+use Rattle.edit_records.specs.Common.{exchanged, IsMap}
+use Rattle.topo_outline.specs.Common.{KeepsTexts}
+use Rattle.map_frame.specs.Common.{texts_of, with_texts}
+use Rattle.feature_exchange.specs.Common.{trees_after, number_after, MayGrow}
 use Rattle.arc_store.specs.State.{State}
 
 -- the document in which these numbers have these features, or none; where a new number is to come

@@ -1,7 +1,7 @@
 -- What a fault says.
 use Rattle.std.specs.Prelude.{Option, Some, ◌≡◌}
-use Rattle.grid_geometry.specs.Segment.{Segment}
-use Rattle.ring_machine.specs.Command.{Refusal}
+use Rattle.grid_geometry.specs.Common.{Segment}
+use Rattle.ring_machine.specs.Common.{Refusal}
 use Rattle.ring_machine.specs.Command as machine
 use Rattle.arc_store.specs.declared.fault.BuildFault.{BuildFault}
 use Rattle.arc_store.specs.declared.fault.BuildFault.TheVariants as build

@@ -1,17 +1,16 @@
 -- A map's tables as its callers see them, and what is true of them.
 use Rattle.std.specs.Prelude.{ℕ, ◌≡◌, List, Option}
-use Rattle.edit_records.specs.Records.{Record}
-use Rattle.ring_machine.specs.Parts.{size}
-use Rattle.segment_index.specs.Candidates.{SegmentSet}
+use Rattle.edit_records.specs.Common.{Record}
+use Rattle.ring_machine.specs.Common.{size}
+use Rattle.segment_index.specs.Common.{SegmentSet}
 use Rattle.segment_index.specs.Frames.{Frame as GridFrame}
-use Rattle.vertex_index.specs.Placement.{Placement}
-use Rattle.arc_tables.specs.Rings.{Rings}
+use Rattle.vertex_index.specs.Common.{Placement}
+use Rattle.arc_tables.specs.Common.{Rings}
 use Rattle.shared_arcs.specs.declared.around.Neighbours.{Neighbours}
-use Rattle.shared_arcs.specs.Joined.{AreAllNeighbours}
-use Rattle.map_frame.specs.Framed.{Framed}
-use Rattle.feature_exchange.specs.Stored.{Stored, stored, document_of}
+use Rattle.shared_arcs.specs.Common.{AreAllNeighbours}
+use Rattle.map_frame.specs.Common.{Framed}
+use Rattle.feature_exchange.specs.Common.{Stored, stored, document_of, IsWhole, Holds}
 use Rattle.arc_store.specs.State.{State}
-use Rattle.feature_exchange.specs.Holds.{IsWhole, Holds}
 
 -- the map as its callers see it
 abbrev pub state_of : Framed → Rings → Placement → ℕ → Option GridFrame → Option Record → State

@@ -10,3 +10,4 @@ pub mod Splits
 pub mod Spots
 pub mod State
 pub mod Users
+pub mod Common

@@ -1,13 +1,10 @@
 -- The rings of a segment by their names: the feature, the polygon and the place of each.
 use Rattle.std.specs.Prelude.{ℕ, ◌≡◌, ◌++◌, ◌↔◌, List, Some, slice_get, map, Contains, IsTrue}
 use Rattle.std.specs.List.{list_any}
-use Rattle.grid_geometry.specs.Position.{Position}
-use Rattle.grid_geometry.specs.Segment.{Segment, segment_eq}
-use Rattle.ring_machine.specs.Document.{DocumentOf, Document}
-use Rattle.ring_machine.specs.Ring.{segments}
+use Rattle.grid_geometry.specs.Common.{Position, Segment, segment_eq}
+use Rattle.ring_machine.specs.Common.{DocumentOf, Document, segments}
 use Rattle.map_frame.specs.declared.names.RingName.{RingName}
-use Rattle.map_frame.specs.Named.{number_at}
-use Rattle.map_frame.specs.Readers.{ring_at}
+use Rattle.map_frame.specs.Common.{number_at, ring_at}
 
 -- what was appended are the names of the rings with these numbers, in order
 pub record ListsNames (d : DocumentOf ℕ) (numbers : List ℕ) (old new : List RingName) : Type 0 where

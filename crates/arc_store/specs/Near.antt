@@ -1,8 +1,7 @@
 -- The segments of a document near a box.
 use Rattle.std.specs.Prelude.{◌≡◌, true, ◌++◌, List, Contains, IsTrue}
-use Rattle.grid_geometry.specs.Segment.{Segment, Box, box_of, boxes_meet}
-use Rattle.ring_machine.specs.Document.{Document}
-use Rattle.ring_machine.specs.Parts.{is_segment}
+use Rattle.grid_geometry.specs.Common.{Segment, Box, box_of, boxes_meet}
+use Rattle.ring_machine.specs.Common.{Document, is_segment}
 
 -- what was appended are segments of the document, and among them each whose box meets the asked one
 pub record ListsNear (d : Document) (rect : Box) (old new : List Segment) : Type 0 where

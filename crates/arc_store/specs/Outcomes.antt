@@ -1,11 +1,7 @@
 -- What an edit makes of a map.
 use Rattle.std.specs.Prelude.{ℕ, ◌≡◌, ◌+◌, [], ◌∷◌, Option, Some, None, Result, OnOk, OnErr, IfErr}
-use Rattle.ring_machine.specs.Command.{Refusal}
-use Rattle.ring_machine.specs.Cut.{Path, cut}
-use Rattle.ring_machine.specs.Document.{Text}
-use Rattle.ring_machine.specs.Parts.{feature}
-use Rattle.edit_records.specs.Places.{grown}
-use Rattle.edit_records.specs.Records.{Exchanged}
+use Rattle.ring_machine.specs.Common.{Refusal, Path, cut, Text, feature}
+use Rattle.edit_records.specs.Common.{grown, Exchanged}
 use Rattle.arc_store.specs.Faults.{Refuses}
 use Rattle.arc_store.specs.State.{State}
 use Rattle.arc_store.specs.declared.fault.EditFault.{EditFault}

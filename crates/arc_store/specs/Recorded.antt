@@ -1,12 +1,10 @@
 -- What the code keeps of an edit, as the machine's record of it.
 use Rattle.std.specs.Prelude.{◌≡◌, ◌≢◌, true, List, [], ◌∷◌, map, reverse, Option, None, Some, Contains}
-use Rattle.grid_geometry.specs.Position.{Position}
-use Rattle.grid_geometry.specs.Segment.{Segment, segment, segment_eq}
-use Rattle.ring_machine.specs.Document.{Document}
-use Rattle.ring_machine.specs.Vertices.{around}
+use Rattle.grid_geometry.specs.Common.{Position, Segment, segment, segment_eq}
+use Rattle.ring_machine.specs.Common.{Document, around}
 use Rattle.edit_records.specs.Records as machine
-use Rattle.edit_records.specs.Records.{Takes}
-use Rattle.feature_exchange.specs.Changed.{seen}
+use Rattle.edit_records.specs.Common.{Takes}
+use Rattle.feature_exchange.specs.Common.{seen}
 use Rattle.ring_store.specs.declared.removal.Removal.{Removal}
 use Rattle.arc_store.specs.State.{State}
 use Rattle.arc_store.specs.declared.edit_record.Record.{Record}

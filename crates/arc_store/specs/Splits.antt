@@ -2,18 +2,12 @@
 use Rattle.std.specs.Prelude.{ℕ, ◌≡◌, ◌<◌, ◌+◌, ◌*◌, ◌&&◌, Bool, true, false, List, [], ◌∷◌}
 use Rattle.std.specs.Prelude.{nat_lt, nat_le, length, take, slice_index_or, slice_set}
 use Rattle.std.specs.List.{list_any}
-use Rattle.grid_geometry.specs.Position.{Position}
-use Rattle.ring_machine.specs.Ring.{is_distinct}
-use Rattle.ring_machine.specs.Document.{Document}
-use Rattle.ring_machine.specs.Parts.{has_feature, is_vertex, size}
-use Rattle.ring_machine.specs.Planar.{Proper}
-use Rattle.ring_machine.specs.WellFormed.{WellFormed}
-use Rattle.ring_machine.specs.Cut.{Path, is_cut_by, first_that}
-use Rattle.ring_machine.specs.Refusals.{feature_at, is_layer, positions_of}
-use Rattle.ring_machine.specs.Refusals.{is_path_segment}
-use Rattle.ring_parts.specs.Seen.{rings_seen, polygons_seen}
-use Rattle.segment_index.specs.Candidates.{SegmentSet}
-use Rattle.feature_exchange.specs.Holds.{IsIndexed}
+use Rattle.grid_geometry.specs.Common.{Position}
+use Rattle.ring_machine.specs.Common.{is_distinct, Document, has_feature, is_vertex, size, Proper, WellFormed, Path}
+use Rattle.ring_machine.specs.Common.{is_cut_by, first_that, feature_at, is_layer, positions_of, is_path_segment}
+use Rattle.ring_parts.specs.Common.{rings_seen, polygons_seen}
+use Rattle.segment_index.specs.Common.{SegmentSet}
+use Rattle.feature_exchange.specs.Common.{IsIndexed}
 use Rattle.arc_store.specs.declared.raw_split.FirstCut.{FirstCut}
 
 -- the conditions of a split that come before conflicts, for a document of a map

@@ -2,12 +2,8 @@
 use Rattle.std.specs.Prelude.{ℕ, ◌≡◌, ◌≤◌, true, false, List, length, Contains, IsTrue}
 use Rattle.std.specs.Prelude.{Option, None, Some}
 use Rattle.std.specs.List.{filter, list_any}
-use Rattle.grid_geometry.specs.Position.{Position, position_lt}
-use Rattle.grid_geometry.specs.Segment.{Segment, segment, segment_eq}
-use Rattle.ring_machine.specs.Ring.{has, segments}
-use Rattle.ring_machine.specs.Document.{Document}
-use Rattle.ring_machine.specs.Parts.{rings, is_vertex}
-use Rattle.ring_machine.specs.Vertices.{around, is_junction}
+use Rattle.grid_geometry.specs.Common.{Position, position_lt, Segment, segment, segment_eq}
+use Rattle.ring_machine.specs.Common.{has, segments, Document, rings, is_vertex, around, is_junction}
 use Rattle.arc_store.specs.declared.spot.Spot.{Spot}
 use Rattle.arc_store.specs.declared.spot.Spot.TheVariants.{Junction, Between}
 

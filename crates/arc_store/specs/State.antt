@@ -1,9 +1,8 @@
 -- A map as its callers see it.
 use Rattle.std.specs.Prelude.{ℕ, List, Option}
-use Rattle.ring_machine.specs.Document.{Document}
-use Rattle.edit_records.specs.Places.{LayerTree}
-use Rattle.edit_records.specs.Records.{Record}
-use Rattle.segment_index.specs.Frames.{Frame}
+use Rattle.ring_machine.specs.Common.{Document}
+use Rattle.edit_records.specs.Common.{LayerTree, Record}
+use Rattle.segment_index.specs.Common.{Frame}
 
 -- the document, the number of the next new feature, the places of all numbers below it, how many
 -- tests of two segments the last edit made, the frame of the cells of the index, where it has cells,

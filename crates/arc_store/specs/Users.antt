@@ -1,8 +1,7 @@
 -- The rings that have a segment of some edges.
 use Rattle.std.specs.Prelude.{◌≡◌, ◌++◌, ◌↔◌, List, Contains}
-use Rattle.grid_geometry.specs.Ring.{Edge}
-use Rattle.grid_geometry.specs.Segment.{segment}
-use Rattle.ring_machine.specs.Document.{Document}
+use Rattle.grid_geometry.specs.Common.{Edge, segment}
+use Rattle.ring_machine.specs.Common.{Document}
 use Rattle.map_frame.specs.declared.names.RingName.{RingName}
 use Rattle.arc_store.specs.Named.{RingHas}
 

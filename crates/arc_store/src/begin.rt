@@ -1,7 +1,7 @@
 ghost use Rattle.std.specs.Prelude.{◌≡◌, None, Some, option_map};
-ghost use Rattle.ring_machine.specs.Planar.{Proper};
-ghost use Rattle.edit_records.specs.Records.{IsHeld};
-ghost use Rattle.topo_outline.specs.Kept.{KeepsTexts};
+ghost use Rattle.ring_machine.specs.Common.{Proper};
+ghost use Rattle.edit_records.specs.Common.{IsHeld};
+ghost use Rattle.topo_outline.specs.Common.{KeepsTexts};
 ghost use Rattle.arc_store.specs.Recorded.{record_seen};
 
 use crate::edit_record::Record;

@@ -1,9 +1,7 @@
 ghost use Rattle.std.specs.Prelude.{◌≡◌, None, IfOk, IfErr, length};
 ghost use Rattle.std.specs.FinSet as set;
-ghost use Rattle.ring_machine.specs.Parts.{features};
-ghost use Rattle.ring_machine.specs.Planar.{Proper, first_pair};
-ghost use Rattle.topo_reader.specs.Document.{document_of, IsOfRings};
-ghost use Rattle.topo_reader.specs.DocumentView.{view_raw};
+ghost use Rattle.ring_machine.specs.Common.{features, Proper, first_pair};
+ghost use Rattle.topo_reader.specs.Common.{document_of, IsOfRings, view_raw};
 ghost use Rattle.arc_store.specs.Faults.{Names};
 
 use crate::fault::BuildFault;

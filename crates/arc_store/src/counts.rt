@@ -1,9 +1,9 @@
 ghost use Rattle.std.specs.Prelude.{◌≡◌, ◌≤◌, ℕ, None, length};
-ghost use Rattle.edit_records.specs.Records.{IsHeld};
-ghost use Rattle.ring_machine.specs.Parts.{feature, features, size, is_vertex};
-ghost use Rattle.ring_machine.specs.Query.{vertices, distinct_segments};
-ghost use Rattle.topo_outline.specs.Kept.{KeepsTexts};
-ghost use Rattle.map_frame.specs.Placed.{ArePlaced};
+ghost use Rattle.edit_records.specs.Common.{IsHeld};
+ghost use Rattle.ring_machine.specs.Common.{feature, features, size, is_vertex, vertices};
+ghost use Rattle.ring_machine.specs.Common.{distinct_segments};
+ghost use Rattle.topo_outline.specs.Common.{KeepsTexts};
+ghost use Rattle.map_frame.specs.Common.{ArePlaced};
 
 use crate::map::Map;
 use grid_geometry::Pos;

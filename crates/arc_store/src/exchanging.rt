@@ -1,9 +1,9 @@
 // Features exchanged in a map: what every edit of features goes through.
 ghost use Rattle.std.specs.Prelude.{◌≡◌, ◌∷◌, [], true, Some, IfOk, OnOk, OnErr};
-ghost use Rattle.edit_records.specs.Places.{had_before};
-ghost use Rattle.ring_machine.specs.Parts.{has_feature};
-ghost use Rattle.ring_parts.specs.Seen.{rings_seen, polygons_seen};
-ghost use Rattle.feature_exchange.specs.Changed.{seen};
+ghost use Rattle.edit_records.specs.Common.{had_before};
+ghost use Rattle.ring_machine.specs.Common.{has_feature};
+ghost use Rattle.ring_parts.specs.Common.{rings_seen, polygons_seen};
+ghost use Rattle.feature_exchange.specs.Common.{seen};
 ghost use Rattle.arc_store.specs.Exchanged.{MayExchange, exchanged_state, with_polygons, part_of};
 
 use crate::map::Map;

@@ -1,12 +1,10 @@
 ghost use Rattle.std.specs.Prelude.{◌≡◌, ◌≤◌, map, option_map, IsTrue};
 ghost use Rattle.std.specs.List.{AllByRecursion};
-ghost use Rattle.grid_geometry.specs.Position.{InRange};
-ghost use Rattle.ring_machine.specs.Parts.{feature, features, has_feature, rings, size};
-ghost use Rattle.ring_machine.specs.Planar.{Proper};
-ghost use Rattle.ring_machine.specs.Refusals.{is_layer};
-ghost use Rattle.ring_machine.specs.WellFormed.{are_distinct, WellFormed};
-ghost use Rattle.topo_outline.specs.Kept.{KeepsTexts};
-ghost use Rattle.map_frame.specs.Readers.{shown, shown_frame};
+ghost use Rattle.grid_geometry.specs.Common.{InRange};
+ghost use Rattle.ring_machine.specs.Common.{feature, features, has_feature, rings, size, Proper};
+ghost use Rattle.ring_machine.specs.Common.{is_layer, are_distinct, WellFormed};
+ghost use Rattle.topo_outline.specs.Common.{KeepsTexts};
+ghost use Rattle.map_frame.specs.Common.{shown, shown_frame};
 
 use crate::map::Map;
 use map_frame::{FeatureView, FrameView};

@@ -1,7 +1,6 @@
 ghost use Rattle.std.specs.Prelude.{◌≡◌, ◌++◌, [], map, option_map, unwrap_or, IfOk, OnOk};
-ghost use Rattle.ring_machine.specs.Parts.{feature};
-ghost use Rattle.ring_machine.specs.Vertices.{is_junction};
-ghost use Rattle.map_frame.specs.Readers.{ring_at, shown};
+ghost use Rattle.ring_machine.specs.Common.{feature, is_junction};
+ghost use Rattle.map_frame.specs.Common.{ring_at, shown};
 
 use crate::map::Map;
 use feature_exchange::push_marked_ring;

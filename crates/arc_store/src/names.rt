@@ -1,8 +1,6 @@
 ghost use Rattle.std.specs.Prelude.{◌≡◌, ℕ, [], length, unwrap_or, Some, Contains, OnOk};
-ghost use Rattle.grid_geometry.specs.Ring.{edges};
-ghost use Rattle.grid_geometry.specs.Segment.{segment};
-ghost use Rattle.map_frame.specs.Named.{number_at};
-ghost use Rattle.map_frame.specs.Readers.{ring_at};
+ghost use Rattle.grid_geometry.specs.Common.{edges, segment};
+ghost use Rattle.map_frame.specs.Common.{number_at, ring_at};
 ghost use Rattle.map_frame.specs.declared.names.RingName.{RingName};
 ghost use Rattle.arc_store.specs.Named.{ListsNames, ListsRings};
 ghost use Rattle.arc_store.specs.Spots.{users};

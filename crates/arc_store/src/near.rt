@@ -1,6 +1,5 @@
 ghost use Rattle.std.specs.Prelude.{map, IsTrue, OnOk};
-ghost use Rattle.ring_machine.specs.Parts.{features};
-ghost use Rattle.ring_machine.specs.WellFormed.{are_distinct};
+ghost use Rattle.ring_machine.specs.Common.{features, are_distinct};
 ghost use Rattle.arc_store.specs.Near.{ListsNear};
 
 use crate::map::Map;

@@ -1,11 +1,9 @@
 // The test of a planned edit.
 ghost use Rattle.std.specs.Prelude.{◌≡◌, ◌≤◌, ◌+◌, List, None, OnOk, IfErr};
-ghost use Rattle.grid_geometry.specs.Segment.{Segment};
-ghost use Rattle.ring_machine.specs.Planar.{least_conflict};
-ghost use Rattle.ring_machine.specs.Refusals.{conflict_of};
-ghost use Rattle.segment_index.specs.Times.{times_by};
-ghost use Rattle.local_planarity.specs.Edits.{AreApart, IsAfter};
-ghost use Rattle.local_planarity.specs.Tests.{most_tests};
+ghost use Rattle.grid_geometry.specs.Common.{Segment};
+ghost use Rattle.ring_machine.specs.Common.{least_conflict, conflict_of};
+ghost use Rattle.segment_index.specs.Common.{times_by};
+ghost use Rattle.local_planarity.specs.Common.{AreApart, IsAfter, most_tests};
 ghost use Rattle.arc_store.specs.Faults.{Refuses};
 
 use crate::fault::EditFault;

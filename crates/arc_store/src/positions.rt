@@ -1,8 +1,7 @@
 ghost use Rattle.std.specs.Prelude.{◌≡◌, IfOk};
-ghost use Rattle.ring_machine.specs.Query.{vertices};
-ghost use Rattle.ring_machine.specs.Refusals.{feature_at};
-ghost use Rattle.ring_parts.specs.Seen.{polygons_seen};
-ghost use Rattle.map_frame.specs.Readers.{ring_at};
+ghost use Rattle.ring_machine.specs.Common.{vertices, feature_at};
+ghost use Rattle.ring_parts.specs.Common.{polygons_seen};
+ghost use Rattle.map_frame.specs.Common.{ring_at};
 
 use crate::map::Map;
 use feature_exchange::{RingIter, read_polygons, read_vertices};

@@ -1,6 +1,5 @@
 ghost use Rattle.std.specs.Prelude.{◌≡◌, true, [], ◌∷◌, Some, None, OnOk};
-ghost use Rattle.ring_machine.specs.Join.{take_out};
-ghost use Rattle.ring_machine.specs.Parts.{feature, has_feature};
+ghost use Rattle.ring_machine.specs.Common.{take_out, feature, has_feature};
 ghost use Rattle.edit_records.specs.Records as made;
 ghost use Rattle.arc_store.specs.Outcomes.{Edits};
 

@@ -1,7 +1,5 @@
 ghost use Rattle.std.specs.Prelude.{◌≡◌, [], ◌∷◌, Some, None};
-ghost use Rattle.ring_machine.specs.Join.{join};
-ghost use Rattle.ring_machine.specs.Parts.{feature};
-ghost use Rattle.ring_machine.specs.Refusals.{first_of, merge_refusals, feature_at};
+ghost use Rattle.ring_machine.specs.Common.{join, feature, first_of, merge_refusals, feature_at};
 ghost use Rattle.edit_records.specs.Records as made;
 ghost use Rattle.arc_store.specs.Outcomes.{Edits};
 

@@ -1,10 +1,8 @@
 ghost use Rattle.std.specs.Prelude.{◌≡◌, ◌≤◌, ◌+◌, true, false, Some, OnOk, OnErr};
-ghost use Rattle.ring_machine.specs.Parts.{is_vertex};
-ghost use Rattle.ring_machine.specs.Refusals.{first_of, move_refusals};
-ghost use Rattle.ring_machine.specs.Vertices.{put};
+ghost use Rattle.ring_machine.specs.Common.{is_vertex, first_of, move_refusals, put};
 ghost use Rattle.edit_records.specs.Records as made;
-ghost use Rattle.segment_index.specs.Times.{times_by};
-ghost use Rattle.local_planarity.specs.Tests.{most_for_move};
+ghost use Rattle.segment_index.specs.Common.{times_by};
+ghost use Rattle.local_planarity.specs.Common.{most_for_move};
 ghost use Rattle.arc_store.specs.Edits.{IsMovable};
 ghost use Rattle.arc_store.specs.Outcomes.{Edits};
 

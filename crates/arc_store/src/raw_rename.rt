@@ -1,9 +1,7 @@
 ghost use Rattle.std.specs.Prelude.{◌≡◌, Some, None};
-ghost use Rattle.ring_machine.specs.Document.{Feature};
-ghost use Rattle.ring_machine.specs.Parts.{feature};
+ghost use Rattle.ring_machine.specs.Common.{Feature, feature, renamed};
 ghost use Rattle.edit_records.specs.Records as made;
-ghost use Rattle.ring_machine.specs.Machine.{renamed};
-ghost use Rattle.topo_outline.specs.Kept.{IsJson};
+ghost use Rattle.topo_outline.specs.Common.{IsJson};
 
 use crate::edit_record::Record;
 use crate::map::Map;

@@ -1,10 +1,9 @@
 ghost use Rattle.std.specs.Prelude.{◌≡◌, ◌≤◌, ◌+◌, true, false, Some, None, ◌∷◌, OnOk, OnErr, IfErr};
-ghost use Rattle.ring_machine.specs.Parts.{is_vertex};
-ghost use Rattle.ring_machine.specs.Refusals.{first_of, remove_refusals, are_long, is_bridged};
-ghost use Rattle.ring_machine.specs.Vertices.{del, is_junction};
+ghost use Rattle.ring_machine.specs.Common.{is_vertex, first_of, remove_refusals, are_long};
+ghost use Rattle.ring_machine.specs.Common.{is_bridged, del, is_junction};
 ghost use Rattle.edit_records.specs.Records as made;
-ghost use Rattle.segment_index.specs.Times.{times_by};
-ghost use Rattle.local_planarity.specs.Tests.{most_for};
+ghost use Rattle.segment_index.specs.Common.{times_by};
+ghost use Rattle.local_planarity.specs.Common.{most_for};
 ghost use Rattle.arc_store.specs.Outcomes.{Edits};
 ghost use Rattle.arc_store.specs.Recorded.{IsLeftOut, IsThinning, left_out, thinned};
 

@@ -1,12 +1,12 @@
 // Edits taken back.
 ghost use Rattle.std.specs.Prelude.{◌≡◌, None, map, reverse, OnOk, OnErr, IfErr};
 ghost use Rattle.std.specs.List.{fold};
-ghost use Rattle.ring_machine.specs.Vertices.{put, ins, del};
-ghost use Rattle.edit_records.specs.Places.{exchanged};
+ghost use Rattle.ring_machine.specs.Common.{put, ins, del};
+ghost use Rattle.edit_records.specs.Common.{exchanged, Undoes, AreRemoved, IsMap, back, put_back};
+ghost use Rattle.edit_records.specs.Common.{with_id};
 ghost use Rattle.edit_records.specs.Records as machine;
-ghost use Rattle.edit_records.specs.Records.{Undoes, AreRemoved, IsMap, back, put_back, with_id};
-ghost use Rattle.topo_outline.specs.Kept.{KeepsTexts};
-ghost use Rattle.feature_exchange.specs.Changed.{seen};
+ghost use Rattle.topo_outline.specs.Common.{KeepsTexts};
+ghost use Rattle.feature_exchange.specs.Common.{seen};
 ghost use Rattle.arc_store.specs.Edits.{IsMovable, IsPlaceable, IsLeavable};
 ghost use Rattle.arc_store.specs.Recorded.{record_seen, removal_seen};
 

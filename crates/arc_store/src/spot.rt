@@ -1,9 +1,9 @@
 ghost use Rattle.std.specs.Prelude.{◌≡◌, true};
 ghost use Rattle.std.specs.FinMap as table;
-ghost use Rattle.grid_geometry.specs.Segment.{segment};
-ghost use Rattle.ring_machine.specs.Vertices.{is_junction};
+ghost use Rattle.grid_geometry.specs.Common.{segment};
+ghost use Rattle.ring_machine.specs.Common.{is_junction};
 ghost use Rattle.arc_store.specs.Spots.{IsSpot};
-ghost use Rattle.vertex_index.specs.Placement.{place};
+ghost use Rattle.vertex_index.specs.Common.{place};
 
 use crate::map::Map;
 use grid_geometry::Pos;

@@ -1,13 +1,9 @@
 -- Copies of the tables hold the same.
-use Rattle.std.proofs.Common.{◌≡◌, ℕ, zero, suc, Option, Some, None, is_some, List, [], ◌∷◌, map, Contains, get_or, refl, sym, ap, ap₂, subst}
-use Rattle.std.specs.List.{AllZip}
+use Rattle.kit_words.proofs.Common.{◌≡◌, ℕ, zero, suc, Option, Some, None, is_some, List, [], ◌∷◌, map, Contains}
+use Rattle.kit_words.proofs.Common.{get_or, refl, sym, ap, ap₂, subst, AllZip}
 use Rattle.slab.specs.Slab.{Slab, get, IsSlabClone, IsSlotClone}
-use Rattle.arc_tables.specs.declared.arc.Arc.{Arc}
-use Rattle.arc_tables.specs.declared.arc.Ring.{Ring}
-use Rattle.arc_tables.specs.declared.arc.Stand.{Stand}
-use Rattle.arc_tables.specs.declared.tables.Tables.{Tables}
-use Rattle.arc_tables.specs.Stores.{path_in, users_in, uses_in, store, SamePaths, SameUsers, SameRings, SameKeys, ListsMore}
-use Rattle.arc_tables.specs.Sound.{Sound, rings_of}
+use Rattle.arc_tables.specs.Common.{Arc, Ring, Stand, Tables, path_in, users_in, uses_in, store, SamePaths, SameUsers}
+use Rattle.arc_tables.specs.Common.{SameRings, SameKeys, ListsMore, Sound, rings_of}
 use Rattle.arc_tables.proofs.Moves.{keeps_same}
 use Rattle.arc_tables.proofs.RingLemmas.{rings_kept}
 use Rattle.arc_tables.proofs.WholeLemmas.{whole_same}

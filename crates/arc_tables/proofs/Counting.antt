@@ -1,26 +1,15 @@
 -- How many rings have a segment: as many as the arc that has it.
-use Rattle.std.proofs.Common.{◌≡◌, ℕ, zero, suc, ◌<◌, ◌≤◌, ◌+◌, Bool, true, false, cond, refl, sym, ap, ◌∙◌, subst, arith}
-use Rattle.std.proofs.Common.{List, [], ◌∷◌, map, length, Contains, inl, inr, Option, Some, None}
-use Rattle.std.specs.Prelude.{◌==◌, count_by, slice_index_or}
-use Rattle.std.specs.Ordering.{nat_cmp}
-use Rattle.std.specs.declared.cmp.Ordering.TheVariants.{Less}
-use Rattle.std.specs.Cmp.{nat_cmp_is}
-use Rattle.std.proofs.lemmas.Cmp.{nat_cmp_total}
-use Rattle.std.proofs.lemmas.Bool.{false≢true, or_left, or_right, cases_Bool, both_ways}
-use Rattle.std.proofs.lemmas.List.{nil_from_length}
-use Rattle.std.proofs.lemmas.List.Sums.{sum_by-cons}
-use Rattle.std.proofs.lemmas.Bool.Decides.{Decides-eqb, nat_tests}
+use Rattle.kit_words.proofs.Common.{◌≡◌, ℕ, zero, suc, ◌<◌, ◌≤◌, ◌+◌, Bool, true, false, cond, refl, sym, ap, ◌∙◌}
+use Rattle.kit_words.proofs.Common.{subst, arith, List, [], ◌∷◌, map, length, Contains, inl, inr, Option, Some, None}
+use Rattle.kit_words.proofs.Common.{◌==◌, slice_index_or, nat_cmp, Less, nat_cmp_is, nat_cmp_total, false≢true, or_left}
+use Rattle.kit_words.proofs.Common.{or_right, cases_Bool, both_ways, nil_from_length, sum_by-cons, Decides-eqb}
+use Rattle.kit_words.proofs.Common.{nat_tests}
+use Rattle.std.specs.Prelude.{count_by}
 use Rattle.std.specs.FinMap as rings
 use Rattle.slab.specs.Slab as slab
 use Rattle.slab.specs.Slab.{get}
-use Rattle.arc_tables.specs.declared.arc.Use.{Use}
-use Rattle.arc_tables.specs.declared.arc.Ring.{Ring}
-use Rattle.arc_tables.specs.declared.tables.Tables.{Tables}
-use Rattle.arc_tables.specs.Ways.{Edge, links, walk, chain, times}
-use Rattle.arc_tables.specs.Rings.{has_segment, users_of}
-use Rattle.arc_tables.specs.Stores.{path_of, users_in, uses_in, uses_arc, AllDifferent}
-use Rattle.arc_tables.specs.ShortLists.{without}
-use Rattle.arc_tables.specs.Sound.{edges_in, rings_of, Sound}
+use Rattle.arc_tables.specs.Common.{Use, Ring, Tables, Edge, links, walk, chain, times, has_segment, users_of, path_of}
+use Rattle.arc_tables.specs.Common.{users_in, uses_in, uses_arc, AllDifferent, without, edges_in, rings_of, Sound}
 use Rattle.arc_tables.proofs.Different.{in_without, from_without, different_without, length-without}
 use Rattle.arc_tables.proofs.Moves.{links-reverse, times-append, times-flipped}
 use Rattle.arc_tables.proofs.RingLemmas.{mapped_slot}

@@ -1,17 +1,12 @@
 -- A cut of the slabs is a cut of the store, and the arcs still know their rings.
-use Rattle.std.proofs.Common.{◌≡◌, ◌≢◌, ℕ, ◌<◌, ◌≤◌, ◌+◌, true, false, ◌||◌, refl, sym, ap, ◌∙◌, subst, List, [], ◌∷◌, ◌++◌, inl, inr, Contains, take, drop, get_or, length, Option, Some, None, IsSome, add-one, drop-cons, arith, ◌&&◌}
-use Rattle.std.specs.Prelude.{◌==◌}
-use Rattle.std.specs.List.{flat_map, list_any}
-use Rattle.std.proofs.lemmas.Bool.{false≢true, or_parts, both_ways, cases_eq, false_from_ne_true}
-use Rattle.std.proofs.lemmas.Bool.Decides.{Decides-eqb, nat_tests}
-use Rattle.std.proofs.lemmas.List.{take_more, take-append-drop}
+use Rattle.kit_words.proofs.Common.{◌≡◌, ◌≢◌, ℕ, ◌<◌, ◌≤◌, ◌+◌, true, false, ◌||◌, refl, sym, ap, ◌∙◌, subst, List, []}
+use Rattle.kit_words.proofs.Common.{◌∷◌, ◌++◌, inl, inr, Contains, take, drop, get_or, length, Option, Some, None}
+use Rattle.kit_words.proofs.Common.{IsSome, add-one, drop-cons, arith, ◌&&◌, ◌==◌, flat_map, list_any, false≢true}
+use Rattle.kit_words.proofs.Common.{or_parts, both_ways, cases_eq, false_from_ne_true, Decides-eqb, nat_tests}
+use Rattle.kit_words.proofs.Common.{take_more, take-append-drop}
 use Rattle.slab.specs.Slab.{Slab, get, ContainsKey}
-use Rattle.arc_tables.specs.declared.arc.Use.{Use}
-use Rattle.arc_tables.specs.declared.arc.Arc.{Arc}
-use Rattle.arc_tables.specs.declared.arc.Ring.{Ring}
-use Rattle.arc_tables.specs.declared.arc.NewUses.{NewUses}
-use Rattle.arc_tables.specs.Ways.{Lacks, both_parts, Cuts}
-use Rattle.arc_tables.specs.Stores.{path_in, users_in, uses_in, store_of, uses_arc, AllDifferent, Known, HasRing, IsPut, Doubles}
+use Rattle.arc_tables.specs.Common.{Use, Arc, Ring, NewUses, Lacks, both_parts, Cuts, path_in, users_in, uses_in}
+use Rattle.arc_tables.specs.Common.{store_of, uses_arc, AllDifferent, Known, HasRing, IsPut, Doubles}
 use Rattle.arc_tables.proofs.Knowing.{known_of, known_by_uses}
 
 -- ---- which arcs a list of uses has

@@ -1,14 +1,12 @@
 -- Lists of numbers in which none stands twice.
-use Rattle.std.proofs.Common.{◌≡◌, ◌≢◌, ℕ, ◌≤◌, ◌+◌, true, false, not, ◌||◌, refl, sym, ap, ◌∙◌, subst, arith, ◌&&◌}
-use Rattle.std.proofs.Common.{List, [], ◌∷◌, ◌++◌, length, Contains, ◌⊎◌, inl, inr}
-use Rattle.std.specs.Prelude.{◌==◌}
-use Rattle.std.specs.List.{list_any, AllByRecursion}
-use Rattle.std.proofs.lemmas.Bool.{false≢true, cases_eq, or_left, or_right, or_cases, or_parts, both_ways, cond_both, and_parts}
-use Rattle.std.proofs.lemmas.Bool.Decides.{Decides-eqb, nat_tests, same_from_decides}
-use Rattle.std.proofs.lemmas.List.Elements.{Contains-append_left, Contains-push, Contains-push_cases, All-contains, All-from_recursion}
+use Rattle.kit_words.proofs.Common.{◌≡◌, ◌≢◌, ℕ, ◌≤◌, ◌+◌, true, false, not, ◌||◌, refl, sym, ap, ◌∙◌, subst, arith}
+use Rattle.kit_words.proofs.Common.{◌&&◌, List, [], ◌∷◌, ◌++◌, length, Contains, ◌⊎◌, inl, inr, ◌==◌, list_any}
+use Rattle.kit_words.proofs.Common.{AllByRecursion, false≢true, cases_eq, or_left, or_right, or_cases, or_parts}
+use Rattle.kit_words.proofs.Common.{both_ways, cond_both, and_parts, Decides-eqb, nat_tests, same_from_decides}
+use Rattle.kit_words.proofs.Common.{Contains-append_left, Contains-push, Contains-push_cases, All-contains}
+use Rattle.kit_words.proofs.Common.{All-from_recursion}
 use Rattle.slab.proofs.SlabLemmas.{Contains-cons, Contains-cons_cases}
-use Rattle.arc_tables.specs.Stores.{AllDifferent, including}
-use Rattle.arc_tables.specs.ShortLists.{without}
+use Rattle.arc_tables.specs.Common.{AllDifferent, including, without}
 
 pub none_contained : (k : ℕ) (xs : List ℕ) → xs ≡ [] → Contains xs k → ⊥
 none_contained k xs e m = absurd (omega (arith, (subst (λ z. Contains z k) e m).1))

@@ -1,18 +1,11 @@
 -- An edit of each arc edge by edge is the edit of each ring.
-use Rattle.std.proofs.Common.{◌≡◌, refl, sym, ap, ap₂, ◌∙◌, ℕ, Bool, true, false, List, [], ◌∷◌, ◌++◌, Option, Some, None, option_map, is_some, subst, Contains, arith, ◌≢◌, ◌⊎◌, inl, inr}
-use Rattle.std.specs.List.{flat_map}
-use Rattle.std.proofs.lemmas.List.{append-nil}
-use Rattle.std.proofs.lemmas.List.Concat.{flat_map-append}
+use Rattle.kit_words.proofs.Common.{◌≡◌, refl, sym, ap, ap₂, ◌∙◌, ℕ, Bool, true, false, List, [], ◌∷◌, ◌++◌, Option}
+use Rattle.kit_words.proofs.Common.{Some, None, option_map, is_some, subst, Contains, arith, ◌≢◌, ◌⊎◌, inl, inr}
+use Rattle.kit_words.proofs.Common.{flat_map, append-nil, flat_map-append}
 use Rattle.std.specs.FinMap as rings
 use Rattle.slab.specs.Slab.{Slab, get}
-use Rattle.arc_tables.specs.declared.arc.Use.{Use}
-use Rattle.arc_tables.specs.declared.arc.Arc.{Arc}
-use Rattle.arc_tables.specs.declared.arc.Ring.{Ring}
-use Rattle.arc_tables.specs.declared.arc.Stand.{Stand}
-use Rattle.arc_tables.specs.declared.tables.Tables.{Tables}
-use Rattle.arc_tables.specs.Ways.{Edge, links, walk, chain, times, Once}
-use Rattle.arc_tables.specs.Stores.{path_of, path_in, uses_in, stand_at, store, SamePaths, Listed, ListsMore}
-use Rattle.arc_tables.specs.Sound.{edges_in, rings_of}
+use Rattle.arc_tables.specs.Common.{Use, Arc, Ring, Stand, Tables, Edge, links, walk, chain, times, Once, path_of}
+use Rattle.arc_tables.specs.Common.{path_in, uses_in, stand_at, store, SamePaths, Listed, ListsMore, edges_in, rings_of}
 use Rattle.arc_tables.proofs.Moves.{flip, flipped, flipped-append, links-reverse, keeps_same}
 use Rattle.arc_tables.proofs.RingLemmas.{get_rings, rings_kept}
 use Rattle.arc_tables.proofs.Segments.{once_for}

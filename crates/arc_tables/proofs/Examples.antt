@@ -1,15 +1,9 @@
 -- Worked examples of what could be wrong by one.
-use Rattle.std.proofs.Common.{◌≡◌, ℕ, true, List, [], ◌∷◌, map, refl, ap}
+use Rattle.kit_words.proofs.Common.{◌≡◌, ℕ, true, List, [], ◌∷◌, map, refl, ap, nat_cmp}
 use Rattle.std.specs.Prelude.{count_by}
-use Rattle.std.specs.Ordering.{nat_cmp}
 use Rattle.std.specs.FinMap as map_of
-use Rattle.arc_tables.specs.declared.batch.Put.{Put}
-use Rattle.arc_tables.specs.Ways.{Edge, links, both_parts, times}
-use Rattle.arc_tables.specs.Edited.{gained}
-use Rattle.arc_tables.specs.Rings.{Rings, edges, begins, has_segment, users_of}
-use Rattle.arc_tables.specs.Stores.{including}
-use Rattle.arc_tables.specs.ShortLists.{without}
-use Rattle.arc_tables.specs.Users.{where_some}
+use Rattle.arc_tables.specs.Common.{Put, Edge, links, both_parts, times, gained, Rings, edges, begins, has_segment}
+use Rattle.arc_tables.specs.Common.{users_of, including, without, where_some}
 
 -- a path of three keys has two edges, and a ring of three keys has three
 path_edges : links {A = ℕ} (7 ∷ 8 ∷ 9 ∷ []) ≡ (7, 8) ∷ (8, 9) ∷ []

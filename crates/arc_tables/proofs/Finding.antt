@@ -1,12 +1,11 @@
 -- Where a segment stands, or that it stands nowhere.
-use Rattle.std.proofs.Common.{◌≡◌, ℕ, zero, suc, ◌<◌, ◌≤◌, ◌+◌, ◌-◌, false, refl, ◌&&◌, sym, ap, ◌∙◌, subst, List, [], ◌∷◌, ◌++◌, take, length, get_or, arith, append_assoc, inl, inr, Contains, Option, Some, None, IfNone}
-use Rattle.std.specs.Prelude.{◌==◌}
-use Rattle.std.proofs.lemmas.List.{take_more}
+use Rattle.kit_words.proofs.Common.{◌≡◌, ℕ, zero, suc, ◌<◌, ◌≤◌, ◌+◌, ◌-◌, false, refl, ◌&&◌, sym, ap, ◌∙◌, subst, List}
+use Rattle.kit_words.proofs.Common.{[], ◌∷◌, ◌++◌, take, length, get_or, arith, append_assoc, inl, inr, Contains}
+use Rattle.kit_words.proofs.Common.{Option, Some, None, IfNone, ◌==◌, take_more, cases_Bool, both_ways, or_from}
+use Rattle.kit_words.proofs.Common.{list_any}
 use Rattle.arc_tables.proofs.Held.{none_at}
-use Rattle.arc_tables.specs.Ways.{links, times, one}
+use Rattle.arc_tables.specs.Common.{links, times, one}
 use Rattle.arc_tables.proofs.Moves.{links-append, times-append}
-use Rattle.std.proofs.lemmas.Bool.{cases_Bool, both_ways, or_from}
-use Rattle.std.specs.List.{list_any}
 use Rattle.arc_tables.proofs.Different.{contained_any, any_contained}
 
 -- a path without the vertex has none of its segments, so it is enough to look where it stands

@@ -1,21 +1,9 @@
 -- How many positions rings gain while vertices come in one after the other.
-use Rattle.std.proofs.Common.{◌≡◌, ℕ, ◌+◌, ◌<◌, ◌≤◌, ◌&&◌, refl, sym, ap, ap₂, ◌∙◌, subst, arith}
-use Rattle.std.proofs.Common.{List, [], ◌∷◌, map, length, drop, get_or, option_map}
-use Rattle.std.specs.Prelude.{T}
-use Rattle.std.specs.Ordering.{nat_cmp, is_lt}
-use Rattle.std.proofs.lemmas.Cmp.{nat_cmp_total}
-use Rattle.std.proofs.lemmas.List.{at_drop_more, at_drop_all}
-use Rattle.std.proofs.lemmas.Simd.{map-map}
+use Rattle.kit_words.proofs.Common.{◌≡◌, ℕ, ◌+◌, ◌<◌, ◌≤◌, ◌&&◌, refl, sym, ap, ap₂, ◌∙◌, subst, arith, List, [], ◌∷◌}
+use Rattle.kit_words.proofs.Common.{map, length, drop, get_or, option_map, T, nat_cmp, is_lt, nat_cmp_total}
+use Rattle.kit_words.proofs.Common.{at_drop_more, at_drop_all, map-map, same_map, nat_cmp-IsAntisymmetric, below_all}
 use Rattle.std.specs.FinMap as rings
-use Rattle.std.specs.FinMap.{same_map, nat_cmp-IsAntisymmetric}
-use Rattle.std.specs.FinMap.Entries.{below_all}
-use Rattle.arc_tables.specs.declared.batch.Put.{Put}
-use Rattle.arc_tables.specs.declared.tables.Tables.{Tables}
-use Rattle.arc_tables.specs.Ways.{links}
-use Rattle.arc_tables.specs.Rings.{Rings, users_of}
-use Rattle.arc_tables.specs.Edited.{through, gained}
-use Rattle.arc_tables.specs.Stores.{path_of}
-use Rattle.arc_tables.specs.Sound.{rings_of}
+use Rattle.arc_tables.specs.Common.{Put, Tables, links, Rings, users_of, through, gained, path_of, rings_of}
 use Rattle.arc_tables.proofs.Putting.{put_everywhere}
 
 -- ---- a map whose values are edited

@@ -1,18 +1,12 @@
 -- What the arcs know of their rings, after a ring goes on.
-use Rattle.std.proofs.Common.{◌≡◌, ℕ, ◌≤◌, ◌||◌, sym, ap, ◌∙◌, subst, arith, List, ◌≢◌, ◌++◌, ◌&&◌}
-use Rattle.std.proofs.Common.{[], ◌∷◌, ◌⊎◌, inl, inr, Contains, length, Some, is_some}
-use Rattle.std.specs.Prelude.{◌==◌}
-use Rattle.std.proofs.lemmas.Bool.{cases_eq}
-use Rattle.std.proofs.lemmas.Bool.Decides.{nat_tests}
-use Rattle.std.proofs.lemmas.List.Folds.{list_any-append}
+use Rattle.kit_words.proofs.Common.{◌≡◌, ℕ, ◌≤◌, ◌||◌, sym, ap, ◌∙◌, subst, arith, List, ◌≢◌, ◌++◌, ◌&&◌, [], ◌∷◌, ◌⊎◌}
+use Rattle.kit_words.proofs.Common.{inl, inr, Contains, length, Some, is_some, ◌==◌, cases_eq, nat_tests}
+use Rattle.kit_words.proofs.Common.{list_any-append, list_any}
 use Rattle.slab.specs.Slab.{Slab, get, ContainsKey, Updates}
-use Rattle.arc_tables.specs.declared.arc.Use.{Use}
-use Rattle.arc_tables.specs.declared.arc.Arc.{Arc}
-use Rattle.arc_tables.specs.declared.arc.Ring.{Ring}
-use Rattle.arc_tables.specs.Stores.{users_in, uses_in, uses_arc, including, AllDifferent, Known, GoesOn, SameRings, SameUsers, Learns}
+use Rattle.arc_tables.specs.Common.{Use, Arc, Ring, users_in, uses_in, uses_arc, including, AllDifferent, Known, GoesOn}
+use Rattle.arc_tables.specs.Common.{SameRings, SameUsers, Learns}
 use Rattle.arc_tables.proofs.Different.{itself_including, different_including, some_contained, any_including}
 use Rattle.arc_tables.proofs.Knowing.{known_of, known_by_uses}
-use Rattle.std.specs.List.{list_any}
 
 used_more : (s r j : ℕ) (u : Use) (old new : List Use) → (s ≡ r → new ≡ old ++ u ∷ []) → (s ≢ r → new ≡ old) → uses_arc j new ≡ (uses_arc j old || (s == r && u.arc == j))
 used_more s r j u old new f g = grind (arith, nat_tests, cases_eq s r, list_any-append (λ (v : Use). v.arc == j) old (u ∷ []))

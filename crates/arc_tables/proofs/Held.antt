@@ -1,10 +1,9 @@
 -- Which segments the arcs have, and which arcs a vertex stands in, after each move.
-use Rattle.std.proofs.Common.{◌≡◌, ◌≢◌, ℕ, refl, sym, ap, ◌∙◌, subst, List, [], ◌∷◌, ◌⊎◌, inl, inr, arith, Contains}
-use Rattle.std.proofs.lemmas.Bool.Decides.{nat_tests}
-use Rattle.std.proofs.lemmas.List.Elements.{Contains-append_left, Contains-append_right, Contains-push_cases}
+use Rattle.kit_words.proofs.Common.{◌≡◌, ◌≢◌, ℕ, refl, sym, ap, ◌∙◌, subst, List, [], ◌∷◌, ◌⊎◌, inl, inr, arith}
+use Rattle.kit_words.proofs.Common.{Contains, nat_tests, Contains-append_left, Contains-append_right}
+use Rattle.kit_words.proofs.Common.{Contains-push_cases, cases_eq}
 use Rattle.slab.proofs.SlabLemmas.{Contains-cons}
-use Rattle.arc_tables.specs.Ways.{links, times, Store, Cuts}
-use Rattle.std.proofs.lemmas.Bool.{cases_eq}
+use Rattle.arc_tables.specs.Common.{links, times, Store, Cuts}
 
 -- ---- which arcs a vertex stands in: at least these are listed
 

@@ -1,21 +1,16 @@
 -- A vertex comes between two others.
-use Rattle.std.proofs.Common.{◌≡◌, ◌≢◌, ℕ, ◌+◌, ◌≤◌, ◌<◌, suc, Bool, true, cond, refl, sym, ap, ap₂, ◌∙◌, subst, List, [], ◌∷◌, ◌++◌, take, drop, length, get_or, ◌⊎◌, inl, inr, arith, Contains, drop-cons, append_assoc}
-use native.Mathlib.Decide.{ℕ_discrete}
-use Rattle.std.specs.List.{insert}
-use Rattle.std.proofs.lemmas.List.{take-append-drop, take_more}
-use Rattle.std.proofs.lemmas.List.Concat.{flat_map-append}
-use Rattle.std.proofs.lemmas.List.Elements.{Contains-append_left, Contains-append_right, Contains-append_cases}
+use Rattle.kit_words.proofs.Common.{◌≡◌, ◌≢◌, ℕ, ◌+◌, ◌≤◌, ◌<◌, suc, Bool, true, cond, refl, sym, ap, ap₂, ◌∙◌, subst}
+use Rattle.kit_words.proofs.Common.{List, [], ◌∷◌, ◌++◌, take, drop, length, get_or, ◌⊎◌, inl, inr, arith, Contains}
+use Rattle.kit_words.proofs.Common.{drop-cons, append_assoc, ℕ_discrete, insert, take-append-drop, take_more}
+use Rattle.kit_words.proofs.Common.{flat_map-append, Contains-append_left, Contains-append_right, Contains-append_cases}
+use Rattle.kit_words.proofs.Common.{cases_eq, nat_tests}
 use Rattle.slab.specs.Slab.{Slab, get}
 use Rattle.slab.proofs.SlabLemmas.{Contains-cons_cases}
-use Rattle.arc_tables.specs.declared.arc.Arc.{Arc}
-use Rattle.arc_tables.specs.Ways.{Edge, links, is_seg, one, times, Once}
-use Rattle.arc_tables.specs.Edited.{AreApart, over, through}
-use Rattle.arc_tables.specs.Stores.{IsPlace, path_in}
+use Rattle.arc_tables.specs.Common.{Arc, Edge, links, is_seg, one, times, Once, AreApart, over, through, IsPlace}
+use Rattle.arc_tables.specs.Common.{path_in}
 use Rattle.arc_tables.proofs.Moves.{is_seg-flip, links-append, times-append}
 use Rattle.arc_tables.proofs.Segments.{times_comm, StandsFor, once_for}
 use Rattle.arc_tables.proofs.EditLemmas.{Turns, EditsArcs}
-use Rattle.std.proofs.lemmas.Bool.{cases_eq}
-use Rattle.std.proofs.lemmas.Bool.Decides.{nat_tests}
 
 pub over-turns : (a b q : ℕ) → Turns (over a b q)
 over-turns a b q e = grind (arith, is_seg-flip a b e)

@@ -1,12 +1,8 @@
 -- Whether an arc knows a ring is told by the arc's rings, and by the ring's uses as well.
-use Rattle.std.proofs.Common.{◌≡◌, ℕ, refl, sym, ◌∙◌, Contains, arith, IsSome, Option, Some, None, length, ◌≤◌}
-use Rattle.std.specs.Prelude.{◌==◌}
-use Rattle.std.specs.List.{list_any}
-use Rattle.std.proofs.lemmas.Bool.Decides.{same_from_decides}
+use Rattle.kit_words.proofs.Common.{◌≡◌, ℕ, refl, sym, ◌∙◌, Contains, arith, IsSome, Option, Some, None, length, ◌≤◌}
+use Rattle.kit_words.proofs.Common.{◌==◌, list_any, same_from_decides}
 use Rattle.slab.specs.Slab.{Slab, get, ContainsKey}
-use Rattle.arc_tables.specs.declared.arc.Arc.{Arc}
-use Rattle.arc_tables.specs.declared.arc.Ring.{Ring}
-use Rattle.arc_tables.specs.Stores.{users_in, uses_in, uses_arc, Known, AllDifferent}
+use Rattle.arc_tables.specs.Common.{Arc, Ring, users_in, uses_in, uses_arc, Known, AllDifferent}
 use Rattle.arc_tables.proofs.Different.{any_contained, contained_any}
 
 pub known_by_uses : {A : Type 0} (arcs : Slab (Arc A)) (rings : Slab (Ring A)) → Known arcs rings → (r i : ℕ)

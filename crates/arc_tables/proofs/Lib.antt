@@ -22,3 +22,4 @@ pub mod UserLemmas
 pub mod SharingLemmas
 pub mod CopyLemmas
 mod Examples
+pub mod Common

@@ -1,13 +1,11 @@
 -- What each move does to the rings, and that no segment comes to stand twice.
-use Rattle.std.proofs.Common.{◌≡◌, ◌≢◌, ℕ, ◌+◌, ◌≤◌, Bool, true, false, refl, sym, ap, ap₂, ◌∙◌, subst, cond, List, [], ◌∷◌, ◌++◌, map, reverse, append_assoc, ◌⊎◌, inl, inr, arith}
-use Rattle.std.specs.Prelude.{◌==◌}
-use Rattle.std.specs.List.{flat_map, AllByRecursion}
-use Rattle.std.proofs.lemmas.List.{append-nil, map-append, reverse-append}
-use Rattle.std.proofs.lemmas.List.Concat.{flat_map-append}
-use Rattle.std.proofs.lemmas.Bool.{false≢true, cases_eq, cases_Bool}
-use Rattle.std.proofs.lemmas.Bool.Decides.{Decides-eqb, nat_tests}
-use Rattle.arc_tables.specs.declared.arc.Use.{Use}
-use Rattle.arc_tables.specs.Ways.{Edge, links, walk, chain, is_seg, one, times, Once, Store, edges_of, Keeps, Grows, Lacks, both_parts, Cuts, Takes, Starts, Extends, IsNew, TakesOut, OpenAt, Spoils}
+use Rattle.kit_words.proofs.Common.{◌≡◌, ◌≢◌, ℕ, ◌+◌, ◌≤◌, Bool, true, false, refl, sym, ap, ap₂, ◌∙◌, subst, cond}
+use Rattle.kit_words.proofs.Common.{List, [], ◌∷◌, ◌++◌, map, reverse, append_assoc, ◌⊎◌, inl, inr, arith, ◌==◌}
+use Rattle.kit_words.proofs.Common.{flat_map, AllByRecursion, append-nil, map-append, reverse-append, flat_map-append}
+use Rattle.kit_words.proofs.Common.{false≢true, cases_eq, cases_Bool, Decides-eqb, nat_tests}
+use Rattle.arc_tables.specs.Common.{Use, Edge, links, walk, chain, is_seg, one, times, Once, Store, edges_of, Keeps}
+use Rattle.arc_tables.specs.Common.{Grows, Lacks, both_parts, Cuts, Takes, Starts, Extends, IsNew, TakesOut, OpenAt}
+use Rattle.arc_tables.specs.Common.{Spoils}
 
 -- ---- ways in reverse
 

@@ -1,26 +1,18 @@
 -- Vertices come in one after the other, and go out again.
-use Rattle.std.proofs.Common.{◌≡◌, ◌≢◌, ℕ, ◌+◌, ◌≤◌, zero, suc, Bool, true, false, refl, sym, ap, ap₂, ◌∙◌, subst, List, [], ◌∷◌, ◌++◌, take, ◌-◌, inl, inr, arith, get_or, length, Contains}
-use Rattle.std.specs.List.{flat_map, AllByRecursion}
-use Rattle.std.proofs.lemmas.List.{get_or_default, take_more}
-use Rattle.std.proofs.lemmas.List.Concat.{flat_map-append}
-use Rattle.std.proofs.Common.{Option, None, Some, option_map, is_some}
+use Rattle.kit_words.proofs.Common.{◌≡◌, ◌≢◌, ℕ, ◌+◌, ◌≤◌, zero, suc, Bool, true, false, refl, sym, ap, ap₂, ◌∙◌, subst}
+use Rattle.kit_words.proofs.Common.{List, [], ◌∷◌, ◌++◌, take, ◌-◌, inl, inr, arith, get_or, length, Contains, flat_map}
+use Rattle.kit_words.proofs.Common.{AllByRecursion, get_or_default, take_more, flat_map-append, Option, None, Some}
+use Rattle.kit_words.proofs.Common.{option_map, is_some, cases_eq, cases_Bool, nat_tests}
 use Rattle.std.specs.FinMap as rings
 use Rattle.slab.specs.Slab.{Slab, get}
-use Rattle.arc_tables.specs.declared.arc.Arc.{Arc}
-use Rattle.arc_tables.specs.declared.arc.Use.{Use}
-use Rattle.arc_tables.specs.declared.batch.Put.{Put}
-use Rattle.arc_tables.specs.declared.tables.Tables.{Tables}
-use Rattle.arc_tables.specs.Ways.{Edge, links, walk, chain, is_seg, times, Once}
-use Rattle.arc_tables.specs.Edited.{AreApart, over, through, drawn, collapsed, Collapses, IsOff, throughs, taken_back, ArePuts, WerePut}
-use Rattle.arc_tables.specs.Stores.{IsPlace, path_in, path_of, uses_in}
-use Rattle.arc_tables.specs.Sound.{rings_of}
+use Rattle.arc_tables.specs.Common.{Arc, Use, Put, Tables, Edge, links, walk, chain, is_seg, times, Once, AreApart}
+use Rattle.arc_tables.specs.Common.{over, through, drawn, collapsed, Collapses, IsOff, throughs, taken_back, ArePuts}
+use Rattle.arc_tables.specs.Common.{WerePut, IsPlace, path_in, path_of, uses_in, rings_of}
 use Rattle.arc_tables.proofs.Segments.{once_for}
 use Rattle.arc_tables.proofs.Moves.{flipped, links-reverse, times-append, same_seg}
 use Rattle.arc_tables.proofs.RingLemmas.{rings_kept}
 use Rattle.arc_tables.proofs.EditLemmas.{Turns, EditsArcs, edit-flipped, edited_everywhere}
 use Rattle.arc_tables.proofs.Inserting.{over-turns, placed, with_q, once_through}
-use Rattle.std.proofs.lemmas.Bool.{cases_eq, cases_Bool}
-use Rattle.std.proofs.lemmas.Bool.Decides.{nat_tests}
 
 -- ---- edges of which none ends at a vertex
 

@@ -1,19 +1,15 @@
 -- A vertex moves onto its neighbour.
-use Rattle.std.proofs.Common.{◌≡◌, ◌≢◌, ℕ, ◌+◌, ◌≤◌, ◌<◌, suc, true, false, cond, refl, sym, ap, ap₂, ◌∙◌, subst, List, [], ◌∷◌, ◌++◌, map, take, drop, set, length, get_or, ◌⊎◌, inl, inr, arith, Contains, append_assoc}
-use Rattle.std.specs.List.{remove}
-use Rattle.std.proofs.lemmas.Bool.{cases_eq, cases_Bool}
-use Rattle.std.proofs.lemmas.Bool.Decides.{nat_tests}
-use Rattle.std.proofs.lemmas.List.{take-append-drop, take_more, map-append, get_or_default, length-take, length-drop, length-append, length-map}
-use Rattle.std.proofs.lemmas.List.Edits.{map_over_more}
-use Rattle.std.proofs.lemmas.List.Concat.{flat_map-append}
-use Rattle.std.proofs.lemmas.List.Elements.{Contains-append_left, Contains-append_right, Contains-append_cases}
+use Rattle.kit_words.proofs.Common.{◌≡◌, ◌≢◌, ℕ, ◌+◌, ◌≤◌, ◌<◌, suc, true, false, cond, refl, sym, ap, ap₂, ◌∙◌, subst}
+use Rattle.kit_words.proofs.Common.{List, [], ◌∷◌, ◌++◌, map, take, drop, set, length, get_or, ◌⊎◌, inl, inr, arith}
+use Rattle.kit_words.proofs.Common.{Contains, append_assoc, remove, cases_eq, cases_Bool, nat_tests, take-append-drop}
+use Rattle.kit_words.proofs.Common.{take_more, map-append, get_or_default, length-take, length-drop, length-append}
+use Rattle.kit_words.proofs.Common.{length-map, map_over_more, flat_map-append, Contains-append_left}
+use Rattle.kit_words.proofs.Common.{Contains-append_right, Contains-append_cases}
 use Rattle.slab.specs.Slab.{Slab, get}
 use Rattle.slab.proofs.SlabLemmas.{Contains-cons, Contains-cons_cases}
-use Rattle.arc_tables.specs.Ways.{Edge, links, is_seg, one, times, Once}
-use Rattle.arc_tables.specs.Edited.{AreApart, onto, drawn, collapsed, Collapses, CollapsesAmong}
-use Rattle.arc_tables.specs.declared.arc.Arc.{Arc}
-use Rattle.arc_tables.specs.declared.arc.Stand.{Stand}
-use Rattle.arc_tables.specs.Stores.{IsPlace, path_in, stand_at, Listed, ListsMore, SameUsers}
+use Rattle.arc_tables.specs.Common.{Edge, links, is_seg, one, times, Once, AreApart, onto, drawn, collapsed, Collapses}
+use Rattle.arc_tables.specs.Common.{CollapsesAmong, Arc, Stand, IsPlace, path_in, stand_at, Listed, ListsMore}
+use Rattle.arc_tables.specs.Common.{SameUsers}
 use Rattle.arc_tables.proofs.Moves.{is_seg-flip, links-append, times-append, same_seg}
 use Rattle.arc_tables.proofs.StoreLemmas.{taken_cases}
 use Rattle.arc_tables.proofs.Held.{none_at}

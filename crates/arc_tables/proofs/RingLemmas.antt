@@ -1,19 +1,13 @@
 -- The tables as a map of rings: what a ring has, and what a change of the tables does to the map.
-use Rattle.std.proofs.Common.{◌≡◌, ◌≢◌, ℕ, zero, suc, ◌+◌, ◌<◌, ◌≤◌, Bool, true, false, cond, List, [], ◌∷◌, ◌++◌, map, length, get_or, Option, Some, None, is_some, refl, sym, ap, ◌∙◌, arith}
-use Rattle.std.specs.Prelude.{slice_index_or}
-use Rattle.std.specs.Ordering.{nat_cmp, eq_by_cmp}
-use Rattle.std.proofs.lemmas.Cmp.{nat_cmp_total}
-use Rattle.std.proofs.lemmas.Bool.Decides.{nat_tests}
+use Rattle.kit_words.proofs.Common.{◌≡◌, ◌≢◌, ℕ, zero, suc, ◌+◌, ◌<◌, ◌≤◌, Bool, true, false, cond, List, [], ◌∷◌, ◌++◌}
+use Rattle.kit_words.proofs.Common.{map, length, get_or, Option, Some, None, is_some, refl, sym, ap, ◌∙◌, arith}
+use Rattle.kit_words.proofs.Common.{slice_index_or, nat_cmp, eq_by_cmp, nat_cmp_total, nat_tests, same_map}
+use Rattle.kit_words.proofs.Common.{nat_cmp-IsAntisymmetric}
 use Rattle.std.specs.FinMap as rings
-use Rattle.std.specs.FinMap.{same_map, nat_cmp-IsAntisymmetric}
 use Rattle.slab.specs.Slab as slab
 use Rattle.slab.specs.Slab.{Slab, get}
-use Rattle.arc_tables.specs.declared.arc.Ring.{Ring}
-use Rattle.arc_tables.specs.declared.tables.Tables.{Tables}
-use Rattle.arc_tables.specs.Ways.{Edge, chain, edges_of, links, Grows, Keeps, TakesOut}
-use Rattle.arc_tables.specs.Rings.{Rings, edges}
-use Rattle.arc_tables.specs.Stores.{path_of, uses_in, store, SameKeys}
-use Rattle.arc_tables.specs.Sound.{edges_in, rings_of, HoldsOneMore}
+use Rattle.arc_tables.specs.Common.{Ring, Tables, Edge, chain, edges_of, links, Grows, Keeps, TakesOut, Rings, edges}
+use Rattle.arc_tables.specs.Common.{path_of, uses_in, store, SameKeys, edges_in, rings_of, HoldsOneMore}
 use Rattle.arc_tables.proofs.Moves.{takes_out_leaves}
 
 -- ---- a map from slots

@@ -1,13 +1,13 @@
 -- A ring goes on along an arc as far as both agree.
-use Rattle.std.proofs.Common.{◌≡◌, ℕ, ◌<◌, ◌≤◌, ◌+◌, ◌-◌, false, true, sym, ap, ◌∙◌, subst, List, [], ◌∷◌, ◌++◌, take, drop, length, get_or, arith, Option, Some, Result, Ok, Err, IfOk, OnErr, IsErr, refl, suc, ap₂, add-one, drop-cons, reverse, length-drop}
-use Rattle.std.proofs.lemmas.Bool.{false≢true}
-use Rattle.std.proofs.lemmas.List.{take_more, take-append-drop, reverse-append, length-reverse}
-use Rattle.std.proofs.Math.Seq.{take-add, take-append_seam}
-use Rattle.arc_tables.specs.declared.arc.Arc.{Arc}
-use Rattle.arc_tables.specs.declared.tables.Tables.{Tables}
+use Rattle.kit_words.proofs.Common.{◌≡◌, ℕ, ◌<◌, ◌≤◌, ◌+◌, ◌-◌, false, true, sym, ap, ◌∙◌, subst, List, [], ◌∷◌, ◌++◌}
+use Rattle.kit_words.proofs.Common.{take, drop, length, get_or, arith, Option, Some, Result, Ok, Err, IfOk, OnErr}
+use Rattle.kit_words.proofs.Common.{IsErr, refl, suc, ap₂, add-one, drop-cons, reverse, false≢true, take_more}
+use Rattle.kit_words.proofs.Common.{take-append-drop, reverse-append, length-reverse, take-add, take-append_seam}
+use Rattle.std.proofs.Common.{length-drop}
+use Rattle.arc_tables.specs.Common.{Arc, Tables, Edge, Store, links, Keeps, Grows, Spoils, Cuts, Takes, Starts, IsNew}
+use Rattle.arc_tables.specs.Common.{path_in, uses_in, EndsAt, Whole, Advances, SameKeys, SamePaths, SameRings, store}
+use Rattle.arc_tables.specs.Common.{path_of}
 use Rattle.slab.specs.Slab.{get}
-use Rattle.arc_tables.specs.Ways.{Edge, Store, links, Keeps, Grows, Spoils, Cuts, Takes, Starts, IsNew}
-use Rattle.arc_tables.specs.Stores.{path_in, uses_in, EndsAt, Whole, Advances, SameKeys, SamePaths, SameRings, store, path_of}
 use Rattle.arc_tables.proofs.Moves.{cut_keeps, keeps_same, start_grows, take_grows, kept_grows, grows_then, links-append}
 
 module _ {A : Type 0} where

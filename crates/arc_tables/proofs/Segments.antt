@@ -1,7 +1,7 @@
 -- When an edge is of a segment, and how often a segment stands.
-use Rattle.std.proofs.Common.{◌≡◌, ℕ, ◌≤◌, Bool, true, refl, List, [], ◌∷◌, ◌⊎◌, arith, Result, Ok, Err, IfOk, OnOk, OnErr}
-use Rattle.std.proofs.lemmas.Bool.Decides.{nat_tests}
-use Rattle.arc_tables.specs.Ways.{Edge, links, is_seg, one, times, Once}
+use Rattle.kit_words.proofs.Common.{◌≡◌, ℕ, ◌≤◌, Bool, true, refl, List, [], ◌∷◌, ◌⊎◌, arith, Result, Ok, Err, IfOk}
+use Rattle.kit_words.proofs.Common.{OnOk, OnErr, nat_tests}
+use Rattle.arc_tables.specs.Common.{Edge, links, is_seg, one, times, Once}
 
 -- the ends of an edge of the segment
 pub ends_of : (a b : ℕ) (e : Edge) → is_seg a b e ≡ true → ((e.0 ≡ a) × (e.1 ≡ b)) ⊎ ((e.0 ≡ b) × (e.1 ≡ a))

@@ -1,19 +1,10 @@
 -- The rings that have a segment in common with a ring: those of its arcs that have a segment.
-use Rattle.std.proofs.Common.{◌≡◌, ℕ, ◌≤◌, true, false, refl, sym, subst, arith, inl, inr}
-use Rattle.std.proofs.Common.{List, [], ◌∷◌, ◌++◌, Contains}
-use Rattle.std.specs.Prelude.{◌==◌}
-use Rattle.std.specs.List.{flat_map}
-use Rattle.std.proofs.lemmas.Bool.{false≢true, or_left, or_right, or_cases}
-use Rattle.std.proofs.lemmas.Bool.Decides.{Decides-eqb}
-use Rattle.std.proofs.lemmas.List.Elements.{Contains-append_cases, Contains-append_left, Contains-append_right}
+use Rattle.kit_words.proofs.Common.{◌≡◌, ℕ, ◌≤◌, true, false, refl, sym, subst, arith, inl, inr, List, [], ◌∷◌, ◌++◌}
+use Rattle.kit_words.proofs.Common.{Contains, ◌==◌, flat_map, false≢true, or_left, or_right, or_cases, Decides-eqb}
+use Rattle.kit_words.proofs.Common.{Contains-append_cases, Contains-append_left, Contains-append_right}
 use Rattle.slab.specs.Slab.{Slab, get}
-use Rattle.arc_tables.specs.declared.arc.Use.{Use}
-use Rattle.arc_tables.specs.declared.arc.Arc.{Arc}
-use Rattle.arc_tables.specs.declared.tables.Tables.{Tables}
-use Rattle.arc_tables.specs.Ways.{links, times}
-use Rattle.arc_tables.specs.Stores.{path_of, users_in, uses_in, uses_arc}
-use Rattle.arc_tables.specs.Sound.{rings_of, Sound}
-use Rattle.arc_tables.specs.Users.{ListsSharing, where_some, sharers_in}
+use Rattle.arc_tables.specs.Common.{Use, Arc, Tables, links, times, path_of, users_in, uses_in, uses_arc, rings_of}
+use Rattle.arc_tables.specs.Common.{Sound, ListsSharing, where_some, sharers_in}
 use Rattle.arc_tables.proofs.Inserting.{placed}
 use Rattle.arc_tables.proofs.UserLemmas.{arc_used, has_used}
 

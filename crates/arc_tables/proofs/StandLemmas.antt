@@ -1,10 +1,7 @@
 -- The arcs of a vertex, after a change of one vertex.
-use Rattle.std.proofs.Common.{◌≡◌, ◌≢◌, inl, inr, false, ℕ, zero, suc, ◌<◌, refl, sym, ap, ◌∙◌, subst, List, [], ◌∷◌, Contains, length, set, get_or, arith}
-use Rattle.arc_tables.specs.declared.arc.Stand.{Stand}
-use Rattle.std.specs.Prelude.{◌==◌}
-use Rattle.std.specs.List.{list_any}
-use Rattle.std.proofs.lemmas.Bool.{cases_eq, both_ways}
-use Rattle.arc_tables.specs.Stores.{including, stand_at, ListsMore, UnlistsOnly, UnlistsOff}
+use Rattle.kit_words.proofs.Common.{◌≡◌, ◌≢◌, inl, inr, false, ℕ, zero, suc, ◌<◌, refl, sym, ap, ◌∙◌, subst, List, []}
+use Rattle.kit_words.proofs.Common.{◌∷◌, Contains, length, set, get_or, arith, ◌==◌, list_any, cases_eq, both_ways}
+use Rattle.arc_tables.specs.Common.{Stand, including, stand_at, ListsMore, UnlistsOnly, UnlistsOff}
 use Rattle.arc_tables.proofs.Different.{contained_any, in_including, itself_including}
 
 module _ {A : Type 0} where

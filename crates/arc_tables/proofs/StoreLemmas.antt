@@ -1,16 +1,11 @@
 -- What the steps of the loops over slabs need.
-use Rattle.std.proofs.Common.{◌≡◌, ◌≢◌, ℕ, ◌<◌, ◌+◌, refl, sym, ap, ◌∙◌, subst, List, [], ◌∷◌, ◌++◌, ◌⊎◌, inl, inr, Contains, take, get_or, length, arith, Some, None, IsSome, is_some}
-use Rattle.std.proofs.lemmas.Bool.{false≢true, cases_eq}
-use Rattle.std.proofs.lemmas.List.{take_more, get_or_default}
-use Rattle.std.proofs.lemmas.List.Elements.{Contains-append_left, Contains-push, Contains-push_cases}
+use Rattle.kit_words.proofs.Common.{◌≡◌, ◌≢◌, ℕ, ◌<◌, ◌+◌, refl, sym, ap, ◌∙◌, subst, List, [], ◌∷◌, ◌++◌, ◌⊎◌, inl}
+use Rattle.kit_words.proofs.Common.{inr, Contains, take, get_or, length, arith, Some, None, IsSome, is_some, false≢true}
+use Rattle.kit_words.proofs.Common.{cases_eq, take_more, get_or_default, Contains-append_left, Contains-push}
+use Rattle.kit_words.proofs.Common.{Contains-push_cases, flat_map}
 use Rattle.slab.specs.Slab.{Slab, get, ContainsKey, Updates}
 use Rattle.slab.proofs.SlabLemmas.{Contains-cons, Contains-cons_cases}
-use Rattle.arc_tables.specs.declared.arc.Use.{Use}
-use Rattle.arc_tables.specs.declared.arc.Ring.{Ring}
-use Rattle.arc_tables.specs.declared.arc.NewUses.{NewUses}
-use Rattle.std.specs.List.{flat_map}
-use Rattle.arc_tables.specs.Ways.{both_parts}
-use Rattle.arc_tables.specs.Stores.{uses_in, HasRing, IsPut, Doubles}
+use Rattle.arc_tables.specs.Common.{Use, Ring, NewUses, both_parts, uses_in, HasRing, IsPut, Doubles}
 
 module _ {A : Type 0} where
   -- one more list of uses is put

@@ -1,20 +1,11 @@
 -- A ring goes, and the arcs that no other ring uses.
-use Rattle.std.proofs.Common.{◌≡◌, ◌≢◌, ℕ, ◌<◌, ◌≤◌, ◌+◌, true, false, ◌||◌, refl, sym, ap, ◌∙◌, subst, arith, cond}
-use Rattle.std.proofs.Common.{List, [], ◌∷◌, ◌⊎◌, inl, inr, Contains, length, take, get_or, Option, Some, None, IsSome}
-use Rattle.std.specs.Prelude.{◌==◌}
-use Rattle.std.specs.List.{AllByRecursion, list_any}
-use Rattle.std.proofs.lemmas.Bool.Decides.{Decides-eqb, nat_tests}
-use Rattle.std.proofs.lemmas.Bool.{cases_eq, cond_both, both_ways, or_left, or_right}
-use Rattle.std.proofs.lemmas.List.{take_more}
-use Rattle.std.proofs.lemmas.List.Folds.{list_any-append}
+use Rattle.kit_words.proofs.Common.{◌≡◌, ◌≢◌, ℕ, ◌<◌, ◌≤◌, ◌+◌, true, false, ◌||◌, refl, sym, ap, ◌∙◌, subst, arith}
+use Rattle.kit_words.proofs.Common.{cond, List, [], ◌∷◌, ◌⊎◌, inl, inr, Contains, length, take, get_or, Option, Some}
+use Rattle.kit_words.proofs.Common.{None, IsSome, ◌==◌, AllByRecursion, list_any, Decides-eqb, nat_tests, cases_eq}
+use Rattle.kit_words.proofs.Common.{cond_both, both_ways, or_left, or_right, take_more, list_any-append}
 use Rattle.slab.specs.Slab.{Slab, get, ContainsKey}
-use Rattle.arc_tables.specs.declared.arc.Use.{Use}
-use Rattle.arc_tables.specs.declared.arc.Arc.{Arc}
-use Rattle.arc_tables.specs.declared.arc.Ring.{Ring}
-use Rattle.arc_tables.specs.Ways.{TakesOut}
-use Rattle.arc_tables.specs.Stores.{path_in, users_in, uses_in, store_of, uses_arc, AllDifferent}
-use Rattle.arc_tables.specs.ShortLists.{without}
-use Rattle.arc_tables.specs.Stores.{Known, StaysOrGoes}
+use Rattle.arc_tables.specs.Common.{Use, Arc, Ring, TakesOut, path_in, users_in, uses_in, store_of, uses_arc}
+use Rattle.arc_tables.specs.Common.{AllDifferent, without, Known, StaysOrGoes}
 use Rattle.arc_tables.proofs.Different.{in_without, without_absent, without_twice, different_without, any_without}
 use Rattle.arc_tables.proofs.Knowing.{known_of, known_by_uses, in_use}
 use Rattle.arc_tables.proofs.Moves.{all_of}

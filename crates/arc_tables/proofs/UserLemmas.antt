@@ -1,15 +1,9 @@
 -- Which rings have a segment: those of the arc that has it.
-use Rattle.std.proofs.Common.{◌≡◌, ℕ, ◌≤◌, true, sym, ap, ◌∙◌, subst, arith}
-use Rattle.std.proofs.Common.{List, [], ◌++◌, Option, Some, None}
-use Rattle.std.proofs.lemmas.List.{append-nil}
+use Rattle.kit_words.proofs.Common.{◌≡◌, ℕ, ◌≤◌, true, sym, ap, ◌∙◌, subst, arith, List, [], ◌++◌, Option, Some, None}
+use Rattle.kit_words.proofs.Common.{append-nil}
 use Rattle.slab.specs.Slab.{get}
-use Rattle.arc_tables.specs.declared.arc.Ring.{Ring}
-use Rattle.arc_tables.specs.declared.tables.Tables.{Tables}
-use Rattle.arc_tables.specs.Ways.{Edge, links, chain, times}
-use Rattle.arc_tables.specs.Rings.{has_segment}
-use Rattle.arc_tables.specs.Stores.{path_of, users_in, uses_in, uses_arc}
-use Rattle.arc_tables.specs.Sound.{edges_in, rings_of, Sound}
-use Rattle.arc_tables.specs.Users.{HasSegment, ListsUsers}
+use Rattle.arc_tables.specs.Common.{Ring, Tables, Edge, links, chain, times, has_segment, path_of, users_in, uses_in}
+use Rattle.arc_tables.specs.Common.{uses_arc, edges_in, rings_of, Sound, HasSegment, ListsUsers}
 use Rattle.arc_tables.proofs.Counting.{segment_times, times_segment, chain_has, chain_uses}
 use Rattle.arc_tables.proofs.RingLemmas.{get_rings, ring_here}
 use Rattle.arc_tables.proofs.CutLemmas.{present}

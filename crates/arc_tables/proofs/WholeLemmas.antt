@@ -1,17 +1,11 @@
 -- Tables that hold the same belong together still.
-use Rattle.std.proofs.Common.{◌≡◌, ◌≢◌, ℕ, refl, sym, ap, ◌∙◌, subst, List, Contains, Some, None, [], ◌∷◌, ◌++◌, inl, inr, arith}
+use Rattle.kit_words.proofs.Common.{◌≡◌, ◌≢◌, ℕ, refl, sym, ap, ◌∙◌, subst, List, Contains, Some, None, [], ◌∷◌, ◌++◌}
+use Rattle.kit_words.proofs.Common.{inl, inr, arith, Contains-push_cases, cases_eq}
 use Rattle.slab.specs.Slab.{Slab, get}
-use Rattle.arc_tables.specs.declared.arc.Use.{Use}
-use Rattle.arc_tables.specs.declared.arc.Arc.{Arc}
-use Rattle.arc_tables.specs.declared.arc.Ring.{Ring}
-use Rattle.arc_tables.specs.declared.arc.Stand.{Stand}
-use Rattle.std.proofs.lemmas.List.Elements.{Contains-push_cases}
-use Rattle.arc_tables.specs.Ways.{Edge, Grows}
+use Rattle.arc_tables.specs.Common.{Use, Arc, Ring, Stand, Edge, Grows, Tables, path_in, stand_at, Listed, ListsMore}
+use Rattle.arc_tables.specs.Common.{Whole, SameRings, SamePaths, SameKeys, SameUsers, GoesOn, store, store_of}
 use Rattle.arc_tables.proofs.Moves.{kept_grows, keeps_same}
 use Rattle.arc_tables.proofs.Growing.{known_alike, same_users}
-use Rattle.arc_tables.specs.declared.tables.Tables.{Tables}
-use Rattle.arc_tables.specs.Stores.{path_in, stand_at, Listed, ListsMore, Whole, SameRings, SamePaths, SameKeys, SameUsers, GoesOn, store, store_of}
-use Rattle.std.proofs.lemmas.Bool.{cases_eq}
 
 module _ {A : Type 0} where
   -- the same arcs and uses, and no vertex forgot an arc

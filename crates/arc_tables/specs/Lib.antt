@@ -5,3 +5,4 @@ pub mod Sound
 pub mod Stores
 pub mod Users
 pub mod Ways
+pub mod Common

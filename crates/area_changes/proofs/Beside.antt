@@ -1,22 +1,14 @@
 -- The positions of a path are beside its segment.
-use Rattle.std.proofs.Common.{cond, ◌≡◌, ◌≤◌, ◌<◌, ◌+◌, ◌*◌, ℤ, pos, ◌-ℤ◌, ◌*ℤ◌, ◌+ℤ◌, ◌<ℤ◌, Bool, true, false, refl, sym, ap, ap₂, ◌∙◌, subst, List, [], ◌∷◌, ◌++◌, map, length, unsigned_abs, arith}
-use Rattle.std.specs.List.{All, AllByRecursion, list_all}
-use Rattle.std.specs.List.Sorted.{IsStrictlySortedBy}
-use Rattle.std.specs.Ordering.{int_cmp}
-use Rattle.std.specs.Ordering.{MatchOrdering}
-use Rattle.std.specs.declared.cmp.Ordering.TheVariants.{Less}
-use Rattle.std.proofs.lemmas.Cmp.{int_ranked}
-use Rattle.std.proofs.lemmas.Int.{ints}
-use Rattle.std.proofs.lemmas.List.Elements.{All-tail}
-use Rattle.grid_geometry.specs.Position.{Position}
-use Rattle.grid_geometry.specs.Segment.{Segment, segment_eq}
-use Rattle.grid_geometry.specs.Orientation.{orientation, is_in_box}
-use Rattle.ring_machine.proofs.Order.{and_both}
-use Rattle.ring_machine.proofs.RingSegments.{segment_eq-true}
-use Rattle.snap_geometry.specs.Near.{is_near, along}
-use Rattle.segment_paths.specs.Paths.{Path, IsWay, inner_of}
-use Rattle.topo_reader.proofs.Steps.{at_most}
-use Rattle.area_changes.specs.Swept.{IsBeside}
+use Rattle.kit_words.proofs.Common.{cond, ◌≡◌, ◌≤◌, ◌<◌, ◌+◌, ◌*◌, ℤ, pos, ◌-ℤ◌, ◌*ℤ◌, ◌+ℤ◌, ◌<ℤ◌, Bool, true, false}
+use Rattle.kit_words.proofs.Common.{refl, sym, ap, ap₂, ◌∙◌, subst, List, [], ◌∷◌, ◌++◌, map, length, unsigned_abs}
+use Rattle.kit_words.proofs.Common.{arith, All, AllByRecursion, list_all, IsStrictlySortedBy, int_cmp, MatchOrdering}
+use Rattle.kit_words.proofs.Common.{Less, int_ranked, ints, All-tail}
+use Rattle.grid_geometry.specs.Common.{Position, Segment, segment_eq, orientation, is_in_box}
+use Rattle.ring_machine.proofs.Common.{and_both, segment_eq-true}
+use Rattle.snap_geometry.specs.Common.{is_near, along}
+use Rattle.segment_paths.specs.Common.{Path, IsWay, inner_of}
+use Rattle.topo_reader.proofs.Common.{at_most}
+use Rattle.area_changes.specs.Common.{IsBeside}
 
 less : (x y : ℤ) → int_cmp x y ≡ Less → x <ℤ y
 less x y h = subst (λ o. MatchOrdering o (x <ℤ y) (x ≡ y) (y <ℤ x)) h (int_ranked x y (int_cmp x y) refl)

@@ -1,14 +1,10 @@
 -- Worked examples: how areas change, and what is swept over.
-use Rattle.std.proofs.Common.{◌≡◌, ℕ, pos, refl, List, [], ◌∷◌}
-use Rattle.grid_geometry.specs.Position.{Position, position}
-use Rattle.grid_geometry.specs.Segment.{Segment, segment}
-use Rattle.grid_geometry.specs.Orientation.{orientation}
-use Rattle.ring_machine.specs.Document.{Feature}
-use Rattle.ring_machine.specs.Query.{area_of}
-use Rattle.segment_paths.specs.Paths.{Path}
-use Rattle.topo_reader.specs.Document.{Polygons}
-use Rattle.area_changes.specs.Areas.{area_in, change_of, changes_from}
-use Rattle.area_changes.specs.Swept.{swept_along}
+use Rattle.kit_words.proofs.Common.{◌≡◌, ℕ, pos, refl, List, [], ◌∷◌}
+use Rattle.grid_geometry.specs.Common.{Position, position, Segment, segment, orientation}
+use Rattle.ring_machine.specs.Common.{Feature, area_of}
+use Rattle.segment_paths.specs.Common.{Path}
+use Rattle.topo_reader.specs.Common.{Polygons}
+use Rattle.area_changes.specs.Common.{area_in, change_of, changes_from, swept_along}
 
 abbrev at : ℕ → ℕ → Position
 at x y = position (pos x) (pos y)

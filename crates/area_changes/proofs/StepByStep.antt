@@ -1,15 +1,12 @@
 -- What is swept over, a position at a time.
-use Rattle.std.proofs.Common.{Bool, true, false, cond, is_gt, ◌≡◌, ◌≤◌, ◌<◌, ◌+◌, ℕ, refl, ap, ◌∙◌, subst, List, [], ◌∷◌, ◌++◌, length, drop, get_or, arith}
+use Rattle.kit_words.proofs.Common.{Bool, true, false, cond, ◌≡◌, ◌≤◌, ◌<◌, ◌+◌, ℕ, refl, ap, ◌∙◌, subst, List, [], ◌∷◌}
+use Rattle.kit_words.proofs.Common.{◌++◌, length, drop, get_or, arith, All, AllByRecursion, drop_all, sum_by-cons}
+use Rattle.std.proofs.Common.{is_gt}
 use Rattle.std.specs.Prelude.{sum_by}
-use Rattle.std.specs.List.{All, AllByRecursion}
-use Rattle.std.proofs.lemmas.List.{drop_all}
-use Rattle.std.proofs.lemmas.List.Sums.{sum_by-cons}
-use Rattle.grid_geometry.specs.Position.{Position, position_cmp}
-use Rattle.grid_geometry.specs.Segment.{Segment}
-use Rattle.grid_geometry.specs.Ring.{Edge, links}
-use Rattle.grid_geometry.proofs.RingLemmas.{drop_item}
-use Rattle.segment_paths.specs.Paths.{Path, IsWay, inner_of}
-use Rattle.area_changes.specs.Swept.{triangle, swept_along, swept_by, IsBeside}
+use Rattle.grid_geometry.specs.Common.{Position, position_cmp, Segment, Edge, links}
+use Rattle.grid_geometry.proofs.Common.{drop_item}
+use Rattle.segment_paths.specs.Common.{Path, IsWay, inner_of}
+use Rattle.area_changes.specs.Common.{triangle, swept_along, swept_by, IsBeside}
 use Rattle.area_changes.proofs.Beside.{no_triangle, none_alone}
 
 -- ---- sums over links

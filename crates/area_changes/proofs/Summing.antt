@@ -1,9 +1,8 @@
 -- Sums over the front of a list, an element at a time.
-use Rattle.std.proofs.Common.{◌≡◌, ℕ, zero, suc, ◌+◌, ◌-◌, ◌≤◌, ◌<◌, sym, ap, ap₂, ◌∙◌, List, [], ◌∷◌, ◌++◌, map, take, drop, get_or, length, arith}
+use Rattle.kit_words.proofs.Common.{◌≡◌, ℕ, zero, suc, ◌+◌, ◌-◌, ◌≤◌, ◌<◌, sym, ap, ap₂, ◌∙◌, List, [], ◌∷◌, ◌++◌, map}
+use Rattle.kit_words.proofs.Common.{take, drop, get_or, length, arith, fold, take_more, take_all, map-append}
+use Rattle.kit_words.proofs.Common.{sum_by-cons, sum_by_push, fold_push}
 use Rattle.std.specs.Prelude.{sum_by}
-use Rattle.std.specs.List.{fold}
-use Rattle.std.proofs.lemmas.List.{take_more, take_all, map-append}
-use Rattle.std.proofs.lemmas.List.Sums.{sum_by-cons, sum_by_push, fold_push}
 
 one_more : {A B : Type 0} (of : A → B) (xs : List A) (i : ℕ) (x : A) → i < length xs → x ≡ get_or xs i x → map of (take (i + 1) xs) ≡ map of (take i xs) ++ of x ∷ []
 one_more of xs i x l e = ap (map of) (take_more xs i x l ∙ ap (λ z. take i xs ++ z ∷ []) (sym e)) ∙ map-append of (take i xs) (x ∷ [])

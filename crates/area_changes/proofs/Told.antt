@@ -1,10 +1,10 @@
 -- What is told of features, one after another.
-use Rattle.std.proofs.Common.{◌≡◌, ◌<◌, ◌+◌, ℕ, suc, sym, ap, ap₂, ◌∙◌, List, ◌∷◌, ◌++◌, map, drop, drop-cons, get_or, length, arith, append_assoc, append-nil}
-use Rattle.std.proofs.lemmas.List.{drop_all}
-use Rattle.segment_paths.specs.Paths.{Path}
-use Rattle.topo_reader.specs.Document.{Polygons}
-use Rattle.area_changes.specs.declared.change.AreaChange.{AreaChange}
-use Rattle.area_changes.specs.Areas.{told_if, change_of, changes_from}
+use Rattle.kit_words.proofs.Common.{◌≡◌, ◌<◌, ◌+◌, ℕ, suc, sym, ap, ap₂, ◌∙◌, List, ◌∷◌, ◌++◌, map, drop, drop-cons}
+use Rattle.kit_words.proofs.Common.{get_or, length, arith, append_assoc, drop_all}
+use Rattle.std.proofs.Common.{append-nil}
+use Rattle.segment_paths.specs.Common.{Path}
+use Rattle.topo_reader.specs.Common.{Polygons}
+use Rattle.area_changes.specs.Common.{AreaChange, told_if, change_of, changes_from}
 
 rest_is : {X : Type 0} (xs : List X) (i : ℕ) (x : X) → i < length xs → x ≡ get_or xs i x → drop i xs ≡ x ∷ drop (i + 1) xs
 rest_is xs i x l e =

@@ -1,13 +1,11 @@
 -- The triangles between a segment and its path are small: their heights are.
-use Rattle.std.proofs.Common.{ℕ, ℤ, pos, ◌≡◌, ◌≤◌, ◌<◌, ◌+◌, ◌*◌, ◌+ℤ◌, ◌-ℤ◌, ◌*ℤ◌, neg_ℤ, ◌<ℤ◌, arith, unsigned_abs, sym, ap, ap₂, ◌∙◌}
-use Rattle.std.proofs.Math.Nat.{mul-le-mul, mul-le-mul_left, le_of_mul-le-mul_left}
-use Rattle.std.proofs.lemmas.Int.{ints, unsigned_abs-mul}
-use Rattle.grid_geometry.specs.Position.{Position}
-use Rattle.grid_geometry.specs.Segment.{Segment}
-use Rattle.grid_geometry.specs.Orientation.{orientation}
-use Rattle.grid_geometry.proofs.Algebra.{expand, comm, assoc}
-use Rattle.snap_geometry.specs.Near.{along}
-use Rattle.area_changes.specs.Swept.{IsBeside}
+use Rattle.kit_words.proofs.Common.{ℕ, ℤ, pos, ◌≡◌, ◌≤◌, ◌<◌, ◌+◌, ◌*◌, ◌+ℤ◌, ◌-ℤ◌, ◌*ℤ◌, neg_ℤ, ◌<ℤ◌, arith}
+use Rattle.kit_words.proofs.Common.{unsigned_abs, sym, ap, ap₂, ◌∙◌, mul-le-mul, mul-le-mul_left, le_of_mul-le-mul_left}
+use Rattle.kit_words.proofs.Common.{ints, unsigned_abs-mul}
+use Rattle.grid_geometry.specs.Common.{Position, Segment, orientation}
+use Rattle.grid_geometry.proofs.Common.{expand, comm, assoc}
+use Rattle.snap_geometry.specs.Common.{along}
+use Rattle.area_changes.specs.Common.{IsBeside}
 
 -- ---- factors in another order
 

@@ -2,9 +2,9 @@
 use Rattle.std.specs.Prelude.{ℕ, suc, ℤ, pos, ◌+ℤ◌, ◌&&◌, ◌==◌, List, [], ◌∷◌, ◌++◌, if◌then◌else◌}
 use Rattle.std.specs.List.{fold}
 use Rattle.std.specs.Ordering.{int_eq}
-use Rattle.ring_machine.specs.Query.{polygon_area}
-use Rattle.segment_paths.specs.Paths.{Path}
-use Rattle.topo_reader.specs.Document.{Polygons}
+use Rattle.ring_machine.specs.Common.{polygon_area}
+use Rattle.segment_paths.specs.Common.{Path}
+use Rattle.topo_reader.specs.Common.{Polygons}
 use Rattle.area_changes.specs.Swept.{swept_of}
 use Rattle.area_changes.specs.declared.change.AreaChange.{AreaChange}
 

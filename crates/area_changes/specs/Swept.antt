@@ -1,14 +1,11 @@
 -- How much land borders sweep over as they are led along paths, twice as large so that it is whole.
 use Rattle.std.specs.Prelude.{ℕ, pos, ◌≤◌, ◌*◌, ◌+◌, ◌≤ℤ◌, ◌-ℤ◌, unsigned_abs, List, [], ◌∷◌, ◌++◌}
 use Rattle.std.specs.List.{sum_by}
-use Rattle.grid_geometry.specs.Position.{Position}
-use Rattle.grid_geometry.specs.Segment.{Segment}
-use Rattle.grid_geometry.specs.Orientation.{orientation}
-use Rattle.grid_geometry.specs.Ring.{Edge, links, edges}
-use Rattle.ring_machine.specs.Ring.{segment_of}
-use Rattle.snap_geometry.specs.Near.{along}
-use Rattle.segment_paths.specs.Paths.{Path, inner_of}
-use Rattle.topo_reader.specs.Document.{Polygons}
+use Rattle.grid_geometry.specs.Common.{Position, Segment, orientation, Edge, links, edges}
+use Rattle.ring_machine.specs.Common.{segment_of}
+use Rattle.snap_geometry.specs.Common.{along}
+use Rattle.segment_paths.specs.Common.{Path, inner_of}
+use Rattle.topo_reader.specs.Common.{Polygons}
 
 -- the triangle of a step along a path and the path's end
 abbrev pub triangle : Position → Edge → ℕ

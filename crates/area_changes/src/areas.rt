@@ -1,7 +1,7 @@
 // Areas of polygons, twice as large so that they are whole.
 ghost use Rattle.std.specs.Prelude.{◌≡◌, ◌≤◌, ◌*◌, unsigned_abs, length, map, sum_by};
 ghost use Rattle.ring_machine.specs.Query as query;
-ghost use Rattle.topo_reader.specs.Uses.{positions_of, polygon_positions};
+ghost use Rattle.topo_reader.specs.Common.{positions_of, polygon_positions};
 ghost use Rattle.area_changes.specs.Areas.{area_in};
 
 use grid_geometry::{Pos, area2};

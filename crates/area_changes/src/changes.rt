@@ -2,10 +2,9 @@
 ghost use Rattle.std.specs.Prelude.{◌≡◌, ◌≤◌, ◌++◌, map, length, sum_by, IfOk, OnOk};
 ghost use Rattle.std.specs.List.{All};
 ghost use Rattle.std.specs.List.Sorted.{IsStrictlySortedBy};
-ghost use Rattle.grid_geometry.specs.Segment.{segment_cmp};
-ghost use Rattle.segment_paths.specs.Paths.{IsWay, segments_of};
-ghost use Rattle.segment_paths.specs.Seen.{paths_seen};
-ghost use Rattle.topo_reader.specs.Uses.{feature_positions};
+ghost use Rattle.grid_geometry.specs.Common.{segment_cmp};
+ghost use Rattle.segment_paths.specs.Common.{IsWay, segments_of, paths_seen};
+ghost use Rattle.topo_reader.specs.Common.{feature_positions};
 ghost use Rattle.area_changes.specs.Areas.{told_if, changes_from};
 
 use crate::areas::area;

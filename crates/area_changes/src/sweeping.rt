@@ -2,12 +2,10 @@
 ghost use Rattle.std.specs.Prelude.{◌≡◌, ◌≤◌, ◌<◌, ◌*◌, ◌<ℤ◌, pos, map, length, sum_by};
 ghost use Rattle.std.specs.List.{All};
 ghost use Rattle.std.specs.List.Sorted.{IsStrictlySortedBy};
-ghost use Rattle.grid_geometry.specs.Ring.{edges};
-ghost use Rattle.grid_geometry.specs.Segment.{segment_cmp};
-ghost use Rattle.snap_geometry.specs.Near.{along};
-ghost use Rattle.segment_paths.specs.Paths.{IsWay, segments_of};
-ghost use Rattle.segment_paths.specs.Seen.{paths_seen};
-ghost use Rattle.topo_reader.specs.Uses.{positions_of, polygon_positions};
+ghost use Rattle.grid_geometry.specs.Common.{edges, segment_cmp};
+ghost use Rattle.snap_geometry.specs.Common.{along};
+ghost use Rattle.segment_paths.specs.Common.{IsWay, segments_of, paths_seen};
+ghost use Rattle.topo_reader.specs.Common.{positions_of, polygon_positions};
 ghost use Rattle.segment_paths.specs.Paths as led;
 ghost use Rattle.area_changes.specs.Swept as spec;
 ghost use Rattle.area_changes.specs.Swept.{IsBeside};

@@ -1,11 +1,10 @@
 -- What clap found among the words is what the words ask for.
-use Rattle.std.proofs.Common.{◌≡◌, ℕ, ap, ◌∙◌, refl, subst, sym, Bool, false, List, Option, Some, option_map, codes}
-use Rattle.std.specs.Borrow.{Bor}
-use Rattle.std.specs.Prelude.{◌≢◌, MatchBool}
+use Rattle.kit_words.proofs.Common.{◌≡◌, ℕ, ap, ◌∙◌, refl, subst, sym, Bool, false, List, Option, Some, option_map}
+use Rattle.kit_words.proofs.Common.{codes, Bor, ◌≢◌, MatchBool}
 use Rattle.clap.specs.Words.{App, HasMatchesOf, first_value, found_of}
 use Rattle.clap.specs.declared.parser.matches.ArgMatches.{ArgMatches}
-use Rattle.program_ends.proofs.WordLemmas.{read_text}
-use Rattle.border_mend.specs.Asked.{program, text_of, IsCount, dropped, IsAsked, AreApart}
+use Rattle.program_ends.proofs.Common.{read_text}
+use Rattle.border_mend.specs.Common.{program, text_of, IsCount, dropped, IsAsked, AreApart}
 use Rattle.mend_report.specs.declared.asked.Asked.{Asked}
 
 -- what four values ask for is what the words ask for

@@ -4,7 +4,7 @@ use Rattle.std.specs.Str.{bytes_eq}
 use Rattle.std.specs.Str.Parse.{IsNumeral, digits_value, without_leading_plus}
 use Rattle.clap.specs.Words.{App, Rule, new_app, new_rule, with_rule, first_of, matches_of}
 use Rattle.mend_report.specs.declared.asked.Asked.{Asked}
-use Rattle.program_ends.specs.Words.{with_version}
+use Rattle.program_ends.specs.Common.{with_version}
 use Rattle.clap.specs.declared.builder.action.ArgAction.TheVariants.{Set}
 
 -- MAP stands in its place and is required

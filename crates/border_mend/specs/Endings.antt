@@ -6,8 +6,8 @@ use Rattle.mend_report.specs.declared.remaking.RemakeFault.{RemakeFault}
 use Rattle.mend_report.specs.declared.remaking.RemakeFault.TheVariants as mending
 use Rattle.mend_report.specs.declared.report.RepairFault.{RepairFault}
 use Rattle.mend_report.specs.declared.report.RepairFault.TheVariants as repair
-use Rattle.grid_geometry.specs.Segment.{Segment}
-use Rattle.program_ends.specs.Endings.{IsOpen}
+use Rattle.grid_geometry.specs.Common.{Segment}
+use Rattle.program_ends.specs.Common.{IsOpen}
 use Rattle.program_ends.specs.declared.diagnostic.Diagnostic.{Diagnostic}
 use Rattle.program_ends.specs.declared.diagnostic.Diagnostic.TheVariants.{Findings, TooLarge, Unmended, Unparted, NoMemory}
 

@@ -1,3 +1,4 @@
 pub mod Asked
 pub mod Endings
 pub mod Points
+pub mod Common

@@ -1,6 +1,6 @@
 //! How a report ends the program: with which status, with what on standard output, and with which line.
 ghost use Rattle.std.specs.Prelude.{◌≡◌, None, Some, option_map, OnOk, OnErr, IfErr, IsSomeAnd};
-ghost use Rattle.mend_report.specs.Status.{status_of, mended_status, unmended_status};
+ghost use Rattle.mend_report.specs.Common.{status_of, mended_status, unmended_status};
 ghost use Rattle.border_mend.specs.Endings.{Tells, TellsUnmade, TellsUnmended};
 
 use mend_report::{LookFault, Remade, RemakeFault, RepairFault, Report, is_open};

@@ -1,7 +1,7 @@
 //! The points of a map, put on the grid that is asked for.
 ghost use Rattle.std.specs.Prelude.{◌≡◌, ◌≤◌, ◌<◌, length, IfOk, Ok};
-ghost use Rattle.json_spans.specs.Grammar.{Json};
-ghost use Rattle.point_rounding.specs.Gives.{Gives};
+ghost use Rattle.json_spans.specs.Common.{Json};
+ghost use Rattle.point_rounding.specs.Common.{Gives};
 ghost use Rattle.border_mend.specs.Points.{on_grid, AsksOfLying, unread};
 
 use grid_reader::point_digits;

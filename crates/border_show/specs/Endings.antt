@@ -2,7 +2,7 @@
 use Rattle.std.specs.Prelude.{◌≡◌}
 use Rattle.border_show.specs.declared.showing.ShowFault.{ShowFault}
 use Rattle.border_show.specs.declared.showing.ShowFault.TheVariants as fault
-use Rattle.program_ends.specs.Endings.{IsOpen}
+use Rattle.program_ends.specs.Common.{IsOpen}
 use Rattle.program_ends.specs.declared.diagnostic.Diagnostic.{Diagnostic}
 use Rattle.program_ends.specs.declared.diagnostic.Diagnostic.TheVariants.{NoMemory}
 

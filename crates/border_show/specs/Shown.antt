@@ -1,6 +1,6 @@
 -- What ends a drawing.
 use Rattle.std.specs.Prelude.{ℕ, List, ◌⊎◌}
-use Rattle.topo_reader.specs.Opening.{IsFault}
+use Rattle.topo_reader.specs.Common.{IsFault}
 use Rattle.border_show.specs.declared.showing.ShowFault.{ShowFault}
 use Rattle.border_show.specs.declared.showing.ShowFault.TheVariants.{Open, OutOfMemory}
 

@@ -1,7 +1,6 @@
 //! From the bytes of maps to the bytes of a picture.
 ghost use Rattle.std.specs.Prelude.{◌≡◌, IfErr, IfOk};
-ghost use Rattle.topo_reader.specs.Document.{IsOfRings};
-ghost use Rattle.topo_reader.specs.DocumentView.{view_raw};
+ghost use Rattle.topo_reader.specs.Common.{IsOfRings, view_raw};
 ghost use Rattle.border_show.specs.Shown.{IsEnd, IsEndOfBoth};
 
 use map_conflict::first_conflict;

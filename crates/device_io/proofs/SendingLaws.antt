@@ -1,8 +1,7 @@
 -- What a sink took over several calls, one after another.
-use Rattle.std.proofs.Common.{◌≡◌, Bool, false, List, [], ◌++◌, ℕ, Ok, Err, Result}
+use Rattle.kit_words.proofs.Common.{◌≡◌, Bool, false, List, [], ◌++◌, ℕ, Ok, Err, Result, Appends-nil}
 use Rattle.std.specs.Result.{IsErrAnd}
-use Rattle.std.proofs.KnownBytes.{Appends-nil}
-use Rattle.device_io.specs.Sending.{Took, TookFront, Sends}
+use Rattle.device_io.specs.Common.{Took, TookFront, Sends}
 use Rattle.device_io.specs.declared.Sink as sink
 use Rattle.device_io.proofs.DeviceLemmas.{Appends-more, front_first, front_second, no_front}
 

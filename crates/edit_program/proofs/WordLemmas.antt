@@ -1,12 +1,11 @@
 -- What clap found among the words is what the words ask for.
-use Rattle.std.proofs.Common.{◌≡◌, ℕ, ap, subst, ◌∙◌, refl, sym, Bool, true, false, List, Option, Some, None, option_map}
-use Rattle.std.specs.Borrow.{Bor}
-use Rattle.std.specs.Prelude.{◌≢◌, codes, MatchBool}
+use Rattle.kit_words.proofs.Common.{◌≡◌, ℕ, ap, subst, ◌∙◌, refl, sym, Bool, true, false, List, Option, Some, None}
+use Rattle.kit_words.proofs.Common.{option_map, Bor, ◌≢◌, codes, MatchBool}
 use Rattle.clap.specs.Words.{App, HasMatchesOf, first_value, found_of, is_simple, matches_of, one_of, one_text}
 use Rattle.clap.specs.declared.parser.matches.ArgMatches.{ArgMatches}
 use Rattle.clap.proofs.WalkLemmas.{one_text-rows}
-use Rattle.program_ends.proofs.WordLemmas.{read_text}
-use Rattle.edit_program.specs.Asked.{program, text_of, flag_of, IsDepth, IsFlag}
+use Rattle.program_ends.proofs.Common.{read_text}
+use Rattle.edit_program.specs.Common.{program, text_of, flag_of, IsDepth, IsFlag}
 
 pub depth_is : (a : App) (m : ArgMatches) (words : List (List ℕ)) (id key : List ℕ) (given : Option (Bor (List ℕ))) (n : ℕ)
     → a ≡ program → HasMatchesOf a words m → key ≡ id → option_map (λ s. s.now) given ≡ first_value (found_of m) key

@@ -2,7 +2,7 @@
 use Rattle.std.specs.Prelude.{◌≡◌, ℕ, ◌≤◌, Bool, true, false, List, Option, Some, None, codes}
 use Rattle.std.specs.Str.Parse.{IsNumeral, digits_value, without_leading_plus}
 use Rattle.clap.specs.Words.{App, Rule, new_app, new_rule, with_rule, first_of, one_of, matches_of}
-use Rattle.program_ends.specs.Words.{with_version}
+use Rattle.program_ends.specs.Common.{with_version}
 use Rattle.clap.specs.declared.builder.action.ArgAction.TheVariants.{Set, SetTrue}
 
 -- MAP and SCRIPT stand in their places, and --out FILE is required too; --undo N, --refused FILE2 and

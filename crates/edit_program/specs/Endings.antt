@@ -2,7 +2,7 @@
 use Rattle.std.specs.Prelude.{◌≡◌}
 use Rattle.script_runner.specs.declared.fault.RunFault.{RunFault}
 use Rattle.script_runner.specs.declared.fault.RunFault.TheVariants as fault
-use Rattle.program_ends.specs.Endings.{IsOpen}
+use Rattle.program_ends.specs.Common.{IsOpen}
 use Rattle.program_ends.specs.declared.diagnostic.Diagnostic.{Diagnostic}
 use Rattle.program_ends.specs.declared.diagnostic.Diagnostic.TheVariants.{Script, Write, Save, NoMemory}
 

@@ -2,3 +2,4 @@ pub mod Status
 pub mod Endings
 pub mod Asked
 pub mod Keeping
+pub mod Common

@@ -1,16 +1,10 @@
 -- Features taken out, split and brought back, worked out.
-use Rattle.std.proofs.Common.{refl}
-use Rattle.std.specs.Prelude.{◌≡◌, List, [], ◌∷◌, None, Some}
-use Rattle.ring_machine.specs.Cut.{cut, path_of}
-use Rattle.ring_machine.specs.Document.{Document, Feature, Item, Leaf}
-use Rattle.ring_machine.specs.Join.{take_out}
-use Rattle.ring_machine.specs.Parts.{feature}
-use Rattle.ring_machine.proofs.Worked.{at, letter, bare, document, collection, single, polygon, square_a}
-use Rattle.ring_machine.proofs.Worked.{square_b, dented, M, E}
-use Rattle.edit_records.specs.Places.{LayerTree, Begins, Ends, Number, Alone, Places}
-use Rattle.edit_records.specs.Places.{Fills, exchanged, had_before, grown}
-use Rattle.edit_records.specs.Records.{Record, Exchanged, back}
-use Rattle.edit_records.specs.Histories.{documents}
+use Rattle.kit_words.proofs.Common.{refl, ◌≡◌, List, [], ◌∷◌, None, Some}
+use Rattle.ring_machine.specs.Common.{cut, path_of, Document, Feature, Item, Leaf, take_out, feature}
+use Rattle.ring_machine.proofs.Common.{at, letter, bare, document, collection, single, polygon, square_a, square_b}
+use Rattle.ring_machine.proofs.Common.{dented, M, E}
+use Rattle.edit_records.specs.Common.{LayerTree, Begins, Ends, Number, Alone, Places, Fills, exchanged, had_before}
+use Rattle.edit_records.specs.Common.{grown, Record, Exchanged, back, documents}
 
 -- ---- a layer's own feature
 

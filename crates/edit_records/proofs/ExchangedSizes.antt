@@ -1,25 +1,14 @@
 -- How many positions there are after an exchange.
-use Rattle.std.proofs.Common.{◌≡◌, ◌≤◌, ◌+◌, ℕ, Bool, true, false, refl, sym, ap, ap₂, ◌∙◌, subst, cond, append-nil}
-use Rattle.std.proofs.Common.{List, [], ◌∷◌, ◌++◌, map, length, inl, inr, Option, Some, None, arith, eqb-true}
-use Rattle.std.specs.Prelude.{◌==◌}
-use Rattle.std.specs.List.{flat_map, filter_map, sum_by, AllByRecursion}
-use Rattle.std.proofs.lemmas.Bool.{false≢true}
-use Rattle.std.proofs.lemmas.Bool.Decides.{Decides-eqb}
-use Rattle.std.proofs.lemmas.List.Concat.{flat_map-append}
-use Rattle.std.proofs.lemmas.List.Elements.{filter_map-append}
-use Rattle.std.proofs.lemmas.List.Sums.{sum_by-append, sum_by-cons}
-use Rattle.ring_machine.specs.Document.{Feature, Document}
-use Rattle.ring_machine.specs.Parts.{feature_of, feature, rings_of, size}
-use Rattle.ring_machine.specs.WellFormed.{are_distinct}
-use Rattle.ring_machine.proofs.First.{In}
-use Rattle.ring_machine.proofs.InItems.{of_layers}
-use Rattle.ring_machine.proofs.Members.{any_in, in_any}
-use Rattle.ring_machine.proofs.Order.{and_both}
-use Rattle.ring_machine.proofs.Removal.{not_true}
-use Rattle.edit_records.specs.Places.{Place, Begins, Ends, Text_of, Number, Tree, Alone, Places, LayerTree}
-use Rattle.edit_records.specs.Places.{number_of, numbers_of, numbers_placed, has_place, leaf, or_empty, item_at, items_of}
-use Rattle.edit_records.specs.Sizes.{weight, weights}
-use Rattle.edit_records.specs.Places.{filled, Fills, exchanged_features, exchanged, had_before}
+use Rattle.kit_words.proofs.Common.{◌≡◌, ◌≤◌, ◌+◌, ℕ, Bool, true, false, refl, sym, ap, ap₂, ◌∙◌, subst, cond, List, []}
+use Rattle.kit_words.proofs.Common.{◌∷◌, ◌++◌, map, length, inl, inr, Option, Some, None, arith, eqb-true, ◌==◌}
+use Rattle.kit_words.proofs.Common.{flat_map, filter_map, sum_by, AllByRecursion, false≢true, Decides-eqb}
+use Rattle.kit_words.proofs.Common.{flat_map-append, filter_map-append, sum_by-append, sum_by-cons}
+use Rattle.std.proofs.Common.{append-nil}
+use Rattle.ring_machine.specs.Common.{Feature, Document, feature_of, feature, rings_of, size, are_distinct}
+use Rattle.ring_machine.proofs.Common.{In, of_layers, any_in, in_any, and_both, not_true}
+use Rattle.edit_records.specs.Common.{Place, Begins, Ends, Text_of, Number, Tree, Alone, Places, LayerTree, number_of}
+use Rattle.edit_records.specs.Common.{numbers_of, numbers_placed, has_place, leaf, or_empty, item_at, items_of, weight}
+use Rattle.edit_records.specs.Common.{weights, filled, Fills, exchanged_features, exchanged, had_before}
 
 abbrev total : List Feature → ℕ
 total fs = sum_by length (flat_map rings_of fs)

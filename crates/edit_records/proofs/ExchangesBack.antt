@@ -1,17 +1,11 @@
 -- An edit of features, taken back, gives the document again.
-use Rattle.std.proofs.Common.{◌≡◌, ℕ, Bool, true, false, refl, sym, ap, ap₂, ◌∙◌, cond, List}
-use Rattle.std.proofs.Common.{[], ◌∷◌, Option, None, eqb-true}
-use Rattle.std.specs.Prelude.{◌==◌}
-use Rattle.ring_machine.specs.Cut.{Path, cut}
-use Rattle.ring_machine.specs.Document.{Text, Feature, FeatureOf, Document, DocumentOf}
-use Rattle.ring_machine.specs.Join.{join, take_out}
-use Rattle.ring_machine.specs.Parts.{feature, has_feature}
-use Rattle.ring_machine.proofs.CutJoined.{feature-cut_other, feature-join_other}
-use Rattle.ring_machine.proofs.First.{In}
-use Rattle.ring_machine.proofs.Found.{feature_none}
-use Rattle.ring_machine.proofs.TakenOut.{take_out_is}
-use Rattle.ring_machine.proofs.Without.{feature-take_out_other}
-use Rattle.edit_records.specs.Places.{LayerTree, filled, Fills, numbers_placed, exchanged_features, exchanged, grown}
+use Rattle.kit_words.proofs.Common.{◌≡◌, ℕ, Bool, true, false, refl, sym, ap, ap₂, ◌∙◌, cond, List, [], ◌∷◌, Option}
+use Rattle.kit_words.proofs.Common.{None, eqb-true, ◌==◌}
+use Rattle.ring_machine.specs.Common.{Path, cut, Text, Feature, FeatureOf, Document, DocumentOf, join, take_out}
+use Rattle.ring_machine.specs.Common.{feature, has_feature}
+use Rattle.ring_machine.proofs.Common.{feature-cut_other, feature-join_other, In, feature_none, take_out_is}
+use Rattle.ring_machine.proofs.Common.{feature-take_out_other}
+use Rattle.edit_records.specs.Common.{LayerTree, filled, Fills, numbers_placed, exchanged_features, exchanged, grown}
 use Rattle.edit_records.proofs.PlacesBack.{filled-agree, fills-grown}
 
 -- ---- what stood at the numbers

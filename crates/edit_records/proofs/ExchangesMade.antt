@@ -1,33 +1,20 @@
 -- The edits of features, each as an exchange at the places of their numbers.
-use Rattle.std.proofs.Common.{◌≡◌, ◌≢◌, ℕ, Bool, true, false, refl, sym, ap, ap₂, ◌∙◌, cond, List}
-use Rattle.std.proofs.Common.{[], ◌∷◌, ◌++◌, ◌||◌, map, Option, Some, None, option_map, is_some, inl, inr, eqb-true}
-use Rattle.std.proofs.Common.{eq-eqb}
-use Rattle.std.specs.Prelude.{◌==◌, not}
-use Rattle.std.specs.List.{flat_map, filter, list_all, find}
-use Rattle.std.proofs.lemmas.Bool.{false≢true}
-use Rattle.std.proofs.lemmas.List.{append-nil}
-use Rattle.std.proofs.lemmas.List.Concat.{flat_map-append}
-use Rattle.std.proofs.lemmas.List.Elements.{filter-append}
-use Rattle.ring_machine.specs.Cut.{Path, is_cut_by, first_that, becomes, instead, stays, cut}
-use Rattle.ring_machine.specs.Document.{Text, Member, Feature, FeatureOf, ItemOf, DocumentOf, Document}
-use Rattle.ring_machine.specs.Document.{Open, Close, Leaf, Kept}
-use Rattle.ring_machine.specs.Join.{is_leaf, empty_collection, take_out, join, joined_feature, joined_polygons}
-use Rattle.ring_machine.specs.Parts.{feature, has_feature, in_feature, in_features, in_layer, in_rings}
-use Rattle.ring_machine.specs.Refusals.{is_layer}
-use Rattle.ring_machine.proofs.CutJoined.{new_part, parts, cut_is, join_is}
-use Rattle.ring_machine.proofs.First.{In, in_left, in_right}
-use Rattle.ring_machine.proofs.InItems.{of_layers}
-use Rattle.ring_machine.proofs.Neighbours.{none_in}
-use Rattle.grid_geometry.specs.Position.{Position}
-use Rattle.ring_machine.proofs.Found.{among, feature_in, feature-in_features, has_feature-found}
-use Rattle.ring_machine.proofs.Order.{and_both}
-use Rattle.ring_machine.proofs.Removal.{none_parts}
-use Rattle.ring_machine.proofs.TakenOut.{taken, take_out_is}
-use Rattle.edit_records.specs.Places.{Place, Begins, Ends, Text_of, Number, Tree, Alone, Places, LayerTree}
-use Rattle.edit_records.specs.Places.{number_of, numbers_of}
-use Rattle.edit_records.specs.Places.{is_formed, AreFormed, numbers_placed, has_place, leaf, or_empty}
-use Rattle.edit_records.specs.Places.{item_at, items_of, filled, Fills, exchanged_features, AreNumbered}
-use Rattle.edit_records.specs.Places.{exchanged, with_changed, with_new, tree_with, grown}
+use Rattle.kit_words.proofs.Common.{◌≡◌, ◌≢◌, ℕ, Bool, true, false, refl, sym, ap, ap₂, ◌∙◌, cond, List, [], ◌∷◌, ◌++◌}
+use Rattle.kit_words.proofs.Common.{◌||◌, map, Option, Some, None, option_map, is_some, inl, inr, eqb-true, eq-eqb}
+use Rattle.kit_words.proofs.Common.{◌==◌, not, flat_map, filter, list_all, find, false≢true, append-nil}
+use Rattle.kit_words.proofs.Common.{flat_map-append, filter-append}
+use Rattle.ring_machine.specs.Common.{Path, is_cut_by, first_that, becomes, instead, stays, cut, Text, Member, Feature}
+use Rattle.ring_machine.specs.Common.{FeatureOf, ItemOf, DocumentOf, Document, Open, Close, Leaf, Kept, is_leaf}
+use Rattle.ring_machine.specs.Common.{empty_collection, take_out, join, joined_feature, joined_polygons, feature}
+use Rattle.ring_machine.specs.Common.{has_feature, in_feature, in_features, in_layer, in_rings, is_layer}
+use Rattle.ring_machine.proofs.Common.{new_part, parts, cut_is, join_is, In, in_left, in_right, of_layers, none_in}
+use Rattle.ring_machine.proofs.Common.{among, feature_in, feature-in_features, has_feature-found, and_both, none_parts}
+use Rattle.ring_machine.proofs.Common.{taken, take_out_is}
+use Rattle.grid_geometry.specs.Common.{Position}
+use Rattle.edit_records.specs.Common.{Place, Begins, Ends, Text_of, Number, Tree, Alone, Places, LayerTree, number_of}
+use Rattle.edit_records.specs.Common.{numbers_of, is_formed, AreFormed, numbers_placed, has_place, leaf, or_empty}
+use Rattle.edit_records.specs.Common.{item_at, items_of, filled, Fills, exchanged_features, AreNumbered, exchanged}
+use Rattle.edit_records.specs.Common.{with_changed, with_new, tree_with, grown}
 use Rattle.edit_records.proofs.PlacesBack.{filled-agree}
 use Rattle.edit_records.proofs.PlacesFilled.{AreOwn, found-filled, filled-changed}
 

@@ -1,14 +1,10 @@
 -- Which features and rings there are after an exchange.
-use Rattle.std.proofs.Common.{◌≡◌, ℕ, Bool, true, false, refl, sym, ap, ap₂, ◌∙◌, cond, List}
-use Rattle.std.proofs.Common.{[], ◌∷◌, ◌||◌, Option, Some, None, option_map}
-use Rattle.std.specs.Prelude.{◌==◌}
-use Rattle.ring_machine.specs.Document.{FeatureOf, DocumentOf}
-use Rattle.ring_machine.specs.Parts.{feature, features, in_feature, in_rings}
-use Rattle.ring_machine.proofs.First.{In}
-use Rattle.ring_machine.proofs.Found.{feature_in, feature-in_rings}
-use Rattle.edit_records.specs.Places.{LayerTree}
-use Rattle.edit_records.specs.Places.{numbers_placed}
-use Rattle.edit_records.specs.Places.{filled, exchanged_features, exchanged, is_exchanged, with_changed}
+use Rattle.kit_words.proofs.Common.{◌≡◌, ℕ, Bool, true, false, refl, sym, ap, ap₂, ◌∙◌, cond, List, [], ◌∷◌, ◌||◌}
+use Rattle.kit_words.proofs.Common.{Option, Some, None, option_map, ◌==◌}
+use Rattle.ring_machine.specs.Common.{FeatureOf, DocumentOf, feature, features, in_feature, in_rings}
+use Rattle.ring_machine.proofs.Common.{In, feature_in, feature-in_rings}
+use Rattle.edit_records.specs.Common.{LayerTree, numbers_placed, filled, exchanged_features, exchanged, is_exchanged}
+use Rattle.edit_records.specs.Common.{with_changed}
 use Rattle.edit_records.proofs.ExchangesMade.{exchanged-in_rings}
 use Rattle.edit_records.proofs.PlacesBack.{filled-agree}
 

@@ -1,14 +1,10 @@
 -- Histories that are cut short, and that outlive a new number.
-use Rattle.std.proofs.Common.{◌≡◌, ℕ, zero, suc, ◌≤◌, Bool, true, false, refl, sym, ap, ◌∙◌, subst, cond}
-use Rattle.std.proofs.Common.{List, [], ◌∷◌, take, Option, None, arith, eqb-true}
-use Rattle.std.specs.Prelude.{◌==◌}
-use Rattle.ring_machine.specs.Document.{Document, Feature}
-use Rattle.ring_machine.specs.Parts.{feature, has_feature}
-use Rattle.ring_machine.proofs.Found.{feature_none}
-use Rattle.edit_records.specs.Places.{LayerTree, exchanged_features, grown}
-use Rattle.edit_records.specs.Records.{Record, Moved, Inserted, Removed, Thinned, Renamed, Exchanged}
-use Rattle.edit_records.specs.Records.{back, AreChanged, Fits, IsMap, Undoes}
-use Rattle.edit_records.specs.Histories.{documents, AreUndoing}
+use Rattle.kit_words.proofs.Common.{◌≡◌, ℕ, zero, suc, ◌≤◌, Bool, true, false, refl, sym, ap, ◌∙◌, subst, cond, List}
+use Rattle.kit_words.proofs.Common.{[], ◌∷◌, take, Option, None, arith, eqb-true, ◌==◌}
+use Rattle.ring_machine.specs.Common.{Document, Feature, feature, has_feature}
+use Rattle.ring_machine.proofs.Common.{feature_none}
+use Rattle.edit_records.specs.Common.{LayerTree, exchanged_features, grown, Record, Moved, Inserted, Removed, Thinned}
+use Rattle.edit_records.specs.Common.{Renamed, Exchanged, back, AreChanged, Fits, IsMap, Undoes, documents, AreUndoing}
 use Rattle.edit_records.proofs.PlacesBack.{filled-grown}
 
 -- ---- the newest ones

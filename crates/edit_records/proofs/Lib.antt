@@ -12,3 +12,4 @@ pub mod HistoriesKept
 pub mod Recorded
 pub mod RemovedFits
 pub mod InsertedFits
+pub mod Common

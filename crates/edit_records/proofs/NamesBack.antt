@@ -1,16 +1,10 @@
 -- A feature with its old id again.
-use Rattle.std.proofs.Common.{◌≡◌, ℕ, Bool, true, false, refl, sym, ap, ap₂, ◌∙◌, cond, List}
-use Rattle.std.proofs.Common.{[], ◌∷◌, map, Option, Some, inl, inr, eqb-true}
-use Rattle.std.specs.Prelude.{◌==◌}
-use Rattle.std.specs.List.{filter_map}
-use Rattle.ring_machine.specs.Document.{Text, FeatureOf, ItemOf, LayerOf, DocumentOf, Open, Close, Leaf, Kept}
-use Rattle.ring_machine.specs.Machine.{renamed}
-use Rattle.ring_machine.specs.Parts.{feature_of, feature, features, in_item, in_layer, in_features}
-use Rattle.ring_machine.specs.WellFormed.{WellFormed}
-use Rattle.ring_machine.proofs.First.{In, in_left, in_right}
-use Rattle.ring_machine.proofs.Found.{feature_found}
-use Rattle.ring_machine.proofs.InItems.{of_layers}
-use Rattle.edit_records.specs.Records.{with_id}
+use Rattle.kit_words.proofs.Common.{◌≡◌, ℕ, Bool, true, false, refl, sym, ap, ap₂, ◌∙◌, cond, List, [], ◌∷◌, map}
+use Rattle.kit_words.proofs.Common.{Option, Some, inl, inr, eqb-true, ◌==◌, filter_map}
+use Rattle.ring_machine.specs.Common.{Text, FeatureOf, ItemOf, LayerOf, DocumentOf, Open, Close, Leaf, Kept, renamed}
+use Rattle.ring_machine.specs.Common.{feature_of, feature, features, in_item, in_layer, in_features, WellFormed}
+use Rattle.ring_machine.proofs.Common.{In, in_left, in_right, feature_found, of_layers}
+use Rattle.edit_records.specs.Common.{with_id}
 
 module _ {R S : Type 0} (g : FeatureOf R → FeatureOf S) (h : FeatureOf S → FeatureOf R) where
   items_back : (is : List (ItemOf R))

@@ -1,15 +1,11 @@
 -- Features that stand at the places of their numbers.
-use Rattle.std.proofs.Common.{◌≡◌, ℕ, Bool, true, false, refl, sym, ap, ap₂, ◌∙◌, cond, List}
-use Rattle.std.proofs.Common.{[], ◌∷◌, ◌++◌, Option, None, inl, inr, eqb-true}
-use Rattle.std.specs.Prelude.{◌==◌}
-use Rattle.std.specs.List.{flat_map}
-use Rattle.std.proofs.lemmas.List.Concat.{flat_map-append}
-use Rattle.ring_machine.specs.Document.{FeatureOf, ItemOf, DocumentOf, Open, Close, Kept}
-use Rattle.ring_machine.specs.Parts.{feature}
-use Rattle.ring_machine.proofs.First.{In, in_left, in_right}
-use Rattle.edit_records.specs.Places.{number_of, numbers_of, numbers_placed}
-use Rattle.edit_records.specs.Places.{Place, Begins, Ends, Text_of, Number, Tree, Alone, Places, LayerTree}
-use Rattle.edit_records.specs.Places.{leaf, or_empty, item_at, items_of, filled, Fills, with_new, tree_with, grown}
+use Rattle.kit_words.proofs.Common.{◌≡◌, ℕ, Bool, true, false, refl, sym, ap, ap₂, ◌∙◌, cond, List, [], ◌∷◌, ◌++◌}
+use Rattle.kit_words.proofs.Common.{Option, None, inl, inr, eqb-true, ◌==◌, flat_map, flat_map-append}
+use Rattle.ring_machine.specs.Common.{FeatureOf, ItemOf, DocumentOf, Open, Close, Kept, feature}
+use Rattle.ring_machine.proofs.Common.{In, in_left, in_right}
+use Rattle.edit_records.specs.Common.{number_of, numbers_of, numbers_placed, Place, Begins, Ends, Text_of, Number, Tree}
+use Rattle.edit_records.specs.Common.{Alone, Places, LayerTree, leaf, or_empty, item_at, items_of, filled, Fills}
+use Rattle.edit_records.specs.Common.{with_new, tree_with, grown}
 
 -- ---- the same features
 

@@ -1,19 +1,13 @@
 -- What is found among features that stand at the places of their numbers.
-use Rattle.std.proofs.Common.{◌≡◌, ℕ, Bool, true, false, refl, sym, ap, ap₂, ◌∙◌, cond, List}
-use Rattle.std.proofs.Common.{[], ◌∷◌, ◌++◌, ◌||◌, map, Option, Some, None, option_map, eqb-true}
-use Rattle.std.specs.Prelude.{◌==◌}
-use Rattle.std.specs.List.{list_any, find, flat_map, filter_map}
-use Rattle.std.specs.Option.{option_or}
-use Rattle.std.proofs.lemmas.List.{map-append}
-use Rattle.std.proofs.lemmas.List.Elements.{filter_map-append}
-use Rattle.std.proofs.lemmas.List.Folds.{find-append, list_any-append}
-use Rattle.ring_machine.specs.Document.{FeatureOf, DocumentOf, Open, Close, Kept}
-use Rattle.ring_machine.specs.Parts.{feature_of, feature, in_item, in_layer, in_features, in_feature, in_rings}
-use Rattle.ring_machine.proofs.Found.{feature-in_features}
-use Rattle.ring_machine.proofs.InItems.{of_layers}
-use Rattle.edit_records.specs.Places.{Place, Begins, Ends, Text_of, Number, Tree, Alone, Places, LayerTree}
-use Rattle.edit_records.specs.Places.{number_of, numbers_of, numbers_placed, has_place}
-use Rattle.edit_records.specs.Places.{leaf, or_empty, item_at, items_of, filled, Fills}
+use Rattle.kit_words.proofs.Common.{◌≡◌, ℕ, Bool, true, false, refl, sym, ap, ap₂, ◌∙◌, cond, List, [], ◌∷◌, ◌++◌, ◌||◌}
+use Rattle.kit_words.proofs.Common.{map, Option, Some, None, option_map, eqb-true, ◌==◌, list_any, find, flat_map}
+use Rattle.kit_words.proofs.Common.{filter_map, option_or, map-append, filter_map-append, find-append, list_any-append}
+use Rattle.ring_machine.specs.Common.{FeatureOf, DocumentOf, Open, Close, Kept, feature_of, feature, in_item, in_layer}
+use Rattle.ring_machine.specs.Common.{in_features, in_feature, in_rings}
+use Rattle.ring_machine.proofs.Common.{feature-in_features, of_layers}
+use Rattle.edit_records.specs.Common.{Place, Begins, Ends, Text_of, Number, Tree, Alone, Places, LayerTree, number_of}
+use Rattle.edit_records.specs.Common.{numbers_of, numbers_placed, has_place, leaf, or_empty, item_at, items_of, filled}
+use Rattle.edit_records.specs.Common.{Fills}
 use Rattle.edit_records.proofs.PlacesBack.{filled-agree}
 
 -- every feature has the number by which it is found

@@ -3,10 +3,8 @@
 use Rattle.std.specs.Prelude.{ℕ, ◌≡◌, ◌==◌, Bool, true, false, IsTrue, if◌then◌else◌, List, [], ◌∷◌}
 use Rattle.std.specs.Prelude.{map, Option, None, Some, option_map}
 use Rattle.std.specs.List.{flat_map, list_any, list_all}
-use Rattle.ring_machine.specs.Document.{Text, Head, FeatureOf, ItemOf, Open, Close, Leaf, Kept}
-use Rattle.ring_machine.specs.Document.{LayerOf, DocumentOf}
-use Rattle.ring_machine.specs.Parts.{feature}
-use Rattle.ring_machine.specs.Join.{empty_collection}
+use Rattle.ring_machine.specs.Common.{Text, Head, FeatureOf, ItemOf, Open, Close, Leaf, Kept, LayerOf, DocumentOf}
+use Rattle.ring_machine.specs.Common.{feature, empty_collection}
 
 -- an item of a tree in which a feature stands by its number
 pub data Place : Type 0 where

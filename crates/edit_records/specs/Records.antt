@@ -2,14 +2,10 @@
 use Rattle.std.specs.Prelude.{ℕ, ◌≡◌, ◌≢◌, ◌≤◌, ◌<◌, ◌==◌, true, false, IsTrue, if◌then◌else◌}
 use Rattle.std.specs.Prelude.{List, [], ◌∷◌, map, Option, Some}
 use Rattle.std.specs.List.{fold}
-use Rattle.grid_geometry.specs.Position.{Position}
-use Rattle.grid_geometry.specs.Segment.{segment}
-use Rattle.ring_machine.specs.Document.{DocumentOf, Document, Feature, Text}
-use Rattle.ring_machine.specs.Parts.{has_feature, in_features, is_vertex, is_segment, size}
-use Rattle.ring_machine.specs.Vertices.{put, ins, del, is_junction}
-use Rattle.ring_machine.specs.Planar.{Proper}
-use Rattle.ring_machine.specs.Refusals.{are_long, is_bridged}
-use Rattle.ring_machine.specs.WellFormed.{are_distinct, WellFormed}
+use Rattle.grid_geometry.specs.Common.{Position, segment}
+use Rattle.ring_machine.specs.Common.{DocumentOf, Document, Feature, Text, has_feature, in_features, is_vertex}
+use Rattle.ring_machine.specs.Common.{is_segment, size, put, ins, del, is_junction, Proper, are_long, is_bridged}
+use Rattle.ring_machine.specs.Common.{are_distinct, WellFormed}
 use Rattle.edit_records.specs.Places.{LayerTree, Fills, exchanged}
 
 -- a vertex that was left out, and its two neighbours

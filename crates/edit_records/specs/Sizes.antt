@@ -1,8 +1,7 @@
 -- How many positions the rings of features have.
 use Rattle.std.specs.Prelude.{ℕ, List, length, Option, None, Some}
 use Rattle.std.specs.List.{sum_by}
-use Rattle.ring_machine.specs.Document.{Feature}
-use Rattle.ring_machine.specs.Parts.{rings_of}
+use Rattle.ring_machine.specs.Common.{Feature, rings_of}
 
 -- the positions of a feature's rings, each ring counted for itself, and none where there is no feature
 abbrev pub weight : Option Feature → ℕ

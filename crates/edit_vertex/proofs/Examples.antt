@@ -1,14 +1,11 @@
 -- Worked examples of how many tests a thinning takes at most, each computed by the checker.
-use Rattle.std.proofs.Common.{◌≡◌, pos, refl, None}
-use Rattle.grid_geometry.specs.Conflict.{cross, is_within, conflict}
-use Rattle.grid_geometry.specs.Orientation.{orientation, is_on, are_split}
-use Rattle.ring_machine.specs.Planar.{first_pair}
-use Rattle.ring_machine.specs.Refusals.{remove_refusals}
-use Rattle.ring_machine.specs.Sweep.{remove_sweeps}
-use Rattle.ring_machine.proofs.Worked.{M}
-use Rattle.segment_index.specs.Times.{times_by}
-use Rattle.local_planarity.specs.Tests.{most_for}
-use Rattle.edit_vertex.specs.Tested.{most_for_thin}
+use Rattle.kit_words.proofs.Common.{◌≡◌, pos, refl, None}
+use Rattle.grid_geometry.specs.Common.{cross, is_within, conflict, orientation, is_on, are_split}
+use Rattle.ring_machine.specs.Common.{first_pair, remove_refusals, remove_sweeps}
+use Rattle.ring_machine.proofs.Common.{M}
+use Rattle.segment_index.specs.Common.{times_by}
+use Rattle.local_planarity.specs.Common.{most_for}
+use Rattle.edit_vertex.specs.Common.{most_for_thin}
 
 -- of two squares with a common side, without cells: a corner goes, and its segment is tested against
 -- five; then one of the other square, against five; no segment comes for what can't go from a

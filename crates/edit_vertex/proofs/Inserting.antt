@@ -1,33 +1,16 @@
 -- What an insertion is refused by, from how many rings have the segment and how large the map is.
-use Rattle.std.proofs.Common.{◌≡◌, ◌+◌, ◌-◌, ◌<◌, ◌≤◌, Bool, true, false, refl, sym, ap, ap₂, ◌∙◌, subst}
-use Rattle.std.proofs.Common.{ℕ, List, [], ◌∷◌, length, Option, Some, inl, inr, arith}
-use Rattle.std.specs.Prelude.{not, nat_lt}
-use Rattle.std.proofs.lemmas.Bool.{false≢true}
-use Rattle.grid_geometry.specs.Position.{Position, position_eq}
-use Rattle.grid_geometry.specs.Segment.{Segment, segment}
-use Rattle.grid_geometry.specs.Ring.{Edge, edges}
-use Rattle.ring_machine.specs.Ring.{has, is_ring, is_distinct, segment_of}
-use Rattle.ring_machine.specs.Document.{Document}
-use Rattle.ring_machine.specs.Parts.{rings, size, is_vertex, is_segment}
-use Rattle.ring_machine.specs.Vertices.{ins}
-use Rattle.ring_machine.specs.Planar.{Proper, first_pair}
-use Rattle.ring_machine.specs.Sweep.{insert_sweeps}
-use Rattle.ring_machine.specs.Command.{Refusal, NoSegment, Occupied, TooLarge, Sweeps}
-use Rattle.ring_machine.specs.Refusals.{◌unless◌, first_of, planar, is_small, insert_refusals}
-use Rattle.ring_machine.proofs.Arcs.{is_of}
-use Rattle.ring_machine.proofs.Edges.{edges_to, edges_is}
-use Rattle.ring_machine.proofs.First.{In}
-use Rattle.ring_machine.proofs.Neighbours.{all_in}
-use Rattle.ring_machine.proofs.Order.{and_both, position_eq-refl}
-use Rattle.ring_machine.proofs.Removal.{none_parts, not_true}
-use Rattle.ring_machine.proofs.RingSegments.{same_ends, segment_eq-true}
-use Rattle.ring_machine.proofs.StaysProper.{ring_distinct}
-use Rattle.arc_store.specs.Faults.{Refuses}
-use Rattle.arc_store.specs.Spots.{users}
+use Rattle.kit_words.proofs.Common.{◌≡◌, ◌+◌, ◌-◌, ◌<◌, ◌≤◌, Bool, true, false, refl, sym, ap, ap₂, ◌∙◌, subst, ℕ, List}
+use Rattle.kit_words.proofs.Common.{[], ◌∷◌, length, Option, Some, inl, inr, arith, not, nat_lt, false≢true}
+use Rattle.grid_geometry.specs.Common.{Position, position_eq, Segment, segment, Edge, edges}
+use Rattle.ring_machine.specs.Common.{has, is_ring, is_distinct, segment_of, Document, rings, size, is_vertex}
+use Rattle.ring_machine.specs.Common.{is_segment, ins, Proper, first_pair, insert_sweeps, Refusal, NoSegment, Occupied}
+use Rattle.ring_machine.specs.Common.{TooLarge, Sweeps, ◌unless◌, first_of, planar, is_small, insert_refusals}
+use Rattle.ring_machine.proofs.Common.{is_of, edges_to, edges_is, In, all_in, and_both, position_eq-refl, none_parts}
+use Rattle.ring_machine.proofs.Common.{not_true, same_ends, segment_eq-true, ring_distinct, any_in}
+use Rattle.arc_store.specs.Common.{Refuses, users}
 use Rattle.arc_store.specs.declared.fault.EditFault.{EditFault}
-use Rattle.arc_store.proofs.Insertions.{has_segment, has_segment_by, is_segment_by, size_ins}
-use Rattle.ring_machine.proofs.Members.{any_in}
-use Rattle.edit_vertex.specs.Untested.{is_early}
+use Rattle.arc_store.proofs.Common.{has_segment, has_segment_by, is_segment_by, size_ins}
+use Rattle.edit_vertex.specs.Common.{is_early}
 use Rattle.edit_vertex.proofs.Late.{is_late, late_end, late_fault}
 use Rattle.edit_vertex.proofs.Lists.{kept_any, lt_holds, le_holds, le_fails}
 

@@ -1,13 +1,11 @@
 -- An edit that passes the conditions before planarity is refused by a later one.
-use Rattle.std.proofs.Common.{◌≡◌, Bool, true, false, refl, sym, ap, ◌∙◌, [], ◌∷◌, Option, None, Some}
-use Rattle.std.proofs.lemmas.Bool.{false≢true}
-use Rattle.grid_geometry.specs.Segment.{Segment}
-use Rattle.ring_machine.specs.Command.{Refusal, Sweeps, Conflict}
-use Rattle.ring_machine.specs.Refusals.{◌unless◌, first_of, conflict_of}
-use Rattle.arc_store.specs.Faults.{Refuses}
+use Rattle.kit_words.proofs.Common.{◌≡◌, Bool, true, false, refl, sym, ap, ◌∙◌, [], ◌∷◌, Option, None, Some, false≢true}
+use Rattle.grid_geometry.specs.Common.{Segment}
+use Rattle.ring_machine.specs.Common.{Refusal, Sweeps, Conflict, ◌unless◌, first_of, conflict_of}
+use Rattle.arc_store.specs.Common.{Refuses}
 use Rattle.arc_store.specs.declared.fault.EditFault.{EditFault}
 use Rattle.arc_store.specs.declared.fault.EditFault.TheVariants as edit
-use Rattle.edit_vertex.specs.Untested.{is_early}
+use Rattle.edit_vertex.specs.Common.{is_early}
 
 -- no refusal, or one by what pairs of segments decide
 abbrev pub is_late : Option Refusal → Bool

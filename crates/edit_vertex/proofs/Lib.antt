@@ -8,3 +8,4 @@ pub mod Recording
 pub mod ThinKept
 pub mod SidesKept
 pub mod Examples
+pub mod Common

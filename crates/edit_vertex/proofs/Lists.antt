@@ -1,13 +1,8 @@
 -- Tests of lists: all elements, some element, and those that a filter keeps.
-use Rattle.std.proofs.Common.{◌≡◌, ◌<◌, ◌≤◌, ℕ, suc, Bool, true, false, refl, sym, ap, ap₂, ◌∙◌, cond, List, []}
-use Rattle.std.proofs.Common.{◌∷◌, length, ◌||◌, ◌&&◌, inl, inr, arith}
-use Rattle.std.specs.Prelude.{nat_le, nat_lt}
-use Rattle.std.specs.List.{list_any, list_all, filter}
-use Rattle.std.proofs.lemmas.Bool.{false≢true}
-use Rattle.std.proofs.lemmas.Bool.Decides.{nat_tests}
-use Rattle.ring_machine.proofs.First.{In}
-use Rattle.ring_machine.proofs.Neighbours.{all_in}
-use Rattle.ring_machine.proofs.Members.{in_any, any_in, same_answer}
+use Rattle.kit_words.proofs.Common.{◌≡◌, ◌<◌, ◌≤◌, ℕ, suc, Bool, true, false, refl, sym, ap, ap₂, ◌∙◌, cond, List, []}
+use Rattle.kit_words.proofs.Common.{◌∷◌, length, ◌||◌, ◌&&◌, inl, inr, arith, nat_le, nat_lt, list_any, list_all}
+use Rattle.kit_words.proofs.Common.{filter, false≢true, nat_tests}
+use Rattle.ring_machine.proofs.Common.{In, all_in, in_any, any_in, same_answer}
 
 pub all_by : {A : Type 0} (test : A → Bool) (xs : List A) → ((x : A) → In x xs → test x ≡ true)
     → list_all test xs ≡ true

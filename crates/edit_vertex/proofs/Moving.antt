@@ -1,17 +1,11 @@
 -- What a move is refused by, from whether there are vertices at both positions.
-use Rattle.std.proofs.Common.{◌≡◌, Bool, true, false, ap, ap₂, ◌∙◌, [], ◌∷◌, Option, Some}
-use Rattle.std.specs.Prelude.{not}
-use Rattle.grid_geometry.specs.Position.{Position}
-use Rattle.ring_machine.specs.Document.{Document}
-use Rattle.ring_machine.specs.Parts.{is_vertex}
-use Rattle.ring_machine.specs.Vertices.{put}
-use Rattle.ring_machine.specs.Planar.{first_pair}
-use Rattle.ring_machine.specs.Sweep.{move_sweeps}
-use Rattle.ring_machine.specs.Command.{Refusal, NoVertex, Occupied, Sweeps}
-use Rattle.ring_machine.specs.Refusals.{◌unless◌, first_of, planar, move_refusals}
-use Rattle.arc_store.specs.Faults.{Refuses}
+use Rattle.kit_words.proofs.Common.{◌≡◌, Bool, true, false, ap, ap₂, ◌∙◌, [], ◌∷◌, Option, Some, not}
+use Rattle.grid_geometry.specs.Common.{Position}
+use Rattle.ring_machine.specs.Common.{Document, is_vertex, put, first_pair, move_sweeps, Refusal, NoVertex, Occupied}
+use Rattle.ring_machine.specs.Common.{Sweeps, ◌unless◌, first_of, planar, move_refusals}
+use Rattle.arc_store.specs.Common.{Refuses}
 use Rattle.arc_store.specs.declared.fault.EditFault.{EditFault}
-use Rattle.edit_vertex.specs.Untested.{is_early}
+use Rattle.edit_vertex.specs.Common.{is_early}
 use Rattle.edit_vertex.proofs.Late.{is_late, late_end, late_fault}
 
 -- the first refusal by the answers

@@ -1,27 +1,16 @@
 -- One vertex of a pass of thinning, and the pass as far as it has come.
-use Rattle.std.proofs.Common.{◌≡◌, ℕ, zero, suc, ◌+◌, ◌<◌, ◌≤◌, Bool, true, false, refl, sym, ap, ap₂, ◌∙◌, cond, ℤ}
-use Rattle.std.proofs.Common.{List, [], ◌∷◌, ◌++◌, take, length, get_or, Option, None, Some, arith}
-use Rattle.std.specs.Prelude.{not, ◌&&◌, pos, unsigned_abs, int_le}
-use Rattle.std.specs.List.{fold}
-use Rattle.std.proofs.lemmas.Bool.{false≢true}
-use Rattle.std.proofs.lemmas.List.{take_more}
-use Rattle.grid_geometry.specs.Position.{Position}
-use Rattle.grid_geometry.specs.Segment.{Segment, Box, segment}
-use Rattle.grid_geometry.specs.Orientation.{orientation}
-use Rattle.ring_machine.specs.Document.{Document}
-use Rattle.ring_machine.specs.Parts.{is_vertex}
-use Rattle.ring_machine.specs.Planar.{Proper}
-use Rattle.ring_machine.specs.Vertices.{del, around, is_junction}
-use Rattle.ring_machine.specs.Command.{Refusal, NoVertex}
-use Rattle.ring_machine.specs.Refusals.{first_of, remove_refusals}
-use Rattle.ring_machine.specs.Thin.{Thinning, is_flat, without, thin_at}
-use Rattle.arc_store.specs.Faults.{Refuses}
-use Rattle.arc_store.specs.Spots.{IsBetween}
+use Rattle.kit_words.proofs.Common.{◌≡◌, ℕ, zero, suc, ◌+◌, ◌<◌, ◌≤◌, Bool, true, false, refl, sym, ap, ap₂, ◌∙◌, cond}
+use Rattle.kit_words.proofs.Common.{ℤ, List, [], ◌∷◌, ◌++◌, take, length, get_or, Option, None, Some, arith, not, ◌&&◌}
+use Rattle.kit_words.proofs.Common.{pos, unsigned_abs, int_le, fold, false≢true, take_more}
+use Rattle.grid_geometry.specs.Common.{Position, Segment, Box, segment, orientation}
+use Rattle.ring_machine.specs.Common.{Document, is_vertex, Proper, del, around, is_junction, Refusal, NoVertex}
+use Rattle.ring_machine.specs.Common.{first_of, remove_refusals, Thinning, is_flat, without, thin_at}
+use Rattle.arc_store.specs.Common.{Refuses, IsBetween}
 use Rattle.arc_store.specs.declared.fault.EditFault.{EditFault}
 use Rattle.arc_store.specs.declared.fault.EditFault.TheVariants.{OutOfMemory}
 use Rattle.arc_store.specs.declared.fault.EditFault.TheVariants as edit
-use Rattle.local_planarity.specs.Tests.{most_for}
-use Rattle.edit_vertex.specs.Tested.{most_at, most_over}
+use Rattle.local_planarity.specs.Common.{most_for}
+use Rattle.edit_vertex.specs.Common.{most_at, most_over}
 use Rattle.edit_vertex.proofs.Lists.{all_same}
 use Rattle.edit_vertex.proofs.Removing.{same_around, place_there, ordered_ends, remove_no_vertex}
 

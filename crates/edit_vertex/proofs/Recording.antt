@@ -1,15 +1,11 @@
 -- What is kept of a vertex that was left out takes the edit back.
-use Rattle.std.proofs.Common.{◌≡◌, sym, subst, None, Some}
-use Rattle.std.specs.Prelude.{OnOk, Result, Ok, Err}
-use Rattle.grid_geometry.specs.Position.{Position}
-use Rattle.ring_machine.specs.Refusals.{first_of, remove_refusals}
-use Rattle.ring_machine.specs.Vertices.{del, around}
-use Rattle.ring_machine.proofs.Members.{in_contains}
-use Rattle.edit_records.specs.Records.{Removal, Removed, IsHeld, Takes}
-use Rattle.edit_records.proofs.RemovedFits.{remove-recorded}
-use Rattle.arc_store.specs.Outcomes.{Edits}
-use Rattle.arc_store.specs.Recorded.{IsLeftOut, IsRecorded}
-use Rattle.arc_store.specs.State.{State}
+use Rattle.kit_words.proofs.Common.{◌≡◌, sym, subst, None, Some, OnOk, Result, Ok, Err}
+use Rattle.grid_geometry.specs.Common.{Position}
+use Rattle.ring_machine.specs.Common.{first_of, remove_refusals, del, around}
+use Rattle.ring_machine.proofs.Common.{in_contains}
+use Rattle.edit_records.specs.Common.{Removal, Removed, IsHeld, Takes}
+use Rattle.edit_records.proofs.Common.{remove-recorded}
+use Rattle.arc_store.specs.Common.{Edits, IsLeftOut, IsRecorded, State}
 use Rattle.arc_store.specs.declared.fault.EditFault.{EditFault}
 
 -- the vertex that was left out, and where it stood

@@ -1,32 +1,17 @@
 -- What a removal is refused by, from what stands around the vertex.
-use Rattle.std.proofs.Common.{◌≡◌, ◌<◌, ◌≤◌, ℕ, Bool, true, false, refl, sym, ap, ap₂, ◌∙◌, subst, cond}
-use Rattle.std.proofs.Common.{List, [], ◌∷◌, length, ◌||◌, Option, Some, arith}
-use Rattle.std.specs.Prelude.{not, nat_lt}
-use Rattle.std.specs.Ordering.{is_lt, is_gt}
-use Rattle.std.specs.declared.cmp.Ordering.{Ordering}
-use Rattle.std.specs.declared.cmp.Ordering.TheVariants.{Less, Equal, Greater}
-use Rattle.std.proofs.lemmas.Bool.{false≢true}
-use Rattle.grid_geometry.specs.Position.{Position, position_cmp, position_lt}
-use Rattle.grid_geometry.specs.Segment.{Segment, segment}
-use Rattle.grid_geometry.specs.Ring.{Edge, edges}
-use Rattle.ring_machine.specs.Ring.{has, is_ring, spots}
-use Rattle.ring_machine.specs.Document.{Document}
-use Rattle.ring_machine.specs.Parts.{rings, is_vertex, is_segment}
-use Rattle.ring_machine.specs.Vertices.{del, around, is_junction}
-use Rattle.ring_machine.specs.Planar.{Proper, first_pair}
-use Rattle.ring_machine.specs.Sweep.{remove_sweeps}
-use Rattle.ring_machine.specs.Command.{Refusal, NoVertex, Junction, RingShort, SegmentExists, Sweeps}
-use Rattle.ring_machine.specs.Refusals.{◌unless◌, first_of, planar, are_long, is_bridged}
-use Rattle.ring_machine.specs.Refusals.{remove_refusals}
-use Rattle.ring_machine.proofs.First.{In}
-use Rattle.ring_machine.proofs.Neighbours.{all_in, has-in, begin_place, place_around}
-use Rattle.ring_machine.proofs.Order.{position_lt-irrefl}
-use Rattle.ring_machine.proofs.StaysProper.{edges_start}
-use Rattle.arc_store.specs.Faults.{Refuses}
-use Rattle.arc_store.specs.Spots.{IsShortest, IsBetween}
+use Rattle.kit_words.proofs.Common.{◌≡◌, ◌<◌, ◌≤◌, ℕ, Bool, true, false, refl, sym, ap, ap₂, ◌∙◌, subst, cond, List, []}
+use Rattle.kit_words.proofs.Common.{◌∷◌, length, ◌||◌, Option, Some, arith, not, nat_lt, is_lt, is_gt, Ordering, Less}
+use Rattle.kit_words.proofs.Common.{Equal, Greater, false≢true}
+use Rattle.grid_geometry.specs.Common.{Position, position_cmp, position_lt, Segment, segment, Edge, edges}
+use Rattle.ring_machine.specs.Common.{has, is_ring, spots, Document, rings, is_vertex, is_segment, del, around}
+use Rattle.ring_machine.specs.Common.{is_junction, Proper, first_pair, remove_sweeps, Refusal, NoVertex, Junction}
+use Rattle.ring_machine.specs.Common.{RingShort, SegmentExists, Sweeps, ◌unless◌, first_of, planar, are_long}
+use Rattle.ring_machine.specs.Common.{is_bridged, remove_refusals}
+use Rattle.ring_machine.proofs.Common.{In, all_in, has-in, begin_place, place_around, position_lt-irrefl, edges_start}
+use Rattle.ring_machine.proofs.Common.{any_in, in_contains, contains_in, in_mapped}
+use Rattle.arc_store.specs.Common.{Refuses, IsShortest, IsBetween}
 use Rattle.arc_store.specs.declared.fault.EditFault.{EditFault}
-use Rattle.ring_machine.proofs.Members.{any_in, in_contains, contains_in, in_mapped}
-use Rattle.edit_vertex.specs.Untested.{is_early}
+use Rattle.edit_vertex.specs.Common.{is_early}
 use Rattle.edit_vertex.proofs.Late.{is_late, late_end, late_fault}
 use Rattle.edit_vertex.proofs.Lists.{all_by, not_all, any_same, lt_holds, lt_fails}
 

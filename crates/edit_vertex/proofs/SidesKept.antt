@@ -1,29 +1,13 @@
 -- An accepted edit of a vertex leaves every position on its side of every ring, and so does any
 -- number of removals, one after the other.
-use Rattle.std.proofs.Common.{◌≡◌, ℕ, ℤ, Bool, true, false, refl, sym, ap, ◌∙◌, subst, cond, List, [], ◌∷◌}
-use Rattle.std.proofs.Common.{◌++◌, take, Option, None, Some}
-use Rattle.std.specs.Prelude.{not, ◌&&◌}
-use Rattle.std.specs.List.{fold, filter}
-use Rattle.std.specs.Option.{option_and_then}
-use Rattle.std.proofs.lemmas.Bool.{false≢true}
-use Rattle.grid_geometry.specs.Position.{Position, position_eq}
-use Rattle.grid_geometry.specs.Ring.{is_inside}
-use Rattle.ring_machine.specs.Ring.{has}
-use Rattle.ring_machine.specs.Document.{Document}
-use Rattle.ring_machine.specs.Parts.{rings, is_vertex}
-use Rattle.ring_machine.specs.Planar.{Proper}
-use Rattle.ring_machine.specs.Query.{vertices}
-use Rattle.ring_machine.specs.Vertices.{del, del_ring, is_junction}
-use Rattle.ring_machine.specs.Sides.{ring_at, KeepsSides}
-use Rattle.ring_machine.specs.Command.{Refusal}
-use Rattle.ring_machine.specs.Refusals.{first_of, remove_refusals}
-use Rattle.ring_machine.specs.Thin.{Thinning, is_flat, without, thin_at, thinned_over, IsThinnedPart}
-use Rattle.ring_machine.proofs.Accepted.{ThinnedFrom, removed}
-use Rattle.ring_machine.proofs.Canonical.{canonical_parts}
-use Rattle.ring_machine.proofs.First.{In}
-use Rattle.ring_machine.proofs.Members.{any_in, in_any, in_filter, in_mapped, in_swap}
-use Rattle.ring_machine.proofs.Neighbours.{has-in, in-has}
-use Rattle.ring_machine.proofs.RingsOf.{rings-in_rings}
+use Rattle.kit_words.proofs.Common.{◌≡◌, ℕ, ℤ, Bool, true, false, refl, sym, ap, ◌∙◌, subst, cond, List, [], ◌∷◌, ◌++◌}
+use Rattle.kit_words.proofs.Common.{take, Option, None, Some, not, ◌&&◌, fold, filter, option_and_then, false≢true}
+use Rattle.grid_geometry.specs.Common.{Position, position_eq, is_inside}
+use Rattle.ring_machine.specs.Common.{has, Document, rings, is_vertex, Proper, vertices, del, del_ring, is_junction}
+use Rattle.ring_machine.specs.Common.{ring_at, KeepsSides, Refusal, first_of, remove_refusals, Thinning, is_flat}
+use Rattle.ring_machine.specs.Common.{without, thin_at, thinned_over, IsThinnedPart}
+use Rattle.ring_machine.proofs.Common.{ThinnedFrom, removed, canonical_parts, In, any_in, in_any, in_filter, in_mapped}
+use Rattle.ring_machine.proofs.Common.{in_swap, has-in, in-has, rings-in_rings}
 use Rattle.ring_machine.proofs.SidesKept.{ring_at-mapped}
 
 some_same : (s r : List Position) → Some s ≡ Some r → s ≡ r

@@ -1,27 +1,14 @@
 -- What a thinning keeps of the vertices that it left out, one after the other.
-use Rattle.std.proofs.Common.{◌≡◌, ◌≢◌, ◌≤◌, ◌<◌, ◌+◌, ℕ, true, sym, ap, ◌∙◌, subst, List, [], ◌∷◌, length}
-use Rattle.std.proofs.Common.{Option, None, Some, arith}
-use Rattle.std.specs.Prelude.{nat_lt, is_some, MatchOption}
-use Rattle.std.specs.List.{fold}
-use Rattle.std.proofs.lemmas.Bool.{false≢true}
-use Rattle.std.proofs.lemmas.Bool.Decides.{nat_tests}
-use Rattle.grid_geometry.specs.Position.{Position}
-use Rattle.grid_geometry.specs.Segment.{segment}
-use Rattle.ring_machine.specs.Document.{Document}
-use Rattle.ring_machine.specs.Parts.{size}
-use Rattle.ring_machine.specs.Planar.{Proper}
-use Rattle.ring_machine.specs.Refusals.{first_of, remove_refusals}
-use Rattle.ring_machine.specs.Vertices.{del, around}
-use Rattle.ring_machine.proofs.Accepted.{removed}
-use Rattle.ring_machine.proofs.Members.{in_contains}
-use Rattle.edit_records.specs.Places.{LayerTree}
-use Rattle.edit_records.specs.Records.{Record, Removal, Thinned, back, put_back, AreRemoved, IsHeld, Takes}
-use Rattle.edit_records.proofs.RemovedFits.{thin-begun, thin-more}
-use Rattle.arc_store.specs.Outcomes.{IsSameMap, edit_begun}
-use Rattle.arc_store.specs.State.{State}
-use Rattle.arc_store.specs.Spots.{users}
-use Rattle.arc_store.specs.Recorded.{IsLeftOut, IsThinning, left_out}
-use Rattle.edit_vertex.specs.Kept.{IsThinnedFrom, IsThinRecorded}
+use Rattle.kit_words.proofs.Common.{◌≡◌, ◌≢◌, ◌≤◌, ◌<◌, ◌+◌, ℕ, true, sym, ap, ◌∙◌, subst, List, [], ◌∷◌, length}
+use Rattle.kit_words.proofs.Common.{Option, None, Some, arith, nat_lt, is_some, MatchOption, fold, false≢true}
+use Rattle.kit_words.proofs.Common.{nat_tests}
+use Rattle.grid_geometry.specs.Common.{Position, segment}
+use Rattle.ring_machine.specs.Common.{Document, size, Proper, first_of, remove_refusals, del, around}
+use Rattle.ring_machine.proofs.Common.{removed, in_contains}
+use Rattle.edit_records.specs.Common.{LayerTree, Record, Removal, Thinned, back, put_back, AreRemoved, IsHeld, Takes}
+use Rattle.edit_records.proofs.Common.{thin-begun, thin-more}
+use Rattle.arc_store.specs.Common.{IsSameMap, edit_begun, State, users, IsLeftOut, IsThinning, left_out}
+use Rattle.edit_vertex.specs.Common.{IsThinnedFrom, IsThinRecorded}
 use Rattle.edit_vertex.proofs.Inserting.{segment_used, size_grown}
 
 -- ---- the document changes

@@ -1,9 +1,8 @@
 -- What a thinning keeps of the vertices that it left out.
 use Rattle.std.specs.Prelude.{◌≡◌, ◌≢◌, MatchOption}
-use Rattle.ring_machine.specs.Document.{Document}
-use Rattle.edit_records.specs.Records.{Thinned, Takes}
-use Rattle.arc_store.specs.State.{State}
-use Rattle.arc_store.specs.Recorded.{IsThinning, left_out}
+use Rattle.ring_machine.specs.Common.{Document}
+use Rattle.edit_records.specs.Common.{Thinned, Takes}
+use Rattle.arc_store.specs.Common.{State, IsThinning, left_out}
 
 -- the vertices that were left out so far are kept, and lead back to the document at the start
 pub record IsThinnedFrom (start : Document) (now : State) : Type 0 where

@@ -1,3 +1,4 @@
 pub mod Kept
 pub mod Tested
 pub mod Untested
+pub mod Common

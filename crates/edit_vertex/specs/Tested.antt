@@ -1,12 +1,8 @@
 -- How many tests of two segments a pass of thinning takes at most.
 use Rattle.std.specs.Prelude.{ℕ, ◌+◌, ℤ, not, ◌&&◌, if◌then◌else◌, List, [], ◌∷◌}
-use Rattle.grid_geometry.specs.Position.{Position}
-use Rattle.grid_geometry.specs.Segment.{Segment, Box}
-use Rattle.ring_machine.specs.Document.{Document}
-use Rattle.ring_machine.specs.Query.{vertices}
-use Rattle.ring_machine.specs.Thin.{Thinning, is_flat, thin_at}
-use Rattle.ring_machine.specs.Vertices.{del, is_junction}
-use Rattle.local_planarity.specs.Tests.{most_for}
+use Rattle.grid_geometry.specs.Common.{Position, Segment, Box}
+use Rattle.ring_machine.specs.Common.{Document, vertices, Thinning, is_flat, thin_at, del, is_junction}
+use Rattle.local_planarity.specs.Common.{most_for}
 
 -- at one vertex: those of its removal, where that is tried, and else none
 abbrev pub most_at : (Segment → Box → ℕ) → ℤ → Document → Position → ℕ

@@ -1,13 +1,9 @@
 ghost use Rattle.std.specs.Prelude.{◌≡◌, ◌≤◌, ◌+◌, Some, OnOk, IfErr, IsTrue};
-ghost use Rattle.ring_machine.specs.Planar.{Proper};
-ghost use Rattle.ring_machine.specs.Refusals.{first_of, insert_refusals};
-ghost use Rattle.ring_machine.specs.Sides.{KeepsSides};
-ghost use Rattle.ring_machine.specs.Vertices.{ins};
+ghost use Rattle.ring_machine.specs.Common.{Proper, first_of, insert_refusals, KeepsSides, ins};
 ghost use Rattle.edit_records.specs.Records as made;
-ghost use Rattle.segment_index.specs.Times.{times_by};
-ghost use Rattle.local_planarity.specs.Tests.{most_for};
-ghost use Rattle.arc_store.specs.Outcomes.{Edits, edit_begun};
-ghost use Rattle.arc_store.specs.Recorded.{IsRecorded};
+ghost use Rattle.segment_index.specs.Common.{times_by};
+ghost use Rattle.local_planarity.specs.Common.{most_for};
+ghost use Rattle.arc_store.specs.Common.{Edits, edit_begun, IsRecorded};
 ghost use Rattle.edit_vertex.specs.Untested.{is_early};
 
 use arc_store::{EditFault, Map};

@@ -1,12 +1,9 @@
 ghost use Rattle.std.specs.Prelude.{◌≡◌, ◌≤◌, ◌+◌, Some, OnOk, IfErr, IsTrue};
-ghost use Rattle.ring_machine.specs.Refusals.{first_of, move_refusals};
-ghost use Rattle.ring_machine.specs.Sides.{KeepsSides};
-ghost use Rattle.ring_machine.specs.Vertices.{put};
+ghost use Rattle.ring_machine.specs.Common.{first_of, move_refusals, KeepsSides, put};
 ghost use Rattle.edit_records.specs.Records as made;
-ghost use Rattle.segment_index.specs.Times.{times_by};
-ghost use Rattle.local_planarity.specs.Tests.{most_for_move};
-ghost use Rattle.arc_store.specs.Outcomes.{Edits, edit_begun};
-ghost use Rattle.arc_store.specs.Recorded.{IsRecorded};
+ghost use Rattle.segment_index.specs.Common.{times_by};
+ghost use Rattle.local_planarity.specs.Common.{most_for_move};
+ghost use Rattle.arc_store.specs.Common.{Edits, edit_begun, IsRecorded};
 ghost use Rattle.edit_vertex.specs.Untested.{is_early};
 
 use arc_store::{EditFault, Map};

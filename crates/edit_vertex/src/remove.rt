@@ -1,17 +1,12 @@
 ghost use Rattle.std.specs.Prelude.{◌≡◌, ◌≢◌, ◌≤◌, ◌+◌, Some, OnOk, IfErr, IsTrue};
-ghost use Rattle.grid_geometry.specs.Segment.{segment};
-ghost use Rattle.ring_machine.specs.Parts.{is_segment};
-ghost use Rattle.ring_machine.specs.Planar.{Proper};
-ghost use Rattle.ring_machine.specs.Refusals.{first_of, remove_refusals};
-ghost use Rattle.ring_machine.specs.Sides.{KeepsSides};
-ghost use Rattle.ring_machine.specs.Vertices.{del};
+ghost use Rattle.grid_geometry.specs.Common.{segment};
+ghost use Rattle.ring_machine.specs.Common.{is_segment, Proper, first_of, remove_refusals};
+ghost use Rattle.ring_machine.specs.Common.{KeepsSides, del};
 ghost use Rattle.edit_records.specs.Records as made;
-ghost use Rattle.edit_records.specs.Records.{IsInserted};
-ghost use Rattle.segment_index.specs.Times.{times_by};
-ghost use Rattle.local_planarity.specs.Tests.{most_for};
-ghost use Rattle.arc_store.specs.Faults.{Refuses};
-ghost use Rattle.arc_store.specs.Outcomes.{Edits, edit_begun};
-ghost use Rattle.arc_store.specs.Recorded.{IsLeftOut, IsRecorded};
+ghost use Rattle.edit_records.specs.Common.{IsInserted};
+ghost use Rattle.segment_index.specs.Common.{times_by};
+ghost use Rattle.local_planarity.specs.Common.{most_for};
+ghost use Rattle.arc_store.specs.Common.{Refuses, Edits, edit_begun, IsLeftOut, IsRecorded};
 ghost use Rattle.edit_vertex.specs.Untested.{is_early};
 
 use arc_store::{EditFault, Map, Spot};

@@ -1,21 +1,15 @@
 ghost use Rattle.std.specs.Prelude.{◌≡◌, ◌≤◌, ℕ, ◌+◌, ◌&&◌, not, true, false, is_some, if◌then◌else◌, None, Some, ◌∷◌, OnOk, OnErr, IfOk, IfErr, IsTrue, MatchOption};
 ghost use Rattle.std.specs.Prelude.{int_le, pos, unsigned_abs};
-ghost use Rattle.grid_geometry.specs.Orientation.{orientation};
-ghost use Rattle.ring_machine.specs.Document.{Document};
-ghost use Rattle.ring_machine.specs.Parts.{is_vertex};
-ghost use Rattle.ring_machine.specs.Planar.{Proper};
-ghost use Rattle.ring_machine.specs.Refusals.{first_of, remove_refusals};
-ghost use Rattle.ring_machine.specs.Sides.{KeepsSides};
-ghost use Rattle.ring_machine.specs.Thin.{is_flat, thinned, thin_at};
-ghost use Rattle.ring_machine.specs.Vertices.{del, is_junction};
+ghost use Rattle.grid_geometry.specs.Common.{orientation};
+ghost use Rattle.ring_machine.specs.Common.{Document, is_vertex, Proper, first_of, remove_refusals};
+ghost use Rattle.ring_machine.specs.Common.{KeepsSides, is_flat, thinned, thin_at, del};
+ghost use Rattle.ring_machine.specs.Common.{is_junction, IsThinnedPart};
 ghost use Rattle.edit_records.specs.Records as made;
-ghost use Rattle.segment_index.specs.Times.{times_by};
-ghost use Rattle.local_planarity.specs.Tests.{most_for};
-ghost use Rattle.arc_store.specs.Outcomes.{Edits};
-ghost use Rattle.arc_store.specs.Recorded.{IsLeftOut, IsThinning, left_out};
+ghost use Rattle.segment_index.specs.Common.{times_by};
+ghost use Rattle.local_planarity.specs.Common.{most_for};
+ghost use Rattle.arc_store.specs.Common.{Edits, IsLeftOut, IsThinning, left_out};
 ghost use Rattle.edit_vertex.specs.Kept.{IsThinnedFrom, IsThinRecorded};
 ghost use Rattle.edit_vertex.specs.Tested.{most_at, most_for_thin};
-ghost use Rattle.ring_machine.specs.Thin.{IsThinnedPart};
 
 use crate::remove::check_removal;
 use arc_store::{EditFault, Map, Spot};

@@ -1,6 +1,6 @@
 -- Pieces that are appended one after another.
-use Rattle.std.proofs.Common.{◌≡◌, ℕ, List, ◌++◌, ap, ◌∙◌, Result, Ok, Err, append_assoc}
-use Rattle.std.specs.Prelude.{is_ok, if◌then◌else◌, OnOk}
+use Rattle.kit_words.proofs.Common.{◌≡◌, ℕ, List, ◌++◌, ap, ◌∙◌, Result, Ok, Err, append_assoc, is_ok, if◌then◌else◌}
+use Rattle.kit_words.proofs.Common.{OnOk}
 
 pub two : (old a b mid new : List ℕ) → mid ≡ old ++ a → new ≡ mid ++ b → new ≡ old ++ (a ++ b)
 two old a b mid new e f = f ∙ ap (λ (z : List ℕ). z ++ b) e ∙ append_assoc old a b

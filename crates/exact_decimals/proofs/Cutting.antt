@@ -1,11 +1,9 @@
 -- Two rows of digits as one, cut at a place.
-use Rattle.std.proofs.Common.{◌≡◌, ℕ, zero, suc, ◌-◌, ◌*◌, ◌≤◌, ◌^◌, refl, ap, sym, ◌∙◌, List, [], ◌∷◌, ◌++◌, length, take, drop, min, arith}
-use Rattle.std.proofs.lemmas.List.{length-take, length-append}
-use Rattle.std.proofs.lemmas.List.Folds.{list_all-append}
-use Rattle.std.specs.Prelude.{◌&&◌}
-use Rattle.std.specs.List.{list_all}
-use Rattle.json_spans.specs.Whole.{value_from, is_zero}
-use Rattle.exact_decimals.specs.Fine.{first_digits}
+use Rattle.kit_words.proofs.Common.{◌≡◌, ℕ, zero, suc, ◌-◌, ◌*◌, ◌≤◌, ◌^◌, refl, ap, sym, ◌∙◌, List, [], ◌∷◌, ◌++◌}
+use Rattle.kit_words.proofs.Common.{length, take, drop, min, arith, length-take, length-append, list_all-append, ◌&&◌}
+use Rattle.kit_words.proofs.Common.{list_all}
+use Rattle.json_spans.specs.Common.{value_from, is_zero}
+use Rattle.exact_decimals.specs.Common.{first_digits}
 use Rattle.exact_decimals.proofs.Values.{grows, value_from-append}
 use Rattle.exact_decimals.proofs.Powers.{scaled_grows}
 

@@ -1,11 +1,9 @@
 -- Decimals, worked out.
-use Rattle.std.proofs.Common.{refl}
-use Rattle.std.specs.Prelude.{◌≡◌, ℕ, ℤ, pos, ◌*◌, ◌^◌, List, Option, Some, None, option_map, codes, true, false}
-use Rattle.std.specs.Fmt.{digits}
-use Rattle.json_spans.specs.Whole.{value_from, minus}
-use Rattle.exact_decimals.specs.Decimal.{parts_of}
-use Rattle.exact_decimals.specs.Fine.{fine, zeros_behind, decimals, rounded, is_rounded}
-use Rattle.exact_decimals.specs.Shifted.{shifted_text}
+use Rattle.kit_words.proofs.Common.{refl, ◌≡◌, ℕ, ℤ, pos, ◌*◌, ◌^◌, List, Option, Some, None, option_map, codes, true}
+use Rattle.kit_words.proofs.Common.{false, digits}
+use Rattle.json_spans.specs.Common.{value_from}
+use Rattle.json_spans.specs.Whole.{minus}
+use Rattle.exact_decimals.specs.Common.{parts_of, fine, zeros_behind, decimals, rounded, is_rounded, shifted_text}
 
 -- ---- units
 

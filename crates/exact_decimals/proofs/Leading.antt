@@ -1,12 +1,10 @@
 -- Two rows of digits as one, without the zeros before them.
-use Rattle.std.proofs.Common.{◌≡◌, ℕ, ◌<◌, Bool, true, false, refl, ap, sym, subst, ◌∙◌, inl, inr, List, [], ◌∷◌, ◌++◌, length, drop, arith}
-use Rattle.std.proofs.Math.Numerals.{one-add}
-use Rattle.std.proofs.lemmas.Bool.{cases_Bool, cond-true, cond-false, eqb-true, eqb-false, ne_eqb}
-use Rattle.std.proofs.lemmas.List.{length-append}
-use Rattle.std.specs.Prelude.{◌==◌, codes}
-use Rattle.std.specs.List.{prefix_len}
-use Rattle.json_spans.specs.Whole.{is_zero}
-use Rattle.exact_decimals.specs.Shifted.{without_zeros, or_zero}
+use Rattle.kit_words.proofs.Common.{◌≡◌, ℕ, ◌<◌, Bool, true, false, refl, ap, sym, subst, ◌∙◌, inl, inr, List, [], ◌∷◌}
+use Rattle.kit_words.proofs.Common.{◌++◌, length, drop, arith, one-add, cases_Bool, cond-true, cond-false, eqb-false}
+use Rattle.kit_words.proofs.Common.{ne_eqb, length-append, ◌==◌, codes, prefix_len}
+use Rattle.std.proofs.lemmas.Bool.{eqb-true}
+use Rattle.json_spans.specs.Common.{is_zero}
+use Rattle.exact_decimals.specs.Common.{without_zeros, or_zero}
 
 -- what is left from the first on that does not pass
 pub passed : (p : ℕ → Bool) (x : ℕ) (xs : List ℕ) → p x ≡ true → drop (prefix_len p (x ∷ xs)) (x ∷ xs) ≡ drop (prefix_len p xs) xs

@@ -10,3 +10,4 @@ pub mod Written
 mod Examples
 pub mod Numbers
 pub mod Wholes
+pub mod Common

@@ -1,13 +1,14 @@
 -- A number of a JSON text is read, unless its exponent is long.
-use Rattle.std.proofs.Common.{◌≡◌, ℕ, ◌+◌, ◌<◌, Bool, true, false, refl, ap, subst, sym, ◌∙◌, inl, inr, List, [], ◌∷◌, length, Option, Some, None, arith}
-use Rattle.std.proofs.lemmas.Bool.{cases_lt, cases_Bool, cond-true, cond-false, and_from, lt-ltb, le-leb, eq-eqb, or_cases, or_parts, both_ways}
-use Rattle.std.proofs.lemmas.Bool.Decides.{nat_tests}
-use Rattle.std.specs.Prelude.{ℤ, pos, ◌==◌, ◌&&◌, nat_lt, nat_le, option_map, is_some}
-use Rattle.json_spans.specs.Bytes.{is_digit, is_nonzero, is_e, is_sign}
+use Rattle.kit_words.proofs.Common.{◌≡◌, ℕ, ◌+◌, ◌<◌, Bool, true, false, refl, ap, subst, sym, ◌∙◌, inl, inr, List, []}
+use Rattle.kit_words.proofs.Common.{◌∷◌, length, Option, Some, None, arith, cases_lt, cases_Bool, cond-true, cond-false}
+use Rattle.kit_words.proofs.Common.{and_from, lt-ltb, or_cases, or_parts, both_ways, nat_tests, ℤ, pos, ◌==◌, ◌&&◌}
+use Rattle.kit_words.proofs.Common.{nat_lt, nat_le, option_map, is_some}
+use Rattle.std.proofs.lemmas.Bool.{le-leb, eq-eqb}
+use Rattle.json_spans.specs.Common.{is_digit, is_nonzero, is_e, is_sign, value_from, digits_len}
 use Rattle.json_spans.specs.Grammar.{Digits, no_digit, digit, SomeDigits, digits, Signed as IsSigned, sign, unsigned as plain, Exponent, no_exponent, exponent, Fraction, no_fraction, fraction, Unsigned, zero_first, digit_first, Number, minus as negative, plain_number}
-use Rattle.json_spans.specs.Whole.{value_from, digits_len, minus}
-use Rattle.exact_decimals.specs.Decimal.{digits_of, behind_digits, small, signed, exponent_of, with_exponent, behind_integer, unsigned, parts_of}
-use Rattle.exact_decimals.specs.Exponent.{behind_e, without_sign, exponent_digits}
+use Rattle.json_spans.specs.Whole.{minus}
+use Rattle.exact_decimals.specs.Common.{digits_of, behind_digits, small, signed, exponent_of, with_exponent}
+use Rattle.exact_decimals.specs.Common.{behind_integer, unsigned, parts_of, behind_e, without_sign, exponent_digits}
 use Rattle.exact_decimals.proofs.Leading.{passed, stopped}
 
 -- ---- digits, and what follows them

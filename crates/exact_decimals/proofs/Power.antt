@@ -1,10 +1,8 @@
 -- The power of ten behind a number: no width cuts it off.
 use mir.Syntax.{w64, w128}
 use mir.Val.{of_z, to_z}
-use Rattle.std.proofs.Common.{◌≡◌, ℕ, List, ◌++◌, ◌<◌, ◌≤◌, ◌^◌, ap, ◌∙◌, arith}
-use Rattle.std.specs.Prelude.{ℤ, pos, negsuc, ◌-ℤ◌, unsigned_abs, codes}
-use Rattle.std.specs.Fmt.{signed_decimal}
-use Rattle.std.proofs.lemmas.Int.{ints}
+use Rattle.kit_words.proofs.Common.{◌≡◌, ℕ, List, ◌++◌, ◌<◌, ◌≤◌, ◌^◌, ap, ◌∙◌, arith, ℤ, pos, negsuc, ◌-ℤ◌}
+use Rattle.kit_words.proofs.Common.{unsigned_abs, codes, signed_decimal, ints}
 
 exponent_is : (z : ℤ) → unsigned_abs z < 1000 → to_z w64 (of_z w64 z) ≡ z
 exponent_is (pos n) h = omega (arith, ints)

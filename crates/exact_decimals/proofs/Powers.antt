@@ -1,7 +1,6 @@
 -- Powers of ten.
-use Rattle.std.proofs.Common.{◌≡◌, ℕ, ◌+◌, ◌*◌, ◌<◌, ◌≤◌, ◌^◌, ap, arith}
-use Rattle.std.proofs.lemmas.Grind.{pow_more}
-use Rattle.std.proofs.Math.Nat.{one-le-pow, pow-le-pow_right, mul-le-mul_left}
+use Rattle.kit_words.proofs.Common.{◌≡◌, ℕ, ◌+◌, ◌*◌, ◌<◌, ◌≤◌, ◌^◌, ap, arith, pow_more, one-le-pow, pow-le-pow_right}
+use Rattle.kit_words.proofs.Common.{mul-le-mul_left}
 
 pub power_pos : (k : ℕ) → 0 < 10 ^ k
 power_pos k = omega (arith, one-le-pow k 10 (omega arith))

@@ -1,13 +1,10 @@
 -- Rounding by a quotient.
 use mir.Syntax.{w64, w128}
 use mir.Val.{SFits, of_z, to_z}
-use Rattle.std.proofs.Common.{◌≡◌, ℕ, ◌+◌, ◌-◌, ◌*◌, ◌<◌, ◌≤◌, ◌^◌, refl, ap, ap₂, sym, ◌∙◌, arith}
-use Rattle.std.specs.Prelude.{ℤ, pos, negsuc, ◌+ℤ◌, ◌*ℤ◌, unsigned_abs}
-use Rattle.std.specs.Int.{int_div_euclid}
-use Rattle.std.proofs.lemmas.Int.{ints}
-use Rattle.std.proofs.lemmas.Nat.{div_below, pow-add}
-use Rattle.std.proofs.Math.Nat.{le_of_mul-le-mul_right}
-use Rattle.exact_decimals.specs.Fine.{rounded}
+use Rattle.kit_words.proofs.Common.{◌≡◌, ℕ, ◌+◌, ◌-◌, ◌*◌, ◌<◌, ◌≤◌, ◌^◌, refl, ap, ap₂, sym, ◌∙◌, arith, ℤ, pos}
+use Rattle.kit_words.proofs.Common.{negsuc, ◌+ℤ◌, ◌*ℤ◌, unsigned_abs, int_div_euclid, ints, div_below, pow-add}
+use Rattle.kit_words.proofs.Common.{le_of_mul-le-mul_right}
+use Rattle.exact_decimals.specs.Common.{rounded}
 use Rattle.exact_decimals.proofs.Powers.{power_pos, scaled_grows}
 
 -- the two powers together are 10^24

@@ -1,13 +1,8 @@
 -- What digits behind digits mean, and how large it is.
-use Rattle.std.proofs.Common.{◌≡◌, ℕ, ◌+◌, ◌-◌, ◌*◌, ◌<◌, ◌≤◌, ◌^◌, Bool, true, refl, ap, subst, sym, ◌∙◌, inl, inr, List, [], ◌∷◌, ◌++◌, length, take, arith}
-use Rattle.std.proofs.Math.Nat.{pow-suc, mul-le-mul_right}
-use Rattle.std.proofs.Math.Numerals.{one-add}
-use Rattle.std.proofs.lemmas.Bool.{and_parts, cases_Bool}
-use Rattle.std.proofs.lemmas.Bool.Decides.{nat_tests}
-use Rattle.std.proofs.lemmas.List.{take_all}
-use Rattle.std.specs.List.{list_all, prefix_len}
-use Rattle.json_spans.specs.Bytes.{is_digit}
-use Rattle.json_spans.specs.Whole.{value_from, digits_len}
+use Rattle.kit_words.proofs.Common.{◌≡◌, ℕ, ◌+◌, ◌-◌, ◌*◌, ◌<◌, ◌≤◌, ◌^◌, Bool, true, refl, ap, subst, sym, ◌∙◌, inl}
+use Rattle.kit_words.proofs.Common.{inr, List, [], ◌∷◌, ◌++◌, length, take, arith, pow-suc, mul-le-mul_right, one-add}
+use Rattle.kit_words.proofs.Common.{and_parts, cases_Bool, nat_tests, take_all, list_all, prefix_len}
+use Rattle.json_spans.specs.Common.{is_digit, value_from, digits_len}
 use Rattle.exact_decimals.proofs.Powers.{power_mono}
 
 pub grows : (n : ℕ) (xs : List ℕ) → n ≤ value_from n xs

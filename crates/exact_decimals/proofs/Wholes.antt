@@ -1,23 +1,19 @@
 -- A whole number of a JSON text, as a decimal.
-use Rattle.std.proofs.Common.{◌≡◌, ℕ, zero, suc, ◌+◌, ◌-◌, ◌*◌, ◌<◌, ◌^◌, Bool, true, false, refl, ap, ap₂, sym, ◌∙◌, cond, inl, inr, List, [], ◌∷◌, ◌++◌, length, take, drop, Option, Some, None, Ok, arith}
-use Rattle.std.proofs.Math.Nat.{pow-suc}
-use Rattle.std.proofs.Math.Seq.{take-append_seam, drop-append_seam}
-use Rattle.std.proofs.lemmas.Bool.{and_parts, and_from, cases_Bool, cond-true, cond-false, eqb-true, lt-ltb}
-use Rattle.std.proofs.lemmas.Bool.Decides.{nat_tests}
-use Rattle.std.proofs.lemmas.Int.{ints}
-use Rattle.std.proofs.lemmas.List.{length-take, take_all, drop_all, take-append-drop}
-use Rattle.std.proofs.lemmas.List.Folds.{list_all-append}
-use Rattle.std.proofs.lemmas.Nat.{pow-add}
-use Rattle.std.specs.Prelude.{ℤ, pos, ◌*ℤ◌, ◌==◌, nat_lt}
-use Rattle.std.specs.List.{list_all}
-use Rattle.json_spans.specs.Bytes.{is_digit}
-use Rattle.json_spans.specs.Grammar.{Digits, no_digit, digit, SomeDigits, digits}
-use Rattle.json_spans.specs.Inside.{IsNumber}
-use Rattle.json_spans.specs.Whole.{value_from, is_zero, digits_len, minus, whole_of, NoFraction, no_point, point, IsWhole, plain, negative}
-use Rattle.json_spans.proofs.Meant.{whole_meant}
-use Rattle.exact_decimals.specs.Decimal.{Parts, digits_of, behind_digits, exponent_of, with_exponent, behind_integer, unsigned, parts_of}
-use Rattle.exact_decimals.specs.Exponent.{behind_e, without_sign, exponent_digits}
-use Rattle.exact_decimals.specs.Fine.{reach, first_digits, one_if_more, fine}
+use Rattle.kit_words.proofs.Common.{◌≡◌, ℕ, zero, suc, ◌+◌, ◌-◌, ◌*◌, ◌<◌, ◌^◌, Bool, true, false, refl, ap, ap₂, sym}
+use Rattle.kit_words.proofs.Common.{◌∙◌, cond, inl, inr, List, [], ◌∷◌, ◌++◌, length, take, drop, Option, Some, None}
+use Rattle.kit_words.proofs.Common.{Ok, arith, pow-suc, take-append_seam, drop-append_seam, and_parts, and_from}
+use Rattle.kit_words.proofs.Common.{cases_Bool, cond-true, cond-false, lt-ltb, nat_tests, ints, length-take, take_all}
+use Rattle.kit_words.proofs.Common.{drop_all, take-append-drop, list_all-append, pow-add, ℤ, pos, ◌*ℤ◌, ◌==◌, nat_lt}
+use Rattle.kit_words.proofs.Common.{list_all}
+use Rattle.std.proofs.lemmas.Bool.{eqb-true}
+use Rattle.json_spans.specs.Common.{is_digit, Digits, no_digit, digit, SomeDigits, digits, IsNumber, value_from}
+use Rattle.json_spans.specs.Common.{is_zero, digits_len, whole_of, NoFraction, no_point, point, IsWhole, plain}
+use Rattle.json_spans.specs.Common.{negative}
+use Rattle.json_spans.specs.Whole.{minus}
+use Rattle.json_spans.proofs.Common.{whole_meant}
+use Rattle.exact_decimals.specs.Common.{Parts, digits_of, behind_digits, exponent_of, with_exponent, behind_integer}
+use Rattle.exact_decimals.specs.Common.{unsigned, parts_of, behind_e, without_sign, exponent_digits, reach}
+use Rattle.exact_decimals.specs.Common.{first_digits, one_if_more, fine}
 use Rattle.exact_decimals.proofs.Cutting.{first_digits_is, ends_is}
 use Rattle.exact_decimals.proofs.Numbers.{digits_all, skipped, number_long}
 

@@ -1,18 +1,14 @@
 -- A number divided by a power of ten is a number of a JSON text (RFC 8259, 6).
-use Rattle.std.proofs.Common.{◌≡◌, ℕ, zero, suc, ◌<◌, ◌/◌, ◌%◌, Bool, true, false, refl, ap, subst, sym, ◌∙◌, inl, inr, List, [], ◌∷◌, ◌++◌, length, ℤ, pos, negsuc, arith}
-use Rattle.std.proofs.lemmas.Bool.{cases_Bool, cond_both, and_parts, and_from, ne_eqb}
-use Rattle.std.proofs.lemmas.Bool.Decides.{nat_tests}
-use Rattle.std.proofs.lemmas.List.Folds.{list_all-append}
-use Rattle.std.specs.Prelude.{◌-ℤ◌, ◌==◌, IsTrue}
-use Rattle.std.specs.List.{list_all}
+use Rattle.kit_words.proofs.Common.{◌≡◌, ℕ, zero, suc, ◌<◌, ◌/◌, ◌%◌, Bool, true, false, refl, ap, subst, sym, ◌∙◌, inl}
+use Rattle.kit_words.proofs.Common.{inr, List, [], ◌∷◌, ◌++◌, length, ℤ, pos, negsuc, arith, cases_Bool, cond_both}
+use Rattle.kit_words.proofs.Common.{and_parts, and_from, ne_eqb, nat_tests, list_all-append, ◌-ℤ◌, ◌==◌, IsTrue}
+use Rattle.kit_words.proofs.Common.{list_all}
 use Rattle.std.specs.Fmt.{digits as digits_of, digits_onto, digit_glyph, decimal, signed_decimal}
-use Rattle.json_spans.specs.Bytes.{is_digit, is_nonzero}
-use Rattle.json_spans.specs.Grammar.{Digits, no_digit, digit, SomeDigits, digits, Signed, sign, unsigned, Exponent, exponent, no_fraction, Unsigned, zero_first, digit_first, minus, plain_number}
-use Rattle.json_spans.specs.Inside.{IsNumber}
-use Rattle.json_spans.specs.Whole.{is_zero}
-use Rattle.exact_decimals.specs.Decimal.{Parts}
+use Rattle.json_spans.specs.Common.{is_digit, is_nonzero, Digits, no_digit, digit, SomeDigits, digits, Signed, sign}
+use Rattle.json_spans.specs.Common.{unsigned, Exponent, exponent, no_fraction, Unsigned, zero_first, digit_first, minus}
+use Rattle.json_spans.specs.Common.{plain_number, IsNumber, is_zero}
+use Rattle.exact_decimals.specs.Common.{Parts, without_zeros, or_zero, sign_text, shifted_text}
 use Rattle.exact_decimals.proofs.Leading.{passed, stopped, or_zero_none}
-use Rattle.exact_decimals.specs.Shifted.{without_zeros, or_zero, sign_text, shifted_text}
 
 -- ---- the power of ten
 

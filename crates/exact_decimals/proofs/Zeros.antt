@@ -1,10 +1,9 @@
 -- Zeros behind a number.
-use Rattle.std.proofs.Common.{◌≡◌, ℕ, zero, suc, ◌+◌, ◌-◌, ◌*◌, ◌^◌, ◌≤◌, ◌<◌, ◌%◌, ◌/◌, refl, sym, ap, ◌∙◌, arith, sub-one, add-one}
-use Rattle.std.proofs.Math.Arith.{mod-mul}
-use Rattle.std.proofs.Math.Nat.{pow-suc}
+use Rattle.kit_words.proofs.Common.{◌≡◌, ℕ, zero, suc, ◌+◌, ◌-◌, ◌*◌, ◌^◌, ◌≤◌, ◌<◌, ◌%◌, ◌/◌, refl, sym, ap, ◌∙◌}
+use Rattle.kit_words.proofs.Common.{arith, sub-one, add-one, mod-mul, pow-suc, ne_eqb, cond-true, cond-false}
 use Rattle.exact_decimals.proofs.Powers.{power_pos}
-use Rattle.std.proofs.lemmas.Bool.{eq-eqb, ne_eqb, cond-true, cond-false}
-use Rattle.exact_decimals.specs.Fine.{zeros_behind}
+use Rattle.std.proofs.lemmas.Bool.{eq-eqb}
+use Rattle.exact_decimals.specs.Common.{zeros_behind}
 
 pub zeros_step : (k n : ℕ) → 1 ≤ k → n % 10 ≡ 0 → zeros_behind k n ≡ zeros_behind (k - 1) (n / 10) + 1
 unfolding zeros_behind

@@ -1,8 +1,8 @@
 -- A number of a JSON text (RFC 8259, 6) as a decimal: its sign, its digits, and its exponent. Defined
 -- for any bytes.
 use Rattle.std.specs.Prelude.{ℕ, ℤ, pos, ◌&&◌, ◌==◌, Bool, true, false, nat_le, nat_lt, if◌then◌else◌, List, [], ◌∷◌, length, take, drop, Option, Some, None, option_map}
-use Rattle.json_spans.specs.Bytes.{is_e}
-use Rattle.json_spans.specs.Whole.{value_from, digits_len, minus}
+use Rattle.json_spans.specs.Common.{is_e, value_from, digits_len}
+use Rattle.json_spans.specs.Whole.{minus}
 
 -- the digits before the point and behind it, and the power of ten that they are multiplied by
 pub record Parts : Type 0 where

@@ -1,6 +1,6 @@
 -- The digits of a number's exponent (RFC 8259, 6). Defined for any bytes.
 use Rattle.std.specs.Prelude.{ℕ, List, [], ◌∷◌, if◌then◌else◌}
-use Rattle.json_spans.specs.Bytes.{is_e, is_sign}
+use Rattle.json_spans.specs.Common.{is_e, is_sign}
 
 -- what stands behind the first e
 abbrev pub behind_e : List ℕ → List ℕ

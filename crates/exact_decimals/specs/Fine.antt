@@ -2,7 +2,8 @@
 use Rattle.std.specs.Prelude.{ℕ, zero, suc, ℤ, pos, negsuc, ◌+◌, ◌-◌, ◌*◌, ◌^◌, ◌+ℤ◌, ◌*ℤ◌, unsigned_abs, ◌==◌, ◌%◌, ◌/◌, Bool, not, if◌then◌else◌, List, ◌++◌, length, take, drop}
 use Rattle.std.specs.List.{list_all}
 use Rattle.std.specs.Int.{int_div_euclid}
-use Rattle.json_spans.specs.Whole.{value_from, is_zero, minus}
+use Rattle.json_spans.specs.Common.{value_from, is_zero}
+use Rattle.json_spans.specs.Whole.{minus}
 use Rattle.exact_decimals.specs.Decimal.{Parts}
 
 -- 0 in the place of a negative number

@@ -3,3 +3,4 @@ pub mod Fine
 pub mod Shifted
 pub mod Seen
 pub mod Exponent
+pub mod Common

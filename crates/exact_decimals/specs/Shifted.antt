@@ -2,7 +2,7 @@
 use Rattle.std.specs.Prelude.{ℕ, pos, ◌-ℤ◌, ◌==◌, Bool, if◌then◌else◌, List, [], ◌++◌, length, drop, codes}
 use Rattle.std.specs.List.{prefix_len}
 use Rattle.std.specs.Fmt.{signed_decimal}
-use Rattle.json_spans.specs.Whole.{is_zero}
+use Rattle.json_spans.specs.Common.{is_zero}
 use Rattle.exact_decimals.specs.Decimal.{Parts}
 
 -- the digits without the zeros before them

@@ -1,7 +1,7 @@
 //! The parts of a number.
 ghost use Rattle.std.specs.Prelude.{IsTrue, ◌<◌, unsigned_abs};
 ghost use Rattle.std.specs.List.{list_all};
-ghost use Rattle.json_spans.specs.Bytes.{is_digit};
+ghost use Rattle.json_spans.specs.Common.{is_digit};
 
 /// A number of a JSON text (RFC 8259, 6): its sign, its digits before the point and behind it, and
 /// the power of ten that they are multiplied by.

@@ -1,7 +1,7 @@
 // Digits, and the numbers that they are.
 ghost use Rattle.std.specs.Prelude.{◌≡◌, ◌≤◌, ◌<◌, ◌*◌, ◌^◌, length, MatchOption, IfSome};
 ghost use Rattle.std.specs.List.{list_all};
-ghost use Rattle.json_spans.specs.Whole.{value_from, is_zero, digits_len};
+ghost use Rattle.json_spans.specs.Common.{value_from, is_zero, digits_len};
 
 /// One more than the largest number that is read.
 pub(crate) const LIMIT: u128 = 10_000_000_000_000_000_000_000_000_000_000_000_000;

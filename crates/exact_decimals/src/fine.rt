@@ -1,7 +1,8 @@
 // Decimals as whole numbers of units of 10^-24, and those rounded to fewer decimals.
 ghost use Rattle.std.specs.Prelude.{◌≡◌, ◌≤◌, ◌<◌, ◌*◌, ◌^◌, ◌++◌, ◌+ℤ◌, ◌*ℤ◌, pos, unsigned_abs, take, drop, not, if◌then◌else◌, MatchOption, IfSome};
 ghost use Rattle.std.specs.List.{list_all};
-ghost use Rattle.json_spans.specs.Whole.{minus, is_zero};
+ghost use Rattle.json_spans.specs.Common.{is_zero};
+ghost use Rattle.json_spans.specs.Whole.{minus};
 ghost use Rattle.exact_decimals.specs.Fine.{reach, first_digits, fine, decimals, rounded, is_rounded};
 ghost use Rattle.exact_decimals.specs.Seen.{parts};
 

@@ -1,8 +1,7 @@
 // The parts of a number, from its bytes.
 ghost use Rattle.std.specs.Prelude.{◌≡◌, ◌<◌, length, option_map, IfSome, IsNone, IsTrue, unsigned_abs};
 ghost use Rattle.std.specs.List.{list_all};
-ghost use Rattle.json_spans.specs.Bytes.{is_digit};
-ghost use Rattle.json_spans.specs.Inside.{IsNumber};
+ghost use Rattle.json_spans.specs.Common.{is_digit, IsNumber};
 ghost use Rattle.exact_decimals.specs.Decimal.{parts_of, unsigned, behind_integer, with_exponent, exponent_of, signed, small};
 ghost use Rattle.exact_decimals.specs.Exponent.{exponent_digits};
 ghost use Rattle.exact_decimals.specs.Seen.{parts};

@@ -1,33 +1,20 @@
 -- Features that are asked for, with ring numbers in the place of rings: the same numbers, the same
 -- texts, and rings of the same shape.
-use Rattle.std.proofs.Common.{◌≡◌, ◌≤◌, ◌<◌, ℕ, true, refl, sym, ap, ap₂, ◌∙◌, subst, List}
-use Rattle.std.proofs.Common.{[], ◌∷◌, ◌++◌, map, length, inl, inr, Option, Some, None, option_map, arith}
-use Rattle.std.specs.Prelude.{Vec, ◌==◌}
-use Rattle.std.specs.List.{flat_map, list_all, sum_by, AllByRecursion}
-use Rattle.std.proofs.lemmas.List.{length-map, map-append}
-use Rattle.grid_geometry.specs.Position.{Position}
-use Rattle.ring_machine.specs.Document.{Feature, FeatureOf, DocumentOf, Document, Form, Polygon, MultiPolygon, Null}
-use Rattle.ring_machine.specs.Parts.{features, feature, in_feature, in_rings, rings, rings_of}
-use Rattle.ring_machine.specs.Refusals.{feature_at, or_else, no_feature}
-use Rattle.ring_machine.specs.Ring.{is_ring}
-use Rattle.ring_machine.specs.WellFormed.{are_distinct, fits_form}
-use Rattle.ring_machine.proofs.First.{In}
-use Rattle.ring_machine.proofs.Found.{feature_in, feature-in_rings}
-use Rattle.ring_machine.proofs.Members.{in_mapped, in_flat}
-use Rattle.ring_machine.proofs.Neighbours.{all_in, in-flat_map}
-use Rattle.ring_parts.specs.Seen.{polygons_seen}
-use Rattle.map_frame.specs.Numbers.{feature_numbers}
-use Rattle.edit_records.specs.Places.{LayerTree, has_place, exchanged, AreNumbered, with_changed, had_before}
-use Rattle.edit_records.specs.Records.{IsMap}
-use Rattle.feature_exchange.specs.Changed.{feature_seen, seen}
-use Rattle.feature_exchange.specs.Laying.{asked, asked_rings, polygons_in, length_of}
-use Rattle.feature_exchange.specs.Ready.{rings_in, coming, FitsForm, all_numbered, had, all_had}
-use Rattle.map_frame.specs.Texts.{with_texts, texts_of}
-use Rattle.feature_exchange.specs.declared.change.Change.{Change}
-use Rattle.feature_exchange.specs.declared.change.WholeFeature.{WholeFeature}
+use Rattle.kit_words.proofs.Common.{◌≡◌, ◌≤◌, ◌<◌, ℕ, true, refl, sym, ap, ap₂, ◌∙◌, subst, List, [], ◌∷◌, ◌++◌, map}
+use Rattle.kit_words.proofs.Common.{length, inl, inr, Option, Some, None, option_map, arith, Vec, ◌==◌, flat_map}
+use Rattle.kit_words.proofs.Common.{list_all, sum_by, AllByRecursion, length-map, map-append}
+use Rattle.grid_geometry.specs.Common.{Position}
+use Rattle.ring_machine.specs.Common.{Feature, FeatureOf, DocumentOf, Document, Form, Polygon, MultiPolygon, Null}
+use Rattle.ring_machine.specs.Common.{features, feature, in_feature, in_rings, rings, rings_of, feature_at, or_else}
+use Rattle.ring_machine.specs.Common.{no_feature, is_ring, are_distinct, fits_form}
+use Rattle.ring_machine.proofs.Common.{In, feature_in, feature-in_rings, in_mapped, in_flat, all_in, in-flat_map}
+use Rattle.ring_machine.proofs.Common.{pass_all, in_recursion}
+use Rattle.ring_parts.specs.Common.{polygons_seen}
+use Rattle.map_frame.specs.Common.{feature_numbers, with_texts, texts_of}
+use Rattle.edit_records.specs.Common.{LayerTree, has_place, exchanged, AreNumbered, with_changed, had_before, IsMap}
+use Rattle.feature_exchange.specs.Common.{feature_seen, seen, asked, asked_rings, polygons_in, length_of, rings_in}
+use Rattle.feature_exchange.specs.Common.{coming, FitsForm, all_numbered, had, all_had, Change, WholeFeature}
 use Rattle.feature_exchange.proofs.Placed.{numbers, HavePlaces, came_in, coming_size}
-use Rattle.ring_machine.proofs.Passed.{pass_all}
-use Rattle.ring_machine.proofs.SortedOnce.{in_recursion}
 
 -- ---- lists
 

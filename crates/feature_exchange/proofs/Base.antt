@@ -1,43 +1,30 @@
 -- A map that is kept, seen as its document: rings, vertices, segments, and what stands around a
 -- vertex.
-use Rattle.std.proofs.Common.{◌≡◌, ◌≢◌, ◌≤◌, ◌↔◌, ℕ, Bool, true, refl, sym, ap, ap₂, ◌∙◌, subst, List, [], ◌∷◌, map}
-use Rattle.std.proofs.Common.{length, ◌||◌, ◌&&◌, ◌⊎◌, inl, inr, arith, Some, is_some, Contains}
-use Rattle.std.specs.Prelude.{unwrap_or}
-use Rattle.std.specs.List.{list_any, filter, flat_map}
+use Rattle.kit_words.proofs.Common.{◌≡◌, ◌≢◌, ◌≤◌, ◌↔◌, ℕ, Bool, true, refl, sym, ap, ap₂, ◌∙◌, subst, List, [], ◌∷◌}
+use Rattle.kit_words.proofs.Common.{map, length, ◌||◌, ◌&&◌, ◌⊎◌, inl, inr, arith, Some, is_some, Contains, unwrap_or}
+use Rattle.kit_words.proofs.Common.{list_any, filter, flat_map, false≢true, length-map}
 use Rattle.std.specs.FinMap as table
-use Rattle.std.proofs.lemmas.Bool.{false≢true}
-use Rattle.std.proofs.lemmas.List.{length-map}
-use Rattle.grid_geometry.specs.Position.{Position, position_eq}
-use Rattle.grid_geometry.specs.Segment.{Segment, segment, segment_eq, is_end}
+use Rattle.grid_geometry.specs.Common.{Position, position_eq, Segment, segment, segment_eq, is_end}
 use Rattle.grid_geometry.specs.Ring as geometry
-use Rattle.grid_geometry.proofs.Conflicts.{segment-comm}
-use Rattle.ring_machine.specs.Ring.{canonical, has, is_distinct, is_ring, segment_of, segments, spots}
-use Rattle.ring_machine.specs.Parts.{rings, is_vertex, is_segment, all_segments}
-use Rattle.ring_machine.specs.Vertices.{around}
-use Rattle.ring_machine.specs.WellFormed.{are_distinct}
-use Rattle.ring_machine.specs.Sweep.{holds_other, crosses_on_way, edge_sweeps, move_sweeps}
-use Rattle.ring_machine.proofs.Order.{and_both, or_true, or_right, position_eq-true}
-use Rattle.ring_machine.proofs.Orders.{segment_ordered}
-use Rattle.ring_machine.proofs.First.{In}
-use Rattle.ring_machine.proofs.Neighbours.{in-map, in-flat_map, has-in, in-has, end_place, begin_place}
-use Rattle.ring_machine.proofs.Neighbours.{place_around, first_end, second_end}
-use Rattle.ring_machine.proofs.RingSegments.{segment_eq-true, same_ends}
-use Rattle.ring_machine.proofs.RingsOf.{rings-in_rings}
-use Rattle.ring_machine.proofs.StaysRing.{canonical_is_ring}
-use Rattle.vertex_index.specs.Placement.{Placement, AreDistinct, place}
-use Rattle.arc_tables.specs.Ways.{Edge}
-use Rattle.arc_tables.specs.Rings.{begins}
-use Rattle.shared_arcs.specs.Joined.{Joined}
-use Rattle.feature_exchange.specs.Stored.{Stored, positions_along, ring_under, document_of}
-use Rattle.ring_store.specs.Round.{GoesRound}
-use Rattle.ring_store.proofs.Places.{IsKept, place_is, kept_place, place_kept, one_key, distinct_places}
-use Rattle.feature_exchange.specs.Holds.{IsWhole}
-use Rattle.ring_machine.proofs.Members.{contains_in, in_contains, in_mapped, in_flat, in_filter, any_in}
-use Rattle.ring_machine.proofs.Members.{in_any, same_answer, there}
+use Rattle.grid_geometry.proofs.Common.{segment-comm}
+use Rattle.ring_machine.specs.Common.{canonical, has, is_distinct, is_ring, segment_of, segments, spots, rings}
+use Rattle.ring_machine.specs.Common.{is_vertex, is_segment, all_segments, around, are_distinct, holds_other}
+use Rattle.ring_machine.specs.Common.{crosses_on_way, edge_sweeps, move_sweeps}
+use Rattle.ring_machine.proofs.Common.{and_both, or_true, or_right, position_eq-true, segment_ordered, In, in-map}
+use Rattle.ring_machine.proofs.Common.{in-flat_map, has-in, in-has, end_place, begin_place, place_around, first_end}
+use Rattle.ring_machine.proofs.Common.{second_end, segment_eq-true, same_ends, rings-in_rings, canonical_is_ring}
+use Rattle.ring_machine.proofs.Common.{contains_in, in_contains, in_mapped, in_flat, in_filter, any_in, in_any}
+use Rattle.ring_machine.proofs.Common.{same_answer, there}
+use Rattle.vertex_index.specs.Common.{Placement, AreDistinct, place}
+use Rattle.arc_tables.specs.Common.{Edge, begins}
+use Rattle.shared_arcs.specs.Common.{Joined}
+use Rattle.feature_exchange.specs.Common.{Stored, positions_along, ring_under, document_of, IsWhole}
+use Rattle.ring_store.specs.Common.{GoesRound}
+use Rattle.ring_store.proofs.Common.{IsKept, place_is, kept_place, place_kept, one_key, distinct_places}
+use Rattle.ring_store.proofs.Common.{edge_of_canonical, edge_in_canonical, in_canonical, of_canonical, laid}
+use Rattle.ring_store.proofs.Common.{begins_round, edges_round, edge_ends, edge_apart, times_edge, edge_times}
+use Rattle.ring_store.proofs.Common.{beside_edges}
 use Rattle.feature_exchange.proofs.Ends.{segment_ends, end_of_two, two_ends}
-use Rattle.ring_store.proofs.KeyRings.{edge_of_canonical, edge_in_canonical, in_canonical}
-use Rattle.ring_store.proofs.KeyRings.{of_canonical, laid, begins_round, edges_round, edge_ends}
-use Rattle.ring_store.proofs.KeyRings.{edge_apart, times_edge, edge_times, beside_edges}
 
 -- ---- what a ring of the document was made of
 

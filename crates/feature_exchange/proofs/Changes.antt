@@ -1,9 +1,8 @@
 -- Numbers of which some go and others come.
-use Rattle.std.proofs.Common.{◌≡◌, ℕ, true, sym, subst, List, [], ◌++◌, ◌⊎◌, inl, inr}
-use Rattle.ring_machine.specs.WellFormed.{are_distinct}
-use Rattle.ring_machine.proofs.First.{In, in-append, in_left, in_right}
-use Rattle.ring_machine.proofs.Found.{DistinctParts, distinct-append, distinct_parts}
-use Rattle.ring_machine.proofs.Members.{in_swap}
+use Rattle.kit_words.proofs.Common.{◌≡◌, ℕ, true, sym, subst, List, [], ◌++◌, ◌⊎◌, inl, inr}
+use Rattle.ring_machine.specs.Common.{are_distinct}
+use Rattle.ring_machine.proofs.Common.{In, in-append, in_left, in_right, DistinctParts, distinct-append, distinct_parts}
+use Rattle.ring_machine.proofs.Common.{in_swap}
 
 -- of the old numbers these went, and these came; none of what is there now stands twice
 pub record Changes (old new gone came : List ℕ) : Type 0 where

@@ -1,13 +1,11 @@
 -- How many positions there are in features that are exchanged.
-use Rattle.std.proofs.Common.{◌≡◌, ◌≤◌, ◌<◌, ◌+◌, ℕ, refl, List, length, take, get_or, Option, Some, None, option_map}
-use Rattle.std.specs.List.{sum_by}
-use Rattle.ring_machine.specs.Document.{Feature}
-use Rattle.ring_parts.specs.Seen.{polygons_seen}
-use Rattle.ring_parts.proofs.CountedFew.{counted_flat, counted_more, counted_few}
-use Rattle.edit_records.specs.Sizes.{weight, weights}
-use Rattle.feature_exchange.specs.Changed.{feature_seen, seen}
-use Rattle.feature_exchange.specs.declared.change.Change.{Change}
-use Rattle.feature_exchange.specs.declared.change.WholeFeature.{WholeFeature}
+use Rattle.kit_words.proofs.Common.{◌≡◌, ◌≤◌, ◌<◌, ◌+◌, ℕ, refl, List, length, take, get_or, Option, Some, None}
+use Rattle.kit_words.proofs.Common.{option_map, sum_by}
+use Rattle.ring_machine.specs.Common.{Feature}
+use Rattle.ring_parts.specs.Common.{polygons_seen}
+use Rattle.ring_parts.proofs.Common.{counted_flat, counted_more, counted_few}
+use Rattle.edit_records.specs.Common.{weight, weights}
+use Rattle.feature_exchange.specs.Common.{feature_seen, seen, Change, WholeFeature}
 
 module _ {A : Type 0} where
   -- the number does not matter

@@ -1,29 +1,18 @@
 -- Numbers that get their features one after the other, the last one first.
-use Rattle.std.proofs.Common.{◌≡◌, ◌+◌, ◌-◌, ◌<◌, ℕ, true, refl, sym, ap, ap₂, ◌∙◌, subst, cond, List}
-use Rattle.std.proofs.Common.{[], ◌∷◌, ◌++◌, length, inl, Option, Some, None, option_map, arith, get_or, append_assoc, eq-eqb}
-use Rattle.std.specs.Prelude.{Vec, set}
-use Rattle.std.specs.List.{flat_map}
-use Rattle.std.proofs.lemmas.List.{append-nil, length-append, nil_from_length}
-use Rattle.std.proofs.lemmas.List.Folds.{flat_map-map}
-use Rattle.grid_geometry.specs.Position.{Position}
-use Rattle.ring_machine.specs.Document.{FeatureOf}
-use Rattle.ring_machine.specs.Parts.{feature}
-use Rattle.ring_machine.specs.WellFormed.{fits_form}
-use Rattle.ring_machine.proofs.First.{In}
-use Rattle.ring_machine.proofs.Members.{in_contains}
-use Rattle.map_frame.specs.Naming.{IsOf}
-use Rattle.map_frame.specs.Numbers.{feature_numbers, polygon_numbers}
-use Rattle.edit_records.specs.Places.{exchanged, exchanged_features}
-use Rattle.edit_records.proofs.ExchangesMade.{exchanged-append, exchanged-feature}
-use Rattle.edit_records.proofs.PlacesBack.{filled-agree}
-use Rattle.feature_exchange.specs.Ready.{IsReady, numbered, all_numbered, change_had, all_had, put_in, had, rings_in, coming}
-use Rattle.map_frame.specs.Framed.{Framed}
-use Rattle.map_frame.specs.Texts.{with_texts}
-use Rattle.feature_exchange.specs.declared.change.Change.{Change}
-use Rattle.feature_exchange.specs.declared.change.WholeFeature.{WholeFeature}
+use Rattle.kit_words.proofs.Common.{◌≡◌, ◌+◌, ◌-◌, ◌<◌, ℕ, true, refl, sym, ap, ap₂, ◌∙◌, subst, cond, List, [], ◌∷◌}
+use Rattle.kit_words.proofs.Common.{◌++◌, length, inl, Option, Some, None, option_map, arith, get_or, append_assoc}
+use Rattle.kit_words.proofs.Common.{eq-eqb, Vec, set, flat_map, append-nil, length-append, nil_from_length}
+use Rattle.kit_words.proofs.Common.{flat_map-map, get_or-append_seam, set-append_seam}
+use Rattle.grid_geometry.specs.Common.{Position}
+use Rattle.ring_machine.specs.Common.{FeatureOf, feature, fits_form}
+use Rattle.ring_machine.proofs.Common.{In, in_contains}
+use Rattle.map_frame.specs.Common.{IsOf, feature_numbers, polygon_numbers, Framed, with_texts}
+use Rattle.edit_records.specs.Common.{exchanged, exchanged_features}
+use Rattle.edit_records.proofs.Common.{exchanged-append, exchanged-feature, filled-agree}
+use Rattle.feature_exchange.specs.Common.{IsReady, numbered, all_numbered, change_had, all_had, put_in, had, rings_in}
+use Rattle.feature_exchange.specs.Common.{coming, Change, WholeFeature}
 use Rattle.feature_exchange.proofs.Prepared.{in_of}
 use Rattle.feature_exchange.proofs.Readied.{none_exchanged, ready_left, ready_right, all_changes, apart_parts, under_stays}
-use Rattle.std.proofs.Math.Seq.{get_or-append_seam, set-append_seam}
 
 -- ---- lists
 

@@ -1,12 +1,9 @@
 -- The ends of the segment of two positions.
-use Rattle.std.proofs.Common.{◌≡◌, ◌≢◌, Bool, true, false, refl, sym, ap, ◌∙◌, cond, ◌||◌, ◌⊎◌, inl, inr}
-use Rattle.std.specs.Ordering.{is_gt, ordering_reverse}
-use Rattle.std.specs.declared.cmp.Ordering.{Ordering}
-use Rattle.std.specs.declared.cmp.Ordering.TheVariants.{Less, Equal, Greater}
-use Rattle.grid_geometry.specs.Position.{Position, position_eq, position_cmp}
-use Rattle.grid_geometry.specs.Segment.{Segment, segment, is_end, IsSegment}
-use Rattle.grid_geometry.proofs.Conflicts.{position_cmp-exact, position_cmp-back}
-use Rattle.ring_machine.proofs.Order.{or_true, or_right, position_eq-true, position_eq-refl}
+use Rattle.kit_words.proofs.Common.{◌≡◌, ◌≢◌, Bool, true, false, refl, sym, ap, ◌∙◌, cond, ◌||◌, ◌⊎◌, inl, inr, is_gt}
+use Rattle.kit_words.proofs.Common.{ordering_reverse, Ordering, Less, Equal, Greater}
+use Rattle.grid_geometry.specs.Common.{Position, position_eq, position_cmp, Segment, segment, is_end, IsSegment}
+use Rattle.grid_geometry.proofs.Common.{position_cmp-exact, position_cmp-back}
+use Rattle.ring_machine.proofs.Common.{or_true, or_right, position_eq-true, position_eq-refl}
 
 pub segment_ends : (a b : Position)
     → (((segment a b).lo ≡ a) × ((segment a b).hi ≡ b)) ⊎ (((segment a b).lo ≡ b) × ((segment a b).hi ≡ a))

@@ -1,44 +1,28 @@
 -- Features exchanged in a map, whose rings were laid before, and then the rings of what had the
 -- numbers taken out: the document, and that the map is kept.
-use Rattle.std.proofs.Common.{◌≡◌, ℕ, true, false, refl, sym, ap, ◌∙◌, subst, List, [], ◌∷◌}
-use Rattle.std.proofs.Common.{map, Option, arith, eq-eqb, get_or, inl, inr}
-use Rattle.std.specs.Prelude.{Vec, ◌==◌}
-use Rattle.std.specs.List.{flat_map, list_all}
-use Rattle.std.proofs.lemmas.Bool.{false≢true}
-use Rattle.grid_geometry.specs.Position.{Position}
-use Rattle.ring_machine.specs.Document.{FeatureOf}
-use Rattle.ring_machine.specs.Parts.{features, in_feature, in_rings, rings, rings_of, size}
+use Rattle.kit_words.proofs.Common.{◌≡◌, ℕ, true, false, refl, sym, ap, ◌∙◌, subst, List, [], ◌∷◌, map, Option, arith}
+use Rattle.kit_words.proofs.Common.{eq-eqb, get_or, inl, inr, Vec, ◌==◌, flat_map, list_all, false≢true}
+use Rattle.grid_geometry.specs.Common.{Position}
+use Rattle.ring_machine.specs.Common.{FeatureOf, features, in_feature, in_rings, rings, rings_of, size, is_ring}
+use Rattle.ring_machine.specs.Common.{WellFormed}
 use Rattle.ring_machine.specs.Planar as proper
-use Rattle.ring_machine.specs.Ring.{is_ring}
-use Rattle.ring_machine.specs.WellFormed.{WellFormed}
-use Rattle.ring_machine.proofs.FormedRings.{formed-before_rings}
-use Rattle.ring_machine.proofs.First.{In}
-use Rattle.ring_machine.proofs.Members.{in_flat}
-use Rattle.ring_machine.proofs.Neighbours.{all_in, in-flat_map, in-map, none_in}
-use Rattle.ring_machine.proofs.OtherRings.{in_feature-agrees}
-use Rattle.map_frame.specs.Numbers.{feature_numbers}
-use Rattle.ring_store.proofs.AddedRings.{same_map}
-use Rattle.edit_records.specs.Places.{exchanged, is_exchanged}
-use Rattle.edit_records.specs.Records.{IsMap}
+use Rattle.ring_machine.proofs.Common.{formed-before_rings, In, in_flat, all_in, in-flat_map, in-map, none_in}
+use Rattle.ring_machine.proofs.Common.{in_feature-agrees, ring_is_canonical}
+use Rattle.map_frame.specs.Common.{feature_numbers, Framed}
+use Rattle.ring_store.proofs.Common.{same_map}
+use Rattle.edit_records.specs.Common.{exchanged, is_exchanged, IsMap}
 use Rattle.edit_records.proofs.ExchangesSeen.{exchanged-rings}
-use Rattle.segment_index.specs.Candidates.{SegmentSet}
-use Rattle.topo_outline.specs.Kept.{KeepsTexts}
-use Rattle.topo_outline.proofs.KeptRings.{keeps-before_rings}
-use Rattle.ring_store.specs.Laid.{ring_at}
-use Rattle.feature_exchange.specs.Changed.{seen}
-use Rattle.feature_exchange.specs.Holds.{Holds}
-use Rattle.feature_exchange.specs.Laying.{asked_rings}
-use Rattle.feature_exchange.specs.Ready.{coming, IsReady, all_numbered}
-use Rattle.map_frame.specs.Framed.{Framed}
-use Rattle.feature_exchange.specs.Stored.{Stored, ring_under, document_of}
-use Rattle.feature_exchange.specs.Under.{rings_under}
-use Rattle.feature_exchange.specs.declared.change.Change.{Change}
+use Rattle.segment_index.specs.Common.{SegmentSet}
+use Rattle.topo_outline.specs.Common.{KeepsTexts}
+use Rattle.topo_outline.proofs.Common.{keeps-before_rings}
+use Rattle.ring_store.specs.Common.{ring_at}
+use Rattle.feature_exchange.specs.Common.{seen, Holds, asked_rings, coming, IsReady, all_numbered, Stored, ring_under}
+use Rattle.feature_exchange.specs.Common.{document_of, rings_under, Change}
 use Rattle.feature_exchange.proofs.Asked.{AreFor, for_coming, for_rings, for_seen}
 use Rattle.feature_exchange.proofs.Changes.{Changes}
 use Rattle.feature_exchange.proofs.Exchanges.{Exchanged, ring_stays, rings_came, exchanged_holds}
 use Rattle.feature_exchange.proofs.Readied.{going, all_changes}
 use Rattle.feature_exchange.proofs.Under.{under_apart}
-use Rattle.ring_machine.proofs.CutRings.{ring_is_canonical}
 
 module _ {A : Type 0} (old mid new : Stored) (h i j : SegmentSet) (frame : Framed) (cs : List (Change A))
     (ls : List (Vec (Vec ℕ A) A)) (same_frame : frame.doc ≡ old.frame) (ready : IsReady frame (all_numbered cs ls))

@@ -1,39 +1,21 @@
 -- Features exchanged, from before anything is laid until the old rings are taken out.
-use Rattle.std.proofs.Common.{◌≡◌, ◌≤◌, ◌<◌, ℕ, true, refl, sym, ap, ◌∙◌, subst, List, [], map, Option, Some, None}
-use Rattle.std.proofs.Common.{is_some}
-use Rattle.std.specs.Prelude.{Vec, IfSome}
-use Rattle.std.specs.List.{flat_map, list_all, AllByRecursion}
-use Rattle.std.proofs.lemmas.List.Folds.{flat_map-map}
-use Rattle.ring_machine.specs.Document.{Feature, FeatureOf}
-use Rattle.ring_machine.specs.Parts.{feature}
-use Rattle.ring_machine.specs.Ring.{is_ring}
-use Rattle.ring_machine.specs.WellFormed.{are_distinct}
-use Rattle.ring_machine.proofs.First.{In}
-use Rattle.ring_machine.proofs.Found.{has_feature-found, feature-in_rings}
-use Rattle.ring_machine.proofs.Members.{is_some-mapped}
-use Rattle.ring_machine.proofs.StaysFormed.{is_layer-in_rings}
+use Rattle.kit_words.proofs.Common.{◌≡◌, ◌≤◌, ◌<◌, ℕ, true, refl, sym, ap, ◌∙◌, subst, List, [], map, Option, Some}
+use Rattle.kit_words.proofs.Common.{None, is_some, Vec, IfSome, flat_map, list_all, AllByRecursion, flat_map-map}
+use Rattle.ring_machine.specs.Common.{Feature, FeatureOf, feature, is_ring, are_distinct}
+use Rattle.ring_machine.proofs.Common.{In, has_feature-found, feature-in_rings, is_some-mapped, is_layer-in_rings}
 use Rattle.ring_machine.specs.Parts as parts_of
-use Rattle.vertex_index.specs.Placement.{Placement}
-use Rattle.arc_tables.specs.Rings.{Rings}
-use Rattle.map_frame.specs.Naming.{IsOf}
-use Rattle.map_frame.specs.Numbers.{feature_numbers}
-use Rattle.edit_records.specs.Places.{has_place, exchanged}
-use Rattle.edit_records.specs.Records.{IsMap}
-use Rattle.segment_index.specs.Candidates.{SegmentSet}
-use Rattle.topo_outline.specs.Kept.{KeepsTexts}
-use Rattle.ring_store.specs.Laid.{numbers_of, ring_at, AreAdded, AreGone, KeepsPlaces}
-use Rattle.ring_store.specs.Standing.{Stands}
+use Rattle.vertex_index.specs.Common.{Placement}
+use Rattle.arc_tables.specs.Common.{Rings}
+use Rattle.map_frame.specs.Common.{IsOf, feature_numbers, Framed, ArePlaced}
+use Rattle.edit_records.specs.Common.{has_place, exchanged, IsMap}
+use Rattle.segment_index.specs.Common.{SegmentSet}
+use Rattle.topo_outline.specs.Common.{KeepsTexts}
+use Rattle.ring_store.specs.Common.{numbers_of, ring_at, AreAdded, AreGone, KeepsPlaces, Stands}
 use Rattle.ring_store.specs.declared.laid.LaidRing.{LaidRing}
-use Rattle.ring_store.proofs.Series.{number_there, there_none, added_first}
-use Rattle.feature_exchange.specs.Changed.{seen, changed_as, places_after, next_after, frame_after, MayGrow}
-use Rattle.feature_exchange.specs.Holds.{Holds}
-use Rattle.feature_exchange.specs.Laying.{AreLaid, asked_rings, length_of}
-use Rattle.feature_exchange.specs.Ready.{coming, IsReady, FitsForm, all_numbered, put_in}
-use Rattle.map_frame.specs.Framed.{Framed}
-use Rattle.map_frame.specs.Placed.{ArePlaced}
-use Rattle.feature_exchange.specs.Stored.{stored, Stored, ring_under, document_of}
-use Rattle.feature_exchange.specs.Under.{rings_under}
-use Rattle.feature_exchange.specs.declared.change.Change.{Change}
+use Rattle.ring_store.proofs.Common.{number_there, there_none, added_first}
+use Rattle.feature_exchange.specs.Common.{seen, changed_as, places_after, next_after, frame_after, MayGrow, Holds}
+use Rattle.feature_exchange.specs.Common.{AreLaid, asked_rings, length_of, coming, IsReady, FitsForm, all_numbered}
+use Rattle.feature_exchange.specs.Common.{put_in, stored, Stored, ring_under, document_of, rings_under, Change}
 use Rattle.feature_exchange.proofs.Asked.{AreFor, asked_are_rings, asked_size, asked_fit, for_coming, for_numbers}
 use Rattle.feature_exchange.proofs.ExchangedFeatures.{exchanged_document, exchanged_map}
 use Rattle.feature_exchange.proofs.Exchanges.{Exchanged}

@@ -1,25 +1,16 @@
 -- Rings that came into the tables of a map, and rings that went: what is kept then.
-use Rattle.std.proofs.Common.{◌≡◌, ◌≤◌, ◌↔◌, ℕ, true, refl, sym, ap, ◌∙◌, List, [], ◌∷◌, map}
-use Rattle.std.proofs.Common.{inl, inr, is_some, Contains}
-use Rattle.std.specs.Prelude.{IsTrue}
+use Rattle.kit_words.proofs.Common.{◌≡◌, ◌≤◌, ◌↔◌, ℕ, true, refl, sym, ap, ◌∙◌, List, [], ◌∷◌, map, inl, inr, is_some}
+use Rattle.kit_words.proofs.Common.{Contains, IsTrue, false≢true}
 use Rattle.std.specs.FinMap as table
-use Rattle.std.proofs.lemmas.Bool.{false≢true}
-use Rattle.grid_geometry.specs.Position.{Position}
-use Rattle.ring_machine.specs.Parts.{rings, size}
-use Rattle.ring_machine.specs.Planar.{Proper}
-use Rattle.ring_machine.specs.Ring.{canonical}
-use Rattle.ring_machine.specs.WellFormed.{WellFormed}
-use Rattle.ring_machine.proofs.First.{In}
-use Rattle.ring_machine.proofs.Members.{contains_in, in_contains}
-use Rattle.topo_outline.specs.Kept.{KeepsTexts}
-use Rattle.segment_index.specs.Candidates.{SegmentSet}
-use Rattle.ring_store.proofs.AddedRings.{same_map}
-use Rattle.ring_store.specs.Laid.{AreAdded, AreGone, KeepsPlaces, ring_at}
-use Rattle.ring_store.specs.Standing.{Stands}
+use Rattle.grid_geometry.specs.Common.{Position}
+use Rattle.ring_machine.specs.Common.{rings, size, Proper, canonical, WellFormed}
+use Rattle.ring_machine.proofs.Common.{In, contains_in, in_contains}
+use Rattle.topo_outline.specs.Common.{KeepsTexts}
+use Rattle.segment_index.specs.Common.{SegmentSet}
+use Rattle.ring_store.proofs.Common.{same_map, ring_at-stays}
+use Rattle.ring_store.specs.Common.{AreAdded, AreGone, KeepsPlaces, ring_at, Stands}
 use Rattle.ring_store.proofs.Numbered.{contained_or}
-use Rattle.ring_store.proofs.Staying.{ring_at-stays}
-use Rattle.feature_exchange.specs.Holds.{Holds}
-use Rattle.feature_exchange.specs.Stored.{Stored, ring_under, document_of}
+use Rattle.feature_exchange.specs.Common.{Holds, Stored, ring_under, document_of}
 use Rattle.feature_exchange.proofs.Changes.{Changes}
 use Rattle.feature_exchange.proofs.Whole.{tables_stand, map_holds}
 

@@ -1,21 +1,12 @@
 -- The rings of features that are gathered: each is there, and none is listed twice.
-use Rattle.std.proofs.Common.{◌≡◌, ℕ, true, refl, sym, ap, ◌∙◌, subst, List, [], ◌∷◌, Option, Some, None, map}
-use Rattle.std.proofs.Common.{inl, Contains}
-use Rattle.std.specs.Prelude.{IsTrue}
+use Rattle.kit_words.proofs.Common.{◌≡◌, ℕ, true, refl, sym, ap, ◌∙◌, subst, List, [], ◌∷◌, Option, Some, None, map}
+use Rattle.kit_words.proofs.Common.{inl, Contains, IsTrue, flat_map, flat_map-map}
 use Rattle.std.specs.FinMap as table
-use Rattle.std.specs.List.{flat_map}
-use Rattle.std.proofs.lemmas.List.Folds.{flat_map-map}
-use Rattle.ring_machine.specs.Document.{FeatureOf}
-use Rattle.ring_machine.specs.Parts.{feature, rings}
-use Rattle.ring_machine.specs.WellFormed.{are_distinct}
-use Rattle.ring_machine.proofs.First.{In}
-use Rattle.ring_machine.proofs.Found.{distinct-append, distinct_parts, feature_in}
-use Rattle.ring_machine.proofs.Members.{contains_in, in_contains, in_flat}
-use Rattle.segment_index.specs.Candidates.{SegmentSet}
-use Rattle.feature_exchange.specs.Holds.{Holds}
-use Rattle.feature_exchange.specs.Stored.{Stored}
-use Rattle.feature_exchange.specs.declared.change.Change.{Change}
-use Rattle.feature_exchange.specs.Under.{rings_under}
+use Rattle.ring_machine.specs.Common.{FeatureOf, feature, rings, are_distinct}
+use Rattle.ring_machine.proofs.Common.{In, distinct-append, distinct_parts, feature_in, contains_in, in_contains}
+use Rattle.ring_machine.proofs.Common.{in_flat}
+use Rattle.segment_index.specs.Common.{SegmentSet}
+use Rattle.feature_exchange.specs.Common.{Holds, Stored, Change, rings_under}
 use Rattle.feature_exchange.proofs.Under.{under_found, under_none, under_in, under_distinct, under_apart}
 
 module _ (s : Stored) (held : SegmentSet) (h : Holds s held) where

@@ -1,17 +1,11 @@
 -- The keys along the rings of features, one list after the other.
-use Rattle.std.proofs.Common.{◌≡◌, ◌+◌, ◌<◌, ℕ, true, sym, ap, ap₂, ◌∙◌, subst, List, [], ◌∷◌, ◌++◌}
-use Rattle.std.proofs.Common.{length, take, get_or, append_assoc, Contains}
-use Rattle.std.specs.Prelude.{IfSome, unwrap_or}
-use Rattle.std.specs.List.{flat_map}
+use Rattle.kit_words.proofs.Common.{◌≡◌, ◌+◌, ◌<◌, ℕ, true, sym, ap, ap₂, ◌∙◌, subst, List, [], ◌∷◌, ◌++◌, length, take}
+use Rattle.kit_words.proofs.Common.{get_or, append_assoc, Contains, IfSome, unwrap_or, flat_map, append-nil, take_more}
+use Rattle.kit_words.proofs.Common.{flat_map-append}
 use Rattle.std.specs.FinMap as table
-use Rattle.std.proofs.lemmas.List.{append-nil, take_more}
-use Rattle.std.proofs.lemmas.List.Concat.{flat_map-append}
-use Rattle.ring_machine.proofs.First.{In}
-use Rattle.ring_machine.proofs.Neighbours.{in-flat_map}
-use Rattle.arc_tables.specs.Rings.{Rings, begins}
-use Rattle.feature_exchange.specs.Stored.{edges_under}
-use Rattle.ring_machine.proofs.Members.{contains_in, in_contains, there}
-use Rattle.ring_machine.proofs.SortedOnce.{in_at}
+use Rattle.ring_machine.proofs.Common.{In, in-flat_map, contains_in, in_contains, there, in_at}
+use Rattle.arc_tables.specs.Common.{Rings, begins}
+use Rattle.feature_exchange.specs.Common.{edges_under}
 
 -- the lists of one element more
 pub flat_more : {A B : Type 0} (f : A → List B) (xs : List A) (i : ℕ) (d : A) → i < length xs

@@ -1,26 +1,14 @@
 -- The keys along all rings of a frame, feature by feature in the order of their numbers.
-use Rattle.std.proofs.Common.{◌≡◌, ◌≢◌, ◌<◌, ◌≤◌, ◌+◌, ℕ, zero, suc, true, false, sym, ap, ap₂, ◌∙◌, subst}
-use Rattle.std.proofs.Common.{List, [], ◌++◌, map, inl, inr, arith, Some, None, option_map}
-use Rattle.std.specs.Prelude.{nat_lt, unwrap_or}
-use Rattle.std.specs.List.{flat_map}
-use Rattle.std.proofs.lemmas.Bool.Decides.{nat_tests}
-use Rattle.std.proofs.lemmas.List.{append-nil}
-use Rattle.std.proofs.lemmas.List.Concat.{flat_map-append}
-use Rattle.std.proofs.lemmas.Option.{none-some}
-use native.Mathlib.Decide.{ℕ_discrete}
-use Rattle.ring_machine.specs.Document.{FeatureOf, DocumentOf}
-use Rattle.ring_machine.specs.Parts.{features, feature, rings, rings_of}
-use Rattle.ring_machine.specs.WellFormed.{are_distinct}
-use Rattle.ring_machine.proofs.First.{In, in-append, in_left, in_right}
-use Rattle.ring_machine.proofs.Found.{found}
-use Rattle.ring_machine.proofs.Members.{contains_in, in_contains, in_flat}
-use Rattle.ring_machine.proofs.Neighbours.{in-flat_map}
-use Rattle.arc_tables.specs.Rings.{Rings}
-use Rattle.feature_exchange.specs.Along.{AreAlong}
-use Rattle.feature_exchange.specs.Under.{rings_under}
+use Rattle.kit_words.proofs.Common.{◌≡◌, ◌≢◌, ◌<◌, ◌≤◌, ◌+◌, ℕ, zero, suc, true, false, sym, ap, ap₂, ◌∙◌, subst, List}
+use Rattle.kit_words.proofs.Common.{[], ◌++◌, map, inl, inr, arith, Some, None, option_map, nat_lt, unwrap_or, flat_map}
+use Rattle.kit_words.proofs.Common.{nat_tests, append-nil, flat_map-append, none-some, ℕ_discrete, true_from_ne_false}
+use Rattle.ring_machine.specs.Common.{FeatureOf, DocumentOf, features, feature, rings, rings_of, are_distinct}
+use Rattle.ring_machine.proofs.Common.{In, in-append, in_left, in_right, found, contains_in, in_contains, in_flat}
+use Rattle.ring_machine.proofs.Common.{in-flat_map}
+use Rattle.arc_tables.specs.Common.{Rings}
+use Rattle.feature_exchange.specs.Common.{AreAlong, rings_under}
 use Rattle.feature_exchange.proofs.KeyLists.{keys_of, AreHeld}
 use Rattle.feature_exchange.proofs.Under.{under_in}
-use Rattle.std.proofs.lemmas.Bool.{true_from_ne_false}
 
 -- the rings of the features with numbers below n
 abbrev pub rings_below : DocumentOf ℕ → ℕ → List ℕ

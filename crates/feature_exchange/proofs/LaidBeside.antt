@@ -1,21 +1,16 @@
 -- Rings that are laid beside others, a list after the other.
-use Rattle.std.proofs.Common.{◌≡◌, ℕ, refl, sym, ap, ap₂, ◌∙◌, subst, List, [], ◌++◌, map, Some, is_some}
-use Rattle.std.specs.Prelude.{IsTrue}
+use Rattle.kit_words.proofs.Common.{◌≡◌, ℕ, refl, sym, ap, ap₂, ◌∙◌, subst, List, [], ◌++◌, map, Some, is_some, IsTrue}
+use Rattle.kit_words.proofs.Common.{false≢true, map-append}
 use Rattle.std.specs.FinMap as table
-use Rattle.std.proofs.lemmas.Bool.{false≢true}
-use Rattle.std.proofs.lemmas.List.{map-append}
-use Rattle.ring_machine.specs.WellFormed.{are_distinct}
-use Rattle.ring_machine.proofs.Found.{distinct-append}
-use Rattle.ring_machine.proofs.Members.{in_contains, there}
-use Rattle.vertex_index.specs.Placement.{Placement}
-use Rattle.segment_index.specs.Candidates.{SegmentSet}
-use Rattle.arc_tables.specs.Rings.{Rings, edges}
-use Rattle.ring_store.specs.Laid.{numbers_of, AreThere, AreAdded, KeepsPlaces}
-use Rattle.ring_store.specs.Standing.{Stands}
+use Rattle.ring_machine.specs.Common.{are_distinct}
+use Rattle.ring_machine.proofs.Common.{distinct-append, in_contains, there}
+use Rattle.vertex_index.specs.Common.{Placement}
+use Rattle.segment_index.specs.Common.{SegmentSet}
+use Rattle.arc_tables.specs.Common.{Rings, edges}
+use Rattle.ring_store.specs.Common.{numbers_of, AreThere, AreAdded, KeepsPlaces, Stands}
 use Rattle.ring_store.specs.declared.laid.LaidRing.{LaidRing}
-use Rattle.ring_store.proofs.Series.{number_there, there_still, there_none, added_first}
-use Rattle.ring_store.proofs.Staying.{added_twice, ring_at-stays}
-use Rattle.feature_exchange.specs.Laying.{AreLaid}
+use Rattle.ring_store.proofs.Common.{number_there, there_still, there_none, added_first, added_twice, ring_at-stays}
+use Rattle.feature_exchange.specs.Common.{AreLaid}
 
 module _ {A : Type 0} where
   pub laid_none : (p : Placement) (m : Rings) (laid : List (LaidRing A)) → AreLaid p m laid p m laid

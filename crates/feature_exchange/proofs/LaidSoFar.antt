@@ -1,22 +1,15 @@
 -- Lists of rings that were laid so far, one after the other.
-use Rattle.std.proofs.Common.{◌≡◌, ◌<◌, ℕ, Bool, true, refl, sym, ap, ap₂, ◌∙◌, subst, List, [], ◌∷◌, ◌++◌}
-use Rattle.std.proofs.Common.{map, length, get_or, append_assoc}
-use Rattle.std.specs.List.{flat_map, list_all}
-use Rattle.std.proofs.lemmas.List.{append-nil, map_push}
-use Rattle.std.proofs.lemmas.List.Concat.{flat_map-append}
-use Rattle.grid_geometry.specs.Position.{Position}
-use Rattle.ring_machine.proofs.First.{In, in_right}
-use Rattle.ring_machine.proofs.Neighbours.{all_in, in-flat_map}
-use Rattle.ring_machine.proofs.SortedOnce.{in_at}
-use Rattle.ring_store.proofs.AddedRings.{same_map}
-use Rattle.ring_store.specs.Laid.{numbers_of, AreThere}
-use Rattle.ring_store.specs.Tables.{AreStanding, ring_in}
+use Rattle.kit_words.proofs.Common.{◌≡◌, ◌<◌, ℕ, Bool, true, refl, sym, ap, ap₂, ◌∙◌, subst, List, [], ◌∷◌, ◌++◌, map}
+use Rattle.kit_words.proofs.Common.{length, get_or, append_assoc, flat_map, list_all, append-nil, map_push}
+use Rattle.kit_words.proofs.Common.{flat_map-append}
+use Rattle.grid_geometry.specs.Common.{Position}
+use Rattle.ring_machine.proofs.Common.{In, in_right, all_in, in-flat_map, in_at, pass_all}
+use Rattle.ring_store.proofs.Common.{same_map, number_there}
+use Rattle.ring_store.specs.Common.{numbers_of, AreThere, AreStanding, ring_in}
 use Rattle.ring_store.specs.declared.laid.LaidRing.{LaidRing}
 use Rattle.ring_store.specs.declared.tables.RingTables.{RingTables}
-use Rattle.ring_store.proofs.Series.{number_there}
-use Rattle.feature_exchange.specs.Laying.{LaysMore}
+use Rattle.feature_exchange.specs.Common.{LaysMore}
 use Rattle.feature_exchange.proofs.LaidBeside.{laid_none, laid_twice}
-use Rattle.ring_machine.proofs.Passed.{pass_all}
 
 -- one list more was laid
 pub record OneMore {I A : Type 0} (s : RingTables I A) (had : List (LaidRing A)) (t : RingTables I A) (has : List (LaidRing A)) (came : List ℕ) : Type 0 where

@@ -23,3 +23,4 @@ pub mod ExchangedWhole
 pub mod ChangesCounted
 pub mod RingAround
 pub mod MarkedRing
+pub mod Common

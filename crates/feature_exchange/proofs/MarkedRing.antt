@@ -1,17 +1,15 @@
 -- A ring's keys from that of its least position on, and where borders meet along them.
-use Rattle.std.proofs.Common.{◌≡◌, ℕ, ◌+◌, ◌-◌, ◌≤◌, Bool, refl, sym, ap, ap₂, ◌∙◌, List, [], ◌∷◌, ◌++◌, append_assoc, length, map, take, drop, arith, Contains, Option, None, Some, is_some, option_map, true}
-use Rattle.std.specs.Prelude.{unwrap_or}
+use Rattle.kit_words.proofs.Common.{◌≡◌, ℕ, ◌+◌, ◌-◌, ◌≤◌, Bool, refl, sym, ap, ap₂, ◌∙◌, List, [], ◌∷◌, ◌++◌}
+use Rattle.kit_words.proofs.Common.{append_assoc, length, map, take, drop, arith, Contains, Option, None, Some, is_some}
+use Rattle.kit_words.proofs.Common.{option_map, true, unwrap_or, false≢true, drop-append_seam, take-append_seam}
+use Rattle.kit_words.proofs.Common.{length-append, length-drop, length-map, map-append, take_all}
 use Rattle.std.specs.FinMap as table
-use Rattle.std.proofs.lemmas.Bool.{false≢true}
 use Rattle.std.specs.List.{take-map, drop-map}
-use Rattle.std.proofs.Math.Seq.{drop-append_seam, take-append_seam}
-use Rattle.std.proofs.lemmas.List.{length-append, length-drop, length-map, map-append, take_all}
-use Rattle.grid_geometry.specs.Position.{Position}
-use Rattle.ring_machine.specs.Ring.{before, from, least, canonical}
-use Rattle.vertex_index.specs.Placement.{Placement, place}
-use Rattle.arc_tables.specs.Ways.{Edge}
-use Rattle.arc_tables.specs.Rings.{Rings, begins}
-use Rattle.feature_exchange.specs.Stored.{edges_under}
+use Rattle.grid_geometry.specs.Common.{Position}
+use Rattle.ring_machine.specs.Common.{before, from, least, canonical}
+use Rattle.vertex_index.specs.Common.{Placement, place}
+use Rattle.arc_tables.specs.Common.{Edge, Rings, begins}
+use Rattle.feature_exchange.specs.Common.{edges_under}
 use Rattle.feature_exchange.proofs.RingAround.{among_cons, before_from, at_place}
 
 -- ---- the ring from its least position on

@@ -1,29 +1,18 @@
 -- The rings of features that stand at the places of their numbers.
-use Rattle.std.proofs.Common.{◌≡◌, ◌≤◌, ℕ, true, refl, sym, ap, ap₂, ◌∙◌, subst, cond, List}
-use Rattle.std.proofs.Common.{[], ◌∷◌, ◌++◌, map, inl, inr, Option, Some, None, length, arith, eqb-true, eq-eqb}
-use Rattle.std.specs.Prelude.{◌==◌}
-use Rattle.std.specs.List.{flat_map, filter_map, sum_by}
-use Rattle.std.proofs.lemmas.List.{append-nil}
-use Rattle.std.proofs.lemmas.List.Concat.{flat_map-append}
-use Rattle.std.proofs.lemmas.List.Elements.{filter_map-append}
-use Rattle.std.proofs.lemmas.List.Folds.{flat_map-map}
-use Rattle.std.proofs.lemmas.List.Sums.{sum_by-cons, sum_by-append}
-use Rattle.grid_geometry.specs.Position.{Position}
-use Rattle.ring_machine.specs.Document.{FeatureOf, DocumentOf, Document}
-use Rattle.ring_machine.specs.Parts.{feature_of, feature, features, rings, rings_of, size}
-use Rattle.ring_machine.specs.WellFormed.{are_distinct}
-use Rattle.ring_machine.proofs.First.{In, in-append, in_left, in_right}
-use Rattle.ring_machine.proofs.Found.{distinct_parts, feature_in}
-use Rattle.ring_machine.proofs.InItems.{of_layers}
-use Rattle.ring_machine.proofs.Members.{any_in, in_mapped}
-use Rattle.ring_machine.proofs.Neighbours.{in-map}
-use Rattle.edit_records.specs.Places.{Place, Number, Tree, Alone, Places, LayerTree}
-use Rattle.edit_records.specs.Places.{number_of, numbers_of, numbers_placed, has_place, leaf, or_empty, item_at, items_of}
-use Rattle.edit_records.specs.Places.{filled, Fills, exchanged_features, exchanged, AreNumbered}
-use Rattle.edit_records.proofs.ExchangesMade.{exchanged-feature}
-use Rattle.feature_exchange.specs.Ready.{rings_in, coming}
-use Rattle.ring_machine.proofs.Order.{refuted}
-use Rattle.ring_machine.proofs.Passed.{in_split}
+use Rattle.kit_words.proofs.Common.{◌≡◌, ◌≤◌, ℕ, true, refl, sym, ap, ap₂, ◌∙◌, subst, cond, List, [], ◌∷◌, ◌++◌, map}
+use Rattle.kit_words.proofs.Common.{inl, inr, Option, Some, None, length, arith, eqb-true, eq-eqb, ◌==◌, flat_map}
+use Rattle.kit_words.proofs.Common.{filter_map, sum_by, append-nil, flat_map-append, filter_map-append, flat_map-map}
+use Rattle.kit_words.proofs.Common.{sum_by-cons, sum_by-append}
+use Rattle.grid_geometry.specs.Common.{Position}
+use Rattle.ring_machine.specs.Common.{FeatureOf, DocumentOf, Document, feature_of, feature, features, rings, rings_of}
+use Rattle.ring_machine.specs.Common.{size, are_distinct}
+use Rattle.ring_machine.proofs.Common.{In, in-append, in_left, in_right, distinct_parts, feature_in, of_layers, any_in}
+use Rattle.ring_machine.proofs.Common.{in_mapped, in-map, refuted, in_split}
+use Rattle.edit_records.specs.Common.{Place, Number, Tree, Alone, Places, LayerTree, number_of, numbers_of}
+use Rattle.edit_records.specs.Common.{numbers_placed, has_place, leaf, or_empty, item_at, items_of, filled, Fills}
+use Rattle.edit_records.specs.Common.{exchanged_features, exchanged, AreNumbered}
+use Rattle.edit_records.proofs.Common.{exchanged-feature}
+use Rattle.feature_exchange.specs.Common.{rings_in, coming}
 
 -- ---- all rings, by the numbers that have places
 

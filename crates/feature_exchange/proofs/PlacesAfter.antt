@@ -1,22 +1,14 @@
 -- Where a new number is to come after a feature in a collection, it and all others have a place.
-use Rattle.std.proofs.Common.{◌≡◌, ◌<◌, ◌+◌, ◌||◌, ℕ, Bool, true, false, refl, sym, ap, ◌∙◌, subst, cond, List}
-use Rattle.std.proofs.Common.{[], ◌∷◌, ◌++◌, ◌⊎◌, inl, inr, Option, Some, None, is_some, arith, eq-eqb, eqb-true}
-use Rattle.std.specs.Prelude.{◌==◌, IfSome}
-use Rattle.std.specs.List.{flat_map}
-use Rattle.std.proofs.lemmas.Bool.{false≢true, true_from_ne_false}
-use Rattle.std.proofs.lemmas.List.Concat.{flat_map-append}
-use Rattle.ring_machine.specs.Document.{FeatureOf, DocumentOf}
-use Rattle.ring_machine.specs.Parts.{feature}
-use Rattle.ring_machine.specs.Refusals.{is_layer}
-use Rattle.ring_machine.proofs.First.{In, in-append, in_left, in_right}
-use Rattle.ring_machine.proofs.Found.{among, feature_in, has_feature-found}
-use Rattle.ring_machine.proofs.Order.{or_right}
-use Rattle.edit_records.specs.Places.{Place, Number, Tree, Alone, Places, LayerTree, filled, items_of}
-use Rattle.edit_records.specs.Places.{number_of, numbers_of, numbers_placed, has_place, with_new, tree_with, grown, leaf, or_empty}
-use Rattle.edit_records.proofs.ExchangesMade.{fills-nowhere}
-use Rattle.feature_exchange.specs.Changed.{places_after, next_after, MayGrow}
-use Rattle.map_frame.specs.Framed.{Framed}
-use Rattle.map_frame.specs.Placed.{ArePlaced}
+use Rattle.kit_words.proofs.Common.{◌≡◌, ◌<◌, ◌+◌, ◌||◌, ℕ, Bool, true, false, refl, sym, ap, ◌∙◌, subst, cond, List}
+use Rattle.kit_words.proofs.Common.{[], ◌∷◌, ◌++◌, ◌⊎◌, inl, inr, Option, Some, None, is_some, arith, eq-eqb, eqb-true}
+use Rattle.kit_words.proofs.Common.{◌==◌, IfSome, flat_map, false≢true, true_from_ne_false, flat_map-append}
+use Rattle.ring_machine.specs.Common.{FeatureOf, DocumentOf, feature, is_layer}
+use Rattle.ring_machine.proofs.Common.{In, in-append, in_left, in_right, among, feature_in, has_feature-found, or_right}
+use Rattle.edit_records.specs.Common.{Place, Number, Tree, Alone, Places, LayerTree, filled, items_of, number_of}
+use Rattle.edit_records.specs.Common.{numbers_of, numbers_placed, has_place, with_new, tree_with, grown, leaf, or_empty}
+use Rattle.edit_records.proofs.Common.{fills-nowhere}
+use Rattle.feature_exchange.specs.Common.{places_after, next_after, MayGrow}
+use Rattle.map_frame.specs.Common.{Framed, ArePlaced}
 use Rattle.feature_exchange.proofs.Placed.{place_in}
 
 module _ (n new : ℕ) where

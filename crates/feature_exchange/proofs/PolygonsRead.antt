@@ -1,20 +1,12 @@
 -- The rings of a feature, read from the tables, are those that it has in the document.
-use Rattle.std.proofs.Common.{◌≡◌, ℕ, true, refl, sym, ap, ◌∙◌, subst, List, [], ◌++◌, map}
-use Rattle.std.proofs.Common.{Option, None, Some, option_map, Contains}
-use Rattle.std.specs.Prelude.{Vec, unwrap_or, IfSome}
+use Rattle.kit_words.proofs.Common.{◌≡◌, ℕ, true, refl, sym, ap, ◌∙◌, subst, List, [], ◌++◌, map, Option, None, Some}
+use Rattle.kit_words.proofs.Common.{option_map, Contains, Vec, unwrap_or, IfSome, flat_map}
 use Rattle.std.specs.FinMap as table
-use Rattle.std.specs.List.{flat_map}
-use Rattle.ring_machine.specs.Document.{FeatureOf}
-use Rattle.ring_machine.specs.Parts.{feature, in_feature}
-use Rattle.ring_machine.specs.Refusals.{feature_at, or_else, no_feature}
-use Rattle.ring_machine.proofs.Found.{feature-in_rings}
-use Rattle.ring_machine.proofs.Members.{contains_in, there}
-use Rattle.arc_tables.specs.Rings.{Rings, begins}
-use Rattle.arc_tables.specs.Ways.{Edge}
-use Rattle.map_frame.specs.Numbers.{polygon_numbers}
-use Rattle.feature_exchange.specs.Holds.{IsWhole}
-use Rattle.feature_exchange.specs.Stored.{Stored, document_of, edges_under, ring_under}
-use Rattle.feature_exchange.specs.Along.{AlongVertices, ring_in}
+use Rattle.ring_machine.specs.Common.{FeatureOf, feature, in_feature, feature_at, or_else, no_feature}
+use Rattle.ring_machine.proofs.Common.{feature-in_rings, contains_in, there}
+use Rattle.arc_tables.specs.Common.{Rings, begins, Edge}
+use Rattle.map_frame.specs.Common.{polygon_numbers}
+use Rattle.feature_exchange.specs.Common.{IsWhole, Stored, document_of, edges_under, ring_under, AlongVertices, ring_in}
 use Rattle.feature_exchange.proofs.KeyLists.{AreHeld}
 use Rattle.feature_exchange.proofs.KeysByNumber.{at_held}
 use Rattle.feature_exchange.proofs.Under.{numbers_read}

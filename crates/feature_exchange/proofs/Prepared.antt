@@ -1,29 +1,16 @@
 -- What was laid and made room for is ready to be put into the frame.
-use Rattle.std.proofs.Common.{◌≡◌, ◌<◌, ℕ, true, sym, ap, ◌∙◌, subst, List, map, Option, Some, is_some, Contains}
-use Rattle.std.specs.Prelude.{Vec, slice_get}
-use Rattle.std.specs.List.{flat_map, AllByRecursion}
-use Rattle.std.proofs.lemmas.Bool.{false≢true}
-use Rattle.grid_geometry.specs.Position.{Position}
-use Rattle.ring_machine.specs.Document.{Feature}
-use Rattle.ring_machine.specs.Parts.{rings}
-use Rattle.ring_machine.specs.WellFormed.{are_distinct}
-use Rattle.ring_machine.proofs.First.{In}
-use Rattle.ring_machine.proofs.Members.{contains_in, in_contains}
-use Rattle.arc_tables.specs.Rings.{Rings}
-use Rattle.map_frame.specs.Naming.{IsOf}
-use Rattle.map_frame.specs.Numbers.{feature_numbers}
-use Rattle.segment_index.specs.Candidates.{SegmentSet}
-use Rattle.ring_store.specs.Laid.{AreAdded}
-use Rattle.feature_exchange.specs.Changed.{seen}
-use Rattle.feature_exchange.specs.Holds.{Holds}
-use Rattle.feature_exchange.specs.Ready.{coming, IsReady, FitsForm, all_numbered}
-use Rattle.map_frame.specs.Framed.{Framed}
-use Rattle.map_frame.specs.Placed.{ArePlaced}
-use Rattle.feature_exchange.specs.Stored.{Stored}
-use Rattle.feature_exchange.specs.declared.change.Change.{Change}
+use Rattle.kit_words.proofs.Common.{◌≡◌, ◌<◌, ℕ, true, sym, ap, ◌∙◌, subst, List, map, Option, Some, is_some, Contains}
+use Rattle.kit_words.proofs.Common.{Vec, slice_get, flat_map, AllByRecursion, false≢true}
+use Rattle.grid_geometry.specs.Common.{Position}
+use Rattle.ring_machine.specs.Common.{Feature, rings, are_distinct}
+use Rattle.ring_machine.proofs.Common.{In, contains_in, in_contains}
+use Rattle.arc_tables.specs.Common.{Rings}
+use Rattle.map_frame.specs.Common.{IsOf, feature_numbers, Framed, ArePlaced}
+use Rattle.segment_index.specs.Common.{SegmentSet}
+use Rattle.ring_store.specs.Common.{AreAdded}
+use Rattle.feature_exchange.specs.Common.{seen, Holds, coming, IsReady, FitsForm, all_numbered, Stored, Change}
 use Rattle.feature_exchange.proofs.Asked.{AreFor, for_coming, for_numbers, for_own, for_below, for_fits}
-use Rattle.map_frame.proofs.NamedRoom.{of_in}
-use Rattle.map_frame.proofs.ReadFeatures.{in_get}
+use Rattle.map_frame.proofs.Common.{of_in, in_get}
 
 pub in_of : (xs : List ℕ) (r i : ℕ) → slice_get xs i ≡ Some r → In r xs
 in_of xs r i e = in_get xs i r e

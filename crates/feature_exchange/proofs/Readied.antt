@@ -1,21 +1,15 @@
 -- Features exchanged in a frame of ring numbers: which rings are named then, and what still can be
 -- exchanged.
-use Rattle.std.proofs.Common.{◌≡◌, ◌<◌, ℕ, true, refl, sym, ap, ap₂, ◌∙◌, subst, cond, List}
-use Rattle.std.proofs.Common.{[], ◌∷◌, ◌++◌, inl, inr, Option, Some, None, Contains, eq-eqb}
-use Rattle.std.specs.List.{flat_map, AllByRecursion}
-use Rattle.std.proofs.lemmas.List.{append-nil, map-append}
-use Rattle.std.proofs.lemmas.List.Concat.{flat_map-append}
-use Rattle.ring_machine.specs.Document.{FeatureOf, DocumentOf}
-use Rattle.ring_machine.specs.Parts.{feature, rings}
-use Rattle.ring_machine.specs.WellFormed.{are_distinct}
-use Rattle.ring_machine.proofs.First.{In, in_left, in_right}
-use Rattle.ring_machine.proofs.Found.{DistinctParts, distinct_parts}
-use Rattle.ring_machine.proofs.Members.{contains_in, in_contains}
-use Rattle.edit_records.specs.Places.{LayerTree, Fills, numbers_placed, has_place, exchanged_features, exchanged, AreNumbered}
-use Rattle.edit_records.proofs.ExchangesMade.{exchanged-feature, exchanged-fills, exchanged-append}
-use Rattle.feature_exchange.specs.Ready.{rings_in, coming, IsReady, FitsForm, put_in}
-use Rattle.map_frame.specs.Framed.{Framed}
-use Rattle.feature_exchange.specs.Under.{rings_under}
+use Rattle.kit_words.proofs.Common.{◌≡◌, ◌<◌, ℕ, true, refl, sym, ap, ap₂, ◌∙◌, subst, cond, List, [], ◌∷◌, ◌++◌, inl}
+use Rattle.kit_words.proofs.Common.{inr, Option, Some, None, Contains, eq-eqb, flat_map, AllByRecursion, append-nil}
+use Rattle.kit_words.proofs.Common.{map-append, flat_map-append}
+use Rattle.ring_machine.specs.Common.{FeatureOf, DocumentOf, feature, rings, are_distinct}
+use Rattle.ring_machine.proofs.Common.{In, in_left, in_right, DistinctParts, distinct_parts, contains_in, in_contains}
+use Rattle.edit_records.specs.Common.{LayerTree, Fills, numbers_placed, has_place, exchanged_features, exchanged}
+use Rattle.edit_records.specs.Common.{AreNumbered}
+use Rattle.edit_records.proofs.Common.{exchanged-feature, exchanged-fills, exchanged-append}
+use Rattle.feature_exchange.specs.Common.{rings_in, coming, IsReady, FitsForm, put_in, rings_under}
+use Rattle.map_frame.specs.Common.{Framed}
 use Rattle.feature_exchange.proofs.Changes.{Changes, none_changes, changes_at, changes_as, changes_twice, changes_swap}
 use Rattle.feature_exchange.proofs.Placed.{rings_at, filled_rings, rings_placed, spot, place_in, flat_same, numbers, others_same}
 use Rattle.feature_exchange.proofs.Under.{under_found, under_none, under_in}

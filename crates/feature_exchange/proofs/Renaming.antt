@@ -1,25 +1,16 @@
 -- A feature that gets another id, or none: the tables stay, and so do the document's rings.
-use Rattle.std.proofs.Common.{◌≡◌, ◌≤◌, ◌↔◌, ℕ, refl, sym, ap, ap₂, ◌∙◌, cond, subst, Option}
-use Rattle.std.proofs.Common.{List, [], ◌∷◌, ◌++◌, map, is_some, arith, Contains, Some}
-use Rattle.std.specs.Prelude.{◌==◌, IsTrue}
+use Rattle.kit_words.proofs.Common.{◌≡◌, ◌≤◌, ◌↔◌, ℕ, refl, sym, ap, ap₂, ◌∙◌, cond, subst, Option, List, [], ◌∷◌, ◌++◌}
+use Rattle.kit_words.proofs.Common.{map, is_some, arith, Contains, Some, ◌==◌, IsTrue, flat_map}
 use Rattle.std.specs.FinMap as table
-use Rattle.std.specs.List.{flat_map}
-use Rattle.ring_machine.specs.Document.{FeatureOf, ItemOf, DocumentOf, Open, Close, Leaf, Kept, Text}
-use Rattle.ring_machine.specs.Parts.{features, rings_of, rings, size, in_item, in_feature, in_rings}
-use Rattle.ring_machine.specs.Planar.{Proper}
-use Rattle.ring_machine.specs.WellFormed.{WellFormed, are_distinct}
-use Rattle.ring_machine.proofs.Found.{features-in_features}
-use Rattle.ring_machine.proofs.FormedRings.{formed-in_rings, formed-before_rings}
-use Rattle.ring_machine.proofs.InItems.{in_items-square}
-use Rattle.ring_machine.proofs.Renamed.{size-renamed, proper-renamed}
-use Rattle.ring_machine.proofs.StaysFormed.{formed-renamed}
-use Rattle.edit_records.specs.Records.{with_id, IsMap}
-use Rattle.topo_outline.specs.Kept.{KeepsTexts, IsJson}
-use Rattle.topo_outline.proofs.KeptRings.{keeps-in_rings, keeps-before_rings}
-use Rattle.topo_outline.proofs.KeptShapes.{keeps-renamed}
-use Rattle.segment_index.specs.Candidates.{SegmentSet}
-use Rattle.feature_exchange.specs.Holds.{Holds}
-use Rattle.feature_exchange.specs.Stored.{Stored, ring_under, document_of}
+use Rattle.ring_machine.specs.Common.{FeatureOf, ItemOf, DocumentOf, Open, Close, Leaf, Kept, Text, features, rings_of}
+use Rattle.ring_machine.specs.Common.{rings, size, in_item, in_feature, in_rings, Proper, WellFormed, are_distinct}
+use Rattle.ring_machine.proofs.Common.{features-in_features, formed-in_rings, formed-before_rings, in_items-square}
+use Rattle.ring_machine.proofs.Common.{size-renamed, proper-renamed, formed-renamed}
+use Rattle.edit_records.specs.Common.{with_id, IsMap}
+use Rattle.topo_outline.specs.Common.{KeepsTexts, IsJson}
+use Rattle.topo_outline.proofs.Common.{keeps-in_rings, keeps-before_rings, keeps-renamed}
+use Rattle.segment_index.specs.Common.{SegmentSet}
+use Rattle.feature_exchange.specs.Common.{Holds, Stored, ring_under, document_of}
 use Rattle.feature_exchange.proofs.Whole.{tables_stand, map_holds}
 
 -- the feature with this id, or none, where it has the number n

@@ -1,24 +1,18 @@
 -- A ring gone round from its least position on, key by key.
-use Rattle.std.proofs.Common.{◌≡◌, ℕ, zero, suc, ◌+◌, ◌-◌, ◌<◌, ◌≤◌, Bool, true, false, cond, refl, sym, ap, pos}
-use Rattle.std.proofs.Common.{ap₂, ◌∙◌, subst, Option, None, Some, List, [], ◌∷◌, ◌++◌, length, map, take, drop, arith}
-use Rattle.std.proofs.Common.{◌⊎◌, inl, inr}
-use Rattle.std.specs.Prelude.{Contains, unwrap_or, ◌&&◌}
+use Rattle.kit_words.proofs.Common.{◌≡◌, ℕ, zero, suc, ◌+◌, ◌-◌, ◌<◌, ◌≤◌, Bool, true, false, cond, refl, sym, ap, pos}
+use Rattle.kit_words.proofs.Common.{ap₂, ◌∙◌, subst, Option, None, Some, List, [], ◌∷◌, ◌++◌, length, map, take, drop}
+use Rattle.kit_words.proofs.Common.{arith, ◌⊎◌, inl, inr, Contains, unwrap_or, ◌&&◌, Some-then, list_all, int_cmp}
+use Rattle.kit_words.proofs.Common.{is_lt, is_some_and, partial_ordering_then, drop-append_seam, take-append-add}
+use Rattle.kit_words.proofs.Common.{take-append_seam, false≢true, drop-drop, drop-map, length-append, length-map}
+use Rattle.kit_words.proofs.Common.{map-append, fold-append}
 use Rattle.std.specs.FinMap as table
-use Rattle.std.specs.Cmp.{Some-then}
 use Rattle.std.specs.Iterator.{YieldsFirst}
-use Rattle.std.specs.List.{list_all}
-use Rattle.std.specs.Ordering.{int_cmp, is_lt, is_some_and, partial_ordering_then}
-use Rattle.std.proofs.Math.Seq.{drop-append_seam, take-append-add, take-append_seam}
-use Rattle.std.proofs.lemmas.Bool.{false≢true}
-use Rattle.std.proofs.lemmas.List.{drop-drop, drop-map, length-append, length-map, map-append}
-use Rattle.std.proofs.lemmas.List.Sums.{fold-append}
-use Rattle.grid_geometry.specs.Position.{Position, position, position_lt}
-use Rattle.ring_machine.specs.Ring.{before, from, least, canonical}
-use Rattle.ring_machine.proofs.Canonical.{Below}
-use Rattle.ring_machine.proofs.Order.{position_eq-refl, position_lt-apart, position_lt-total}
-use Rattle.ring_machine.proofs.Order.{position_lt-trans, and_both}
-use Rattle.vertex_index.specs.Placement.{Placement, place}
-use Rattle.feature_exchange.specs.RingPlaces.{positions_left, IsAround}
+use Rattle.grid_geometry.specs.Common.{Position, position, position_lt}
+use Rattle.ring_machine.specs.Common.{before, from, least, canonical}
+use Rattle.ring_machine.proofs.Common.{Below, position_eq-refl, position_lt-apart, position_lt-total, position_lt-trans}
+use Rattle.ring_machine.proofs.Common.{and_both}
+use Rattle.vertex_index.specs.Common.{Placement, place}
+use Rattle.feature_exchange.specs.Common.{positions_left, IsAround}
 
 -- ---- elements of lists
 

@@ -1,19 +1,13 @@
 -- The numbers of the rings of a feature, among those of the document.
-use Rattle.std.proofs.Common.{◌≡◌, ℕ, true, refl, sym, ap, ◌∙◌, subst, List, [], ◌++◌}
-use Rattle.std.proofs.Common.{map, Option, Some, None, option_map}
-use Rattle.std.specs.Prelude.{unwrap_or, Vec}
-use Rattle.std.specs.List.{flat_map}
-use Rattle.std.proofs.lemmas.List.Folds.{flat_map-map}
-use Rattle.ring_machine.specs.Document.{FeatureOf, DocumentOf}
-use Rattle.ring_machine.specs.Parts.{features, feature, rings, rings_of}
-use Rattle.ring_machine.specs.WellFormed.{are_distinct, WellFormed}
-use Rattle.ring_machine.proofs.First.{In}
-use Rattle.ring_machine.proofs.Found.{distinct_parts, feature_in, feature_stands, feature_found}
-use Rattle.ring_machine.proofs.Instead.{rings_at}
-use Rattle.ring_machine.proofs.Neighbours.{in-flat_map}
-use Rattle.map_frame.specs.Numbers.{polygon_numbers}
-use Rattle.map_frame.proofs.NamedOnce.{one_owner}
-use Rattle.feature_exchange.specs.Under.{polygons_of, rings_under}
+use Rattle.kit_words.proofs.Common.{◌≡◌, ℕ, true, refl, sym, ap, ◌∙◌, subst, List, [], ◌++◌, map, Option, Some, None}
+use Rattle.kit_words.proofs.Common.{option_map, unwrap_or, Vec, flat_map, flat_map-map}
+use Rattle.ring_machine.specs.Common.{FeatureOf, DocumentOf, features, feature, rings, rings_of, are_distinct}
+use Rattle.ring_machine.specs.Common.{WellFormed}
+use Rattle.ring_machine.proofs.Common.{In, distinct_parts, feature_in, feature_stands, feature_found, rings_at}
+use Rattle.ring_machine.proofs.Common.{in-flat_map}
+use Rattle.map_frame.specs.Common.{polygon_numbers}
+use Rattle.map_frame.proofs.Common.{one_owner}
+use Rattle.feature_exchange.specs.Common.{polygons_of, rings_under}
 
 module _ {R : Type 0} (d : DocumentOf R) (n : ℕ) where
   pub polygons_found : (f : FeatureOf R) → feature d n ≡ Some f → polygons_of d n ≡ f.polygons

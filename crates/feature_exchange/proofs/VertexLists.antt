@@ -1,22 +1,17 @@
 -- The vertices of a kept map are the positions of the keys along its rings.
-use Rattle.std.proofs.Common.{◌≡◌, ℕ, true, sym, ap, ◌∙◌, subst, List, [], map, inl, inr, Contains}
-use Rattle.std.specs.Prelude.{unwrap_or}
+use Rattle.kit_words.proofs.Common.{◌≡◌, ℕ, true, sym, ap, ◌∙◌, subst, List, [], map, inl, inr, Contains, unwrap_or}
+use Rattle.kit_words.proofs.Common.{flat_map, fold}
 use Rattle.std.specs.FinMap as table
-use Rattle.std.specs.List.{flat_map, fold}
-use Rattle.grid_geometry.specs.Position.{Position}
-use Rattle.ring_machine.specs.Parts.{rings, positions}
-use Rattle.ring_machine.specs.Query.{add_position, vertices}
-use Rattle.ring_machine.proofs.First.{In}
-use Rattle.ring_machine.proofs.Members.{in_mapped, in_flat, contains_in, in_contains}
-use Rattle.ring_machine.proofs.Neighbours.{in-map, in-flat_map}
-use Rattle.ring_machine.proofs.RingsOf.{rings-in_rings}
-use Rattle.ring_machine.proofs.SortedOnce.{Rising, same_rising, all_rise, in_all, all_in}
-use Rattle.vertex_index.specs.Placement.{Placement, place}
-use Rattle.arc_tables.specs.Rings.{begins}
-use Rattle.ring_store.proofs.KeyRings.{in_canonical, of_canonical}
-use Rattle.feature_exchange.specs.Along.{AreAlong}
-use Rattle.feature_exchange.specs.Holds.{IsWhole}
-use Rattle.feature_exchange.specs.Stored.{Stored, edges_under, positions_along, ring_under, document_of}
+use Rattle.grid_geometry.specs.Common.{Position}
+use Rattle.ring_machine.specs.Common.{rings, positions, add_position, vertices}
+use Rattle.ring_machine.proofs.Common.{In, in_mapped, in_flat, contains_in, in_contains, in-map, in-flat_map}
+use Rattle.ring_machine.proofs.Common.{rings-in_rings, Rising, same_rising, all_rise, in_all}
+use Rattle.ring_machine.proofs.SortedOnce.{all_in}
+use Rattle.vertex_index.specs.Common.{Placement, place}
+use Rattle.arc_tables.specs.Common.{begins}
+use Rattle.ring_store.proofs.Common.{in_canonical, of_canonical}
+use Rattle.feature_exchange.specs.Common.{AreAlong, IsWhole, Stored, edges_under, positions_along, ring_under}
+use Rattle.feature_exchange.specs.Common.{document_of}
 use Rattle.feature_exchange.proofs.Base.{framed, begin_kept}
 
 -- ---- the vertices of a document

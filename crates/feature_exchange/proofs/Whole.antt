@@ -1,21 +1,18 @@
 -- A map that is kept: its tables stand, and tables that stand make it whole.
-use Rattle.std.proofs.Common.{◌≡◌, ◌≤◌, ◌↔◌, ℕ, true, refl, sym, ap, ap₂, ◌∙◌, subst, inl, inr, is_some, ◌-◌, Contains}
-use Rattle.std.specs.Prelude.{IsTrue}
+use Rattle.kit_words.proofs.Common.{◌≡◌, ◌≤◌, ◌↔◌, ℕ, true, refl, sym, ap, ap₂, ◌∙◌, subst, inl, inr, is_some, ◌-◌}
+use Rattle.kit_words.proofs.Common.{Contains, IsTrue}
 use Rattle.std.specs.FinMap as table
 use Rattle.std.specs.FinSet as set
-use Rattle.grid_geometry.specs.Segment.{Segment, segment}
-use Rattle.grid_geometry.proofs.Conflicts.{segment-comm}
-use Rattle.ring_machine.specs.Parts.{rings, size, is_segment}
-use Rattle.ring_machine.specs.Planar.{Proper}
-use Rattle.ring_machine.specs.WellFormed.{are_distinct, WellFormed}
-use Rattle.ring_machine.proofs.Members.{contains_in, in_contains, same_answer}
-use Rattle.topo_outline.specs.Kept.{KeepsTexts}
-use Rattle.vertex_index.specs.Placement.{place}
-use Rattle.segment_index.specs.Candidates.{SegmentSet, has}
-use Rattle.ring_store.proofs.KeyRings.{times_edge, edge_times}
-use Rattle.ring_store.specs.Standing.{IsSide, Stands}
-use Rattle.feature_exchange.specs.Holds.{IsWhole, Holds}
-use Rattle.feature_exchange.specs.Stored.{Stored, document_of}
+use Rattle.grid_geometry.specs.Common.{Segment, segment}
+use Rattle.grid_geometry.proofs.Common.{segment-comm}
+use Rattle.ring_machine.specs.Common.{rings, size, is_segment, Proper, are_distinct, WellFormed}
+use Rattle.ring_machine.proofs.Common.{contains_in, in_contains, same_answer}
+use Rattle.topo_outline.specs.Common.{KeepsTexts}
+use Rattle.vertex_index.specs.Common.{place}
+use Rattle.segment_index.specs.Common.{SegmentSet, has}
+use Rattle.ring_store.proofs.Common.{times_edge, edge_times}
+use Rattle.ring_store.specs.Common.{IsSide, Stands}
+use Rattle.feature_exchange.specs.Common.{IsWhole, Holds, Stored, document_of}
 use Rattle.feature_exchange.proofs.Base.{segment_between, segment_iff}
 
 -- ---- segments of the document are sides of the rings

@@ -1,12 +1,10 @@
 -- What is read along rings: the keys along all rings of a frame, and the ring under a number.
 use Rattle.std.specs.Prelude.{ℕ, ◌↔◌, List, IsTrue, Contains}
 use Rattle.std.specs.FinMap as table
-use Rattle.grid_geometry.specs.Position.{Position}
-use Rattle.ring_machine.specs.Document.{DocumentOf}
-use Rattle.ring_machine.specs.Ring.{canonical}
-use Rattle.ring_machine.specs.Parts.{rings}
-use Rattle.vertex_index.specs.Placement.{Placement}
-use Rattle.arc_tables.specs.Rings.{Rings, begins}
+use Rattle.grid_geometry.specs.Common.{Position}
+use Rattle.ring_machine.specs.Common.{DocumentOf, canonical, rings}
+use Rattle.vertex_index.specs.Common.{Placement}
+use Rattle.arc_tables.specs.Common.{Rings, begins}
 use Rattle.feature_exchange.specs.Stored.{edges_under, positions_along}
 
 -- these are the keys along the rings of a frame, in any order

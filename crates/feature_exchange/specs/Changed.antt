@@ -1,12 +1,9 @@
 -- Features asked for by their numbers: as the code holds them, and as the machine sees them.
 use Rattle.std.specs.Prelude.{ℕ, ◌≡◌, ◌<◌, ◌+◌, true, false, List, map, Option, Some, None, option_map}
-use Rattle.ring_machine.specs.Document.{Feature, Document, DocumentOf}
-use Rattle.ring_machine.specs.Parts.{has_feature}
-use Rattle.ring_machine.specs.Refusals.{is_layer}
-use Rattle.ring_parts.specs.Seen.{polygons_seen}
-use Rattle.edit_records.specs.Places.{LayerTree, grown, exchanged}
-use Rattle.map_frame.specs.Framed.{Framed}
-use Rattle.map_frame.specs.Texts.{with_texts}
+use Rattle.ring_machine.specs.Common.{Feature, Document, DocumentOf, has_feature, is_layer}
+use Rattle.ring_parts.specs.Common.{polygons_seen}
+use Rattle.edit_records.specs.Common.{LayerTree, grown, exchanged}
+use Rattle.map_frame.specs.Common.{Framed, with_texts}
 use Rattle.feature_exchange.specs.declared.change.Change.{Change}
 use Rattle.feature_exchange.specs.declared.change.WholeFeature.{WholeFeature}
 

@@ -2,17 +2,13 @@
 use Rattle.std.specs.Prelude.{ℕ, ◌≡◌, ◌≤◌, ◌↔◌, List, Some, is_some, IsTrue, Contains}
 use Rattle.std.specs.FinMap as table
 use Rattle.std.specs.FinSet as set
-use Rattle.grid_geometry.specs.Segment.{Segment}
-use Rattle.ring_machine.specs.Document.{Document}
-use Rattle.ring_machine.specs.Parts.{rings, size, is_segment}
-use Rattle.ring_machine.specs.Planar.{Proper}
-use Rattle.ring_machine.specs.WellFormed.{are_distinct, WellFormed}
-use Rattle.topo_outline.specs.Kept.{KeepsTexts}
-use Rattle.vertex_index.specs.Placement.{AreDistinct}
-use Rattle.segment_index.specs.Candidates.{SegmentSet}
-use Rattle.arc_tables.specs.Ways.{Edge}
-use Rattle.arc_tables.specs.Rings.{begins}
-use Rattle.ring_store.specs.Round.{GoesRound}
+use Rattle.grid_geometry.specs.Common.{Segment}
+use Rattle.ring_machine.specs.Common.{Document, rings, size, is_segment, Proper, are_distinct, WellFormed}
+use Rattle.topo_outline.specs.Common.{KeepsTexts}
+use Rattle.vertex_index.specs.Common.{AreDistinct}
+use Rattle.segment_index.specs.Common.{SegmentSet}
+use Rattle.arc_tables.specs.Common.{Edge, begins}
+use Rattle.ring_store.specs.Common.{GoesRound}
 use Rattle.feature_exchange.specs.Stored.{Stored, document_of}
 
 -- an edge of ring r begins at the vertex with key k

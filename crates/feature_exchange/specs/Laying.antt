@@ -2,11 +2,11 @@
 use Rattle.std.specs.Prelude.{ℕ, ◌≡◌, List, [], length, Option, None, Some, IsTrue}
 use Rattle.std.specs.FinMap as table
 use Rattle.std.specs.List.{flat_map, sum_by}
-use Rattle.grid_geometry.specs.Position.{Position}
-use Rattle.vertex_index.specs.Placement.{Placement}
-use Rattle.arc_tables.specs.Rings.{Rings}
-use Rattle.ring_parts.specs.Seen.{polygons_seen}
-use Rattle.ring_store.specs.Laid.{numbers_of, ring_at, AreThere, AreAdded, KeepsPlaces}
+use Rattle.grid_geometry.specs.Common.{Position}
+use Rattle.vertex_index.specs.Common.{Placement}
+use Rattle.arc_tables.specs.Common.{Rings}
+use Rattle.ring_parts.specs.Common.{polygons_seen}
+use Rattle.ring_store.specs.Common.{numbers_of, ring_at, AreThere, AreAdded, KeepsPlaces}
 use Rattle.ring_store.specs.declared.laid.LaidRing.{LaidRing}
 use Rattle.ring_store.specs.declared.tables.RingTables.{RingTables}
 use Rattle.feature_exchange.specs.declared.change.Change.{Change}

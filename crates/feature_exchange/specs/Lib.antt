@@ -7,3 +7,4 @@ pub mod Laying
 pub mod Ready
 pub mod RingPlaces
 pub mod Marked
+pub mod Common

@@ -1,15 +1,10 @@
 -- Features exchanged in a frame of ring numbers: when that can be done without memory.
 use Rattle.std.specs.Prelude.{ℕ, ◌≡◌, ◌<◌, true, List, [], ◌∷◌, map, Option, None, Some, option_map, IsTrue, Contains, Vec}
 use Rattle.std.specs.List.{flat_map, AllByRecursion}
-use Rattle.grid_geometry.specs.Position.{Position}
-use Rattle.ring_machine.specs.Document.{FeatureOf, DocumentOf}
-use Rattle.ring_machine.specs.Parts.{feature, rings, rings_of}
-use Rattle.ring_machine.specs.WellFormed.{are_distinct, fits_form}
-use Rattle.edit_records.specs.Places.{AreNumbered, exchanged}
-use Rattle.map_frame.specs.Numbers.{feature_numbers}
-use Rattle.map_frame.specs.Framed.{Framed}
-use Rattle.map_frame.specs.Texts.{texts_of, with_texts}
-use Rattle.map_frame.specs.Placed.{ArePlaced}
+use Rattle.grid_geometry.specs.Common.{Position}
+use Rattle.ring_machine.specs.Common.{FeatureOf, DocumentOf, feature, rings, rings_of, are_distinct, fits_form}
+use Rattle.edit_records.specs.Common.{AreNumbered, exchanged}
+use Rattle.map_frame.specs.Common.{feature_numbers, Framed, texts_of, with_texts, ArePlaced}
 use Rattle.feature_exchange.specs.declared.change.Change.{Change}
 use Rattle.feature_exchange.specs.declared.change.WholeFeature.{WholeFeature}
 

@@ -1,8 +1,8 @@
 -- What is still to come of a ring that is gone round from its least position on.
 use Rattle.std.specs.Prelude.{ℕ, ◌≤◌, ◌+◌, List, ◌++◌, map, take, length, IsTrue, Contains}
 use Rattle.std.specs.FinMap as table
-use Rattle.grid_geometry.specs.Position.{Position}
-use Rattle.vertex_index.specs.Placement.{Placement, place}
+use Rattle.grid_geometry.specs.Common.{Position}
+use Rattle.vertex_index.specs.Common.{Placement, place}
 
 -- so many positions: those under the rest of the keys, and then under all keys from the first on
 abbrev pub positions_left : Placement → List ℕ → List ℕ → ℕ → List Position

@@ -2,14 +2,11 @@
 -- rings, the edges of each ring by its number, and the position of each vertex by its key.
 use Rattle.std.specs.Prelude.{ℕ, List, [], map, unwrap_or}
 use Rattle.std.specs.FinMap as table
-use Rattle.grid_geometry.specs.Position.{Position}
-use Rattle.ring_machine.specs.Ring.{canonical}
-use Rattle.ring_machine.specs.Document.{DocumentOf, Document}
-use Rattle.ring_machine.specs.Parts.{in_rings}
-use Rattle.vertex_index.specs.Placement.{Placement, place}
-use Rattle.arc_tables.specs.Ways.{Edge}
-use Rattle.arc_tables.specs.Rings.{Rings, begins}
-use Rattle.map_frame.specs.Framed.{Framed}
+use Rattle.grid_geometry.specs.Common.{Position}
+use Rattle.ring_machine.specs.Common.{canonical, DocumentOf, Document, in_rings}
+use Rattle.vertex_index.specs.Common.{Placement, place}
+use Rattle.arc_tables.specs.Common.{Edge, Rings, begins}
+use Rattle.map_frame.specs.Common.{Framed}
 use Rattle.ring_store.specs.declared.tables.RingTables.{RingTables}
 
 -- what is kept

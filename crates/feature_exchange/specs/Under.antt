@@ -1,8 +1,7 @@
 -- The rings of a feature in a document.
 use Rattle.std.specs.Prelude.{ℕ, List, [], option_map, unwrap_or}
 use Rattle.std.specs.List.{flat_map}
-use Rattle.ring_machine.specs.Document.{DocumentOf}
-use Rattle.ring_machine.specs.Parts.{feature}
+use Rattle.ring_machine.specs.Common.{DocumentOf, feature}
 
 -- the polygons of feature n, and none where there is no such feature
 abbrev pub polygons_of : {R : Type 0} → DocumentOf R → ℕ → List (List R)

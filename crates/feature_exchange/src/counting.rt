@@ -1,6 +1,6 @@
 // How many positions there are in features that are exchanged.
 ghost use Rattle.std.specs.Prelude.{◌≡◌, ◌<◌, ◌^◌, option_map};
-ghost use Rattle.edit_records.specs.Sizes.{weight, weights};
+ghost use Rattle.edit_records.specs.Common.{weight, weights};
 ghost use Rattle.feature_exchange.specs.Changed.{feature_seen, seen};
 
 use crate::change::{Change, WholeFeature};

@@ -1,11 +1,10 @@
 // The rings of features laid, and listed by their numbers.
 ghost use Rattle.std.specs.Prelude.{◌≡◌, ◌++◌, map, IsTrue, IfOk, OnOk, OnErr};
 ghost use Rattle.std.specs.List.{list_all, flat_map};
-ghost use Rattle.ring_machine.specs.Ring.{is_ring};
-ghost use Rattle.map_frame.specs.Numbers.{polygon_numbers, feature_numbers};
-ghost use Rattle.ring_parts.specs.Seen.{rings_seen, polygons_seen};
-ghost use Rattle.ring_store.specs.Laid.{numbers_of, AreThere};
-ghost use Rattle.ring_store.specs.Tables.{AreStanding, ring_in};
+ghost use Rattle.ring_machine.specs.Common.{is_ring};
+ghost use Rattle.map_frame.specs.Common.{polygon_numbers, feature_numbers};
+ghost use Rattle.ring_parts.specs.Common.{rings_seen, polygons_seen};
+ghost use Rattle.ring_store.specs.Common.{numbers_of, AreThere, AreStanding, ring_in};
 ghost use Rattle.feature_exchange.specs.Laying.{LaysMore, asked, asked_rings, polygons_in};
 
 use crate::change::{Change, WholeFeature};

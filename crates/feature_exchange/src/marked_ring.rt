@@ -2,9 +2,9 @@
 ghost use Rattle.std.specs.Prelude.{◌≡◌, ◌<◌, ◌≤◌, ◌^◌, ◌++◌, ℕ, Bool, true, map, take, drop, length};
 ghost use Rattle.std.specs.Prelude.{Contains, OnOk};
 ghost use Rattle.std.specs.FinMap as table;
-ghost use Rattle.grid_geometry.specs.Position.{Position};
-ghost use Rattle.ring_machine.specs.Ring.{canonical};
-ghost use Rattle.vertex_index.specs.Placement.{place};
+ghost use Rattle.grid_geometry.specs.Common.{Position};
+ghost use Rattle.ring_machine.specs.Common.{canonical};
+ghost use Rattle.vertex_index.specs.Common.{place};
 ghost use Rattle.feature_exchange.specs.Along.{AlongVertices, ring_in};
 ghost use Rattle.feature_exchange.specs.Marked.{meets, MarksAlong};
 

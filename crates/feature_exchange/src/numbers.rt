@@ -1,8 +1,8 @@
 // The numbers of rings: of those that a feature has, and of those that were laid.
 ghost use Rattle.std.specs.Prelude.{◌≡◌, ◌++◌, IfOk, OnOk};
 ghost use Rattle.std.specs.List.{flat_map};
-ghost use Rattle.map_frame.specs.Numbers.{polygon_numbers};
-ghost use Rattle.ring_store.specs.Laid.{numbers_of};
+ghost use Rattle.map_frame.specs.Common.{polygon_numbers};
+ghost use Rattle.ring_store.specs.Common.{numbers_of};
 ghost use Rattle.feature_exchange.specs.Under.{rings_under};
 
 use crate::change::Change;

@@ -2,10 +2,10 @@
 ghost use Rattle.std.specs.Prelude.{◌≡◌, ℕ, true, map, Contains, IfOk};
 ghost use Rattle.std.specs.FinMap as table;
 ghost use Rattle.std.specs.List.{flat_map};
-ghost use Rattle.ring_machine.specs.Refusals.{feature_at};
-ghost use Rattle.map_frame.specs.Numbers.{polygon_numbers};
-ghost use Rattle.ring_parts.specs.Seen.{rings_seen, polygons_seen};
-ghost use Rattle.vertex_index.specs.Placement.{place};
+ghost use Rattle.ring_machine.specs.Common.{feature_at};
+ghost use Rattle.map_frame.specs.Common.{polygon_numbers};
+ghost use Rattle.ring_parts.specs.Common.{rings_seen, polygons_seen};
+ghost use Rattle.vertex_index.specs.Common.{place};
 ghost use Rattle.feature_exchange.specs.Holds.{IsWhole};
 ghost use Rattle.feature_exchange.specs.Stored.{stored_in, document_of};
 ghost use Rattle.feature_exchange.specs.Along.{AlongVertices, ring_in};

@@ -4,8 +4,8 @@ ghost use Rattle.std.specs.Prelude.{ℕ, List, map, length, drop, true};
 ghost use Rattle.std.specs.Prelude.{IfSome, IfNone, Contains};
 ghost use Rattle.std.specs.FinMap as table;
 ghost use Rattle.std.specs.Iterator.{YieldsFirst, item_count};
-ghost use Rattle.ring_machine.specs.Ring.{before, least, canonical};
-ghost use Rattle.vertex_index.specs.Placement.{place};
+ghost use Rattle.ring_machine.specs.Common.{before, least, canonical};
+ghost use Rattle.vertex_index.specs.Common.{place};
 
 use grid_geometry::Pos;
 use shared_arcs::RingKeys;

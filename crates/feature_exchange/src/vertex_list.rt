@@ -2,12 +2,10 @@
 ghost use Rattle.std.specs.Prelude.{◌≡◌, ◌++◌, ℕ, true, [], map, Contains, IfOk, IsTrue, OnOk};
 ghost use Rattle.std.specs.FinMap as table;
 ghost use Rattle.std.specs.List.{flat_map, fold};
-ghost use Rattle.ring_machine.specs.Parts.{features, rings};
+ghost use Rattle.ring_machine.specs.Common.{features, rings, add_position, are_distinct};
 ghost use Rattle.ring_machine.specs.Query as query;
-ghost use Rattle.ring_machine.specs.Query.{add_position};
-ghost use Rattle.ring_machine.specs.WellFormed.{are_distinct};
-ghost use Rattle.arc_tables.specs.Rings.{begins};
-ghost use Rattle.map_frame.specs.Numbers.{polygon_numbers};
+ghost use Rattle.arc_tables.specs.Common.{begins};
+ghost use Rattle.map_frame.specs.Common.{polygon_numbers};
 ghost use Rattle.feature_exchange.specs.Along.{AreAlong};
 ghost use Rattle.feature_exchange.specs.Holds.{IsWhole};
 ghost use Rattle.feature_exchange.specs.Stored.{stored_in, document_of, edges_under};

@@ -1,38 +1,24 @@
 -- A topology of whole numbers is read on its grid as the editor reads it.
-use Rattle.std.proofs.Common.{◌≡◌, ℕ, ◌+◌, ◌≤◌, arith, Bool, true, false, cond, ◌&&◌, List, [], ◌∷◌, ◌++◌, length, map, refl, sym, ap, ap₂, subst, ◌∙◌}
-use Rattle.std.specs.Prelude.{Option, Result, Ok, is_some}
-use Rattle.std.specs.List.{AllByRecursion, AllZip, list_all, filter, flat_map}
-use Rattle.json_spans.specs.Nodes.{Node}
-use Rattle.json_spans.specs.Walk.{items}
-use Rattle.json_spans.proofs.Grouped.{root_value}
-use Rattle.json_spans.proofs.Told.{items_told}
-use Rattle.map_text.proofs.Lists.{each-append}
-use Rattle.grid_geometry.specs.Position.{Position, InRange}
-use Rattle.ring_machine.specs.Document.{Text}
-use Rattle.topo_outline.specs.Faults.{Fault, bad_position, ◌>>=◌, each}
-use Rattle.topo_outline.specs.Layers.{OutlineText}
-use Rattle.topo_outline.specs.Outline.{outline}
-use Rattle.topo_outline.specs.Shape.{is_list}
-use Rattle.topo_outline.proofs.Levels.{is_a_list}
-use Rattle.topo_outline.proofs.Shaped.{outline_means}
-use Rattle.topo_outline.proofs.Steps.{both_true}
-use Rattle.topo_reader.specs.Arcs.{Arc}
-use Rattle.topo_reader.specs.Document.{Polygons, Opened}
-use Rattle.topo_reader.specs.Opening.{walks_read, root_of, OpensIn, OpensWalks}
+use Rattle.kit_words.proofs.Common.{◌≡◌, ℕ, ◌+◌, ◌≤◌, arith, Bool, true, false, cond, ◌&&◌, List, [], ◌∷◌, ◌++◌, length}
+use Rattle.kit_words.proofs.Common.{map, refl, sym, ap, ap₂, subst, ◌∙◌, Option, Result, Ok, is_some, AllByRecursion}
+use Rattle.kit_words.proofs.Common.{AllZip, list_all, filter, flat_map}
+use Rattle.json_spans.specs.Common.{Node, items}
+use Rattle.json_spans.proofs.Common.{root_value, items_told}
+use Rattle.map_text.proofs.Common.{each-append}
+use Rattle.grid_geometry.specs.Common.{Position, InRange}
+use Rattle.ring_machine.specs.Common.{Text}
+use Rattle.topo_outline.specs.Common.{Fault, bad_position, ◌>>=◌, each, OutlineText, outline, is_list}
+use Rattle.topo_outline.proofs.Common.{is_a_list, outline_means, both_true}
+use Rattle.topo_reader.specs.Common.{Arc, Polygons, Opened, walks_read, root_of, OpensIn, OpensWalks, IsSum, Sums}
+use Rattle.topo_reader.specs.Common.{ArePositions, IsArc, AreArcs}
 use Rattle.topo_reader.specs.Positions as editor
-use Rattle.topo_reader.specs.Reads.{IsSum, Sums, ArePositions, IsArc, AreArcs}
 use Rattle.topo_reader.specs.Reads as reads
 use Rattle.topo_reader.proofs.MeaningOfArcs.{are_arcs}
-use Rattle.topo_reader.proofs.MeaningOfText.{made}
-use Rattle.topo_reader.proofs.Steps.{bind_ok, demand_ok, ok_same}
+use Rattle.topo_reader.proofs.Common.{made, bind_ok, demand_ok, ok_same}
 use Rattle.grid_reader.specs.declared.told.Told.{Told}
-use Rattle.grid_reader.specs.declared.wants.Wants.{Wants}
-use Rattle.grid_reader.specs.Fine.{FinePosition, origin, fine_position, before_next, fine_positions, fine_arc, fine_arcs}
-use Rattle.grid_reader.specs.Grid.{arcs_on, finer_by, has_further}
-use Rattle.grid_reader.specs.Opening.{opened_on, grid_opening}
-use Rattle.grid_reader.specs.Told.{IsTold}
-use Rattle.grid_reader.specs.Transform.{transform_on}
-use Rattle.grid_reader.specs.Wholes.{has_wholes}
+use Rattle.grid_reader.specs.Common.{Wants, FinePosition, origin, fine_position, before_next, fine_positions, fine_arc}
+use Rattle.grid_reader.specs.Common.{fine_arcs, arcs_on, finer_by, has_further, opened_on, grid_opening, IsTold}
+use Rattle.grid_reader.specs.Common.{transform_on, has_wholes}
 use Rattle.grid_reader.proofs.Opened.{put, goes_well, opened_parts}
 use Rattle.grid_reader.proofs.WholeNumbers.{scaled, arcs_scaled, steps_of, IsPlain, steps_plain, position_in_units, position_back, no_digits, arcs_unmoved, same_arcs, same_grid}
 

@@ -1,12 +1,7 @@
 -- The greatest of what the coordinates have, as the loops come to it.
-use Rattle.std.proofs.Common.{◌≡◌, ℕ, ◌+◌, ◌<◌, ◌≤◌, List, length, get_or, drop, map, ap}
-use Rattle.std.specs.Prelude.{ℤ, Vec}
-use Rattle.std.specs.List.{fold}
-use Rattle.std.proofs.lemmas.List.{drop_all}
-use Rattle.topo_reader.proofs.Joining.{tail_at}
-use Rattle.grid_reader.specs.declared.fine_pos.FinePos.{FinePos}
-use Rattle.grid_reader.specs.Grid.{greater, greatest_from, coordinates}
-use Rattle.grid_reader.specs.Seen.{fine_seen, arcs_seen}
+use Rattle.kit_words.proofs.Common.{◌≡◌, ℕ, ◌+◌, ◌<◌, ◌≤◌, List, length, get_or, drop, map, ap, ℤ, Vec, fold, drop_all}
+use Rattle.topo_reader.proofs.Common.{tail_at}
+use Rattle.grid_reader.specs.Common.{FinePos, greater, greatest_from, coordinates, fine_seen, arcs_seen}
 
 abbrev pub greatest_in : {A : Type 0} → (ℤ → ℕ) → ℕ → List (Vec FinePos A) → ℕ
 greatest_in f n arcs = fold greater n (map f (coordinates (arcs_seen arcs)))

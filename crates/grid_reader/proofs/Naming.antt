@@ -1,9 +1,7 @@
 -- Looking for a member by its name, as the loop does.
-use Rattle.std.proofs.Common.{◌≡◌, ℕ, List, [], ◌∷◌, true, false}
-use Rattle.std.specs.Prelude.{Option, Some, None}
-use Rattle.json_spans.specs.Nodes.{Node}
-use Rattle.json_spans.specs.Decoded.{decoded}
-use Rattle.grid_reader.specs.Transform.{says, value_named}
+use Rattle.kit_words.proofs.Common.{◌≡◌, ℕ, List, [], ◌∷◌, true, false, Option, Some, None}
+use Rattle.json_spans.specs.Common.{Node, decoded}
+use Rattle.grid_reader.specs.Common.{says, value_named}
 
 pub found : (name : List ℕ) (m : Node × Node) (ms left : List (Node × Node)) (whole : Option Node) → left ≡ m ∷ ms → says name (decoded m.0.bytes) ≡ true → value_named name left ≡ whole → Some m.1 ≡ whole
 unfolding value_named

@@ -1,23 +1,17 @@
 -- The positions that were read are in range on the grid that they are put on.
-use Rattle.std.proofs.Common.{◌≡◌, ℕ, zero, suc, ◌-◌, ◌*◌, ◌≤◌, ◌^◌, Bool, true, false, cond, List, [], ◌∷◌, ◌++◌, map, refl, sym, ap, ◌∙◌, subst, inl, inr, ◌⊎◌, arith}
-use Rattle.std.proofs.Math.Nat.{mul-le-mul_right}
-use Rattle.std.specs.Prelude.{◌&&◌, ◌+ℤ◌, ℤ, Option, Some, None, Ok, unsigned_abs, nat_le}
-use Rattle.std.specs.List.{AllByRecursion, fold, flat_map}
-use Rattle.std.proofs.lemmas.List.{map-append}
-use Rattle.std.proofs.lemmas.List.Sums.{fold-append}
-use Rattle.json_spans.specs.Nodes.{Node}
-use Rattle.json_spans.specs.Walk.{items}
-use Rattle.json_spans.specs.Kinds.{kind_of}
-use Rattle.topo_outline.specs.Shape.{is_list, is_number}
-use Rattle.topo_outline.specs.Faults.{not_whole, out_of_range, bad_position, ◌>>=◌, each}
-use Rattle.topo_reader.specs.Positions.{has_two}
-use Rattle.topo_reader.proofs.Steps.{bind_ok, demand_ok, ok_same, at_most}
-use Rattle.exact_decimals.specs.Decimal.{Parts, parts_of}
-use Rattle.exact_decimals.specs.Fine.{fine}
-use Rattle.grid_reader.specs.declared.wants.Wants.{Wants}
-use Rattle.grid_reader.specs.Fine.{FinePosition, origin, is_within, summed, coordinate, two_of, pair_of, pair, fine_position, before_next, fine_positions, fine_arc, fine_arcs}
-use Rattle.grid_reader.specs.Grid.{xy, coordinates, greater, greatest_from, furthest, most_decimals, lesser, fitting, digits_of}
-use Rattle.grid_reader.specs.Near.{IsNear}
+use Rattle.kit_words.proofs.Common.{◌≡◌, ℕ, zero, suc, ◌-◌, ◌*◌, ◌≤◌, ◌^◌, Bool, true, false, cond, List, [], ◌∷◌, ◌++◌}
+use Rattle.kit_words.proofs.Common.{map, refl, sym, ap, ◌∙◌, subst, inl, inr, ◌⊎◌, arith, mul-le-mul_right, ◌&&◌, ◌+ℤ◌}
+use Rattle.kit_words.proofs.Common.{ℤ, Option, Some, None, Ok, unsigned_abs, nat_le, AllByRecursion, fold, flat_map}
+use Rattle.kit_words.proofs.Common.{map-append, fold-append}
+use Rattle.json_spans.specs.Common.{Node, items, kind_of}
+use Rattle.topo_outline.specs.Common.{is_list, is_number, not_whole, out_of_range, bad_position, ◌>>=◌, each}
+use Rattle.topo_reader.specs.Common.{has_two}
+use Rattle.topo_reader.proofs.Common.{bind_ok, demand_ok, ok_same, at_most}
+use Rattle.exact_decimals.specs.Common.{Parts, parts_of, fine}
+use Rattle.grid_reader.specs.Common.{Wants, FinePosition, origin, is_within, summed, coordinate, two_of, pair_of, pair}
+use Rattle.grid_reader.specs.Common.{fine_position, before_next, fine_positions, fine_arc, fine_arcs, xy, coordinates}
+use Rattle.grid_reader.specs.Common.{greater, greatest_from, furthest, most_decimals, lesser, fitting, digits_of}
+use Rattle.grid_reader.specs.Common.{IsNear}
 
 -- both coordinates are at most so far from 0
 pub record IsUpTo (far : ℕ) (p : FinePosition) : Type 0 where

@@ -1,42 +1,34 @@
 -- The transform of a finer grid is one that opening would keep.
-use Rattle.std.proofs.Common.{◌≡◌, ◌≢◌, ℕ, zero, suc, Bool, true, false, cond, ◌&&◌, List, [], ◌∷◌, ◌++◌, map, refl, sym, ap, ◌∙◌, subst, codes, append_assoc}
-use Rattle.std.specs.Prelude.{Option, Some, None, option_map, Result, Ok, IsTrue, nat_lt, ℤ, pos, ◌==◌}
-use Rattle.std.specs.List.{AllByRecursion, AllPairs, IsDistinct, list_all}
-use Rattle.std.proofs.lemmas.List.{append-nil}
-use Rattle.std.proofs.lemmas.Map.Made.{AllPairs-from_IsDistinct}
-use Rattle.std.proofs.lemmas.Slice.Eq.{bytes_eq-Decides}
+use Rattle.kit_words.proofs.Common.{◌≡◌, ◌≢◌, ℕ, zero, suc, Bool, true, false, cond, ◌&&◌, List, [], ◌∷◌, ◌++◌, map}
+use Rattle.kit_words.proofs.Common.{refl, sym, ap, ◌∙◌, subst, codes, append_assoc, Option, Some, None, option_map}
+use Rattle.kit_words.proofs.Common.{Result, Ok, IsTrue, nat_lt, ℤ, pos, ◌==◌, AllByRecursion, AllPairs, IsDistinct}
+use Rattle.kit_words.proofs.Common.{list_all, append-nil, AllPairs-from_IsDistinct, bytes_eq-Decides}
 use Rattle.serde_json.proofs.OnLiterals.{serde_json_on_literals}
-use Rattle.json_spans.specs.Bytes.{is_digit}
+use Rattle.json_spans.specs.Common.{is_digit, IsValue, IsNumber, IsText, IsListOf, kind_of, Node, decoded, items}
+use Rattle.json_spans.specs.Common.{members, digits_len}
 use Rattle.json_spans.specs.Grammar.{number as a_number, plain_number, zero_first, no_fraction, no_exponent}
-use Rattle.json_spans.specs.Inside.{IsValue, IsNumber, IsText, IsListOf}
-use Rattle.json_spans.specs.Kinds.{kind_of}
-use Rattle.json_spans.specs.Nodes.{Node}
-use Rattle.json_spans.specs.Decoded.{decoded}
-use Rattle.json_spans.specs.Walk.{items, members}
 use Rattle.json_spans.specs.declared.kinds.Kind.{Kind}
 use Rattle.json_spans.specs.declared.kinds.Kind.TheVariants as kind
-use Rattle.json_spans.proofs.Told.{number_told, object_told, object_kind, member_values}
-use Rattle.ring_machine.specs.Document.{Text, Member}
+use Rattle.json_spans.proofs.Common.{number_told, object_told, object_kind, member_values}
+use Rattle.ring_machine.specs.Common.{Text, Member}
 use Rattle.topo_outline.specs.declared.words.Word.TheVariants as word
-use Rattle.topo_outline.specs.Faults.{Fault, ◌>>=◌}
-use Rattle.topo_outline.specs.IsOutline.{value_at, AreTwoNumbers, IsTransform, no_transform, null_transform, transform, NestsAtMost}
-use Rattle.topo_outline.specs.Kept.{IsJson, IsName, IfThere, IsKeptTransform}
-use Rattle.topo_outline.specs.Shape.{is_list, is_number}
-use Rattle.topo_outline.specs.Words.{word_of}
-use Rattle.topo_outline.proofs.Levels.{list_here, list_nests}
-use Rattle.map_text.specs.Text.{list_text, object_text, member}
+use Rattle.topo_outline.specs.Common.{Fault, ◌>>=◌, value_at, AreTwoNumbers, IsTransform, no_transform, null_transform}
+use Rattle.topo_outline.specs.Common.{transform, NestsAtMost, IsJson, IsName, IfThere, IsKeptTransform, is_list}
+use Rattle.topo_outline.specs.Common.{is_number, word_of}
+use Rattle.topo_outline.proofs.Common.{list_here, list_nests}
+use Rattle.map_text.specs.Common.{list_text, object_text, member}
 use Rattle.map_text.proofs.GrammarLists.{bytes_of, list_is_json, has_texts}
 use Rattle.map_text.proofs.GrammarObjects.{IsMember, object_is_json}
 use Rattle.map_text.proofs.MembersKnown.{plain_name}
 use Rattle.map_text.proofs.MembersSeen.{seen_value, value_seen, all_seen, object_seen}
-use Rattle.topo_reader.specs.Positions.{two_of}
-use Rattle.topo_reader.proofs.Steps.{bind_ok, ok_same}
-use Rattle.exact_decimals.specs.Decimal.{Parts, parts_of, unsigned, behind_integer, with_exponent, exponent_of, digits_of, behind_digits}
-use Rattle.exact_decimals.specs.Shifted.{shifted_text}
+use Rattle.topo_reader.specs.Common.{two_of}
+use Rattle.topo_reader.proofs.Common.{bind_ok, ok_same}
+use Rattle.exact_decimals.specs.Common.{Parts, parts_of, unsigned, behind_integer, with_exponent, exponent_of}
+use Rattle.exact_decimals.specs.Common.{digits_of, behind_digits, shifted_text}
 use Rattle.exact_decimals.proofs.Values.{front_passes}
 use Rattle.exact_decimals.proofs.Written.{shifted_number}
-use Rattle.json_spans.specs.Whole.{digits_len}
-use Rattle.grid_reader.specs.Transform.{says, value_named, both_numbers, two_numbers, two_in, there, number, transform_text, one_shifted, divided, transform_on}
+use Rattle.grid_reader.specs.Common.{says, value_named, both_numbers, two_numbers, two_in, there, number}
+use Rattle.grid_reader.specs.Common.{transform_text, one_shifted, divided, transform_on}
 
 -- ---- the text, of four numbers
 

@@ -1,25 +1,15 @@
 -- What opening on a grid is made of, and what it means.
-use Rattle.std.proofs.Common.{◌≡◌, ℕ, ◌+◌, ◌≤◌, map, not, ◌||◌, List, length, refl, sym, ap, ◌∙◌, subst}
-use Rattle.std.specs.Prelude.{◌==◌, Option, Result, Ok, Err, IfOk, is_some, codes}
-use Rattle.json_spans.specs.Grammar.{Json}
-use Rattle.json_spans.specs.Nodes.{Node}
-use Rattle.ring_machine.specs.Document.{Text}
+use Rattle.kit_words.proofs.Common.{◌≡◌, ℕ, ◌+◌, ◌≤◌, map, not, ◌||◌, List, length, refl, sym, ap, ◌∙◌, subst, ◌==◌}
+use Rattle.kit_words.proofs.Common.{Option, Result, Ok, Err, IfOk, is_some, codes}
+use Rattle.json_spans.specs.Common.{Json, Node}
+use Rattle.ring_machine.specs.Common.{Text}
 use Rattle.topo_outline.specs.declared.fault.OpenFault.{OpenFault}
-use Rattle.topo_outline.specs.Faults.{Fault, unsupported, ◌>>=◌}
-use Rattle.topo_outline.specs.Gives.{Fails, Gives}
-use Rattle.topo_outline.specs.Layers.{OutlineText}
-use Rattle.topo_outline.specs.Outline.{outline}
-use Rattle.topo_outline.proofs.Walking.{carry}
-use Rattle.topo_reader.specs.Document.{Polygons, Opened, document_of, IsOfWalks}
-use Rattle.topo_reader.specs.Opening.{walks_read, root_of}
-use Rattle.topo_reader.proofs.MeaningOfText.{made}
-use Rattle.topo_reader.proofs.OfRings.{along_of_walks, walks_along_meant}
-use Rattle.topo_reader.proofs.Steps.{bind_ok, demand_ok, ok_same}
-use Rattle.grid_reader.specs.declared.wants.Wants.{Wants}
-use Rattle.grid_reader.specs.Fine.{FinePosition, fine_arcs}
-use Rattle.grid_reader.specs.Grid.{arcs_on, finer_by, digits_of, on_grid}
-use Rattle.grid_reader.specs.Opening.{has_points, demand_points_lie, opened_on, grid_opening, AreOnGrid, ReadsOnGrid}
-use Rattle.grid_reader.specs.Transform.{transform_on}
+use Rattle.topo_outline.specs.Common.{Fault, unsupported, ◌>>=◌, Fails, Gives, OutlineText, outline}
+use Rattle.topo_outline.proofs.Common.{carry}
+use Rattle.topo_reader.specs.Common.{Polygons, Opened, document_of, IsOfWalks, walks_read, root_of}
+use Rattle.topo_reader.proofs.Common.{made, along_of_walks, walks_along_meant, bind_ok, demand_ok, ok_same}
+use Rattle.grid_reader.specs.Common.{Wants, FinePosition, fine_arcs, arcs_on, finer_by, digits_of, on_grid, has_points}
+use Rattle.grid_reader.specs.Common.{demand_points_lie, opened_on, grid_opening, AreOnGrid, ReadsOnGrid, transform_on}
 use Rattle.grid_reader.proofs.NewTransform.{transform_kept}
 
 abbrev pub put : OutlineText → Option Text → List Polygons → Opened

@@ -1,11 +1,10 @@
 -- How far a coordinate may be from 0.
 use mir.Syntax.{w128}
 use mir.Val.{SFits}
-use Rattle.std.proofs.Common.{◌≡◌, ℕ, ◌-◌, ◌<◌, ◌≤◌, ◌^◌, false, arith}
-use Rattle.std.specs.Prelude.{ℤ, pos, negsuc, ◌+ℤ◌, unsigned_abs, nat_le}
-use Rattle.std.proofs.lemmas.Int.{ints}
-use Rattle.exact_decimals.proofs.Powers.{power_mono}
-use Rattle.grid_reader.specs.Fine.{is_within}
+use Rattle.kit_words.proofs.Common.{◌≡◌, ℕ, ◌-◌, ◌<◌, ◌≤◌, ◌^◌, false, arith, ℤ, pos, negsuc, ◌+ℤ◌, unsigned_abs}
+use Rattle.kit_words.proofs.Common.{nat_le, ints}
+use Rattle.exact_decimals.proofs.Common.{power_mono}
+use Rattle.grid_reader.specs.Common.{is_within}
 
 pub power_fits : (finer : ℕ) → 10 ^ (36 - finer) ≤ 10 ^ 36
 power_fits finer = power_mono (36 - finer) 36 (omega arith)

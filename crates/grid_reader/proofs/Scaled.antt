@@ -1,16 +1,13 @@
 -- Coordinates on a grid: by which powers of ten they are multiplied, and that they stay in range.
 use mir.Syntax.{w64}
 use mir.Val.{SFits, of_z, to_z}
-use Rattle.std.proofs.Common.{◌≡◌, ℕ, zero, suc, ◌+◌, ◌-◌, ◌*◌, ◌<◌, ◌≤◌, ◌^◌, refl, ap, ap₂, sym, ◌∙◌, arith}
-use Rattle.std.specs.Prelude.{ℤ, pos, negsuc, ◌+ℤ◌, ◌*ℤ◌, unsigned_abs}
-use Rattle.std.specs.Int.{int_div_euclid}
-use Rattle.std.proofs.lemmas.Int.{ints, to_z-of_z}
-use Rattle.std.proofs.lemmas.Nat.{div_below, pow-add}
-use Rattle.std.proofs.Math.Nat.{le_of_mul-le-mul_right, mul-le-mul_right, mul_assoc}
-use Rattle.topo_reader.proofs.Steps.{at_least}
-use Rattle.exact_decimals.specs.Fine.{rounded}
-use Rattle.exact_decimals.proofs.Powers.{power_pos, power_mono}
-use Rattle.grid_reader.specs.Grid.{fitting}
+use Rattle.kit_words.proofs.Common.{◌≡◌, ℕ, zero, suc, ◌+◌, ◌-◌, ◌*◌, ◌<◌, ◌≤◌, ◌^◌, refl, ap, ap₂, sym, ◌∙◌, arith, ℤ}
+use Rattle.kit_words.proofs.Common.{pos, negsuc, ◌+ℤ◌, ◌*ℤ◌, unsigned_abs, int_div_euclid, ints, to_z-of_z, div_below}
+use Rattle.kit_words.proofs.Common.{pow-add, le_of_mul-le-mul_right, mul-le-mul_right, mul_assoc}
+use Rattle.topo_reader.proofs.Common.{at_least}
+use Rattle.exact_decimals.specs.Common.{rounded}
+use Rattle.exact_decimals.proofs.Common.{power_pos, power_mono}
+use Rattle.grid_reader.specs.Common.{fitting}
 use Rattle.grid_reader.proofs.Reach.{not_at_least}
 
 -- two powers of ten together are one

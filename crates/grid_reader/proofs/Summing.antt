@@ -1,16 +1,12 @@
 -- Reading the positions of an arc one after another, as the loop does.
-use Rattle.std.proofs.Common.{◌≡◌, ℕ, List, [], ◌∷◌, ◌++◌, map, refl, sym, ap, ◌∙◌}
-use Rattle.std.specs.Prelude.{Bool, ℤ, Result, Ok}
-use Rattle.std.proofs.lemmas.List.{append-nil, map-append}
-use Rattle.json_spans.specs.Nodes.{Node}
-use Rattle.topo_outline.specs.Gives.{Fails}
+use Rattle.kit_words.proofs.Common.{◌≡◌, ℕ, List, [], ◌∷◌, ◌++◌, map, refl, sym, ap, ◌∙◌, Bool, ℤ, Result, Ok}
+use Rattle.kit_words.proofs.Common.{append-nil, map-append}
+use Rattle.json_spans.specs.Common.{Node}
+use Rattle.topo_outline.specs.Common.{Fails, Fault}
 use Rattle.topo_outline.specs.declared.fault.OpenFault.{OpenFault}
-use Rattle.topo_outline.specs.Faults.{Fault}
-use Rattle.topo_outline.proofs.Walking.{with_front, carry, regroup}
-use Rattle.grid_reader.specs.declared.fine_pos.FinePos.{FinePos}
-use Rattle.grid_reader.specs.declared.wants.Wants.{Wants}
-use Rattle.grid_reader.specs.Fine.{FinePosition, coordinate, pair_of, fine_position, fine_positions, before_next}
-use Rattle.grid_reader.specs.Seen.{fine_seen}
+use Rattle.topo_outline.proofs.Common.{with_front, carry, regroup}
+use Rattle.grid_reader.specs.Common.{FinePos, Wants, FinePosition, coordinate, pair_of, fine_position, fine_positions}
+use Rattle.grid_reader.specs.Common.{before_next, fine_seen}
 
 pub turn : (wants : Wants) (delta : Bool) (before : FinePosition) (front : List FinePos) (p : FinePos) (n : Node) (ns left : List Node) (whole : Result (List FinePosition) Fault) → left ≡ n ∷ ns → fine_position wants before n ≡ Ok (fine_seen p) → with_front (map fine_seen front) (fine_positions wants delta before left) ≡ whole →
     with_front (map fine_seen (front ++ p ∷ [])) (fine_positions wants delta (before_next delta (fine_seen p)) ns) ≡ whole

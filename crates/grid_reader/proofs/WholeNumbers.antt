@@ -1,41 +1,27 @@
 -- Whole numbers as the editor reads them, and in units of 10^-24 as they are read and put on a grid.
-use Rattle.std.proofs.Common.{◌≡◌, ℕ, suc, ◌+◌, ◌-◌, ◌*◌, ◌<◌, ◌≤◌, ◌^◌, ◌%◌, ◌/◌, arith, Bool, true, false, ◌&&◌, List, [], ◌∷◌, length, map, take, refl, sym, ap, ap₂, ◌∙◌}
-use Rattle.std.specs.Prelude.{ℤ, pos, negsuc, ◌+ℤ◌, ◌*ℤ◌, unsigned_abs, Option, Some, None, Result, Ok, Err, is_ok, nat_le}
-use Rattle.std.specs.Int.{int_div_euclid}
-use Rattle.std.specs.List.{list_all, fold, flat_map}
-use Rattle.std.proofs.lemmas.Bool.Decides.{nat_tests}
-use Rattle.std.proofs.lemmas.Int.{ints, unsigned_abs-mul}
-use Rattle.std.proofs.lemmas.List.{map-append}
-use Rattle.std.proofs.lemmas.List.Sums.{fold-append}
-use Rattle.json_spans.specs.Bytes.{is_digit}
-use Rattle.json_spans.specs.Grammar.{digits}
-use Rattle.json_spans.specs.Inside.{IsValue, IsNumber}
-use Rattle.json_spans.specs.Kinds.{kind_from, kind_of}
-use Rattle.json_spans.specs.Nodes.{Node}
-use Rattle.json_spans.specs.Walk.{items}
-use Rattle.json_spans.specs.Whole.{IsWhole, plain, negative, whole_of}
+use Rattle.kit_words.proofs.Common.{◌≡◌, ℕ, suc, ◌+◌, ◌-◌, ◌*◌, ◌<◌, ◌≤◌, ◌^◌, ◌%◌, ◌/◌, arith, Bool, true, false, ◌&&◌}
+use Rattle.kit_words.proofs.Common.{List, [], ◌∷◌, length, map, take, refl, sym, ap, ap₂, ◌∙◌, ℤ, pos, negsuc, ◌+ℤ◌}
+use Rattle.kit_words.proofs.Common.{◌*ℤ◌, unsigned_abs, Option, Some, None, Result, Ok, Err, is_ok, nat_le}
+use Rattle.kit_words.proofs.Common.{int_div_euclid, list_all, fold, flat_map, nat_tests, ints, unsigned_abs-mul}
+use Rattle.kit_words.proofs.Common.{map-append, fold-append}
+use Rattle.json_spans.specs.Common.{is_digit, digits, IsValue, IsNumber, kind_from, kind_of, Node, items, IsWhole}
+use Rattle.json_spans.specs.Common.{plain, negative, whole_of}
 use Rattle.json_spans.specs.declared.kinds.Kind.TheVariants as kind
 use Rattle.json_spans.specs.declared.number.NotWhole.{NotWhole}
-use Rattle.json_spans.proofs.Grouped.{number_kind}
-use Rattle.json_spans.proofs.Meant.{whole_read}
-use Rattle.json_spans.proofs.Told.{items_told, item_values, number_told}
+use Rattle.json_spans.proofs.Common.{number_kind, whole_read, items_told, item_values, number_told}
 use Rattle.grid_geometry.specs.Position.{Position, position as placed, InRange}
-use Rattle.topo_outline.specs.Faults.{not_whole, out_of_range, bad_position, ◌>>=◌}
-use Rattle.topo_outline.specs.Shape.{is_list, is_number}
-use Rattle.topo_outline.proofs.Levels.{is_a_list}
-use Rattle.topo_outline.proofs.Steps.{both_true}
-use Rattle.topo_reader.specs.Arcs.{Arc}
+use Rattle.topo_outline.specs.Common.{not_whole, out_of_range, bad_position, ◌>>=◌, is_list, is_number}
+use Rattle.topo_outline.proofs.Common.{is_a_list, both_true}
+use Rattle.topo_reader.specs.Common.{Arc, IsSum}
 use Rattle.topo_reader.specs.Positions as editor
-use Rattle.topo_reader.specs.Reads.{IsSum}
-use Rattle.topo_reader.proofs.Steps.{bind_ok, demand_ok, ok_same, at_least, at_most}
-use Rattle.exact_decimals.specs.Decimal.{Parts, parts_of}
-use Rattle.exact_decimals.specs.Fine.{fine, decimals, rounded}
+use Rattle.topo_reader.proofs.Common.{bind_ok, demand_ok, ok_same, at_least, at_most}
+use Rattle.exact_decimals.specs.Common.{Parts, parts_of, fine, decimals, rounded}
 use Rattle.exact_decimals.proofs.Wholes.{whole_has_parts, whole_is_fine}
 use Rattle.exact_decimals.proofs.Zeros.{zeros_all}
-use Rattle.grid_reader.specs.declared.wants.Wants.{Wants}
-use Rattle.grid_reader.specs.Fine.{FinePosition, is_within, summed, coordinate, two_of, pair_of, pair, fine_position}
-use Rattle.grid_reader.specs.Grid.{xy, coordinates, greater, greatest_from, most_decimals, lesser, fitting, furthest, digits_of, on_grid, arcs_on, finer_by, has_further}
-use Rattle.grid_reader.specs.Wholes.{is_whole, has_wholes}
+use Rattle.grid_reader.specs.Common.{Wants, FinePosition, is_within, summed, coordinate, two_of, pair_of, pair}
+use Rattle.grid_reader.specs.Common.{fine_position, xy, coordinates, greater, greatest_from, most_decimals, lesser}
+use Rattle.grid_reader.specs.Common.{fitting, furthest, digits_of, on_grid, arcs_on, finer_by, has_further, is_whole}
+use Rattle.grid_reader.specs.Common.{has_wholes}
 use Rattle.grid_reader.proofs.Reach.{not_at_least}
 
 -- ---- whole numbers in units

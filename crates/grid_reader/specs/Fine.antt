@@ -1,14 +1,11 @@
 -- The positions of the arcs in units of 10^-24: the first fault in the order of the text, or all of
 -- them (TopoJSON 1.0, 2.1.1 to 2.1.3).
 use Rattle.std.specs.Prelude.{ℕ, ◌-◌, ◌^◌, ◌&&◌, ℤ, pos, ◌+ℤ◌, unsigned_abs, List, [], ◌∷◌, Bool, true, false, nat_le, Option, Some, None, Result, Ok, Err}
-use Rattle.json_spans.specs.Nodes.{Node}
-use Rattle.json_spans.specs.Walk.{items}
-use Rattle.json_spans.specs.Kinds.{kind_of}
-use Rattle.topo_outline.specs.Shape.{is_list, is_number}
-use Rattle.topo_outline.specs.Faults.{Fault, not_whole, out_of_range, bad_position, ◌>>=◌, each, demand}
-use Rattle.topo_reader.specs.Positions.{has_two}
-use Rattle.exact_decimals.specs.Decimal.{Parts, parts_of}
-use Rattle.exact_decimals.specs.Fine.{fine}
+use Rattle.json_spans.specs.Common.{Node, items, kind_of}
+use Rattle.topo_outline.specs.Common.{is_list, is_number, Fault, not_whole, out_of_range, bad_position, ◌>>=◌, each}
+use Rattle.topo_outline.specs.Common.{demand}
+use Rattle.topo_reader.specs.Common.{has_two}
+use Rattle.exact_decimals.specs.Common.{Parts, parts_of, fine}
 use Rattle.grid_reader.specs.declared.wants.Wants.{Wants}
 
 -- a position, in units of 10^-24

@@ -1,11 +1,10 @@
 -- The grid that positions are put on: how many decimals it has, and where they stand on it.
 use Rattle.std.specs.Prelude.{ℕ, zero, suc, ◌+◌, ◌-◌, ◌*◌, ◌^◌, ◌||◌, ℤ, pos, ◌*ℤ◌, unsigned_abs, Bool, nat_le, if◌then◌else◌, List, [], ◌∷◌, map, length}
 use Rattle.std.specs.List.{flat_map, fold, filter}
-use Rattle.json_spans.specs.Nodes.{Node}
-use Rattle.json_spans.specs.Walk.{items}
-use Rattle.grid_geometry.specs.Position.{Position, position}
-use Rattle.topo_reader.specs.Arcs.{Arc}
-use Rattle.exact_decimals.specs.Fine.{decimals, rounded, is_rounded}
+use Rattle.json_spans.specs.Common.{Node, items}
+use Rattle.grid_geometry.specs.Common.{Position, position}
+use Rattle.topo_reader.specs.Common.{Arc}
+use Rattle.exact_decimals.specs.Common.{decimals, rounded, is_rounded}
 use Rattle.grid_reader.specs.declared.wants.Wants.{Wants}
 use Rattle.grid_reader.specs.Fine.{FinePosition}
 

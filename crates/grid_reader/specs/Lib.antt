@@ -9,3 +9,4 @@ pub mod OnGridView
 pub mod Wholes
 pub mod Told
 pub mod PointDigits
+pub mod Common

@@ -1,8 +1,7 @@
 -- What was read on a grid, as the definitions see it.
 use Rattle.std.specs.Prelude.{map}
-use Rattle.topo_outline.specs.Views.{view_layer, view_kept}
-use Rattle.topo_reader.specs.Document.{Opened}
-use Rattle.topo_reader.specs.Uses.{feature_positions}
+use Rattle.topo_outline.specs.Common.{view_layer, view_kept}
+use Rattle.topo_reader.specs.Common.{Opened, feature_positions}
 use Rattle.grid_reader.specs.declared.reading.OnGrid.{OnGrid}
 use Rattle.grid_reader.specs.TransformView.{view_transform}
 

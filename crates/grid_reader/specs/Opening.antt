@@ -1,15 +1,10 @@
 -- What a topology means on the grid that is asked for.
 use Rattle.std.specs.Prelude.{◌≡◌, ℕ, ◌==◌, ◌||◌, Bool, true, false, not, List, codes, is_some, Result, Ok}
 use Rattle.std.specs.List.{list_any}
-use Rattle.json_spans.specs.Nodes.{Node}
-use Rattle.ring_machine.specs.Document.{Document}
-use Rattle.topo_outline.specs.Faults.{Fault, unsupported, ◌>>=◌, demand}
-use Rattle.topo_outline.specs.Layers.{Piece, text, LayerText, OutlineText}
-use Rattle.topo_outline.specs.Outline.{outline}
-use Rattle.topo_reader.specs.Arcs.{Arc}
-use Rattle.topo_reader.specs.Document.{Opened}
-use Rattle.topo_reader.specs.Opening.{walks_read}
-use Rattle.topo_reader.specs.Reads.{IsWalk, ReadsWith}
+use Rattle.json_spans.specs.Common.{Node}
+use Rattle.ring_machine.specs.Common.{Document}
+use Rattle.topo_outline.specs.Common.{Fault, unsupported, ◌>>=◌, demand, Piece, text, LayerText, OutlineText, outline}
+use Rattle.topo_reader.specs.Common.{Arc, Opened, walks_read, IsWalk, ReadsWith}
 use Rattle.grid_reader.specs.declared.wants.Wants.{Wants}
 use Rattle.grid_reader.specs.Fine.{FinePosition, fine_arcs}
 use Rattle.grid_reader.specs.Grid.{arcs_on, finer_by}

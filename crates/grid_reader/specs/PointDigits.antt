@@ -1,9 +1,7 @@
 -- How many decimals the grid keeps, where a topology has points that lie on another one.
 use Rattle.std.specs.Prelude.{ℕ, ◌==◌, if◌then◌else◌, true, is_some, List, Option, Some, None, Result, Ok, Err}
-use Rattle.topo_outline.specs.Faults.{Fault}
-use Rattle.topo_outline.specs.Layers.{OutlineText}
-use Rattle.topo_outline.specs.Outline.{outline}
-use Rattle.topo_reader.specs.Opening.{root_of}
+use Rattle.topo_outline.specs.Common.{Fault, OutlineText, outline}
+use Rattle.topo_reader.specs.Common.{root_of}
 use Rattle.grid_reader.specs.declared.wants.Wants.{Wants}
 use Rattle.grid_reader.specs.Fine.{FinePosition, fine_arcs}
 use Rattle.grid_reader.specs.Grid.{digits_of, finer_by}

@@ -1,9 +1,8 @@
 -- What is told of the grid that a map was put on.
 use Rattle.std.specs.Prelude.{◌≡◌, ℕ, List, is_some, if◌then◌else◌, Ok}
-use Rattle.json_spans.specs.Nodes.{Node}
-use Rattle.topo_outline.specs.Layers.{OutlineText}
-use Rattle.topo_outline.specs.Outline.{outline}
-use Rattle.topo_reader.specs.Opening.{root_of}
+use Rattle.json_spans.specs.Common.{Node}
+use Rattle.topo_outline.specs.Common.{OutlineText, outline}
+use Rattle.topo_reader.specs.Common.{root_of}
 use Rattle.grid_reader.specs.declared.wants.Wants.{Wants}
 use Rattle.grid_reader.specs.declared.told.Told.{Told}
 use Rattle.grid_reader.specs.Fine.{FinePosition, fine_arcs}

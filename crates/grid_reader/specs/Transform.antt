@@ -1,16 +1,11 @@
 -- The transform of a grid that is finer by a power of ten (TopoJSON 1.0, 2.1.2).
 use Rattle.std.specs.Prelude.{ℕ, zero, suc, pos, ◌&&◌, Bool, false, List, [], ◌∷◌, ◌++◌, codes, Option, Some, None, if◌then◌else◌, Result, Ok, Err}
 use Rattle.std.specs.Str.{bytes_eq}
-use Rattle.json_spans.specs.Nodes.{Node}
-use Rattle.json_spans.specs.Walk.{items, members}
-use Rattle.json_spans.specs.Kinds.{kind_of}
-use Rattle.json_spans.specs.Decoded.{decoded}
-use Rattle.ring_machine.specs.Document.{Text}
-use Rattle.topo_outline.specs.Shape.{is_list, is_number}
-use Rattle.topo_outline.specs.Faults.{Fault, bad_member, ◌>>=◌}
-use Rattle.topo_reader.specs.Positions.{two_of}
-use Rattle.exact_decimals.specs.Decimal.{Parts, parts_of}
-use Rattle.exact_decimals.specs.Shifted.{shifted_text}
+use Rattle.json_spans.specs.Common.{Node, items, members, kind_of, decoded}
+use Rattle.ring_machine.specs.Common.{Text}
+use Rattle.topo_outline.specs.Common.{is_list, is_number, Fault, bad_member, ◌>>=◌}
+use Rattle.topo_reader.specs.Common.{two_of}
+use Rattle.exact_decimals.specs.Common.{Parts, parts_of, shifted_text}
 
 -- ---- what stands in a transform
 

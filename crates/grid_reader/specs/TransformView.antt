@@ -1,6 +1,6 @@
 -- The transform that the code makes, as the definitions see it.
 use Rattle.std.specs.Prelude.{Option, Some, option_map}
-use Rattle.ring_machine.specs.Document.{Text}
+use Rattle.ring_machine.specs.Common.{Text}
 use Rattle.grid_reader.specs.declared.transform.Transform.{Transform}
 use Rattle.grid_reader.specs.declared.transform.Transform.TheVariants.{Kept, Made}
 

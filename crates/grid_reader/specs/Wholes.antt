@@ -1,9 +1,7 @@
 -- Whether the coordinates of a topology are written as whole numbers, as the editor takes them.
 use Rattle.std.specs.Prelude.{Bool, take, is_ok}
 use Rattle.std.specs.List.{flat_map, list_all}
-use Rattle.json_spans.specs.Nodes.{Node}
-use Rattle.json_spans.specs.Walk.{items}
-use Rattle.json_spans.specs.Whole.{whole_of}
+use Rattle.json_spans.specs.Common.{Node, items, whole_of}
 
 -- a whole number: no exponent, and zeros alone behind the point (RFC 8259, 6)
 abbrev pub is_whole : Node → Bool

@@ -1,12 +1,11 @@
 // The positions of the arcs in units of 10^-24 (TopoJSON 1.0, 2.1.1 to 2.1.3).
 ghost use Rattle.std.specs.Prelude.{◌≡◌, ◌≤◌, ◌^◌, true, Some, option_map, IfOk, unsigned_abs};
-ghost use Rattle.json_spans.specs.Left.{node};
-ghost use Rattle.json_spans.specs.Walk.{items};
-ghost use Rattle.topo_outline.specs.Gives.{Gives};
-ghost use Rattle.exact_decimals.specs.Seen.{parts};
+ghost use Rattle.json_spans.specs.Common.{node, items};
+ghost use Rattle.topo_outline.specs.Common.{Gives};
+ghost use Rattle.exact_decimals.specs.Common.{parts};
 ghost use Rattle.grid_reader.specs.Fine.{origin, is_within, summed, coordinate, two_of, pair_of, fine_position, before_next, fine_positions, fine_arc, fine_arcs};
 ghost use Rattle.grid_reader.specs.Seen.{fine_seen, arc_seen, arcs_seen};
-ghost use Rattle.topo_reader.specs.Positions.{has_two};
+ghost use Rattle.topo_reader.specs.Common.{has_two};
 
 use crate::fine_pos::FinePos;
 use crate::wants::Wants;

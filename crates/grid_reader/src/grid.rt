@@ -1,10 +1,9 @@
 // The grid that positions are put on: how many decimals it has, and where they stand on it.
 ghost use Rattle.std.specs.Prelude.{◌≡◌, ◌≤◌, ◌*◌, ◌+◌, ◌^◌, map, length, unsigned_abs, IfOk, IfSome, ◌-◌, ◌*ℤ◌, pos};
 ghost use Rattle.std.specs.List.{filter, list_all, AllByRecursion};
-ghost use Rattle.json_spans.specs.Left.{node};
-ghost use Rattle.json_spans.specs.Walk.{items};
-ghost use Rattle.exact_decimals.specs.Fine.{decimals, rounded};
-ghost use Rattle.topo_reader.specs.Uses.{positions_of};
+ghost use Rattle.json_spans.specs.Common.{node, items};
+ghost use Rattle.exact_decimals.specs.Common.{decimals, rounded};
+ghost use Rattle.topo_reader.specs.Common.{positions_of};
 ghost use Rattle.grid_reader.specs.Grid.{greater, lesser, greatest_from, most_decimals, furthest, fitting, digits_of, on_grid, is_moved, moved, has_further, heights};
 ghost use Rattle.grid_reader.specs.Near.{IsNear};
 ghost use Rattle.grid_reader.specs.Seen.{fine_seen, arcs_seen};

@@ -1,10 +1,8 @@
 // How many decimals the grid keeps, where a topology has points that lie on another one.
 ghost use Rattle.std.specs.Prelude.{◌≡◌, ◌≢◌, ◌≤◌, ◌<◌, length, None, IfOk, OnOk, IfSome};
 ghost use Rattle.std.specs.List.{AllByRecursion};
-ghost use Rattle.json_spans.specs.Grammar.{Json};
-ghost use Rattle.json_spans.specs.Left.{node};
-ghost use Rattle.topo_outline.specs.Outline.{outline};
-ghost use Rattle.topo_outline.specs.OutlineView.{view_outline, IsPlaced};
+ghost use Rattle.json_spans.specs.Common.{Json, node};
+ghost use Rattle.topo_outline.specs.Common.{outline, view_outline, IsPlaced};
 ghost use Rattle.grid_reader.specs.Grid.{digits_of};
 ghost use Rattle.grid_reader.specs.Near.{IsNear};
 ghost use Rattle.grid_reader.specs.PointDigits.{where_read, digits_kept, digits_at, point_digits};

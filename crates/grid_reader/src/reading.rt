@@ -1,13 +1,10 @@
 // From the bytes of a topology to its walks on a grid.
 ghost use Rattle.std.specs.Prelude.{◌≡◌, ◌≤◌, ◌+◌, IfOk, IfErr, IfSome, map};
 ghost use Rattle.std.specs.List.{list_any, AllByRecursion};
-ghost use Rattle.json_spans.specs.Left.{node};
-ghost use Rattle.topo_outline.specs.Gives.{Gives};
-ghost use Rattle.topo_outline.specs.Views.{view_item, view_layer};
-ghost use Rattle.topo_outline.specs.OutlineView.{view_outline, IsPlaced};
-ghost use Rattle.topo_reader.specs.Document.{document_of, IsOfWalks};
-ghost use Rattle.topo_reader.specs.Opening.{walks_read, OpensIn, IsFaultIn};
-ghost use Rattle.topo_reader.specs.Uses.{feature_positions};
+ghost use Rattle.json_spans.specs.Common.{node};
+ghost use Rattle.topo_outline.specs.Common.{Gives, view_item, view_layer, view_outline, IsPlaced};
+ghost use Rattle.topo_reader.specs.Common.{document_of, IsOfWalks, walks_read, OpensIn, IsFaultIn};
+ghost use Rattle.topo_reader.specs.Common.{feature_positions};
 ghost use Rattle.grid_reader.specs.Opening.{is_text, has_points, demand_points_lie, opened_on, grid_opening, ReadsOnGrid};
 ghost use Rattle.grid_reader.specs.Grid.{most_decimals, digits_of, on_grid};
 ghost use Rattle.grid_reader.specs.Near.{IsNear};

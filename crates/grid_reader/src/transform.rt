@@ -1,12 +1,9 @@
 // The transform of a grid that is finer by a power of ten (TopoJSON 1.0, 2.1.2).
 ghost use Rattle.std.specs.Prelude.{◌≡◌, ◌≤◌, Ok, option_map, IfOk, None, Some, codes};
-ghost use Rattle.json_spans.specs.Left.{node};
-ghost use Rattle.json_spans.specs.Walk.{items, members};
-ghost use Rattle.json_spans.specs.Decoded.{decoded};
-ghost use Rattle.topo_outline.specs.Gives.{Gives};
-ghost use Rattle.exact_decimals.specs.Seen.{parts};
-ghost use Rattle.exact_decimals.specs.Shifted.{shifted_text};
-ghost use Rattle.topo_reader.specs.Positions.{two_of};
+ghost use Rattle.json_spans.specs.Common.{node, items, members, decoded};
+ghost use Rattle.topo_outline.specs.Common.{Gives};
+ghost use Rattle.exact_decimals.specs.Common.{parts, shifted_text};
+ghost use Rattle.topo_reader.specs.Common.{two_of};
 ghost use Rattle.grid_reader.specs.Transform.{says, value_named, two_numbers, two_in, transform_text, divided, transform_on, number};
 ghost use Rattle.grid_reader.specs.TransformView.{view_transform};
 

@@ -1,14 +1,9 @@
 -- Going over bytes that neither open nor close nor escape.
-use Rattle.std.proofs.Common.{◌≡◌, ℕ, zero, suc, ◌+◌, ◌-◌, ◌<◌, ◌≤◌, List, [], ◌∷◌, ◌++◌, length, take, drop, refl, sym, ap, ◌∙◌, arith, Bool, true, false, not, cond}
-use Rattle.std.specs.Prelude.{Some}
-use Rattle.std.specs.List.{prefix_len, count_by}
-use Rattle.std.proofs.lemmas.Bool.Decides.{nat_tests}
-use Rattle.std.proofs.lemmas.List.{drop-drop, take_all, length-drop}
-use Rattle.std.proofs.lemmas.List.Sums.{sum_by-cons}
-use Rattle.json_spans.specs.declared.parts.Skip.{Skip}
-use Rattle.json_spans.specs.declared.parts.Skip.TheVariants.{Plain, Quoted, Escaped}
-use Rattle.json_spans.specs.Parts.{skip_step, part_len}
-use Rattle.json_spans.specs.Blocks.{is_calm, is_quote, is_odd, turned, is_escaped}
+use Rattle.kit_words.proofs.Common.{◌≡◌, ℕ, zero, suc, ◌+◌, ◌-◌, ◌<◌, ◌≤◌, List, [], ◌∷◌, ◌++◌, length, take, drop}
+use Rattle.kit_words.proofs.Common.{refl, sym, ap, ◌∙◌, arith, Bool, true, false, not, cond, Some, prefix_len, count_by}
+use Rattle.kit_words.proofs.Common.{nat_tests, drop-drop, take_all, length-drop, sum_by-cons}
+use Rattle.json_spans.specs.Common.{Skip, Plain, Quoted, Escaped, skip_step, part_len, is_calm, is_quote, is_odd}
+use Rattle.json_spans.specs.Common.{turned, is_escaped}
 
 calm_step : (sep : ℕ) (s : Skip) (level x : ℕ) → is_calm x ≡ true → 0 < level → is_escaped s ≡ false → skip_step sep s level x ≡ Some (turned s (is_quote x), level)
 calm_step sep Plain level x calm lt e = grind (arith, nat_tests)

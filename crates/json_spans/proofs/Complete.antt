@@ -1,19 +1,22 @@
 -- What is in the grammar the machine accepts.
-use Rattle.std.proofs.Common.{◌≡◌, ℕ, suc, ◌+◌, ◌<◌, List, [], ◌∷◌, length, Bool, true, false, refl, arith, inl, inr, ◌⊎◌}
-use Rattle.std.specs.Prelude.{◌==◌, nat_lt, Option, Some}
-use Rattle.std.proofs.lemmas.Bool.{lt-ltb}
-use Rattle.json_spans.specs.Bytes.{is_space, is_digit, is_nonzero, is_e}
-use Rattle.json_spans.specs.declared.machine.Frame.{Frame}
+use Rattle.kit_words.proofs.Common.{◌≡◌, ℕ, suc, ◌+◌, ◌<◌, List, [], ◌∷◌, length, Bool, true, false, refl, arith, inl}
+use Rattle.kit_words.proofs.Common.{inr, ◌⊎◌, ◌==◌, nat_lt, Option, Some, lt-ltb}
+use Rattle.json_spans.specs.Common.{is_space, is_digit, is_nonzero, is_e, Frame, Within, Escape, Hex4, Hex3, Hex2, Hex1}
+use Rattle.json_spans.specs.Common.{Tail1, Tail2, Tail3, AfterE0, AfterEd, AfterF0, AfterF4, Mode, Goes, Opens, Closes}
+use Rattle.json_spans.specs.Common.{Fails, follows, word_step, string_step, closes_text, step, run, may_end, top_of}
+use Rattle.json_spans.specs.Common.{rest_of, first_in, good, verdict, Space, no_space, space, Digits, no_digit, digit}
+use Rattle.json_spans.specs.Common.{SomeDigits, digits, Signed, sign, unsigned, Exponent, no_exponent, exponent}
+use Rattle.json_spans.specs.Common.{Fraction, no_fraction, fraction, Unsigned, zero_first, digit_first, Number, minus}
+use Rattle.json_spans.specs.Common.{plain_number, Chars, quote, ascii, two, three, three_e0, three_ed, four, four_f0}
+use Rattle.json_spans.specs.Common.{four_f4, escape, code, Value, null, yes, no, number, text, list, object, Items}
+use Rattle.json_spans.specs.Common.{no_item, some_items, SomeItems, item, MoreItems, list_end, next_item, Members}
+use Rattle.json_spans.specs.Common.{no_member, some_members, SomeMembers, name, Named, member, MoreMembers, object_end}
+use Rattle.json_spans.specs.Common.{next_member, Json, json}
 use Rattle.json_spans.specs.declared.machine.Frame.TheVariants as frame
-use Rattle.json_spans.specs.declared.machine.Within.{Within}
-use Rattle.json_spans.specs.declared.machine.Within.TheVariants.{Plain, Escape, Hex4, Hex3, Hex2, Hex1, Tail1, Tail2, Tail3, AfterE0, AfterEd, AfterF0, AfterF4}
+use Rattle.json_spans.specs.declared.machine.Within.TheVariants.{Plain}
 use Rattle.json_spans.specs.declared.machine.Word as words
 use Rattle.json_spans.specs.declared.machine.Word.TheVariants as word
-use Rattle.json_spans.specs.declared.machine.Mode.{Mode}
 use Rattle.json_spans.specs.declared.machine.Mode.TheVariants as mode
-use Rattle.json_spans.specs.declared.machine.Move.TheVariants.{Goes, Opens, Closes, Fails}
-use Rattle.json_spans.specs.Machine.{follows, word_step, string_step, closes_text, step, run, may_end, top_of, rest_of, first_in, good, verdict}
-use Rattle.json_spans.specs.Grammar.{Space, no_space, space, Digits, no_digit, digit, SomeDigits, digits, Signed, sign, unsigned, Exponent, no_exponent, exponent, Fraction, no_fraction, fraction, Unsigned, zero_first, digit_first, Number, minus, plain_number, Chars, quote, ascii, two, three, three_e0, three_ed, four, four_f0, four_f4, escape, code, Value, null, yes, no, number, text, list, object, Items, no_item, some_items, SomeItems, item, MoreItems, list_end, next_item, Members, no_member, some_members, SomeMembers, name, Named, member, MoreMembers, object_end, next_member, Json, json}
 use Rattle.json_spans.proofs.Completes.{room}
 use Rattle.json_spans.proofs.Apart.{two_steps, three_steps, four_steps, two_plain, three_plain, four_plain, ascii_plain, ascii_steps, escape_plain, digit_ends, e_ends, point_ends, nonzero_begins, e_apart, sign_apart}
 

@@ -1,12 +1,15 @@
 -- What stands at the front of a text stands before every other rest too.
-use Rattle.std.proofs.Common.{◌≡◌, ℕ, List, [], ◌∷◌, ◌++◌, Bool, true, false, refl, sym, ap, subst, ◌∙◌, arith}
-use Rattle.std.specs.Prelude.{reverse}
-use Rattle.std.specs.List.{take_while}
-use Rattle.std.proofs.lemmas.Bool.Decides.{nat_tests}
-use Rattle.std.proofs.lemmas.List.{append_assoc, append-nil, reverse-append}
-use Rattle.std.proofs.lemmas.List.Sums.{take_while-cons}
-use Rattle.json_spans.specs.Bytes.{is_space, is_digit, is_nonzero, is_e, is_sign}
-use Rattle.json_spans.specs.Grammar.{Space, no_space, space, Digits, no_digit, digit, SomeDigits, digits, Signed, sign, unsigned, Exponent, no_exponent, exponent, Fraction, no_fraction, fraction, Unsigned, zero_first, digit_first, Number, minus, plain_number, Chars, quote, ascii, two, three, three_e0, three_ed, four, four_f0, four_f4, escape, code, Value, null, yes, no, number, text, list, object, Items, no_item, some_items, SomeItems, item, MoreItems, list_end, next_item, Members, no_member, some_members, SomeMembers, name, Named, member, MoreMembers, object_end, next_member}
+use Rattle.kit_words.proofs.Common.{◌≡◌, ℕ, List, [], ◌∷◌, ◌++◌, Bool, true, false, refl, sym, ap, subst, ◌∙◌, arith}
+use Rattle.kit_words.proofs.Common.{reverse, take_while, nat_tests, append-nil, reverse-append, take_while-cons}
+use Rattle.std.proofs.lemmas.List.{append_assoc}
+use Rattle.json_spans.specs.Common.{is_space, is_digit, is_nonzero, is_e, is_sign, Space, no_space, space, Digits}
+use Rattle.json_spans.specs.Common.{no_digit, digit, SomeDigits, digits, Signed, sign, unsigned, Exponent, no_exponent}
+use Rattle.json_spans.specs.Common.{exponent, Fraction, no_fraction, fraction, Unsigned, zero_first, digit_first}
+use Rattle.json_spans.specs.Common.{Number, minus, plain_number, Chars, quote, ascii, two, three, three_e0, three_ed}
+use Rattle.json_spans.specs.Common.{four, four_f0, four_f4, escape, code, Value, null, yes, no, number, text, list}
+use Rattle.json_spans.specs.Common.{object, Items, no_item, some_items, SomeItems, item, MoreItems, list_end, next_item}
+use Rattle.json_spans.specs.Common.{Members, no_member, some_members, SomeMembers, name, Named, member, MoreMembers}
+use Rattle.json_spans.specs.Common.{object_end, next_member}
 use Rattle.json_spans.proofs.Completes.{Part, Then}
 
 -- ---- the ends of texts

@@ -1,18 +1,16 @@
 -- A list and an object of the grammar, put together from what stands inside.
-use Rattle.std.proofs.Common.{◌≡◌, ℕ, zero, suc, ◌+◌, List, [], ◌∷◌, ◌++◌, length, true, refl, sym, ap, subst, ◌∙◌, arith}
-use Rattle.std.specs.List.{All}
-use Rattle.std.proofs.lemmas.Bool.Decides.{nat_tests}
-use Rattle.std.proofs.lemmas.List.{append_assoc, append-nil}
-use Rattle.std.specs.List.{AllByRecursion}
-use Rattle.std.proofs.lemmas.List.Elements.{All-from_recursion}
-use Rattle.json_spans.specs.Bytes.{is_nonzero}
+use Rattle.kit_words.proofs.Common.{◌≡◌, ℕ, zero, suc, ◌+◌, List, [], ◌∷◌, ◌++◌, length, true, refl, sym, ap, subst}
+use Rattle.kit_words.proofs.Common.{◌∙◌, arith, All, nat_tests, append-nil, AllByRecursion, All-from_recursion}
+use Rattle.std.proofs.lemmas.List.{append_assoc}
+use Rattle.json_spans.specs.Common.{is_nonzero, kind_from, kind_of, kind_by, IsKind, trimmed, items, members, Space}
+use Rattle.json_spans.specs.Common.{Number, minus, plain_number, zero_first, digit_first, Value, null, yes, no, number}
+use Rattle.json_spans.specs.Common.{text, list, object, Items, no_item, some_items, SomeItems, item, MoreItems}
+use Rattle.json_spans.specs.Common.{list_end, next_item, Members, no_member, some_members, SomeMembers, name, member}
+use Rattle.json_spans.specs.Common.{MoreMembers, object_end, next_member, Json, json, IsValue, IsText, quoted, Padded}
+use Rattle.json_spans.specs.Common.{padded, Pair, pair, Parted, last_part, next_part, Bracketed, no_part, parts, ListOf}
+use Rattle.json_spans.specs.Common.{ObjectOf, Below, HasItems, HasMembers, ItemsAreValues, MembersAreValues}
 use Rattle.json_spans.specs.Parts.{Node}
-use Rattle.json_spans.specs.Kinds.{kind_from, kind_of, kind_by, IsKind}
 use Rattle.json_spans.specs.declared.kinds.Kind.TheVariants as kind
-use Rattle.json_spans.specs.Trimmed.{trimmed}
-use Rattle.json_spans.specs.Walk.{items, members}
-use Rattle.json_spans.specs.Grammar.{Space, Number, minus, plain_number, zero_first, digit_first, Value, null, yes, no, number, text, list, object, Items, no_item, some_items, SomeItems, item, MoreItems, list_end, next_item, Members, no_member, some_members, SomeMembers, name, member, MoreMembers, object_end, next_member, Json, json}
-use Rattle.json_spans.specs.Inside.{IsValue, IsText, quoted, Padded, padded, Pair, pair, Parted, last_part, next_part, Bracketed, no_part, parts, ListOf, ObjectOf, Below, HasItems, HasMembers, ItemsAreValues, MembersAreValues}
 use Rattle.json_spans.proofs.Framing.{space_framed, chars_framed, value_framed, alone}
 use Rattle.json_spans.proofs.Padding.{stands, value_solid, trimmed_is}
 use Rattle.json_spans.proofs.Itemized.{only_items, only_members}

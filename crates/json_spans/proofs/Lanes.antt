@@ -1,13 +1,9 @@
 -- Masks of the bytes of a block.
-use Rattle.std.proofs.Common.{◌≡◌, ℕ, zero, suc, ◌+◌, ◌*◌, ◌/◌, ◌%◌, ◌^◌, ◌<◌, ◌≤◌, ltb, Bool, true, false, not, cond, List, [], ◌∷◌, map, length, take, replicate, refl, ap, ap₂, ◌∙◌, arith, w8, Fits}
-use Rattle.std.proofs.Math.Arith.{mod-mul}
-use Rattle.std.proofs.Math.Nat.{one-le-pow, pow-succ'}
-use Rattle.std.proofs.lemmas.Bool.{agree_below, agree_below_at}
-use Rattle.std.proofs.lemmas.Simd.{mask_l-mod, trailing_mask_l, zip2_splat, map-map}
-use Rattle.std.proofs.lemmas.List.{length-map}
-use Rattle.std.specs.List.{prefix_len}
-use lib.Count.{count_trailing_zeros}
-use lib.Lanes.{mask_l, top, Each1, zip2}
+use Rattle.kit_words.proofs.Common.{◌≡◌, ℕ, zero, suc, ◌+◌, ◌*◌, ◌/◌, ◌%◌, ◌^◌, ◌<◌, ◌≤◌, ltb, Bool, true, false, not}
+use Rattle.kit_words.proofs.Common.{cond, List, [], ◌∷◌, map, length, take, replicate, refl, ap, ap₂, ◌∙◌, arith, w8}
+use Rattle.kit_words.proofs.Common.{Fits, mod-mul, one-le-pow, pow-succ', agree_below, agree_below_at, mask_l-mod}
+use Rattle.kit_words.proofs.Common.{trailing_mask_l, zip2_splat, map-map, length-map, prefix_len, count_trailing_zeros}
+use Rattle.kit_words.proofs.Common.{mask_l, top, Each1, zip2}
 
 each_byte : (f : ℕ → ℕ) (p : ℕ → Bool) → agree_below (λ x. top 7 (f x)) p 256 ≡ true → (v : List ℕ) → Each1 (Fits w8) v → map (top 7) (map f v) ≡ map p v
 each_byte f p all [] fits = refl

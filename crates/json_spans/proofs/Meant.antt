@@ -1,15 +1,14 @@
 -- What whole numbers mean.
-use Rattle.std.proofs.Common.{◌≡◌, ℕ, zero, suc, ◌+◌, ◌<◌, List, [], ◌∷◌, ◌++◌, length, take, drop, Bool, true, false, refl, sym, subst, ◌∙◌, cond, arith, inl, inr, ◌⊎◌}
-use Rattle.std.specs.Prelude.{◌==◌, ◌&&◌, ◌^◌, nat_lt, nat_le, ℤ, pos, negsuc, unsigned_abs, Option, Some, None, Ok, Err}
-use Rattle.std.specs.List.{list_all}
-use Rattle.std.proofs.lemmas.Bool.{eqb-true, lt-ltb, ltb-true}
-use Rattle.std.proofs.lemmas.Bool.Decides.{nat_tests}
-use Rattle.std.proofs.lemmas.List.{take-append-drop}
-use Rattle.std.proofs.lemmas.List.Folds.{length-prefix_len}
-use Rattle.std.proofs.Math.Seq.{drop-append_seam, take-append_seam}
-use Rattle.json_spans.specs.Bytes.{is_digit}
-use Rattle.json_spans.specs.Grammar.{Digits, no_digit, digit, SomeDigits, digits}
-use Rattle.json_spans.specs.Whole.{value_from, is_zero, is_whole_rest, digits_len, whole_digits, minus, signed, whole_of, NoFraction, no_point, point, IsWhole, plain, negative, held, Means}
+use Rattle.kit_words.proofs.Common.{◌≡◌, ℕ, zero, suc, ◌+◌, ◌<◌, List, [], ◌∷◌, ◌++◌, length, take, drop, Bool, true}
+use Rattle.kit_words.proofs.Common.{false, refl, sym, subst, ◌∙◌, cond, arith, inl, inr, ◌⊎◌, ◌==◌, ◌&&◌, ◌^◌, nat_lt}
+use Rattle.kit_words.proofs.Common.{nat_le, ℤ, pos, negsuc, unsigned_abs, Option, Some, None, Ok, Err, list_all, lt-ltb}
+use Rattle.kit_words.proofs.Common.{ltb-true, nat_tests, take-append-drop, length-prefix_len, drop-append_seam}
+use Rattle.kit_words.proofs.Common.{take-append_seam}
+use Rattle.std.proofs.lemmas.Bool.{eqb-true}
+use Rattle.json_spans.specs.Common.{is_digit, Digits, no_digit, digit, SomeDigits, digits, value_from, is_zero}
+use Rattle.json_spans.specs.Common.{is_whole_rest, digits_len, whole_digits, signed, whole_of, NoFraction, no_point}
+use Rattle.json_spans.specs.Common.{point, IsWhole, plain, negative, held, Means}
+use Rattle.json_spans.specs.Whole.{minus}
 use Rattle.json_spans.specs.declared.number.NotWhole.TheVariants.{Form}
 
 -- ---- a whole number is read

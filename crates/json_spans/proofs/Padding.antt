@@ -1,17 +1,13 @@
 -- What has space round it.
-use Rattle.std.proofs.Common.{◌≡◌, ℕ, ◌+◌, ◌-◌, List, [], ◌∷◌, ◌++◌, length, drop, true, false, refl, sym, ap, subst, ◌∙◌, arith}
-use Rattle.std.specs.Prelude.{reverse}
-use Rattle.std.specs.List.{take_while}
-use Rattle.std.proofs.lemmas.Bool.Decides.{nat_tests}
-use Rattle.std.proofs.lemmas.List.{append_assoc, append-nil, reverse-append, length-append}
-use Rattle.std.proofs.lemmas.List.Sums.{take_while-cons}
-use Rattle.std.proofs.Math.Seq.{drop-append_seam, take-append_seam}
-use Rattle.json_spans.specs.Bytes.{is_space, is_nonzero}
-use Rattle.json_spans.specs.Parts.{Node, has_first, closes}
-use Rattle.json_spans.specs.Trimmed.{spaces_before, spaces_behind, before_spaces, trimmed}
-use Rattle.json_spans.specs.Grammar.{Space, no_space, space, Number, minus, plain_number, zero_first, digit_first, Value, null, yes, no, number, text, list, object}
-use Rattle.json_spans.specs.Inside.{IsValue, IsText, quoted, Padded, padded}
-use Rattle.json_spans.specs.declared.parts.Skip.TheVariants.{Plain}
+use Rattle.kit_words.proofs.Common.{◌≡◌, ℕ, ◌+◌, ◌-◌, List, [], ◌∷◌, ◌++◌, length, drop, true, false, refl, sym, ap}
+use Rattle.kit_words.proofs.Common.{subst, ◌∙◌, arith, reverse, take_while, nat_tests, append-nil, reverse-append}
+use Rattle.kit_words.proofs.Common.{length-append, take_while-cons, drop-append_seam, take-append_seam}
+use Rattle.std.proofs.lemmas.List.{append_assoc}
+use Rattle.json_spans.specs.Common.{is_space, is_nonzero, has_first, closes, spaces_before, spaces_behind}
+use Rattle.json_spans.specs.Common.{before_spaces, trimmed, Space, no_space, space, Number, minus, plain_number}
+use Rattle.json_spans.specs.Common.{zero_first, digit_first, Value, null, yes, no, number, text, list, object, IsValue}
+use Rattle.json_spans.specs.Common.{IsText, quoted, Padded, padded, Plain}
+use Rattle.json_spans.specs.Parts.{Node}
 use Rattle.json_spans.proofs.Completes.{Part}
 use Rattle.json_spans.proofs.Framing.{Framed, Firm, space_framed, chars_framed, value_framed}
 use Rattle.json_spans.proofs.Skipping.{Alike, NoSpace, spaces_skip}

@@ -1,10 +1,9 @@
 -- Going over a part.
-use Rattle.std.proofs.Common.{◌≡◌, ℕ, zero, suc, ◌+◌, ◌<◌, ◌≤◌, List, [], ◌∷◌, length, take, drop, get_or, refl, sym, ap, arith, add-one, drop-cons, Bool, true, false, cond}
-use Rattle.std.specs.Prelude.{Option, Some, None, ◌==◌}
-use Rattle.std.proofs.lemmas.List.{drop_all, length-drop}
-use Rattle.json_spans.specs.declared.parts.Skip.{Skip}
-use Rattle.json_spans.specs.declared.parts.Skip.TheVariants.{Plain}
-use Rattle.json_spans.specs.Parts.{skip_step, part_len, Node, after_comma, if_more, parts_from, parts_left}
+use Rattle.kit_words.proofs.Common.{◌≡◌, ℕ, zero, suc, ◌+◌, ◌<◌, ◌≤◌, List, [], ◌∷◌, length, take, drop, get_or, refl}
+use Rattle.kit_words.proofs.Common.{sym, ap, arith, add-one, drop-cons, Bool, true, false, cond, Option, Some, None}
+use Rattle.kit_words.proofs.Common.{◌==◌, drop_all, length-drop}
+use Rattle.json_spans.specs.Common.{Skip, Plain, skip_step, part_len, after_comma, if_more, parts_from, parts_left}
+use Rattle.json_spans.specs.Parts.{Node}
 
 pub part_len_goes : (sep : ℕ) (s t : Skip) (level below i : ℕ) (xs : List ℕ) (d whole : ℕ) → i < length xs → Some (t, below) ≡ skip_step sep s level (get_or xs i d) → i + part_len sep s level (drop i xs) ≡ whole →
     (i + 1) + part_len sep t below (drop (i + 1) xs) ≡ whole

@@ -1,9 +1,7 @@
 -- A list has no more items than bytes, and what stands inside is no longer than the whole.
-use Rattle.std.proofs.Common.{ℕ, suc, ◌+◌, ◌≤◌, List, [], ◌∷◌, ◌++◌, length, arith}
-use Rattle.std.specs.List.{AllByRecursion}
-use Rattle.std.proofs.lemmas.List.{length-append}
-use Rattle.json_spans.specs.Nodes.{Node}
-use Rattle.json_spans.specs.Inside.{Padded, padded, Pair, pair, Parted, last_part, next_part, Bracketed, no_part, parts, IsListOf, IsObjectOf}
+use Rattle.kit_words.proofs.Common.{ℕ, suc, ◌+◌, ◌≤◌, List, [], ◌∷◌, ◌++◌, length, arith, AllByRecursion, length-append}
+use Rattle.json_spans.specs.Common.{Node, Padded, padded, Pair, pair, Parted, last_part, next_part, Bracketed, no_part}
+use Rattle.json_spans.specs.Common.{parts, IsListOf, IsObjectOf}
 
 -- ---- as many as bytes
 

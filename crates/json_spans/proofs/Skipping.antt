@@ -1,12 +1,15 @@
 -- A part ends where the grammar's value ends.
-use Rattle.std.proofs.Common.{◌≡◌, ℕ, ◌+◌, ◌-◌, ◌≤◌, List, [], ◌∷◌, true, false, refl, ◌∙◌, arith}
-use Rattle.std.specs.Prelude.{◌==◌, ◌||◌, Option, Some, None}
-use Rattle.std.proofs.lemmas.Bool.Decides.{nat_tests}
-use Rattle.json_spans.specs.Bytes.{is_space, is_digit, is_hex, is_tail, is_nonzero, is_e, is_sign, is_ascii, is_three}
-use Rattle.json_spans.specs.declared.parts.Skip.{Skip}
-use Rattle.json_spans.specs.declared.parts.Skip.TheVariants.{Plain, Quoted, Escaped}
-use Rattle.json_spans.specs.Parts.{skip_step, opens, closes}
-use Rattle.json_spans.specs.Grammar.{Space, no_space, space, Digits, no_digit, digit, SomeDigits, digits, sign, unsigned, Exponent, no_exponent, exponent, Fraction, no_fraction, fraction, Unsigned, zero_first, digit_first, Number, minus, plain_number, Chars, quote, ascii, two, three, three_e0, three_ed, four, four_f0, four_f4, escape, code, Value, null, yes, no, number, text, list, object, Items, no_item, some_items, SomeItems, item, MoreItems, list_end, next_item, Members, no_member, some_members, SomeMembers, name, Named, member, MoreMembers, object_end, next_member}
+use Rattle.kit_words.proofs.Common.{◌≡◌, ℕ, ◌+◌, ◌-◌, ◌≤◌, List, [], ◌∷◌, true, false, refl, ◌∙◌, arith, ◌==◌, ◌||◌}
+use Rattle.kit_words.proofs.Common.{Option, Some, None, nat_tests}
+use Rattle.json_spans.specs.Common.{is_space, is_digit, is_hex, is_tail, is_nonzero, is_e, is_sign, is_ascii, is_three}
+use Rattle.json_spans.specs.Common.{Skip, Plain, Quoted, Escaped, skip_step, opens, closes, Space, no_space, space}
+use Rattle.json_spans.specs.Common.{Digits, no_digit, digit, SomeDigits, digits, sign, unsigned, Exponent, no_exponent}
+use Rattle.json_spans.specs.Common.{exponent, Fraction, no_fraction, fraction, Unsigned, zero_first, digit_first}
+use Rattle.json_spans.specs.Common.{Number, minus, plain_number, Chars, quote, ascii, two, three, three_e0, three_ed}
+use Rattle.json_spans.specs.Common.{four, four_f0, four_f4, escape, code, Value, null, yes, no, number, text, list}
+use Rattle.json_spans.specs.Common.{object, Items, no_item, some_items, SomeItems, item, MoreItems, list_end, next_item}
+use Rattle.json_spans.specs.Common.{Members, no_member, some_members, SomeMembers, name, Named, member, MoreMembers}
+use Rattle.json_spans.specs.Common.{object_end, next_member}
 
 -- what is left where the first part ends
 abbrev pub rest_after : Option (Skip × ℕ) → List ℕ → (Skip → ℕ → List ℕ) → List ℕ

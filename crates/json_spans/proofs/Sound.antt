@@ -1,20 +1,25 @@
 -- What the machine accepts is in the grammar.
-use Rattle.std.proofs.Common.{◌≡◌, ℕ, suc, ◌+◌, ◌<◌, List, [], ◌∷◌, length, Bool, true, false, refl, sym, ap, subst, arith, cond}
-use Rattle.std.specs.Prelude.{IsTrue, ◌==◌, ◌&&◌, nat_lt, Option, Some, None, option_map}
-use Rattle.std.proofs.lemmas.Bool.{eqb-true, ltb-true}
-use Rattle.json_spans.specs.Bytes.{is_space, is_digit, is_hex, is_escape, is_tail, is_nonzero, is_e, is_sign, is_ascii, is_two, is_three, is_four, is_tail_e0, is_tail_ed, is_tail_f0, is_tail_f4}
-use Rattle.json_spans.specs.declared.machine.Frame.{Frame}
+use Rattle.kit_words.proofs.Common.{◌≡◌, ℕ, suc, ◌+◌, ◌<◌, List, [], ◌∷◌, length, Bool, true, false, refl, sym, ap}
+use Rattle.kit_words.proofs.Common.{subst, arith, cond, IsTrue, ◌==◌, ◌&&◌, nat_lt, Option, Some, None, option_map}
+use Rattle.kit_words.proofs.Common.{ltb-true}
+use Rattle.std.proofs.lemmas.Bool.{eqb-true}
+use Rattle.json_spans.specs.Common.{is_space, is_digit, is_hex, is_escape, is_tail, is_nonzero, is_e, is_sign, is_ascii}
+use Rattle.json_spans.specs.Common.{is_two, is_three, is_four, is_tail_e0, is_tail_ed, is_tail_f0, is_tail_f4, Frame}
+use Rattle.json_spans.specs.Common.{Within, Escape, Hex4, Hex3, Hex2, Hex1, Tail1, Tail2, Tail3, AfterE0, AfterEd}
+use Rattle.json_spans.specs.Common.{AfterF0, AfterF4, Mode, Move, Goes, Opens, Closes, Fails, begins, follows}
+use Rattle.json_spans.specs.Common.{word_step, lead, string_step, closes_text, goes, only, step, run, moved, at_end}
+use Rattle.json_spans.specs.Common.{may_end, top_of, rest_of, first_in, Verdict, good, too_deep, verdict, no_space}
+use Rattle.json_spans.specs.Common.{space, no_digit, digit, digits, sign, unsigned, no_exponent, exponent, no_fraction}
+use Rattle.json_spans.specs.Common.{fraction, zero_first, digit_first, minus, plain_number, Chars, quote, ascii, two}
+use Rattle.json_spans.specs.Common.{three, three_e0, three_ed, four, four_f0, four_f4, escape, code, Value, null, yes}
+use Rattle.json_spans.specs.Common.{no, number, text, list, object, no_item, some_items, item, list_end, next_item}
+use Rattle.json_spans.specs.Common.{no_member, some_members, name, Named, member, object_end, next_member, Json, json}
 use Rattle.json_spans.specs.declared.machine.Frame.TheVariants as frame
-use Rattle.json_spans.specs.declared.machine.Within.{Within}
-use Rattle.json_spans.specs.declared.machine.Within.TheVariants.{Plain, Escape, Hex4, Hex3, Hex2, Hex1, Tail1, Tail2, Tail3, AfterE0, AfterEd, AfterF0, AfterF4}
+use Rattle.json_spans.specs.declared.machine.Within.TheVariants.{Plain}
 use Rattle.json_spans.specs.declared.machine.Word as words
 use Rattle.json_spans.specs.declared.machine.Word.TheVariants as word
-use Rattle.json_spans.specs.declared.machine.Mode.{Mode}
 use Rattle.json_spans.specs.declared.machine.Mode.TheVariants as mode
-use Rattle.json_spans.specs.declared.machine.Move.{Move}
-use Rattle.json_spans.specs.declared.machine.Move.TheVariants.{Goes, Opens, Closes, Fails}
-use Rattle.json_spans.specs.Machine.{begins, follows, after_comma, closes, word_step, lead, string_step, closes_text, goes, only, step, run, moved, at_end, may_end, top_of, rest_of, first_in, Verdict, good, too_deep, verdict}
-use Rattle.json_spans.specs.Grammar.{no_space, space, no_digit, digit, digits, sign, unsigned, no_exponent, exponent, no_fraction, fraction, zero_first, digit_first, minus, plain_number, Chars, quote, ascii, two, three, three_e0, three_ed, four, four_f0, four_f4, escape, code, Value, null, yes, no, number, text, list, object, no_item, some_items, item, list_end, next_item, no_member, some_members, name, Named, member, object_end, next_member, Json, json}
+use Rattle.json_spans.specs.Machine.{after_comma, closes}
 use Rattle.json_spans.proofs.Completes.{Part, Then, Byte, byte, CharsFrom, room, After, Ends, Completes, Leads}
 
 -- ---- tests

@@ -1,12 +1,9 @@
 -- The kind of a value tells its case of the grammar, and the walk its parts.
-use Rattle.std.proofs.Common.{◌≡◌, ℕ, zero, suc, List, ◌∷◌, refl, ap}
-use Rattle.std.specs.List.{AllByRecursion}
-use Rattle.json_spans.specs.Grammar.{Value, null, yes, no, number, text, list, object}
-use Rattle.json_spans.specs.Nodes.{Node}
-use Rattle.json_spans.specs.Kinds.{kind_of}
+use Rattle.kit_words.proofs.Common.{◌≡◌, ℕ, zero, suc, List, ◌∷◌, refl, ap, AllByRecursion}
+use Rattle.json_spans.specs.Common.{Value, null, yes, no, number, text, list, object, Node, kind_of, items, members}
+use Rattle.json_spans.specs.Common.{IsValue, IsText, quoted, IsNumber, IsNull, Bracketed, no_part, parts, Below, ListOf}
+use Rattle.json_spans.specs.Common.{ObjectOf, IsListOf, IsObjectOf}
 use Rattle.json_spans.specs.declared.kinds.Kind.TheVariants as kind
-use Rattle.json_spans.specs.Walk.{items, members}
-use Rattle.json_spans.specs.Inside.{IsValue, IsText, quoted, IsNumber, IsNull, Bracketed, no_part, parts, Below, ListOf, ObjectOf, IsListOf, IsObjectOf}
 use Rattle.json_spans.proofs.Itemized.{only_items, only_members}
 use Rattle.json_spans.proofs.Grouped.{number_kind, has_items, has_members, bracketed_each, padded_value, pair_value}
 

@@ -1,9 +1,8 @@
 -- A JSON string with no escape stands for the bytes between its quotes.
-use Rattle.std.proofs.Common.{◌≡◌, ℕ, nat_le, List, [], ◌∷◌, ◌++◌, true, false, refl, sym, ap, ap₂, ◌∙◌, arith, append-nil}
-use Rattle.std.specs.Prelude.{◌==◌, Some, IsUtf8, option_and_then}
-use Rattle.std.specs.List.{list_all}
-use Rattle.std.proofs.lemmas.Bool.{and_parts, eqb-false, leb-true}
-use Rattle.std.proofs.lemmas.Bool.Decides.{nat_tests}
+use Rattle.kit_words.proofs.Common.{◌≡◌, ℕ, nat_le, List, [], ◌∷◌, ◌++◌, true, false, refl, sym, ap, ap₂, ◌∙◌, arith}
+use Rattle.kit_words.proofs.Common.{◌==◌, Some, IsUtf8, list_all, and_parts, eqb-false, leb-true, nat_tests}
+use Rattle.std.proofs.Common.{append-nil}
+use Rattle.std.specs.Prelude.{option_and_then}
 use Rattle.json.specs.Print.{escape_byte, escape}
 use Rattle.json.specs.Lex.{tokens}
 use Rattle.json.specs.Json as json
@@ -16,8 +15,7 @@ use Rattle.serde_json.specs.Data.{string}
 use Rattle.serde_json.specs.Read.{read, of_json, max_depth}
 use Rattle.serde_json.specs.Written.{compact_text}
 use Rattle.serde_json.proofs.Texts.{print-outline}
-use Rattle.json_spans.specs.Bytes.{is_unescaped}
-use Rattle.json_spans.specs.Decoded.{decoded}
+use Rattle.json_spans.specs.Common.{is_unescaped, decoded}
 use Rattle.json_spans.proofs.Decoding.{decoded_as}
 
 -- the string that is written for a text

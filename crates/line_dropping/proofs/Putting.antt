@@ -1,13 +1,10 @@
 -- Bytes, put one after another.
-use Rattle.std.proofs.Common.{◌≡◌, ℕ, suc, ◌+◌, ◌-◌, ◌<◌, ◌≤◌, List, [], ◌∷◌, length, get_or, set, drop, refl, ◌∙◌, arith, add-one, drop-cons, length-set}
-use Rattle.std.specs.Prelude.{replicate, Option, Some, None}
-use Rattle.std.specs.List.{fold}
-use Rattle.std.proofs.lemmas.List.{drop_all}
-use Rattle.json_spans.specs.Nodes.{Node}
-use Rattle.json_spans.specs.Walk.{members}
-use Rattle.line_dropping.specs.Lines.{value_in}
-use Rattle.line_dropping.specs.Dropped.{put, range_of, blanked, nulled, without_line}
-use Rattle.std.specs.Prelude.{codes}
+use Rattle.kit_words.proofs.Common.{◌≡◌, ℕ, suc, ◌+◌, ◌-◌, ◌<◌, ◌≤◌, List, [], ◌∷◌, length, get_or, set, drop, refl}
+use Rattle.kit_words.proofs.Common.{◌∙◌, arith, add-one, drop-cons, replicate, Option, Some, None, fold, drop_all}
+use Rattle.kit_words.proofs.Common.{codes}
+use Rattle.std.proofs.Common.{length-set}
+use Rattle.json_spans.specs.Common.{Node, members}
+use Rattle.line_dropping.specs.Common.{value_in, put, range_of, blanked, nulled, without_line}
 
 -- ---- bytes
 

@@ -1,9 +1,7 @@
 -- Where a member stands with one comma, as a loop finds it.
-use Rattle.std.proofs.Common.{◌≡◌, ℕ, List, [], ◌∷◌, Bool, true, false, refl, sym, ◌∙◌}
-use Rattle.std.specs.Prelude.{Option, Some, None}
-use Rattle.json_spans.specs.Nodes.{Node}
-use Rattle.line_dropping.specs.Lines.{says}
-use Rattle.line_dropping.specs.Dropped.{end_of, behind, range_of}
+use Rattle.kit_words.proofs.Common.{◌≡◌, ℕ, List, [], ◌∷◌, Bool, true, false, refl, sym, ◌∙◌, Option, Some, None}
+use Rattle.json_spans.specs.Common.{Node}
+use Rattle.line_dropping.specs.Common.{says, end_of, behind, range_of}
 
 pub no_member : (name : List ℕ) (left ms : List (Node × Node)) → left ≡ [] → left ≡ ms → None ≡ range_of name None ms
 unfolding range_of

@@ -1,13 +1,10 @@
 -- Lines, one after another, as a loop meets them.
-use Rattle.std.proofs.Common.{◌≡◌, ℕ, zero, suc, ◌+◌, ◌<◌, ◌≤◌, ◌-◌, ◌≢◌, List, [], ◌∷◌, ◌++◌, length, map, drop, get_or, Bool, true, false, refl, sym, ◌∙◌, sub-one, add-one, drop-cons}
-use Rattle.std.proofs.lemmas.List.{append-nil, map-append, drop_all}
-use Rattle.std.specs.List.{flat_map, fold}
-use Rattle.json_spans.specs.Nodes.{Node}
-use Rattle.json_spans.specs.Left.{node}
-use Rattle.json_spans.specs.Walk.{items, members}
+use Rattle.kit_words.proofs.Common.{◌≡◌, ℕ, zero, suc, ◌+◌, ◌<◌, ◌≤◌, ◌-◌, ◌≢◌, List, [], ◌∷◌, ◌++◌, length, map, drop}
+use Rattle.kit_words.proofs.Common.{get_or, Bool, true, false, refl, sym, ◌∙◌, sub-one, add-one, drop-cons, append-nil}
+use Rattle.kit_words.proofs.Common.{map-append, drop_all, flat_map, fold}
+use Rattle.json_spans.specs.Common.{Node, node, items, members}
 use Rattle.json_spans.specs.declared.span.Span.{Span}
-use Rattle.line_dropping.specs.Lines.{says, value_named, is_line, parts_of, lines_in}
-use Rattle.line_dropping.specs.Dropped.{without_line}
+use Rattle.line_dropping.specs.Common.{says, value_named, is_line, parts_of, lines_in, without_line}
 
 -- ---- members
 

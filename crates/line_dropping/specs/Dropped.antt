@@ -2,9 +2,7 @@
 -- left keeps its place.
 use Rattle.std.specs.Prelude.{ℕ, ◌+◌, ◌-◌, if◌then◌else◌, List, [], ◌∷◌, length, take, replicate, slice_set, codes, Option, Some, None}
 use Rattle.std.specs.List.{fold}
-use Rattle.json_spans.specs.Nodes.{Node}
-use Rattle.json_spans.specs.Walk.{members}
-use Rattle.json_spans.specs.Trimmed.{trimmed}
+use Rattle.json_spans.specs.Common.{Node, members, trimmed}
 use Rattle.line_dropping.specs.Lines.{says, value_in, all_lines}
 
 -- the text with these bytes in the place of as many from place n on, up to its end

@@ -1,3 +1,4 @@
 pub mod Lines
 pub mod Dropped
 pub mod Found
+pub mod Common

@@ -3,9 +3,7 @@
 use Rattle.std.specs.Prelude.{ℕ, zero, suc, ◌||◌, Bool, false, if◌then◌else◌, List, [], ◌∷◌, codes, Option, Some, None}
 use Rattle.std.specs.List.{flat_map}
 use Rattle.std.specs.Str.{bytes_eq}
-use Rattle.json_spans.specs.Nodes.{Node}
-use Rattle.json_spans.specs.Walk.{items, members}
-use Rattle.json_spans.specs.Decoded.{decoded}
+use Rattle.json_spans.specs.Common.{Node, items, members, decoded}
 
 -- a string stands for this text (RFC 8259, 7)
 abbrev pub is_text : List ℕ → Option (List ℕ) → Bool

@@ -1,9 +1,7 @@
 // The text without its lines.
 ghost use Rattle.std.specs.Prelude.{◌≡◌, ◌⊎◌, ◌+◌, ◌-◌, ◌<◌, ◌^◌, length, replicate, map, slice_set, None, IfOk, OnOk};
 ghost use Rattle.std.specs.List.{fold};
-ghost use Rattle.json_spans.specs.Walk.{members};
-ghost use Rattle.json_spans.specs.Left.{node};
-ghost use Rattle.json_spans.specs.Grammar.{Json};
+ghost use Rattle.json_spans.specs.Common.{members, node, Json};
 ghost use Rattle.line_dropping.specs.Found.{found};
 ghost use Rattle.line_dropping.specs.Lines.{all_lines};
 ghost use Rattle.line_dropping.specs.Dropped.{put, end_of, behind, range_of, blanked, nulled, without_line, root_of, without_lines};

@@ -1,6 +1,6 @@
 // Where the lines of a topology stand in its text (TopoJSON 1.0, 2.2.3 and 2.2.4).
 ghost use Rattle.std.specs.Prelude.{◌≡◌, ◌++◌, map, IfOk, OnOk};
-ghost use Rattle.json_spans.specs.Left.{node};
+ghost use Rattle.json_spans.specs.Common.{node};
 ghost use Rattle.line_dropping.specs.Found.{found};
 ghost use Rattle.line_dropping.specs.Lines.{says, value_in, has_type, is_line, parts_of, lines_in, all_lines};
 

@@ -1,13 +1,10 @@
 -- Of two lists of segments the one that has no more takes no more tests.
-use Rattle.std.proofs.Common.{◌≡◌, ◌≤◌, ◌+◌, ◌-◌, ℕ, Bool, true, false, not, refl, sym, ap, ◌∙◌}
-use Rattle.std.proofs.Common.{cond, List, [], ◌∷◌, length, ◌||◌, ◌&&◌, arith}
-use Rattle.std.specs.List.{filter, sum_by}
-use Rattle.std.proofs.lemmas.Bool.{false≢true}
-use Rattle.std.proofs.lemmas.List.Sums.{sum_by-cons}
-use Rattle.grid_geometry.specs.Segment.{Segment, Box}
-use Rattle.segment_index.specs.Candidates.{AreSingle, has, segment_is}
-use Rattle.segment_index.proofs.Singles.{same_segment, is-itself, times-some}
-use Rattle.local_planarity.specs.Tests.{most_given, most_tests, pairs}
+use Rattle.kit_words.proofs.Common.{◌≡◌, ◌≤◌, ◌+◌, ◌-◌, ℕ, Bool, true, false, not, refl, sym, ap, ◌∙◌, cond, List, []}
+use Rattle.kit_words.proofs.Common.{◌∷◌, length, ◌||◌, ◌&&◌, arith, filter, sum_by, false≢true, sum_by-cons}
+use Rattle.grid_geometry.specs.Common.{Segment, Box}
+use Rattle.segment_index.specs.Common.{AreSingle, has, segment_is}
+use Rattle.segment_index.proofs.Common.{same_segment, is-itself, times-some}
+use Rattle.local_planarity.specs.Common.{most_given, most_tests, pairs}
 use Rattle.local_planarity.proofs.Nearby.{has-filter, pairs-mono}
 
 -- a segment and those that are another

@@ -1,15 +1,10 @@
 -- How many tests are counted.
-use Rattle.std.proofs.Common.{◌≡◌, ◌<◌, ◌≤◌, ◌+◌, min, ℕ, suc, Bool, true, false, refl, sym, ap, ◌∙◌, cond, List, [], ◌∷◌, ◌++◌, length, take, drop, get_or, drop-cons, Option, ◌||◌, arith}
-use Rattle.std.specs.List.{filter, list_any, sum_by}
-use Rattle.std.proofs.lemmas.Bool.{false≢true}
-use Rattle.std.proofs.lemmas.List.{length-take-le, take-append-drop, take_all}
-use Rattle.std.proofs.lemmas.List.Elements.{filter-append}
-use Rattle.std.proofs.lemmas.List.Folds.{list_any-append}
-use Rattle.std.proofs.lemmas.List.Sums.{sum_by_more}
-use Rattle.grid_geometry.specs.Segment.{Segment}
-use Rattle.grid_geometry.specs.Conflict.{conflict}
-use Rattle.local_planarity.specs.Pairs.{first_against, tests_to_conflict}
-use Rattle.local_planarity.specs.Tests.{count_near, fewest_tests, pairs}
+use Rattle.kit_words.proofs.Common.{◌≡◌, ◌<◌, ◌≤◌, ◌+◌, min, ℕ, suc, Bool, true, false, refl, sym, ap, ◌∙◌, cond, List}
+use Rattle.kit_words.proofs.Common.{[], ◌∷◌, ◌++◌, length, take, drop, get_or, drop-cons, Option, ◌||◌, arith, filter}
+use Rattle.kit_words.proofs.Common.{list_any, sum_by, false≢true, length-take-le, take-append-drop, take_all}
+use Rattle.kit_words.proofs.Common.{filter-append, list_any-append, sum_by_more}
+use Rattle.grid_geometry.specs.Common.{Segment, conflict}
+use Rattle.local_planarity.specs.Common.{first_against, tests_to_conflict, count_near, fewest_tests, pairs}
 use Rattle.local_planarity.proofs.Nearby.{pairs-one}
 
 -- the greatest count

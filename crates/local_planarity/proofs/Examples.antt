@@ -1,19 +1,13 @@
 -- Worked examples of the definitions.
-use Rattle.std.proofs.Common.{◌≡◌, pos, negsuc, true, false, refl, [], ◌∷◌, None, Some}
-use Rattle.grid_geometry.specs.Position.{position}
-use Rattle.grid_geometry.specs.Segment.{Segment, segment}
-use Rattle.grid_geometry.specs.Orientation.{orientation, is_on, are_split}
-use Rattle.grid_geometry.specs.Conflict.{cross, is_within, conflict}
-use Rattle.ring_machine.specs.Vertices.{put, del}
-use Rattle.ring_machine.proofs.Worked.{at, M}
+use Rattle.kit_words.proofs.Common.{◌≡◌, pos, negsuc, true, false, refl, [], ◌∷◌, None, Some}
+use Rattle.grid_geometry.specs.Common.{position, Segment, segment, orientation, is_on, are_split, cross, is_within}
+use Rattle.grid_geometry.specs.Common.{conflict}
+use Rattle.ring_machine.specs.Common.{put, del}
+use Rattle.ring_machine.proofs.Common.{at, M}
 use Rattle.segment_index.specs.Covers.{line}
-use Rattle.segment_index.specs.Frames.{Frame}
-use Rattle.segment_index.specs.Times.{times_by}
-use Rattle.local_planarity.specs.declared.leaving.Leaving.TheVariants.{Nothing, EndingAt, One}
-use Rattle.local_planarity.specs.Edits.{leaves}
-use Rattle.local_planarity.specs.Pairs.{ordered, lesser, tests_to_conflict}
-use Rattle.local_planarity.specs.Spans.{box_of_three}
-use Rattle.local_planarity.specs.Tests.{pairs, most_tests, fewest_tests, added, most_for, most_for_move}
+use Rattle.segment_index.specs.Common.{Frame, times_by}
+use Rattle.local_planarity.specs.Common.{Nothing, EndingAt, One, leaves, ordered, lesser, tests_to_conflict}
+use Rattle.local_planarity.specs.Common.{box_of_three, pairs, most_tests, fewest_tests, added, most_for, most_for_move}
 
 -- 0 0 to 10 0, and 10 0 to 10 10
 abbrev lower : Segment

@@ -1,18 +1,14 @@
 -- An index that is filled segment by segment: one segment more, be it new or held before.
-use Rattle.std.proofs.Common.{◌≡◌, ℕ, ℤ, int_le, Bool, true, false, refl, sym, ap, ◌∙◌, List, [], ◌∷◌, ◌++◌, ◌||◌, ◌&&◌, Option, None, arith, Result, Ok, Err, OnOk}
+use Rattle.kit_words.proofs.Common.{◌≡◌, ℕ, ℤ, int_le, Bool, true, false, refl, sym, ap, ◌∙◌, List, [], ◌∷◌, ◌++◌, ◌||◌}
+use Rattle.kit_words.proofs.Common.{◌&&◌, Option, None, arith, Result, Ok, Err, OnOk, int_min, int_max, list_any}
+use Rattle.kit_words.proofs.Common.{list_any-append, ints, clamps}
 use Rattle.std.specs.FinSet as set
-use Rattle.std.specs.Int.{int_min, int_max}
-use Rattle.std.specs.List.{list_any}
-use Rattle.std.proofs.lemmas.List.Folds.{list_any-append}
-use Rattle.std.proofs.lemmas.Int.{ints, clamps}
-use Rattle.grid_geometry.specs.Segment.{Segment, Box, box_of, boxes_meet, segment_eq}
-use Rattle.ring_machine.specs.Planar.{least_conflict}
-use Rattle.ring_machine.proofs.Members.{same_answer}
-use Rattle.segment_index.specs.Candidates.{SegmentSet, has, segment_is}
-use Rattle.segment_index.proofs.Singles.{same_segment, segment_total, segment_eq-is, contains_none}
-use Rattle.local_planarity.specs.declared.leaving.Leaving.TheVariants.{Nothing}
-use Rattle.local_planarity.specs.Edits.{IsFilled, IsHeld, AreApart}
-use Rattle.local_planarity.specs.Near.{IsNear}
+use Rattle.grid_geometry.specs.Common.{Segment, Box, box_of, boxes_meet, segment_eq}
+use Rattle.ring_machine.specs.Common.{least_conflict}
+use Rattle.ring_machine.proofs.Common.{same_answer}
+use Rattle.segment_index.specs.Common.{SegmentSet, has, segment_is}
+use Rattle.segment_index.proofs.Common.{same_segment, segment_total, segment_eq-is, contains_none}
+use Rattle.local_planarity.specs.Common.{Nothing, IsFilled, IsHeld, AreApart, IsNear}
 use Rattle.local_planarity.proofs.Least.{same_least_conflict, apart_if_none}
 use Rattle.local_planarity.proofs.Nearby.{stays_all}
 

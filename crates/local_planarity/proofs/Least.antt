@@ -1,27 +1,18 @@
 -- The least pair in conflict of a set of segments, found by one segment after another.
-use Rattle.std.proofs.Common.{◌≡◌, ℕ, ◌+◌, ◌<◌, Bool, true, false, refl, sym, ap, ◌∙◌}
-use Rattle.std.proofs.Common.{subst, cond, List, [], ◌∷◌, length, take, get_or, ◌||◌, ◌⊎◌}
-use Rattle.std.proofs.Common.{inl, inr, Option, None, Some, ◌≤◌}
+use Rattle.kit_words.proofs.Common.{◌≡◌, ℕ, ◌+◌, ◌<◌, Bool, true, false, refl, sym, ap, ◌∙◌, subst, cond, List, [], ◌∷◌}
+use Rattle.kit_words.proofs.Common.{length, take, get_or, ◌||◌, ◌⊎◌, inl, inr, Option, None, Some, ◌≤◌, false≢true}
+use Rattle.kit_words.proofs.Common.{take_all, list_any_more}
 use Rattle.std.specs.FinSet as set
-use Rattle.std.proofs.lemmas.Bool.{false≢true}
-use Rattle.std.proofs.lemmas.List.{take_all}
-use Rattle.std.proofs.lemmas.List.Folds.{list_any_more}
-use Rattle.grid_geometry.specs.Segment.{Segment, Box, segment_lt}
-use Rattle.grid_geometry.specs.Conflict.{conflict}
-use Rattle.grid_geometry.proofs.Boxes.{conflict-boxes_meet}
-use Rattle.grid_geometry.proofs.Conflicts.{conflict-comm, conflict-same}
-use Rattle.ring_machine.specs.Planar.{pair_lt, least_conflict}
-use Rattle.ring_machine.proofs.Order.{and_both, or_true, or_right}
-use Rattle.ring_machine.proofs.Orders.{segment_ordered, pair_ordered}
-use Rattle.ring_machine.proofs.Local.{Bad, IsLeast, same_least}
-use Rattle.ring_machine.proofs.First.{In, least_conflict_is, least_conflict_unique}
-use Rattle.segment_index.specs.Candidates.{SegmentSet, has, segment_is}
-use Rattle.segment_index.proofs.Singles.{same_segment, is-itself}
-use Rattle.local_planarity.specs.declared.leaving.Leaving.{Leaving}
-use Rattle.local_planarity.specs.Edits.{stays, IsHeld, IsAfter, AreApart}
-use Rattle.local_planarity.specs.Near.{IsNear}
+use Rattle.grid_geometry.specs.Common.{Segment, Box, segment_lt, conflict}
+use Rattle.grid_geometry.proofs.Common.{conflict-boxes_meet, conflict-comm, conflict-same}
+use Rattle.ring_machine.specs.Common.{pair_lt, least_conflict}
+use Rattle.ring_machine.proofs.Common.{and_both, or_true, or_right, segment_ordered, pair_ordered, Bad, IsLeast}
+use Rattle.ring_machine.proofs.Common.{same_least, In, least_conflict_is, least_conflict_unique}
+use Rattle.segment_index.specs.Common.{SegmentSet, has, segment_is}
+use Rattle.segment_index.proofs.Common.{same_segment, is-itself}
+use Rattle.local_planarity.specs.Common.{Leaving, stays, IsHeld, IsAfter, AreApart, IsNear, ordered, lesser, after_test}
+use Rattle.local_planarity.specs.Common.{first_against}
 use Rattle.local_planarity.proofs.Lists.{in-has, has-in}
-use Rattle.local_planarity.specs.Pairs.{ordered, lesser, after_test, first_against}
 
 abbrev pub Pair : Type 0
 Pair = Segment × Segment

@@ -9,3 +9,4 @@ pub mod Sweeping
 pub mod NearMoves
 pub mod Filling
 pub mod Examples
+pub mod Common

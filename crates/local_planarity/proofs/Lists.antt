@@ -1,13 +1,9 @@
 -- The segments of a list.
-use Rattle.std.proofs.Common.{◌≡◌, Bool, true, sym, ap, ◌∙◌, List, [], ◌∷◌, ◌||◌, inl, inr}
-use Rattle.std.specs.List.{list_any}
-use Rattle.std.proofs.lemmas.Bool.{false≢true}
-use Rattle.grid_geometry.specs.Segment.{Segment}
-use Rattle.ring_machine.proofs.First.{In}
-use Rattle.ring_machine.proofs.Members.{any_in, in_any, same_answer}
-use Rattle.ring_machine.proofs.Order.{or_true, or_right}
-use Rattle.segment_index.specs.Candidates.{has, segment_is}
-use Rattle.segment_index.proofs.Singles.{same_segment, is-itself}
+use Rattle.kit_words.proofs.Common.{◌≡◌, Bool, true, sym, ap, ◌∙◌, List, [], ◌∷◌, ◌||◌, inl, inr, list_any, false≢true}
+use Rattle.grid_geometry.specs.Common.{Segment}
+use Rattle.ring_machine.proofs.Common.{In, any_in, in_any, same_answer, or_true, or_right}
+use Rattle.segment_index.specs.Common.{has, segment_is}
+use Rattle.segment_index.proofs.Common.{same_segment, is-itself}
 
 pub in-has : (ss : List Segment) (t : Segment) → has ss t ≡ true → In t ss
 in-has [] t h = absurd (false≢true h)

@@ -1,42 +1,20 @@
 -- What is found among the segments near a move is what is found among all that are held.
-use Rattle.std.proofs.Common.{◌≡◌, ◌≤◌, ◌<◌, ◌+◌, ℕ, ℤ, Bool, true, false, not, refl, sym, ap, ◌∙◌, subst}
-use Rattle.std.proofs.Common.{List, [], ◌∷◌, ◌++◌, length, map, take, get_or, cond, ◌&&◌, ◌||◌, int_le, inl, inr, Option, None, arith}
+use Rattle.kit_words.proofs.Common.{◌≡◌, ◌≤◌, ◌<◌, ◌+◌, ℕ, ℤ, Bool, true, false, not, refl, sym, ap, ◌∙◌, subst, List}
+use Rattle.kit_words.proofs.Common.{[], ◌∷◌, ◌++◌, length, map, take, get_or, cond, ◌&&◌, ◌||◌, int_le, inl, inr}
+use Rattle.kit_words.proofs.Common.{Option, None, arith, int_min, int_max, filter, list_any, sum_by, false≢true}
+use Rattle.kit_words.proofs.Common.{take_more, sum_by-filter_both, sum_by-cons, ints, clamps, is_gt}
 use Rattle.std.specs.FinSet as set
-use Rattle.std.specs.Int.{int_min, int_max}
-use Rattle.std.specs.List.{filter, list_any, sum_by}
-use Rattle.std.proofs.lemmas.Bool.{false≢true}
-use Rattle.std.proofs.lemmas.List.{take_more}
-use Rattle.std.proofs.lemmas.List.Filters.{sum_by-filter_both}
-use Rattle.std.proofs.lemmas.List.Sums.{sum_by-cons}
-use Rattle.std.proofs.lemmas.Int.{ints, clamps}
-use Rattle.std.specs.Ordering.{is_gt}
-use Rattle.grid_geometry.specs.Position.{Position, position_cmp}
-use Rattle.grid_geometry.specs.Segment.{Segment, Box, box_of, boxes_meet, is_end, segment}
-use Rattle.grid_geometry.specs.Conflict.{conflict}
-use Rattle.grid_geometry.specs.Held.{is_held}
-use Rattle.grid_geometry.proofs.Boxes.{conflict-boxes_meet}
-use Rattle.grid_geometry.proofs.Conflicts.{conflict-comm}
-use Rattle.ring_machine.specs.Document.{Document}
-use Rattle.ring_machine.specs.Parts.{positions}
-use Rattle.ring_machine.specs.Planar.{least_conflict, pair_lt}
+use Rattle.grid_geometry.specs.Common.{Position, position_cmp, Segment, Box, box_of, boxes_meet, is_end, segment}
+use Rattle.grid_geometry.specs.Common.{conflict, is_held}
+use Rattle.grid_geometry.proofs.Common.{conflict-boxes_meet, conflict-comm}
+use Rattle.ring_machine.specs.Common.{Document, positions, least_conflict, pair_lt, edge_sweeps}
 use Rattle.ring_machine.specs.Ring as machine
-use Rattle.ring_machine.specs.Sweep.{edge_sweeps}
-use Rattle.ring_machine.proofs.First.{In}
-use Rattle.ring_machine.proofs.Local.{same_least}
-use Rattle.ring_machine.proofs.Neighbours.{in-map}
-use Rattle.ring_machine.proofs.Order.{and_both, or_true, or_right}
-use Rattle.ring_machine.proofs.SortedOnce.{in_at}
-use Rattle.segment_index.specs.Bounds.{box_around, is_within}
-use Rattle.segment_index.specs.Candidates.{SegmentSet, has, segment_is, set_of, times_in}
-use Rattle.segment_index.specs.Times.{times_by}
-use Rattle.segment_index.specs.Trees.{LieIn}
-use Rattle.segment_index.proofs.Branches.{gains-right, lie-more}
-use Rattle.segment_index.proofs.Singles.{contains-set_of, is-itself, times-push, times-some}
-use Rattle.local_planarity.specs.declared.leaving.Leaving.TheVariants.{EndingAt}
-use Rattle.local_planarity.specs.Edits.{AreApart, IsAfter, IsEnds, IsHeld, leaves, stays}
-use Rattle.local_planarity.specs.NearMove.{HasNearMove}
-use Rattle.local_planarity.specs.Spans.{box_of_three, least_of, most_of}
-use Rattle.local_planarity.specs.Tests.{most_given, most_tests}
+use Rattle.ring_machine.proofs.Common.{In, same_least, in-map, and_both, or_true, or_right, in_at}
+use Rattle.segment_index.specs.Common.{box_around, is_within, SegmentSet, has, segment_is, set_of, times_in, times_by}
+use Rattle.segment_index.specs.Common.{LieIn}
+use Rattle.segment_index.proofs.Common.{gains-right, lie-more, contains-set_of, is-itself, times-push, times-some}
+use Rattle.local_planarity.specs.Common.{EndingAt, AreApart, IsAfter, IsEnds, IsHeld, leaves, stays, HasNearMove}
+use Rattle.local_planarity.specs.Common.{box_of_three, least_of, most_of, most_given, most_tests}
 use Rattle.local_planarity.proofs.Least.{Pair, BadIn, first_of_list, list_first}
 use Rattle.local_planarity.proofs.Lists.{has-in, same_any}
 use Rattle.local_planarity.proofs.Nearby.{has-filter}

@@ -1,21 +1,16 @@
 -- What an index gives near a segment, and how much that is at most.
-use Rattle.std.proofs.Common.{◌≡◌, ◌≤◌, ◌<◌, ◌+◌, ◌-◌, inl, inr, ℕ, zero, suc, Bool, true, false, not, refl, sym, ap, ◌∙◌, cond, subst, None}
-use Rattle.std.proofs.Common.{List, [], ◌∷◌, ◌++◌, length, take, get_or, ◌&&◌, ◌||◌, arith}
+use Rattle.kit_words.proofs.Common.{◌≡◌, ◌≤◌, ◌<◌, ◌+◌, ◌-◌, inl, inr, ℕ, zero, suc, Bool, true, false, not, refl, sym}
+use Rattle.kit_words.proofs.Common.{ap, ◌∙◌, cond, subst, None, List, [], ◌∷◌, ◌++◌, length, take, get_or, ◌&&◌, ◌||◌}
+use Rattle.kit_words.proofs.Common.{arith, filter, sum_by, false≢true, sum_by-cons, sum_by_more, sum_by-take-le}
+use Rattle.kit_words.proofs.Common.{length-filter}
 use Rattle.std.specs.FinSet as set
-use Rattle.std.specs.List.{filter, sum_by}
-use Rattle.std.proofs.lemmas.Bool.{false≢true}
-use Rattle.std.proofs.lemmas.List.Sums.{sum_by-cons, sum_by_more, sum_by-take-le, length-filter}
-use Rattle.grid_geometry.specs.Segment.{Segment, Box, box_of, boxes_meet}
-use Rattle.ring_machine.proofs.Order.{and_both, or_true}
-use Rattle.segment_index.specs.Candidates.{SegmentSet, AreAmong, AreSingle, AtMostTimes, Covers, Gives, has, segment_is, set_of, times_in}
-use Rattle.segment_index.specs.Times.{times_by}
-use Rattle.segment_index.proofs.Singles.{same_segment, contains-set_of, is-itself, times-filter, times-none}
-use Rattle.local_planarity.specs.declared.leaving.Leaving.{Leaving}
-use Rattle.local_planarity.specs.declared.leaving.Leaving.TheVariants.{Nothing}
-use Rattle.local_planarity.specs.Edits.{leaves, stays, AreStaying, IsAfter, IsHeld}
-use Rattle.local_planarity.specs.Near.{IsNear}
-use Rattle.local_planarity.specs.Pairs.{is_tried, tried}
-use Rattle.local_planarity.specs.Tests.{count_near, most_given, most_tests, pairs}
+use Rattle.grid_geometry.specs.Common.{Segment, Box, box_of, boxes_meet}
+use Rattle.ring_machine.proofs.Common.{and_both, or_true}
+use Rattle.segment_index.specs.Common.{SegmentSet, AreAmong, AreSingle, AtMostTimes, Covers, Gives, has, segment_is}
+use Rattle.segment_index.specs.Common.{set_of, times_in, times_by}
+use Rattle.segment_index.proofs.Common.{same_segment, contains-set_of, is-itself, times-filter, times-none}
+use Rattle.local_planarity.specs.Common.{Leaving, Nothing, leaves, stays, AreStaying, IsAfter, IsHeld, IsNear, is_tried}
+use Rattle.local_planarity.specs.Common.{tried, count_near, most_given, most_tests, pairs}
 
 -- ---- near a segment
 

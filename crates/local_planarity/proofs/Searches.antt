@@ -1,12 +1,10 @@
 -- The search of an edit: one added segment after another, each against what is near it.
-use Rattle.std.proofs.Common.{◌≡◌, ◌<◌, ◌≤◌, ◌+◌, ℕ, min, ◌||◌, List, length, take, get_or, Option, None, arith}
-use Rattle.grid_geometry.specs.Segment.{Segment, Box}
-use Rattle.ring_machine.specs.Planar.{least_conflict}
-use Rattle.segment_index.specs.Candidates.{SegmentSet, has}
-use Rattle.local_planarity.specs.declared.leaving.Leaving.{Leaving}
-use Rattle.local_planarity.specs.Edits.{stays, AreApart, AreStaying, IsAfter}
-use Rattle.local_planarity.specs.Near.{IsNear}
-use Rattle.local_planarity.specs.Tests.{fewest_tests, most_tests}
+use Rattle.kit_words.proofs.Common.{◌≡◌, ◌<◌, ◌≤◌, ◌+◌, ℕ, min, ◌||◌, List, length, take, get_or, Option, None, arith}
+use Rattle.grid_geometry.specs.Common.{Segment, Box}
+use Rattle.ring_machine.specs.Common.{least_conflict}
+use Rattle.segment_index.specs.Common.{SegmentSet, has}
+use Rattle.local_planarity.specs.Common.{Leaving, stays, AreApart, AreStaying, IsAfter, IsNear, fewest_tests}
+use Rattle.local_planarity.specs.Common.{most_tests}
 use Rattle.local_planarity.proofs.Counts.{greatest, fewest_so_far, one_more_counted, all_counted}
 use Rattle.local_planarity.proofs.Least.{Pair, BadIn, IsFirst, stay_apart, next_first, all_added}
 use Rattle.local_planarity.proofs.Nearby.{most_so_far, near_few, near_many, after_has, no_more, one_more_tests}

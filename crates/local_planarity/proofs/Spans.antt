@@ -1,14 +1,11 @@
 -- The box of three positions meets the box of a segment with an end in it.
-use Rattle.std.proofs.Common.{◌≡◌, ℤ, ◌≤ℤ◌, Bool, true, false, not, ◌&&◌, ◌||◌, int_le, refl, ap, ◌∙◌, sym, arith, inl, inr, List}
-use Rattle.std.specs.Int.{int_min, int_max}
-use Rattle.std.proofs.lemmas.Bool.{false≢true}
-use Rattle.std.proofs.lemmas.Int.{ints, clamps}
-use Rattle.grid_geometry.specs.Position.{Position, InRange, position_eq}
-use Rattle.grid_geometry.specs.Segment.{Segment, IsBox, box_of, boxes_meet, is_end}
-use Rattle.grid_geometry.specs.Held.{is_held, is_spanned, is_in_box_of_three}
-use Rattle.ring_machine.specs.Ring.{has}
-use Rattle.ring_machine.proofs.Order.{and_both, or_true, or_right, position_eq-true, position_eq-refl}
-use Rattle.local_planarity.specs.Spans.{least_of, most_of, box_of_three}
+use Rattle.kit_words.proofs.Common.{◌≡◌, ℤ, ◌≤ℤ◌, Bool, true, false, not, ◌&&◌, ◌||◌, int_le, refl, ap, ◌∙◌, sym, arith}
+use Rattle.kit_words.proofs.Common.{inl, inr, List, int_min, int_max, false≢true, ints, clamps}
+use Rattle.grid_geometry.specs.Common.{Position, InRange, position_eq, Segment, IsBox, box_of, boxes_meet, is_end}
+use Rattle.grid_geometry.specs.Common.{is_held, is_spanned, is_in_box_of_three}
+use Rattle.ring_machine.specs.Common.{has}
+use Rattle.ring_machine.proofs.Common.{and_both, or_true, or_right, position_eq-true, position_eq-refl}
+use Rattle.local_planarity.specs.Common.{least_of, most_of, box_of_three}
 
 pub least_most : (a b c : ℤ) → least_of a b c ≤ℤ most_of a b c
 least_most a b c = grind (arith, ints, clamps)

@@ -1,21 +1,13 @@
 -- What the candidates say of all held segments.
-use Rattle.std.proofs.Common.{◌≡◌, ℕ, Bool, true, not, sym, ap, ◌∙◌, List, ◌&&◌, ◌||◌, inl, inr}
+use Rattle.kit_words.proofs.Common.{◌≡◌, ℕ, Bool, true, not, sym, ap, ◌∙◌, List, ◌&&◌, ◌||◌, inl, inr, list_any}
 use Rattle.std.specs.FinSet as set
-use Rattle.std.specs.List.{list_any}
-use Rattle.grid_geometry.specs.Position.{Position, position_eq}
-use Rattle.grid_geometry.specs.Segment.{Segment, Box, is_end}
-use Rattle.grid_geometry.specs.Conflict.{conflict}
-use Rattle.grid_geometry.specs.Held.{is_held}
-use Rattle.grid_geometry.proofs.Boxes.{conflict-boxes_meet}
-use Rattle.grid_geometry.proofs.Conflicts.{conflict-comm}
+use Rattle.grid_geometry.specs.Common.{Position, position_eq, Segment, Box, is_end, conflict, is_held}
+use Rattle.grid_geometry.proofs.Common.{conflict-boxes_meet, conflict-comm}
 use Rattle.ring_machine.specs.Ring as machine
-use Rattle.ring_machine.proofs.Order.{and_both, or_true, or_right, position_eq-true, position_eq-refl}
-use Rattle.segment_index.specs.Candidates.{AreAmong, Covers, SegmentSet, has}
-use Rattle.local_planarity.specs.declared.leaving.Leaving.TheVariants.{EndingAt}
-use Rattle.local_planarity.specs.Edits.{IsHeld, IsEnds}
-use Rattle.local_planarity.specs.Near.{IsNear}
-use Rattle.local_planarity.specs.Spans.{box_of_three}
-use Rattle.ring_machine.proofs.Members.{any_in, in_any, same_answer}
+use Rattle.ring_machine.proofs.Common.{and_both, or_true, or_right, position_eq-true, position_eq-refl, any_in, in_any}
+use Rattle.ring_machine.proofs.Common.{same_answer}
+use Rattle.segment_index.specs.Common.{AreAmong, Covers, SegmentSet, has}
+use Rattle.local_planarity.specs.Common.{EndingAt, IsHeld, IsEnds, IsNear, box_of_three}
 use Rattle.ring_machine.proofs.Neighbours.{has-in as in-has_position, in-has as has_position-in}
 use Rattle.local_planarity.proofs.Lists.{in-has, has-in, same_any}
 use Rattle.local_planarity.proofs.Spans.{held_end_meets}

@@ -1,12 +1,10 @@
 -- Which segments are there before and after an edit.
 use Rattle.std.specs.Prelude.{◌≡◌, Bool, true, false, not, ◌&&◌, ◌||◌, List, Option}
 use Rattle.std.specs.FinSet as set
-use Rattle.grid_geometry.specs.Position.{Position}
-use Rattle.grid_geometry.specs.Segment.{Segment, segment_eq, is_end}
-use Rattle.grid_geometry.specs.Conflict.{conflict}
-use Rattle.ring_machine.specs.Planar.{least_conflict}
+use Rattle.grid_geometry.specs.Common.{Position, Segment, segment_eq, is_end, conflict}
+use Rattle.ring_machine.specs.Common.{least_conflict}
 use Rattle.ring_machine.specs.Ring as machine
-use Rattle.segment_index.specs.Candidates.{SegmentSet, AreSingle, has}
+use Rattle.segment_index.specs.Common.{SegmentSet, AreSingle, has}
 use Rattle.local_planarity.specs.declared.leaving.Leaving.{Leaving}
 use Rattle.local_planarity.specs.declared.leaving.Leaving.TheVariants.{Nothing, EndingAt, One}
 

@@ -4,3 +4,4 @@ pub mod NearMove
 pub mod Pairs
 pub mod Spans
 pub mod Tests
+pub mod Common

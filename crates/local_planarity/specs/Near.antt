@@ -1,7 +1,7 @@
 -- Which held segments are near a segment.
 use Rattle.std.specs.Prelude.{◌≡◌, ℕ, true, List}
-use Rattle.grid_geometry.specs.Segment.{Segment, Box, box_of, boxes_meet}
-use Rattle.segment_index.specs.Candidates.{SegmentSet, AtMostTimes, has}
+use Rattle.grid_geometry.specs.Common.{Segment, Box, box_of, boxes_meet}
+use Rattle.segment_index.specs.Common.{SegmentSet, AtMostTimes, has}
 use Rattle.local_planarity.specs.declared.leaving.Leaving.{Leaving}
 use Rattle.local_planarity.specs.Edits.{stays}
 

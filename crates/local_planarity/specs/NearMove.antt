@@ -1,9 +1,7 @@
 -- The segments near a move.
 use Rattle.std.specs.Prelude.{List, ◌∷◌}
-use Rattle.grid_geometry.specs.Position.{Position}
-use Rattle.grid_geometry.specs.Segment.{Segment, Box, segment}
-use Rattle.segment_index.specs.Candidates.{SegmentSet, HasNear}
-use Rattle.segment_index.specs.Trees.{LieIn}
+use Rattle.grid_geometry.specs.Common.{Position, Segment, Box, segment}
+use Rattle.segment_index.specs.Common.{SegmentSet, HasNear, LieIn}
 
 -- held segments, among them every one whose box meets a box in which the way from p to q lies, and
 -- all segments that come

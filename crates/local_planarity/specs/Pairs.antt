@@ -1,9 +1,8 @@
 -- The least pair in conflict, found by one test after another.
 use Rattle.std.specs.Prelude.{ℕ, suc, Bool, not, ◌&&◌, List, [], ◌∷◌, Option, None, Some, if◌then◌else◌}
 use Rattle.std.specs.List.{filter, fold}
-use Rattle.grid_geometry.specs.Segment.{Segment, box_of, boxes_meet, segment_lt}
-use Rattle.grid_geometry.specs.Conflict.{conflict}
-use Rattle.ring_machine.specs.Planar.{pair_lt}
+use Rattle.grid_geometry.specs.Common.{Segment, box_of, boxes_meet, segment_lt, conflict}
+use Rattle.ring_machine.specs.Common.{pair_lt}
 use Rattle.local_planarity.specs.declared.leaving.Leaving.{Leaving}
 use Rattle.local_planarity.specs.Edits.{leaves}
 

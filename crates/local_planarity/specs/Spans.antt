@@ -1,8 +1,7 @@
 -- The box of three positions.
 use Rattle.std.specs.Prelude.{ℤ}
 use Rattle.std.specs.Int.{int_min, int_max}
-use Rattle.grid_geometry.specs.Position.{Position}
-use Rattle.grid_geometry.specs.Segment.{Box}
+use Rattle.grid_geometry.specs.Common.{Position, Box}
 
 -- the least of three numbers
 abbrev pub least_of : ℤ → ℤ → ℤ → ℤ

@@ -1,12 +1,8 @@
 -- How many tests of two segments an edit takes at most, and at least.
 use Rattle.std.specs.Prelude.{ℕ, zero, suc, ◌+◌, not, List, length}
 use Rattle.std.specs.List.{filter, sum_by, count_by}
-use Rattle.grid_geometry.specs.Position.{Position}
-use Rattle.grid_geometry.specs.Segment.{Segment, Box, box_of, boxes_meet, segment}
-use Rattle.ring_machine.specs.Document.{Document}
-use Rattle.ring_machine.specs.Parts.{is_segment}
-use Rattle.ring_machine.specs.Query.{distinct_segments}
-use Rattle.ring_machine.specs.Vertices.{put}
+use Rattle.grid_geometry.specs.Common.{Position, Segment, Box, box_of, boxes_meet, segment}
+use Rattle.ring_machine.specs.Common.{Document, is_segment, distinct_segments, put}
 
 -- how many candidates for the box of s an index gives at most, where it holds these segments and
 -- gives each so many times

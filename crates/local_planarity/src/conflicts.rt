@@ -1,8 +1,8 @@
 //! The first pair of segments in conflict.
 ghost use Rattle.std.specs.Prelude.{◌≡◌, ◌+◌, ◌≤◌, List, None, IfOk, OnOk, min};
-ghost use Rattle.grid_geometry.specs.Segment.{Segment};
-ghost use Rattle.ring_machine.specs.Planar.{least_conflict};
-ghost use Rattle.segment_index.specs.Times.{times_by};
+ghost use Rattle.grid_geometry.specs.Common.{Segment};
+ghost use Rattle.ring_machine.specs.Common.{least_conflict};
+ghost use Rattle.segment_index.specs.Common.{times_by};
 ghost use Rattle.local_planarity.specs.Edits.{AreApart, AreStaying, IsAfter};
 ghost use Rattle.local_planarity.specs.Tests.{fewest_tests, most_tests};
 

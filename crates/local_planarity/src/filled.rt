@@ -1,6 +1,6 @@
 ghost use Rattle.std.specs.Prelude.{◌≡◌, ◌+◌, ◌≤◌, List, [], ◌∷◌, ◌++◌, OnOk};
-ghost use Rattle.grid_geometry.specs.Segment.{Segment};
-ghost use Rattle.segment_index.specs.Times.{times_by};
+ghost use Rattle.grid_geometry.specs.Common.{Segment};
+ghost use Rattle.segment_index.specs.Common.{times_by};
 ghost use Rattle.local_planarity.specs.Edits.{IsFilled, IsHeld};
 ghost use Rattle.local_planarity.specs.Tests.{most_given};
 

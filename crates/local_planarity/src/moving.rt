@@ -1,13 +1,10 @@
 //! What a move asks of an index, once, and what it would sweep over.
 ghost use Rattle.std.specs.Prelude.{◌≡◌, ◌≢◌, ◌≤◌, ◌+◌, ◌∷◌, ◌||◌, List, None, map, IfOk, OnOk};
 ghost use Rattle.std.specs.List.{list_any};
-ghost use Rattle.grid_geometry.specs.Segment.{Segment, box_of, segment};
-ghost use Rattle.ring_machine.specs.Document.{Document};
-ghost use Rattle.ring_machine.specs.Parts.{all_segments, positions};
-ghost use Rattle.ring_machine.specs.Sweep.{edge_sweeps, crosses_on_way};
-ghost use Rattle.segment_index.specs.Candidates.{SegmentSet};
-ghost use Rattle.segment_index.specs.Times.{times_by};
-ghost use Rattle.segment_index.specs.Trees.{LieIn};
+ghost use Rattle.grid_geometry.specs.Common.{Segment, box_of, segment};
+ghost use Rattle.ring_machine.specs.Common.{Document, all_segments, positions, edge_sweeps};
+ghost use Rattle.ring_machine.specs.Common.{crosses_on_way};
+ghost use Rattle.segment_index.specs.Common.{SegmentSet, times_by, LieIn};
 ghost use Rattle.local_planarity.specs.Edits.{IsEnds, IsHeld};
 ghost use Rattle.local_planarity.specs.NearMove.{HasNearMove};
 ghost use Rattle.local_planarity.specs.Tests.{most_given};

@@ -1,8 +1,8 @@
 ghost use Rattle.std.specs.Prelude.{◌≡◌, ◌+◌, ◌≤◌, ◌&&◌, length, min, not};
 ghost use Rattle.std.specs.List.{list_any};
 ghost use Rattle.grid_geometry.specs.Conflict as geometry;
-ghost use Rattle.grid_geometry.specs.Segment.{box_of, boxes_meet};
-ghost use Rattle.ring_machine.specs.Planar.{pair_lt};
+ghost use Rattle.grid_geometry.specs.Common.{box_of, boxes_meet};
+ghost use Rattle.ring_machine.specs.Common.{pair_lt};
 ghost use Rattle.local_planarity.specs.Edits.{leaves};
 ghost use Rattle.local_planarity.specs.Pairs as spec;
 

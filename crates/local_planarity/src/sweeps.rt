@@ -2,11 +2,9 @@
 ghost use Rattle.std.specs.Prelude.{◌≡◌, ◌≢◌, ◌+◌, ◌≤◌, ◌&&◌, ◌||◌, not, List, None, IfOk};
 ghost use Rattle.std.specs.List.{list_any};
 ghost use Rattle.grid_geometry.specs.Conflict as geometry;
-ghost use Rattle.grid_geometry.specs.Held.{is_held};
-ghost use Rattle.grid_geometry.specs.Position.{Position};
-ghost use Rattle.grid_geometry.specs.Segment.{Segment, is_end, segment};
+ghost use Rattle.grid_geometry.specs.Common.{is_held, Position, Segment, is_end, segment};
 ghost use Rattle.ring_machine.specs.Ring as machine;
-ghost use Rattle.segment_index.specs.Times.{times_by};
+ghost use Rattle.segment_index.specs.Common.{times_by};
 ghost use Rattle.local_planarity.specs.Edits.{IsEnds, IsHeld};
 ghost use Rattle.local_planarity.specs.Tests.{most_given};
 

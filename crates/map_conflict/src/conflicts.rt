@@ -1,8 +1,7 @@
 //! The first two segments of a map that meet elsewhere than at their common ends.
 ghost use Rattle.std.specs.Prelude.{◌≡◌, IfOk};
-ghost use Rattle.topo_reader.specs.Document.{document_of, IsOfRings};
-ghost use Rattle.topo_reader.specs.DocumentView.{view_raw};
-ghost use Rattle.ring_machine.specs.Planar.{first_pair};
+ghost use Rattle.topo_reader.specs.Common.{document_of, IsOfRings, view_raw};
+ghost use Rattle.ring_machine.specs.Common.{first_pair};
 ghost use Rattle.map_conflict.specs.Conflicts.{pair_of};
 
 use arc_store::{BuildFault, Map};

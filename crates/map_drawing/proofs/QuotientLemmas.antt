@@ -1,8 +1,10 @@
 -- Products and quotients of whole numbers.
 use mir.Syntax.{w64}
 use mir.Val.{to_z, of_z}
-use Rattle.std.proofs.Common.{◌≡◌, ℕ, ℤ, pos, negsuc, ◌*ℤ◌, ◌≤◌, ◌≤ℤ◌, ◌<ℤ◌, ◌/◌, suc, neg_ℤ, refl, sym, ap, ◌∙◌, subst, arith, unsigned_abs, int_div, FitsSigned, div-le_self, mul-le-mul, zero}
-use Rattle.std.proofs.lemmas.Int.{ints, fits_signed_mul, quot_is, quot_fits, to_z-of_z, unsigned_abs-mul}
+use Rattle.kit_words.proofs.Common.{◌≡◌, ℕ, ℤ, pos, negsuc, ◌*ℤ◌, ◌≤◌, ◌≤ℤ◌, ◌<ℤ◌, ◌/◌, suc, neg_ℤ, refl, sym, ap, ◌∙◌}
+use Rattle.kit_words.proofs.Common.{subst, arith, unsigned_abs, int_div, FitsSigned, div-le_self, zero, ints}
+use Rattle.kit_words.proofs.Common.{fits_signed_mul, quot_is, quot_fits, to_z-of_z, unsigned_abs-mul}
+use Rattle.std.proofs.Common.{mul-le-mul}
 
 abs_neg : (n : ℕ) → unsigned_abs (neg_ℤ (pos n)) ≡ n
 abs_neg zero = refl

@@ -1,6 +1,6 @@
 -- Sums and differences of the code, beside a window.
-use Rattle.std.proofs.Common.{◌≡◌, ◌≤◌, ◌≤ℤ◌, ◌+ℤ◌, ◌-ℤ◌, ◌*ℤ◌, ◌&&◌, Bool, true, ℤ, pos, unsigned_abs, w64, to_z, of_z, arith, refl}
-use Rattle.std.proofs.lemmas.Int.{ints}
+use Rattle.kit_words.proofs.Common.{◌≡◌, ◌≤◌, ◌≤ℤ◌, ◌+ℤ◌, ◌-ℤ◌, ◌*ℤ◌, ◌&&◌, Bool, true, ℤ, pos, unsigned_abs, w64, to_z}
+use Rattle.kit_words.proofs.Common.{of_z, arith, refl, ints}
 
 -- a side, a margin further out
 pub further_out : (side margin : ℤ) → unsigned_abs side ≤ 1000000000000 → pos 1 ≤ℤ margin → margin ≤ℤ pos 100000000000

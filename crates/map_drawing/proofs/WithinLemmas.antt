@@ -1,15 +1,11 @@
 -- What is within bounds stays within wider ones.
-use Rattle.std.proofs.Common.{ℕ, ◌≡◌, ◌+◌, ◌<◌, ◌≤ℤ◌, ◌+ℤ◌, List, length, take, get_or, subst, arith}
-use Rattle.std.specs.Prelude.{Option, Vec}
-use Rattle.std.specs.List.{All}
-use Rattle.std.proofs.lemmas.Int.{ints}
-use Rattle.std.proofs.lemmas.List.Elements.{All-more}
-use Rattle.grid_geometry.specs.Position.{Position}
+use Rattle.kit_words.proofs.Common.{ℕ, ◌≡◌, ◌+◌, ◌<◌, ◌≤ℤ◌, ◌+ℤ◌, List, length, take, get_or, subst, arith, Option, Vec}
+use Rattle.kit_words.proofs.Common.{All, ints, All-more}
+use Rattle.grid_geometry.specs.Common.{Position}
 use Rattle.map_drawing.specs.declared.bounds.Bounds.{Bounds}
 use Rattle.map_drawing.specs.declared.shapes.Shape.{Shape}
 use Rattle.map_drawing.specs.declared.window.Window.{Window}
-use Rattle.map_drawing.specs.Shapes.{ShapeIn}
-use Rattle.map_drawing.specs.Windows.{Includes, IsShown, IsWithin, RingIn, RingsIn, AreWithin}
+use Rattle.map_drawing.specs.Common.{ShapeIn, Includes, IsShown, IsWithin, RingIn, RingsIn, AreWithin}
 
 pub all_so : {X : Type 0} (P Q : X → Type 0) → ((x : X) → P x → Q x) → (xs : List X) → All P xs → All Q xs
 all_so P Q so xs h = λ k d l. so (get_or xs k d) (h k d l)

@@ -1,8 +1,8 @@
 -- Twice the area of polygons, as the answer to `area` is.
 use Rattle.std.specs.Prelude.{ℤ, pos, ◌+ℤ◌, List}
 use Rattle.std.specs.List.{fold}
-use Rattle.grid_geometry.specs.Position.{Position}
-use Rattle.ring_machine.specs.Query.{polygon_area}
+use Rattle.grid_geometry.specs.Common.{Position}
+use Rattle.ring_machine.specs.Common.{polygon_area}
 
 abbrev pub polygons_area : List (List (List Position)) → ℤ
 polygons_area polygons =

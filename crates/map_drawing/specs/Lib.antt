@@ -3,3 +3,4 @@ pub mod Paths
 pub mod Missing
 pub mod Areas
 pub mod Shapes
+pub mod Common

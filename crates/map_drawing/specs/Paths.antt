@@ -1,9 +1,8 @@
 -- The paths of rings and of segments (SVG 1.1, 8.3): positions in grid units from the least corner of
 -- the window.
 use Rattle.std.specs.Prelude.{ℕ, ◌-ℤ◌, List, ◌++◌, codes, flat_map}
-use Rattle.svg_text.specs.Numbers.{pair_text}
-use Rattle.grid_geometry.specs.Position.{Position}
-use Rattle.grid_geometry.specs.Segment.{Segment}
+use Rattle.svg_text.specs.Common.{pair_text}
+use Rattle.grid_geometry.specs.Common.{Position, Segment}
 use Rattle.map_drawing.specs.declared.window.Window.{Window}
 
 -- a position behind a space

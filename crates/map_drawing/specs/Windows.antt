@@ -1,8 +1,8 @@
 -- The part of the grid that is drawn.
 use Rattle.std.specs.Prelude.{◌≤ℤ◌, ◌+ℤ◌, List, Option, Some, None, Vec}
 use Rattle.std.specs.List.{All}
-use Rattle.grid_geometry.specs.Position.{Position}
-use Rattle.topo_reader.specs.Uses.{positions_of}
+use Rattle.grid_geometry.specs.Common.{Position}
+use Rattle.topo_reader.specs.Common.{positions_of}
 use Rattle.map_drawing.specs.declared.bounds.Bounds.{Bounds}
 use Rattle.map_drawing.specs.declared.window.Window.{Window}
 

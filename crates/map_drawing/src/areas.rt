@@ -1,7 +1,7 @@
 // Areas, twice as large so that they are whole.
 ghost use Rattle.std.specs.Prelude.{◌≡◌, map, IfSome};
-ghost use Rattle.ring_machine.specs.Query.{absolute_area, polygon_area};
-ghost use Rattle.topo_reader.specs.Uses.{positions_of, polygon_positions};
+ghost use Rattle.ring_machine.specs.Common.{absolute_area, polygon_area};
+ghost use Rattle.topo_reader.specs.Common.{positions_of, polygon_positions};
 ghost use Rattle.map_drawing.specs.Areas.{polygons_area};
 
 use grid_geometry::{Pos, area2};

@@ -1,6 +1,6 @@
 // The least and the greatest coordinates of rings.
 ghost use Rattle.std.specs.List.{All};
-ghost use Rattle.grid_geometry.specs.Position.{Position};
+ghost use Rattle.grid_geometry.specs.Common.{Position};
 ghost use Rattle.map_drawing.specs.Windows.{Includes, IsWithin, RingIn, AreWithin};
 
 use crate::bounds::Bounds;

@@ -1,6 +1,6 @@
 // The picture of a map.
 ghost use Rattle.std.specs.Prelude.{◌≡◌, None, IfSome};
-ghost use Rattle.grid_geometry.specs.Position.{Position};
+ghost use Rattle.grid_geometry.specs.Common.{Position};
 ghost use Rattle.map_drawing.specs.Windows.{IsShown, IsWithin};
 
 use crate::bounds::Bounds;

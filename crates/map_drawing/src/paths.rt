@@ -1,6 +1,6 @@
 // The paths of rings and of segments.
 ghost use Rattle.std.specs.Prelude.{◌≡◌, ◌++◌, OnOk, map};
-ghost use Rattle.topo_reader.specs.Uses.{positions_of, polygon_positions};
+ghost use Rattle.topo_reader.specs.Common.{positions_of, polygon_positions};
 ghost use Rattle.map_drawing.specs.Paths.{point_text, ring_text, rings_text, polygons_text, segment_text};
 
 use crate::window::Window;

@@ -1,7 +1,7 @@
 // The segments of a map, each once.
 ghost use Rattle.std.specs.Prelude.{IfOk};
 ghost use Rattle.std.specs.List.Sorted.{IsSorted};
-ghost use Rattle.grid_geometry.specs.Segment.{segment_cmp};
+ghost use Rattle.grid_geometry.specs.Common.{segment_cmp};
 
 use crate::shapes::Shape;
 use grid_geometry::{Pos, Seg};

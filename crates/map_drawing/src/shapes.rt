@@ -1,6 +1,6 @@
 // The features of a map, as they are drawn.
 ghost use Rattle.std.specs.List.{All};
-ghost use Rattle.grid_geometry.specs.Position.{Position};
+ghost use Rattle.grid_geometry.specs.Common.{Position};
 ghost use Rattle.map_drawing.specs.Windows.{IsWithin, AreWithin};
 ghost use Rattle.map_drawing.specs.Shapes.{ShapeIn};
 

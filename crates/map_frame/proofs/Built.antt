@@ -1,23 +1,17 @@
 -- Building layer by layer and item by item: what is done so far, and what is left.
-use Rattle.std.proofs.Common.{◌≡◌, ◌∙◌, ℕ, zero, suc, ◌+◌, ◌≤◌, refl, sym, ap, subst, arith, append_assoc, append-nil, add-one}
-use Rattle.std.proofs.Common.{List, [], ◌∷◌, ◌++◌, length, map, drop, Option, Some, None}
-use Rattle.std.proofs.lemmas.List.{length-append}
-use Rattle.std.specs.Prelude.{Vec, not, IsTrue, slice_get, unwrap_or}
-use Rattle.std.specs.List.{flat_map}
+use Rattle.kit_words.proofs.Common.{◌≡◌, ◌∙◌, ℕ, zero, suc, ◌+◌, ◌≤◌, refl, sym, ap, subst, arith, append_assoc}
+use Rattle.kit_words.proofs.Common.{add-one, List, [], ◌∷◌, ◌++◌, length, map, drop, Option, Some, None, length-append}
+use Rattle.kit_words.proofs.Common.{Vec, not, IsTrue, slice_get, unwrap_or, flat_map}
+use Rattle.std.proofs.Common.{append-nil}
 use Rattle.topo_outline.specs.Outline.{leaf_of, at_most_one, leaves_in, leaves}
-use Rattle.topo_outline.specs.Views.{view_item, view_layer}
+use Rattle.topo_outline.specs.Common.{view_item, view_layer}
 use Rattle.topo_outline.specs.declared.document.Item.{Item}
 use Rattle.topo_outline.specs.declared.document.Item.TheVariants as item
 use Rattle.topo_outline.specs.declared.document.RawFeature.{RawFeature}
 use Rattle.topo_outline.specs.declared.document.RawLayer.{RawLayer}
-use Rattle.map_frame.specs.declared.feature.Feature.{Feature}
-use Rattle.map_frame.specs.declared.feature.Stand.{Stand}
-use Rattle.map_frame.specs.declared.layers.Slot.{Slot}
-use Rattle.map_frame.specs.declared.layers.Geometry.{Geometry}
+use Rattle.map_frame.specs.Common.{Feature, Stand, Slot, Geometry, Layer, Progress, IsNext, IsSlot, AreSlots, first_of}
+use Rattle.map_frame.specs.Common.{lone, is_lone, IsGeometry, AreLayers, numbers_at, numbers_in, all_numbers}
 use Rattle.map_frame.specs.declared.layers.Geometry.TheVariants as geometry
-use Rattle.map_frame.specs.declared.layers.Layer.{Layer}
-use Rattle.map_frame.specs.Building.{Progress, IsNext, IsSlot, AreSlots, first_of, lone, is_lone, IsGeometry, AreLayers}
-use Rattle.map_frame.specs.Kept.{numbers_at, numbers_in, all_numbers}
 
 pub nothing_left : {X : Type 0} (xs : List X) (n : ℕ) → n ≡ length xs → n ≡ 0 → xs ≡ []
 nothing_left [] n e z = refl

@@ -1,24 +1,17 @@
 -- What was read can stand as a frame: the document is well formed whatever its rings are.
-use Rattle.std.proofs.Common.{◌≡◌, ◌∙◌, ℕ, zero, suc, ◌+◌, ◌<◌, refl, sym, ap, ap₂, arith}
-use Rattle.std.proofs.Common.{List, [], ◌∷◌, ◌++◌, length, map, option_map, get_or, take, drop, ◌&&◌}
-use Rattle.std.specs.Prelude.{◌==◌, Vec}
-use Rattle.std.specs.List.{flat_map, filter_map, list_all}
-use Rattle.std.proofs.lemmas.List.{length-map}
-use Rattle.std.proofs.lemmas.List.Folds.{list_all-append}
-use Rattle.std.proofs.lemmas.List.{map-append, take_more}
-use Rattle.ring_machine.specs.Document.{Polygon, MultiPolygon, Null}
-use Rattle.ring_machine.specs.Parts.{feature_of, features}
-use Rattle.ring_machine.specs.WellFormed.{is_inner, is_geometry, fits_form}
-use Rattle.map_frame.specs.Numbers.{polygon_numbers, feature_numbers}
+use Rattle.kit_words.proofs.Common.{◌≡◌, ◌∙◌, ℕ, zero, suc, ◌+◌, ◌<◌, refl, sym, ap, ap₂, arith, List, [], ◌∷◌, ◌++◌}
+use Rattle.kit_words.proofs.Common.{length, map, option_map, get_or, take, drop, ◌&&◌, ◌==◌, Vec, flat_map, filter_map}
+use Rattle.kit_words.proofs.Common.{list_all, length-map, list_all-append, map-append, take_more}
+use Rattle.ring_machine.specs.Common.{Polygon, MultiPolygon, Null, feature_of, features, is_inner, is_geometry}
+use Rattle.ring_machine.specs.Common.{fits_form}
+use Rattle.map_frame.specs.Common.{polygon_numbers, feature_numbers, opened, CanStand}
 use Rattle.topo_outline.specs.Outline.{leaves_in}
 use Rattle.topo_outline.specs.Shape.{LayerText, Piece, starts, ends, leaf, text}
-use Rattle.topo_outline.specs.Views.{view_kept, view_layer}
+use Rattle.topo_outline.specs.Common.{view_kept, view_layer}
 use Rattle.topo_reader.specs.declared.document.RawDoc.{RawDoc}
-use Rattle.topo_reader.specs.Document.{polygons_at, items_from, layers_from, IsOfRings}
-use Rattle.topo_reader.specs.DocumentView.{view_raw}
-use Rattle.topo_reader.specs.Uses.{polygon_positions, feature_positions}
-use Rattle.map_frame.specs.Opened.{opened, CanStand}
-use Rattle.ring_machine.proofs.Numbered.{numbered_distinct}
+use Rattle.topo_reader.specs.Common.{polygons_at, items_from, layers_from, IsOfRings, view_raw, polygon_positions}
+use Rattle.topo_reader.specs.Common.{feature_positions}
+use Rattle.ring_machine.proofs.Common.{numbered_distinct}
 use Rattle.map_frame.proofs.BuiltNumbers.{layers_numbered}
 
 -- one more element with a number of elements that is known

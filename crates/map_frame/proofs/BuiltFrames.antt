@@ -1,35 +1,23 @@
 -- What the layers that were built mean, and where their features stand.
-use Rattle.std.proofs.Common.{◌≡◌, ◌≢◌, ◌∙◌, ℕ, zero, suc, ◌+◌, ◌<◌, ◌≤◌, refl, sym, ap, ap₂, subst, arith}
-use Rattle.std.proofs.Common.{List, [], ◌∷◌, ◌++◌, length, map, drop, Option, Some, option_map, true, ◌&&◌, inl, Contains}
-use Rattle.std.specs.Prelude.{Vec, not, IsTrue, slice_get, unwrap_or}
-use Rattle.std.specs.List.{flat_map, list_all}
-use Rattle.std.proofs.lemmas.Option.{slice_get-map}
-use native.Mathlib.Decide.{ℕ_discrete, dec_lt}
-use Rattle.ring_machine.specs.Document.{Text, ItemOf, LayerOf, Leaf}
-use Rattle.std.proofs.lemmas.Bool.{false≢true}
-use Rattle.ring_machine.specs.WellFormed.{is_inner, is_geometry}
-use Rattle.ring_machine.proofs.First.{In}
-use Rattle.ring_machine.proofs.Members.{in_contains}
-use Rattle.ring_machine.proofs.Order.{and_both}
-use Rattle.map_frame.specs.Numbers.{feature_numbers}
+use Rattle.kit_words.proofs.Common.{◌≡◌, ◌≢◌, ◌∙◌, ℕ, zero, suc, ◌+◌, ◌<◌, ◌≤◌, refl, sym, ap, ap₂, subst, arith, List}
+use Rattle.kit_words.proofs.Common.{[], ◌∷◌, ◌++◌, length, map, drop, Option, Some, option_map, true, ◌&&◌, inl}
+use Rattle.kit_words.proofs.Common.{Contains, Vec, not, IsTrue, slice_get, unwrap_or, flat_map, list_all, slice_get-map}
+use Rattle.kit_words.proofs.Common.{ℕ_discrete, dec_lt, false≢true}
+use Rattle.ring_machine.specs.Common.{Text, ItemOf, LayerOf, Leaf, is_inner, is_geometry}
+use Rattle.ring_machine.proofs.Common.{In, in_contains, and_both}
+use Rattle.map_frame.specs.Common.{feature_numbers, Feature, Stand, Slot, Geometry, Layer, Progress, IsNext, IsLeaf}
+use Rattle.map_frame.specs.Common.{IsSlot, AreSlots, is_lone, IsGeometry, AreLayers, numbers_at, numbers_under}
+use Rattle.map_frame.specs.Common.{is_closing, is_whole, is_enclosed, leaf_of, items_at, items_of, view_layer}
 use Rattle.topo_outline.specs.Shape.{Piece}
-use Rattle.topo_outline.specs.Views.{form_of, view_head, view_item}
+use Rattle.topo_outline.specs.Common.{form_of, view_head, view_item}
 use Rattle.topo_outline.specs.Views as read
 use Rattle.topo_outline.specs.declared.document.Item.{Item}
 use Rattle.topo_outline.specs.declared.document.Item.TheVariants as item
 use Rattle.topo_outline.specs.declared.document.RawFeature.{RawFeature}
 use Rattle.topo_outline.specs.declared.document.RawLayer.{RawLayer}
-use Rattle.topo_reader.specs.Document.{numbered, polygons_at, items_from, layers_from}
-use Rattle.map_frame.specs.declared.feature.Feature.{Feature}
-use Rattle.map_frame.specs.declared.feature.Stand.{Stand}
-use Rattle.map_frame.specs.declared.layers.Slot.{Slot}
-use Rattle.map_frame.specs.declared.layers.Geometry.{Geometry}
+use Rattle.topo_reader.specs.Common.{numbered, polygons_at, items_from, layers_from}
 use Rattle.map_frame.specs.declared.layers.Geometry.TheVariants as geometry
-use Rattle.map_frame.specs.declared.layers.Layer.{Layer}
-use Rattle.map_frame.specs.Building.{Progress, IsNext, IsLeaf, IsSlot, AreSlots, is_lone, IsGeometry, AreLayers}
-use Rattle.map_frame.specs.Kept.{numbers_at, numbers_under, is_closing, is_whole, is_enclosed}
-use Rattle.map_frame.specs.Seen.{leaf_of, items_at, items_of, view_layer}
-use Rattle.edit_records.specs.Places.{or_empty}
+use Rattle.edit_records.specs.Common.{or_empty}
 use Rattle.map_frame.proofs.Built.{Whole, Waits, leaves_of, next_whole, next_stands, came_next, came_slot, came_slots, came_geometry, came_layers}
 use Rattle.map_frame.proofs.NamedOnce.{same_some}
 use Rattle.map_frame.proofs.ReadLists.{got_behind}

@@ -1,11 +1,7 @@
 -- The names of the rings of all features.
-use Rattle.std.proofs.Common.{◌≡◌, ℕ, ◌+◌, ◌<◌, ◌≤◌, sym, ap, ◌∙◌, List, [], length, inl, inr, arith}
-use Rattle.std.proofs.Common.{Option, Some}
-use Rattle.std.specs.Prelude.{slice_get}
-use Rattle.std.proofs.lemmas.Option.{slice_get_within}
-use Rattle.map_frame.specs.declared.names.RingName.{RingName}
-use Rattle.map_frame.specs.Naming.{number_among, Gain, SameNames, AllNamed}
-use Rattle.map_frame.specs.Readers.{element}
+use Rattle.kit_words.proofs.Common.{◌≡◌, ℕ, ◌+◌, ◌<◌, ◌≤◌, sym, ap, ◌∙◌, List, [], length, inl, inr, arith, Option}
+use Rattle.kit_words.proofs.Common.{Some, slice_get, slice_get_within}
+use Rattle.map_frame.specs.Common.{RingName, number_among, Gain, SameNames, AllNamed, element}
 use Rattle.map_frame.proofs.NamedForgotten.{element_is}
 use Rattle.map_frame.proofs.NamedLists.{gain_step, gain_end, OfPolygon}
 

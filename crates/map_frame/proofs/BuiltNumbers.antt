@@ -1,18 +1,13 @@
 -- The numbers of features that were built: 0, 1, 2 and so on in the order of the text.
-use Rattle.std.proofs.Common.{◌≡◌, ◌≢◌, ◌∙◌, ℕ, ◌+◌, ◌<◌, ◌≤◌, refl, sym, ap, ap₂, arith}
-use Rattle.std.proofs.Common.{List, [], ◌∷◌, ◌++◌, length, Some, option_map, Bool, true, false, cond, ◌&&◌, ◌||◌}
-use Rattle.std.specs.Prelude.{◌==◌, not, slice_get}
-use Rattle.std.specs.List.{flat_map, filter_map, list_any, find, AllByRecursion}
-use Rattle.std.proofs.lemmas.Bool.Decides.{nat_tests}
-use Rattle.std.proofs.lemmas.List.{length-append}
-use Rattle.std.proofs.lemmas.Option.{slice_get_past, slice_get-get_or, unwrap_or-slice_get}
-use Rattle.ring_machine.specs.Document.{FeatureOf, ItemOf, LayerOf}
-use Rattle.ring_machine.specs.Parts.{feature_of}
-use Rattle.ring_machine.specs.WellFormed.{are_distinct}
-use Rattle.ring_machine.proofs.Numbered.{AreNumbered, numbered-append}
+use Rattle.kit_words.proofs.Common.{◌≡◌, ◌≢◌, ◌∙◌, ℕ, ◌+◌, ◌<◌, ◌≤◌, refl, sym, ap, ap₂, arith, List, [], ◌∷◌, ◌++◌}
+use Rattle.kit_words.proofs.Common.{length, Some, option_map, Bool, true, false, cond, ◌&&◌, ◌||◌, ◌==◌, not, slice_get}
+use Rattle.kit_words.proofs.Common.{flat_map, filter_map, list_any, find, AllByRecursion, nat_tests, length-append}
+use Rattle.kit_words.proofs.Common.{slice_get_past, slice_get-get_or, unwrap_or-slice_get}
+use Rattle.ring_machine.specs.Common.{FeatureOf, ItemOf, LayerOf, feature_of, are_distinct}
+use Rattle.ring_machine.proofs.Common.{AreNumbered, numbered-append}
 use Rattle.topo_outline.specs.Outline.{leaves_in, leaves}
 use Rattle.topo_outline.specs.Shape.{Piece, leaf, LayerText}
-use Rattle.topo_reader.specs.Document.{polygons_at, items_from, layers_from}
+use Rattle.topo_reader.specs.Common.{polygons_at, items_from, layers_from}
 use Rattle.map_frame.proofs.Built.{AreFrom}
 
 -- ---- numbers in order

@@ -1,30 +1,14 @@
 -- The tables that were built belong together.
-use Rattle.std.proofs.Common.{◌≡◌, ◌∙◌, ℕ, refl, sym, ap, ap₂, subst, arith, append-nil}
-use Rattle.std.proofs.Common.{List, [], length, map, Option, Some, option_map, Contains}
-use Rattle.std.specs.Prelude.{Vec, slice_get}
-use Rattle.std.specs.List.{flat_map}
-use Rattle.std.proofs.lemmas.List.{length-map}
-use Rattle.std.proofs.lemmas.Option.{slice_get_within}
-use Rattle.ring_machine.specs.Document.{DocumentOf, LayerOf}
-use Rattle.ring_machine.specs.Join.{empty_collection}
-use Rattle.ring_machine.specs.Parts.{features}
-use Rattle.ring_machine.specs.WellFormed.{WellFormed}
-use Rattle.map_frame.specs.Numbers.{feature_numbers}
-use Rattle.topo_outline.specs.Views.{view_kept}
+use Rattle.kit_words.proofs.Common.{◌≡◌, ◌∙◌, ℕ, refl, sym, ap, ap₂, subst, arith, List, [], length, map, Option, Some}
+use Rattle.kit_words.proofs.Common.{option_map, Contains, Vec, slice_get, flat_map, length-map, slice_get_within}
+use Rattle.std.proofs.Common.{append-nil}
+use Rattle.ring_machine.specs.Common.{DocumentOf, LayerOf, empty_collection, features, WellFormed}
+use Rattle.map_frame.specs.Common.{feature_numbers, Feature, Stand, Layer, RingName, Tables, Progress, progress}
+use Rattle.map_frame.specs.Common.{AreLayers, numbers_under, all_numbers, StandsAt, IsFramed, number_at, AreNamed}
+use Rattle.map_frame.specs.Common.{number_among, AllNamed, opened, CanStand, element, items_at, doc_of}
+use Rattle.topo_outline.specs.Common.{view_kept}
 use Rattle.topo_outline.specs.Views as read
 use Rattle.topo_outline.specs.declared.document.RawLayer.{RawLayer}
-use Rattle.map_frame.specs.declared.feature.Feature.{Feature}
-use Rattle.map_frame.specs.declared.feature.Stand.{Stand}
-use Rattle.map_frame.specs.declared.layers.Layer.{Layer}
-use Rattle.map_frame.specs.declared.names.RingName.{RingName}
-use Rattle.map_frame.specs.declared.tables.Tables.{Tables}
-use Rattle.map_frame.specs.Building.{Progress, progress, AreLayers}
-use Rattle.map_frame.specs.Kept.{numbers_under, all_numbers, StandsAt, IsFramed}
-use Rattle.map_frame.specs.Named.{number_at, AreNamed}
-use Rattle.map_frame.specs.Naming.{number_among, AllNamed}
-use Rattle.map_frame.specs.Opened.{opened, CanStand}
-use Rattle.map_frame.specs.Readers.{element}
-use Rattle.map_frame.specs.Seen.{items_at, doc_of}
 use Rattle.map_frame.proofs.Built.{Whole, Waits, Came, all_leaves, came_layers}
 use Rattle.map_frame.proofs.BuiltFrames.{layers_seen, layers_standing, layers_enclosed}
 use Rattle.map_frame.proofs.BuiltNumbers.{from_distinct, from_below, layers_length, polygons_found}

@@ -1,35 +1,20 @@
 -- A copy of a frame's tables means the same, and belongs together as they do.
-use Rattle.std.proofs.Common.{◌≡◌, ◌∙◌, ℕ, zero, suc, ◌<◌, ◌≤◌, refl, sym, ap, ap₂, subst}
-use Rattle.std.proofs.Common.{List, [], ◌∷◌, length, map, drop, Option, Some, None, option_map, Contains}
-use Rattle.std.specs.Prelude.{Vec, slice_get}
-use Rattle.std.specs.List.{flat_map, list_all, AllZip, each_same, AllByRecursion}
+use Rattle.kit_words.proofs.Common.{◌≡◌, ◌∙◌, ℕ, zero, suc, ◌<◌, ◌≤◌, refl, sym, ap, ap₂, subst, List, [], ◌∷◌, length}
+use Rattle.kit_words.proofs.Common.{map, drop, Option, Some, None, option_map, Contains, Vec, slice_get, flat_map}
+use Rattle.kit_words.proofs.Common.{list_all, AllZip, each_same, AllByRecursion, length-map, flat_map-map, list_all-map}
+use Rattle.kit_words.proofs.Common.{slice_get-map}
 use Rattle.std.specs.Vec.{vec_len}
-use Rattle.std.proofs.lemmas.List.{length-map}
-use Rattle.std.proofs.lemmas.List.Folds.{flat_map-map, list_all-map}
-use Rattle.std.proofs.lemmas.Option.{slice_get-map}
-use Rattle.ring_machine.specs.Document.{Text, Member, FeatureOf, LayerOf, DocumentOf}
-use Rattle.ring_machine.specs.Parts.{features}
-use Rattle.ring_machine.specs.WellFormed.{WellFormed, are_distinct}
-use Rattle.topo_outline.proofs.Copied.{copied_map}
-use Rattle.topo_outline.specs.Views.{view_kept}
-use Rattle.edit_records.specs.Places.{Places, LayerTree, number_of, numbers_placed, item_at, filled}
-use Rattle.edit_records.proofs.PlacesBack.{filled-agree}
-use Rattle.map_frame.specs.Numbers.{polygon_numbers}
-use Rattle.map_frame.specs.declared.feature.Feature.{Feature}
-use Rattle.map_frame.specs.declared.feature.Stand.{Stand}
-use Rattle.map_frame.specs.declared.layers.Slot.{Slot}
+use Rattle.ring_machine.specs.Common.{Text, Member, FeatureOf, LayerOf, DocumentOf, features, WellFormed, are_distinct}
+use Rattle.topo_outline.proofs.Common.{copied_map}
+use Rattle.topo_outline.specs.Common.{view_kept}
+use Rattle.edit_records.specs.Common.{Places, LayerTree, number_of, numbers_placed, item_at, filled}
+use Rattle.edit_records.proofs.Common.{filled-agree}
+use Rattle.map_frame.specs.Common.{polygon_numbers, Feature, Stand, Slot, Geometry, Layer, Tables, slot_text}
+use Rattle.map_frame.specs.Common.{geometry_text, layer_text, seen, AreCopied, Framed, all_numbers, numbers_under}
+use Rattle.map_frame.specs.Common.{StandsAt, is_closing, is_whole, is_enclosed, IsFramed, live, AreNamed, view_feature}
+use Rattle.map_frame.specs.Common.{view_layer, doc_of, framed, places_at, tree_of, layer_tree, places_of, with_texts}
 use Rattle.map_frame.specs.declared.layers.Slot.TheVariants as slot
-use Rattle.map_frame.specs.declared.layers.Geometry.{Geometry}
 use Rattle.map_frame.specs.declared.layers.Geometry.TheVariants as geometry
-use Rattle.map_frame.specs.declared.layers.Layer.{Layer}
-use Rattle.map_frame.specs.declared.tables.Tables.{Tables}
-use Rattle.map_frame.specs.Copied.{slot_text, geometry_text, layer_text, seen, AreCopied}
-use Rattle.map_frame.specs.Framed.{Framed}
-use Rattle.map_frame.specs.Kept.{all_numbers, numbers_under, StandsAt, is_closing, is_whole, is_enclosed, IsFramed}
-use Rattle.map_frame.specs.Live.{live}
-use Rattle.map_frame.specs.Named.{AreNamed}
-use Rattle.map_frame.specs.Seen.{view_feature, view_layer, doc_of, framed, places_at, tree_of, layer_tree, places_of}
-use Rattle.map_frame.specs.Texts.{with_texts}
 use Rattle.map_frame.proofs.PlacesSeen.{entry, layers_filled, layers_placed, slots_filled, slot_placed}
 
 -- ---- lists of numbers

@@ -1,10 +1,9 @@
 -- How many features there are with one more.
-use Rattle.std.proofs.Common.{◌≡◌, ◌≢◌, ◌+◌, ℕ, suc, refl, true, false, sym, ap, ◌∙◌, subst, List, [], ◌∷◌, length}
-use Rattle.std.proofs.Common.{Option, Some, None, is_some, inl, inr, arith}
-use Rattle.std.specs.List.{filter_map, cons_option}
-use Rattle.std.proofs.lemmas.Bool.{false≢true}
-use Rattle.ring_machine.specs.WellFormed.{are_distinct}
-use Rattle.ring_machine.proofs.First.{In}
+use Rattle.kit_words.proofs.Common.{◌≡◌, ◌≢◌, ◌+◌, ℕ, suc, refl, true, false, sym, ap, ◌∙◌, subst, List, [], ◌∷◌}
+use Rattle.kit_words.proofs.Common.{length, Option, Some, None, is_some, inl, inr, arith, filter_map, cons_option}
+use Rattle.kit_words.proofs.Common.{false≢true}
+use Rattle.ring_machine.specs.Common.{are_distinct}
+use Rattle.ring_machine.proofs.Common.{In}
 use Rattle.map_frame.proofs.EditedFeatures.{cons_length, cons_less, head_apart, tail_distinct}
 
 module _ {Y : Type 0} (h k : ℕ → Option Y) (n : ℕ) (there : is_some (h n) ≡ true) (gone : is_some (k n) ≡ false)

@@ -1,14 +1,12 @@
 -- There are at most as many features as places in the table.
-use Rattle.std.proofs.Common.{◌≡◌, ◌<◌, ◌≤◌, ℕ, suc, true, false, eqb, ne_eqb, sym, ap, ◌∙◌, subst, List, [], ◌∷◌, length}
-use Rattle.std.proofs.Common.{inl, inr, Option, Some, None, arith}
-use Rattle.std.specs.List.{filter_map, cons_option, AllByRecursion, IsDistinct}
-use Rattle.std.proofs.lemmas.Bool.Decides.{Decides-eqb}
+use Rattle.kit_words.proofs.Common.{◌≡◌, ◌<◌, ◌≤◌, ℕ, suc, true, false, eqb, sym, ap, ◌∙◌, subst, List, [], ◌∷◌, length}
+use Rattle.kit_words.proofs.Common.{inl, inr, Option, Some, None, arith, filter_map, cons_option, AllByRecursion}
+use Rattle.kit_words.proofs.Common.{IsDistinct, Decides-eqb}
+use Rattle.std.proofs.Common.{ne_eqb}
 use Rattle.std.proofs.lemmas.Map.Steps.{length-le_from_distinct_below}
-use Rattle.ring_machine.specs.WellFormed.{are_distinct}
-use Rattle.ring_machine.proofs.First.{In}
-use Rattle.ring_machine.proofs.Members.{any_in}
-use Rattle.map_frame.specs.declared.tables.Tables.{Tables}
-use Rattle.map_frame.specs.Kept.{IsFramed, all_numbers}
+use Rattle.ring_machine.specs.Common.{are_distinct}
+use Rattle.ring_machine.proofs.Common.{In, any_in}
+use Rattle.map_frame.specs.Common.{Tables, IsFramed, all_numbers}
 use Rattle.map_frame.proofs.EditedFeatures.{head_apart, tail_distinct}
 use Rattle.map_frame.proofs.PlacesSeen.{entry, features_of}
 

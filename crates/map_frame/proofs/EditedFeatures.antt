@@ -1,11 +1,9 @@
 -- The features by the numbers in the layers: their forms, their numbers, and how many there are.
-use Rattle.std.proofs.Common.{◌≡◌, ℕ, suc, Bool, true, refl, sym, ap, ap₂, subst, List, [], ◌∷◌, ◌++◌}
-use Rattle.std.proofs.Common.{map, length, ◌+◌, inl, inr, Option, Some, None, is_some, ◌&&◌, arith}
-use Rattle.std.specs.List.{filter_map, list_all, cons_option}
-use Rattle.ring_machine.specs.WellFormed.{are_distinct}
-use Rattle.ring_machine.proofs.First.{In}
-use Rattle.ring_machine.proofs.Found.{distinct_parts, distinct-append}
-use Rattle.ring_machine.proofs.LeftOut.{IsPart, none, skip, keep, part_distinct}
+use Rattle.kit_words.proofs.Common.{◌≡◌, ℕ, suc, Bool, true, refl, sym, ap, ap₂, subst, List, [], ◌∷◌, ◌++◌, map}
+use Rattle.kit_words.proofs.Common.{length, ◌+◌, inl, inr, Option, Some, None, is_some, ◌&&◌, arith, filter_map}
+use Rattle.kit_words.proofs.Common.{list_all, cons_option}
+use Rattle.ring_machine.specs.Common.{are_distinct}
+use Rattle.ring_machine.proofs.Common.{In, distinct_parts, distinct-append, IsPart, none, skip, keep, part_distinct}
 
 -- ---- what holds of each element
 

@@ -1,12 +1,8 @@
 -- The table of names after an edit.
-use Rattle.std.proofs.Common.{◌≡◌, ◌≢◌, ℕ, true, sym, ap, ◌∙◌, subst, List, ◌⊎◌, inl, inr, Option, Some, None}
-use Rattle.ring_machine.specs.Document.{DocumentOf}
-use Rattle.ring_machine.specs.Parts.{feature, rings}
-use Rattle.ring_machine.specs.WellFormed.{are_distinct}
-use Rattle.map_frame.specs.declared.names.RingName.{RingName}
-use native.Mathlib.Decide.{ℕ_discrete}
-use Rattle.map_frame.specs.Named.{IsNamed, number_at, AreNamed}
-use Rattle.map_frame.specs.Naming.{Gain, Loss}
+use Rattle.kit_words.proofs.Common.{◌≡◌, ◌≢◌, ℕ, true, sym, ap, ◌∙◌, subst, List, ◌⊎◌, inl, inr, Option, Some, None}
+use Rattle.kit_words.proofs.Common.{ℕ_discrete}
+use Rattle.ring_machine.specs.Common.{DocumentOf, feature, rings, are_distinct}
+use Rattle.map_frame.specs.Common.{RingName, IsNamed, number_at, AreNamed, Gain, Loss}
 use Rattle.map_frame.proofs.NamedOnce.{ring_of, ring_in, one_owner}
 
 -- names are kept for the same rings

@@ -1,25 +1,12 @@
 -- Tables in which other features stand at the same places.
-use Rattle.std.proofs.Common.{◌≡◌, ◌<◌, ◌≤◌, ℕ, true, sym, ap, ◌∙◌, subst, List, length}
-use Rattle.std.proofs.Common.{Option, Some, map, option_map, is_some}
-use Rattle.std.specs.Prelude.{Vec}
-use Rattle.std.specs.List.{list_all, filter_map, AllByRecursion}
-use Rattle.std.proofs.lemmas.Option.{slice_get_within}
-use Rattle.ring_machine.specs.Document.{FeatureOf}
-use Rattle.ring_machine.specs.Parts.{features, feature, has_feature}
-use Rattle.ring_machine.specs.WellFormed.{fits_form, are_distinct}
-use Rattle.ring_machine.proofs.Found.{has_feature-found, feature_in}
-use Rattle.ring_machine.proofs.Members.{is_some-mapped, mapped_there}
-use Rattle.ring_machine.proofs.Neighbours.{all_in}
-use Rattle.edit_records.specs.Places.{filled}
-use Rattle.edit_records.proofs.PlacesBack.{filled-agree}
-use Rattle.map_frame.specs.declared.feature.Feature.{Feature}
-use Rattle.map_frame.specs.declared.names.RingName.{RingName}
-use Rattle.map_frame.specs.declared.tables.Tables.{Tables}
-use Rattle.map_frame.specs.Framed.{Framed}
-use Rattle.map_frame.specs.Seen.{doc_of, framed, places_of, view_feature}
-use Rattle.map_frame.specs.Named.{AreNamed}
-use Rattle.map_frame.specs.Kept.{IsFramed, all_numbers}
-use Rattle.map_frame.specs.Live.{live}
+use Rattle.kit_words.proofs.Common.{◌≡◌, ◌<◌, ◌≤◌, ℕ, true, sym, ap, ◌∙◌, subst, List, length, Option, Some, map}
+use Rattle.kit_words.proofs.Common.{option_map, is_some, Vec, list_all, filter_map, AllByRecursion, slice_get_within}
+use Rattle.ring_machine.specs.Common.{FeatureOf, features, feature, has_feature, fits_form, are_distinct}
+use Rattle.ring_machine.proofs.Common.{has_feature-found, feature_in, is_some-mapped, mapped_there, all_in}
+use Rattle.edit_records.specs.Common.{filled}
+use Rattle.edit_records.proofs.Common.{filled-agree}
+use Rattle.map_frame.specs.Common.{Feature, RingName, Tables, Framed, doc_of, framed, places_of, view_feature, AreNamed}
+use Rattle.map_frame.specs.Common.{IsFramed, all_numbers, live}
 use Rattle.map_frame.proofs.EditedFeatures.{forms_all, distinct_numbers}
 use Rattle.map_frame.proofs.PlacesSeen.{entry, entry_number, feature_of_frame, features_of, layers_filled, layers_geometries}
 use Rattle.map_frame.proofs.ReadFeatures.{live_there, number_stands}

@@ -1,23 +1,13 @@
 -- A frame in which a new number stands directly after that of a feature.
-use Rattle.std.proofs.Common.{◌≡◌, ◌+◌, ◌<◌, ℕ, true, false, refl, sym, ap, ◌∙◌, subst, [], ◌∷◌, ◌++◌, length, get_or, slice_set}
-use Rattle.std.proofs.Common.{Option, Some, None}
-use Rattle.std.specs.Prelude.{slice_get, Vec}
-use Rattle.std.specs.Vec.{with_item}
-use Rattle.std.proofs.lemmas.Option.{slice_get_within}
-use Rattle.ring_machine.specs.Parts.{has_feature}
-use Rattle.ring_machine.specs.Refusals.{is_layer}
+use Rattle.kit_words.proofs.Common.{◌≡◌, ◌+◌, ◌<◌, ℕ, true, false, refl, sym, ap, ◌∙◌, subst, [], ◌∷◌, ◌++◌, length}
+use Rattle.kit_words.proofs.Common.{get_or, slice_set, Option, Some, None, slice_get, Vec, with_item, slice_get_within}
+use Rattle.ring_machine.specs.Common.{has_feature, is_layer}
 use Rattle.ring_machine.proofs.Members.{there as there_is}
-use Rattle.edit_records.specs.Places.{grown}
-use Rattle.map_frame.specs.declared.feature.Feature.{Feature}
-use Rattle.map_frame.specs.declared.feature.Stand.{Stand}
+use Rattle.edit_records.specs.Common.{grown}
+use Rattle.map_frame.specs.Common.{Feature, Stand, Layer, Tables, with_new, with_slot, IsFramed, numbers_under, live}
+use Rattle.map_frame.specs.Common.{doc_of, framed, places_of}
 use Rattle.map_frame.specs.declared.layers.Slot.TheVariants as slot
 use Rattle.map_frame.specs.declared.layers.Geometry.TheVariants as geometry
-use Rattle.map_frame.specs.declared.layers.Layer.{Layer}
-use Rattle.map_frame.specs.declared.tables.Tables.{Tables}
-use Rattle.map_frame.specs.Growing.{with_new, with_slot}
-use Rattle.map_frame.specs.Kept.{IsFramed, numbers_under}
-use Rattle.map_frame.specs.Live.{live}
-use Rattle.map_frame.specs.Seen.{doc_of, framed, places_of}
 use Rattle.map_frame.proofs.GrownPlace.{GrownPlace, grown_place}
 use Rattle.map_frame.proofs.GrownTables.{after_is}
 use Rattle.map_frame.proofs.NamedOnce.{same_some}

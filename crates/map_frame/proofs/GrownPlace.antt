@@ -1,22 +1,11 @@
 -- Where a feature stands beside which a new number comes: in a slot among the items of its layer.
-use Rattle.std.proofs.Common.{◌≡◌, ◌<◌, ℕ, false, refl, ap, ◌∙◌, length, sym, Option, Some, None}
-use Rattle.std.specs.Prelude.{slice_get, Vec}
-use Rattle.std.proofs.lemmas.Option.{slice_get_within}
-use Rattle.std.proofs.lemmas.Bool.{false≢true}
-use Rattle.ring_machine.specs.Refusals.{is_layer}
-use Rattle.ring_machine.proofs.First.{In}
-use Rattle.ring_machine.proofs.Members.{contains_in}
-use Rattle.map_frame.specs.declared.feature.Feature.{Feature}
-use Rattle.map_frame.specs.declared.feature.Stand.{Stand}
-use Rattle.map_frame.specs.declared.layers.Slot.{Slot}
+use Rattle.kit_words.proofs.Common.{◌≡◌, ◌<◌, ℕ, false, refl, ap, ◌∙◌, length, sym, Option, Some, None, slice_get, Vec}
+use Rattle.kit_words.proofs.Common.{slice_get_within, false≢true}
+use Rattle.ring_machine.specs.Common.{is_layer}
+use Rattle.ring_machine.proofs.Common.{In, contains_in}
+use Rattle.map_frame.specs.Common.{Feature, Stand, Slot, Geometry, Layer, Tables, IsFramed, numbers_under, live, doc_of}
 use Rattle.map_frame.specs.declared.layers.Slot.TheVariants as slot
-use Rattle.map_frame.specs.declared.layers.Geometry.{Geometry}
 use Rattle.map_frame.specs.declared.layers.Geometry.TheVariants as geometry
-use Rattle.map_frame.specs.declared.layers.Layer.{Layer}
-use Rattle.map_frame.specs.declared.tables.Tables.{Tables}
-use Rattle.map_frame.specs.Kept.{IsFramed, numbers_under}
-use Rattle.map_frame.specs.Live.{live}
-use Rattle.map_frame.specs.Seen.{doc_of}
 use Rattle.map_frame.proofs.NamedOnce.{same_some}
 use Rattle.map_frame.proofs.ReadAlone.{is_alone}
 

@@ -1,36 +1,22 @@
 -- Tables in which a new number stands directly after another.
-use Rattle.std.proofs.Common.{◌≡◌, ◌≢◌, ◌+◌, ◌<◌, ℕ, zero, suc, Bool, true, false, refl, sym, ap, ap₂, ◌∙◌, subst, List, [], ◌∷◌, ◌++◌, ◌&&◌, map}
-use Rattle.std.proofs.Common.{ne_eqb, length, slice_set, cond, inl, inr, Option, Some, None, option_map, arith, Contains}
-use Rattle.std.specs.Prelude.{slice_get, Vec, ◌==◌}
-use Rattle.std.specs.List.{flat_map, list_all, AllByRecursion}
-use Rattle.std.proofs.lemmas.List.{length_push, map-append}
-use Rattle.std.proofs.lemmas.Option.{slice_get_within}
-use Rattle.std.proofs.lemmas.List.Concat.{flat_map-append, flat_map_single}
-use native.Mathlib.Decide.{ℕ_discrete}
-use Rattle.ring_machine.specs.Document.{DocumentOf}
+use Rattle.kit_words.proofs.Common.{◌≡◌, ◌≢◌, ◌+◌, ◌<◌, ℕ, zero, suc, Bool, true, false, refl, sym, ap, ap₂, ◌∙◌, subst}
+use Rattle.kit_words.proofs.Common.{List, [], ◌∷◌, ◌++◌, ◌&&◌, map, length, slice_set, cond, inl, inr, Option, Some}
+use Rattle.kit_words.proofs.Common.{None, option_map, arith, Contains, slice_get, Vec, ◌==◌, flat_map, list_all}
+use Rattle.kit_words.proofs.Common.{AllByRecursion, length_push, map-append, slice_get_within, flat_map-append}
+use Rattle.kit_words.proofs.Common.{flat_map_single, ℕ_discrete}
+use Rattle.std.proofs.Common.{ne_eqb}
+use Rattle.ring_machine.specs.Common.{DocumentOf, WellFormed, are_distinct}
 use Rattle.ring_machine.specs.Parts.{features as feature_list}
-use Rattle.ring_machine.specs.WellFormed.{WellFormed, are_distinct}
-use Rattle.ring_machine.proofs.First.{In}
-use Rattle.ring_machine.proofs.Members.{contains_in, in_contains}
-use Rattle.ring_machine.proofs.Neighbours.{all_in}
-use Rattle.ring_machine.proofs.Order.{and_both}
-use Rattle.edit_records.specs.Places.{Place, Number, LayerTree, number_of, filled, grown, tree_with}
+use Rattle.ring_machine.proofs.Common.{In, contains_in, in_contains, all_in, and_both}
+use Rattle.edit_records.specs.Common.{Place, Number, LayerTree, number_of, filled, grown, tree_with}
 use Rattle.edit_records.specs.Places as tree
-use Rattle.edit_records.proofs.PlacesBack.{filled-agree, filled-grown}
-use Rattle.map_frame.specs.declared.feature.Feature.{Feature}
-use Rattle.map_frame.specs.declared.feature.Stand.{Stand}
-use Rattle.map_frame.specs.declared.layers.Slot.{Slot}
+use Rattle.edit_records.proofs.Common.{filled-agree, filled-grown}
+use Rattle.map_frame.specs.Common.{Feature, Stand, Slot, Geometry, Layer, Tables, Framed, with_new, new_after, IsFramed}
+use Rattle.map_frame.specs.Common.{StandsAt, is_closing, is_whole, is_enclosed, numbers_at, numbers_in, numbers_under}
+use Rattle.map_frame.specs.Common.{all_numbers, live, AreNamed, doc_of, framed, view_feature, places_at, tree_of}
+use Rattle.map_frame.specs.Common.{layer_tree, places_of}
 use Rattle.map_frame.specs.declared.layers.Slot.TheVariants as slot
-use Rattle.map_frame.specs.declared.layers.Geometry.{Geometry}
 use Rattle.map_frame.specs.declared.layers.Geometry.TheVariants as geometry
-use Rattle.map_frame.specs.declared.layers.Layer.{Layer}
-use Rattle.map_frame.specs.declared.tables.Tables.{Tables}
-use Rattle.map_frame.specs.Framed.{Framed}
-use Rattle.map_frame.specs.Growing.{with_new, new_after}
-use Rattle.map_frame.specs.Kept.{IsFramed, StandsAt, is_closing, is_whole, is_enclosed, numbers_at, numbers_in, numbers_under, all_numbers}
-use Rattle.map_frame.specs.Live.{live}
-use Rattle.map_frame.specs.Named.{AreNamed}
-use Rattle.map_frame.specs.Seen.{doc_of, framed, view_feature, places_at, tree_of, layer_tree, places_of}
 use Rattle.map_frame.proofs.CountedWithin.{all_recursion_at}
 use Rattle.map_frame.proofs.EditedFeatures.{first_distinct}
 use Rattle.map_frame.proofs.NamedOnce.{in_part, one_part, same_some, rest_distinct}

@@ -29,3 +29,4 @@ pub mod SlotsFresh
 pub mod SlotsGrown
 pub mod SlotsSet
 pub mod TakenTables
+pub mod Common

@@ -1,12 +1,7 @@
 -- Losses and gains of names that are said in other words.
-use Rattle.std.proofs.Common.{◌≡◌, ℕ, refl, sym, ap, ◌∙◌, List, inl, inr, Option, Some}
-use Rattle.std.specs.Prelude.{slice_get}
-use Rattle.ring_machine.specs.Document.{FeatureOf, DocumentOf}
-use Rattle.ring_machine.specs.Parts.{feature}
-use Rattle.map_frame.specs.declared.names.RingName.{RingName}
-use Rattle.map_frame.specs.Named.{number_at}
-use Rattle.map_frame.specs.Naming.{Gain, Loss}
-use Rattle.map_frame.specs.Readers.{element}
+use Rattle.kit_words.proofs.Common.{◌≡◌, ℕ, refl, sym, ap, ◌∙◌, List, inl, inr, Option, Some, slice_get}
+use Rattle.ring_machine.specs.Common.{FeatureOf, DocumentOf, feature}
+use Rattle.map_frame.specs.Common.{RingName, number_at, Gain, Loss, element}
 use Rattle.map_frame.proofs.NamedOnce.{ring_of}
 
 pub loss_as : (P Q : ℕ → Type 0) (a b : List (Option RingName)) → ((k : ℕ) → P k → Q k) → ((k : ℕ) → Q k → P k)

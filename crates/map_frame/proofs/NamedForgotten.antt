@@ -1,11 +1,7 @@
 -- Names that are taken out, polygon by polygon.
-use Rattle.std.proofs.Common.{◌≡◌, ℕ, ◌+◌, ◌<◌, ◌≤◌, refl, sym, ap, ◌∙◌, List, length, arith, Option, Some, None}
-use Rattle.std.specs.Prelude.{slice_get}
-use Rattle.std.proofs.lemmas.Option.{slice_get_within}
-use native.Mathlib.Decide.{ℕ_discrete}
-use Rattle.map_frame.specs.declared.names.RingName.{RingName}
-use Rattle.map_frame.specs.Naming.{Loss, IsOf}
-use Rattle.map_frame.specs.Readers.{element}
+use Rattle.kit_words.proofs.Common.{◌≡◌, ℕ, ◌+◌, ◌<◌, ◌≤◌, refl, sym, ap, ◌∙◌, List, length, arith, Option, Some, None}
+use Rattle.kit_words.proofs.Common.{slice_get, slice_get_within, ℕ_discrete}
+use Rattle.map_frame.specs.Common.{RingName, Loss, IsOf, element}
 
 -- a list that is there
 pub element_is : {X : Type 0} (o : Option (List X)) (n : ℕ) (x : X) → element o n ≡ Some x

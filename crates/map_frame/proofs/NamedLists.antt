@@ -1,12 +1,7 @@
 -- The table of rings' names: how it grows, and how rings get names.
-use Rattle.std.proofs.Common.{◌≡◌, ℕ, ◌+◌, ◌<◌, ◌≤◌, sym, ap, ◌∙◌, List}
-use Rattle.std.proofs.Common.{length, slice_set, ◌⊎◌, inl, inr, arith, Option, Some}
-use Rattle.std.specs.Prelude.{slice_get}
-use Rattle.std.proofs.lemmas.Option.{slice_get_within}
-use native.Mathlib.Decide.{ℕ_discrete}
-use Rattle.map_frame.specs.declared.names.RingName.{RingName}
-use Rattle.map_frame.specs.Named.{IsNamed}
-use Rattle.map_frame.specs.Naming.{Gain}
+use Rattle.kit_words.proofs.Common.{◌≡◌, ℕ, ◌+◌, ◌<◌, ◌≤◌, sym, ap, ◌∙◌, List, length, slice_set, ◌⊎◌, inl, inr, arith}
+use Rattle.kit_words.proofs.Common.{Option, Some, slice_get, slice_get_within, ℕ_discrete}
+use Rattle.map_frame.specs.Common.{RingName, IsNamed, Gain}
 use Rattle.map_frame.proofs.NamedOnce.{same_some}
 use Rattle.map_frame.proofs.SlotsSet.{set_here, set_other}
 

@@ -1,16 +1,10 @@
 -- A ring's number stands in one feature alone, where the numbers of a document's rings are distinct.
-use Rattle.std.proofs.Common.{◌≡◌, ℕ, zero, suc, Bool, true, false, refl, sym, ap, ◌∙◌, subst, cond, List}
-use Rattle.std.proofs.Common.{[], ◌∷◌, ◌++◌, Option, Some, None, option_map}
-use Rattle.std.specs.Prelude.{◌==◌, slice_get, unwrap_or}
-use Rattle.std.specs.List.{flat_map, find}
-use Rattle.std.proofs.lemmas.Bool.Decides.{Decides-eqb}
-use Rattle.ring_machine.specs.Document.{FeatureOf, DocumentOf}
-use Rattle.ring_machine.specs.Parts.{features, feature, rings, rings_of}
-use Rattle.ring_machine.specs.WellFormed.{are_distinct}
-use Rattle.ring_machine.proofs.First.{In, in_left, in_right}
-use Rattle.ring_machine.proofs.Found.{distinct_parts}
-use Rattle.map_frame.specs.declared.names.RingName.{RingName}
-use Rattle.map_frame.specs.Readers.{element}
+use Rattle.kit_words.proofs.Common.{◌≡◌, ℕ, zero, suc, Bool, true, false, refl, sym, ap, ◌∙◌, subst, cond, List, []}
+use Rattle.kit_words.proofs.Common.{◌∷◌, ◌++◌, Option, Some, None, option_map, ◌==◌, slice_get, unwrap_or, flat_map}
+use Rattle.kit_words.proofs.Common.{find, Decides-eqb}
+use Rattle.ring_machine.specs.Common.{FeatureOf, DocumentOf, features, feature, rings, rings_of, are_distinct}
+use Rattle.ring_machine.proofs.Common.{In, in_left, in_right, distinct_parts}
+use Rattle.map_frame.specs.Common.{RingName, element}
 use Rattle.map_frame.proofs.NamedForgotten.{element_is}
 use Rattle.map_frame.proofs.ReadFeatures.{in_get}
 

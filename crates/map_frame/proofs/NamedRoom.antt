@@ -1,9 +1,7 @@
 -- Room for the rings of a feature.
-use Rattle.std.proofs.Common.{◌≡◌, ℕ, suc, ap, List, [], ◌∷◌, inl, inr, Some}
-use Rattle.std.specs.Prelude.{slice_get}
-use Rattle.std.specs.List.{flat_map}
-use Rattle.ring_machine.proofs.First.{In}
-use Rattle.map_frame.specs.Naming.{IsOf}
+use Rattle.kit_words.proofs.Common.{◌≡◌, ℕ, suc, ap, List, [], ◌∷◌, inl, inr, Some, slice_get, flat_map}
+use Rattle.ring_machine.proofs.Common.{In}
+use Rattle.map_frame.specs.Common.{IsOf}
 use Rattle.map_frame.proofs.NamedOnce.{in_part}
 use Rattle.map_frame.proofs.ReadFeatures.{in_get}
 

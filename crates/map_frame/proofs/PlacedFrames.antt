@@ -1,26 +1,13 @@
 -- What is true of the places of every frame, and of tables whose lists were only moved.
-use Rattle.std.proofs.Common.{◌≡◌, ◌<◌, ◌≤◌, ℕ, refl, sym, ap, ◌∙◌, subst, List, length, slice_set}
-use Rattle.std.proofs.Common.{Option, Some, None, option_map}
-use Rattle.std.specs.Prelude.{slice_get, Vec, ◌==◌}
-use Rattle.std.specs.List.{list_any, AllByRecursion}
-use Rattle.std.proofs.lemmas.Bool.Decides.{Decides-eqb}
-use Rattle.std.proofs.lemmas.List.{set-get_or}
-use Rattle.std.proofs.lemmas.Option.{get_or_from_slice_get}
-use Rattle.ring_machine.specs.Document.{Text, FeatureOf}
-use Rattle.ring_machine.specs.Parts.{features, feature}
-use Rattle.ring_machine.specs.WellFormed.{WellFormed, are_distinct}
-use Rattle.ring_machine.proofs.Members.{any_in, in_any}
-use Rattle.edit_records.specs.Places.{LayerTree, numbers_placed}
-use Rattle.edit_records.proofs.PlacesBack.{filled-agree}
-use Rattle.map_frame.specs.declared.feature.Feature.{Feature}
-use Rattle.map_frame.specs.declared.feature.Stand.{Stand}
-use Rattle.map_frame.specs.declared.tables.Tables.{Tables}
-use Rattle.map_frame.specs.Kept.{IsFramed, all_numbers}
-use Rattle.map_frame.specs.Live.{live}
-use Rattle.map_frame.specs.Named.{AreNamed}
-use Rattle.map_frame.specs.Placed.{ArePlaced}
-use Rattle.map_frame.specs.Renaming.{id_or}
-use Rattle.map_frame.specs.Seen.{framed, doc_of, places_of, view_feature}
+use Rattle.kit_words.proofs.Common.{◌≡◌, ◌<◌, ◌≤◌, ℕ, refl, sym, ap, ◌∙◌, subst, List, length, slice_set, Option, Some}
+use Rattle.kit_words.proofs.Common.{None, option_map, slice_get, Vec, ◌==◌, list_any, AllByRecursion, Decides-eqb}
+use Rattle.kit_words.proofs.Common.{set-get_or, get_or_from_slice_get}
+use Rattle.ring_machine.specs.Common.{Text, FeatureOf, features, feature, WellFormed, are_distinct}
+use Rattle.ring_machine.proofs.Common.{any_in, in_any}
+use Rattle.edit_records.specs.Common.{LayerTree, numbers_placed}
+use Rattle.edit_records.proofs.Common.{filled-agree}
+use Rattle.map_frame.specs.Common.{Feature, Stand, Tables, IsFramed, all_numbers, live, AreNamed, ArePlaced, id_or}
+use Rattle.map_frame.specs.Common.{framed, doc_of, places_of, view_feature}
 use Rattle.map_frame.proofs.CountedWithin.{all_recursion_at}
 use Rattle.map_frame.proofs.EditedStands.{entry_is}
 use Rattle.map_frame.proofs.PlacesSeen.{entry, layers_filled, layers_formed, layers_placed}

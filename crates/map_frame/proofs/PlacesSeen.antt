@@ -1,33 +1,19 @@
 -- The layers of a frame as places in which its features stand.
-use Rattle.std.proofs.Common.{◌≡◌, ℕ, zero, suc, Bool, true, false, refl, sym, ap, ap₂, ◌∙◌, List, [], ◌∷◌, ◌++◌, ◌&&◌}
-use Rattle.std.proofs.Common.{map, Option, Some, None, option_map, cond}
-use Rattle.std.specs.Prelude.{slice_get, ◌==◌}
-use Rattle.std.specs.List.{flat_map, filter_map, list_all, list_any, find, cons_option}
-use Rattle.std.proofs.lemmas.Bool.{false≢true}
-use Rattle.std.proofs.lemmas.List.Concat.{flat_map-append}
-use Rattle.std.proofs.lemmas.List.Elements.{filter_map-append}
-use Rattle.ring_machine.specs.Document.{FeatureOf, ItemOf}
-use Rattle.ring_machine.specs.Parts.{feature_of, features, feature}
-use Rattle.ring_machine.specs.WellFormed.{is_inner, is_geometry}
-use Rattle.ring_machine.proofs.First.{In}
-use Rattle.ring_machine.proofs.Found.{among}
-use Rattle.ring_machine.proofs.InItems.{of_layers}
-use Rattle.ring_machine.proofs.Members.{mapped_there}
-use Rattle.ring_machine.proofs.Order.{and_both}
-use Rattle.edit_records.specs.Places.{Place, Number, Tree, LayerTree, AreFormed, is_formed, number_of, numbers_of, numbers_placed}
-use Rattle.edit_records.specs.Places.{leaf, or_empty, item_at, filled, has_place}
+use Rattle.kit_words.proofs.Common.{◌≡◌, ℕ, zero, suc, Bool, true, false, refl, sym, ap, ap₂, ◌∙◌, List, [], ◌∷◌, ◌++◌}
+use Rattle.kit_words.proofs.Common.{◌&&◌, map, Option, Some, None, option_map, cond, slice_get, ◌==◌, flat_map}
+use Rattle.kit_words.proofs.Common.{filter_map, list_all, list_any, find, cons_option, false≢true, flat_map-append}
+use Rattle.kit_words.proofs.Common.{filter_map-append}
+use Rattle.ring_machine.specs.Common.{FeatureOf, ItemOf, feature_of, features, feature, is_inner, is_geometry}
+use Rattle.ring_machine.proofs.Common.{In, among, of_layers, mapped_there, and_both}
+use Rattle.edit_records.specs.Common.{Place, Number, Tree, LayerTree, AreFormed, is_formed, number_of, numbers_of}
+use Rattle.edit_records.specs.Common.{numbers_placed, leaf, or_empty, item_at, filled, has_place}
 use Rattle.edit_records.specs.Places as tree
-use Rattle.edit_records.proofs.PlacesFilled.{found-filled}
-use Rattle.map_frame.specs.declared.feature.Feature.{Feature}
-use Rattle.map_frame.specs.declared.layers.Slot.{Slot}
+use Rattle.edit_records.proofs.Common.{found-filled}
+use Rattle.map_frame.specs.Common.{Feature, Slot, Geometry, Layer, Tables, is_closing, is_whole, is_enclosed}
+use Rattle.map_frame.specs.Common.{numbers_at, numbers_in, all_numbers, live, view_feature, view_layer, leaf_of}
+use Rattle.map_frame.specs.Common.{items_at, items_of, places_at, tree_of, places_of, doc_of}
 use Rattle.map_frame.specs.declared.layers.Slot.TheVariants as slot
-use Rattle.map_frame.specs.declared.layers.Geometry.{Geometry}
 use Rattle.map_frame.specs.declared.layers.Geometry.TheVariants as geometry
-use Rattle.map_frame.specs.declared.layers.Layer.{Layer}
-use Rattle.map_frame.specs.declared.tables.Tables.{Tables}
-use Rattle.map_frame.specs.Kept.{is_closing, is_whole, is_enclosed, numbers_at, numbers_in, all_numbers}
-use Rattle.map_frame.specs.Live.{live}
-use Rattle.map_frame.specs.Seen.{view_feature, view_layer, leaf_of, items_at, items_of, places_at, tree_of, places_of, doc_of}
 
 module _ {A : Type 0} (fs : List (Option (Feature A))) where
   -- the feature with this number, as it is seen

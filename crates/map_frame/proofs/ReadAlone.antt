@@ -1,28 +1,15 @@
 -- Which features are themselves the geometry of a layer.
-use Rattle.std.proofs.Common.{◌≡◌, ℕ, refl, sym, ap, ◌∙◌, subst, List, [], ◌∷◌, inl, inr}
-use Rattle.std.proofs.Common.{Bool, true, false, Option, Some, None, option_map}
-use Rattle.std.specs.Prelude.{Vec}
+use Rattle.kit_words.proofs.Common.{◌≡◌, ℕ, refl, sym, ap, ◌∙◌, subst, List, [], ◌∷◌, inl, inr, Bool, true, false}
+use Rattle.kit_words.proofs.Common.{Option, Some, None, option_map, Vec, false≢true, Decides-eqb, none-some, same_Some}
+use Rattle.kit_words.proofs.Common.{slice_get-map}
 use Rattle.std.specs.List.{slice_get}
-use Rattle.std.proofs.lemmas.Bool.{false≢true}
-use Rattle.std.proofs.lemmas.Bool.Decides.{Decides-eqb}
-use Rattle.std.proofs.lemmas.Option.{none-some, same_Some, slice_get-map}
-use Rattle.ring_machine.specs.Refusals.{is_layer}
-use Rattle.ring_machine.proofs.First.{In}
-use Rattle.ring_machine.proofs.Members.{any_in, in_mapped}
-use Rattle.ring_machine.proofs.Neighbours.{all_in}
-use Rattle.ring_machine.proofs.StaysFormed.{alone, is_layer_is, layer_is}
-use Rattle.edit_records.specs.Places.{or_empty}
-use Rattle.map_frame.specs.declared.feature.Feature.{Feature}
-use Rattle.map_frame.specs.declared.feature.Stand.{Stand}
-use Rattle.map_frame.specs.declared.layers.Slot.{Slot}
+use Rattle.ring_machine.specs.Common.{is_layer}
+use Rattle.ring_machine.proofs.Common.{In, any_in, in_mapped, all_in, alone, is_layer_is, layer_is}
+use Rattle.edit_records.specs.Common.{or_empty}
+use Rattle.map_frame.specs.Common.{Feature, Stand, Slot, Geometry, Layer, Tables, IsFramed, is_enclosed, numbers_in}
+use Rattle.map_frame.specs.Common.{live, doc_of, items_of, leaf_of, view_feature, view_layer}
 use Rattle.map_frame.specs.declared.layers.Slot.TheVariants as slot
-use Rattle.map_frame.specs.declared.layers.Geometry.{Geometry}
 use Rattle.map_frame.specs.declared.layers.Geometry.TheVariants as geometry
-use Rattle.map_frame.specs.declared.layers.Layer.{Layer}
-use Rattle.map_frame.specs.declared.tables.Tables.{Tables}
-use Rattle.map_frame.specs.Kept.{IsFramed, is_enclosed, numbers_in}
-use Rattle.map_frame.specs.Live.{live}
-use Rattle.map_frame.specs.Seen.{doc_of, items_of, leaf_of, view_feature, view_layer}
 use Rattle.map_frame.proofs.NamedOnce.{one_part}
 use Rattle.map_frame.proofs.NamedRoom.{of_in}
 use Rattle.map_frame.proofs.ReadFeatures.{in_get, live_there, stands_in}

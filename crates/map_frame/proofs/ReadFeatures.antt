@@ -1,20 +1,12 @@
 -- The features of a frame's document by their numbers.
-use Rattle.std.proofs.Common.{◌≡◌, ◌<◌, ◌≤◌, subst, length, ℕ, zero, suc, refl, sym, ap, ◌∙◌, List, [], ◌∷◌, arith, inl, inr, Contains}
-use Rattle.std.proofs.Common.{Option, Some, None}
-use Rattle.std.specs.Prelude.{Vec}
-use Rattle.std.specs.List.{flat_map, slice_get}
-use Rattle.std.proofs.lemmas.Option.{none-some, same_Some, slice_get_past}
-use Rattle.ring_machine.proofs.First.{In}
-use Rattle.ring_machine.proofs.Members.{contains_in}
-use Rattle.ring_machine.proofs.Neighbours.{in-flat_map}
-use Rattle.map_frame.specs.declared.feature.Stand.{Stand}
-use Rattle.map_frame.specs.declared.layers.Slot.{Slot}
-use Rattle.map_frame.specs.declared.layers.Geometry.{Geometry}
+use Rattle.kit_words.proofs.Common.{◌≡◌, ◌<◌, ◌≤◌, subst, length, ℕ, zero, suc, refl, sym, ap, ◌∙◌, List, [], ◌∷◌}
+use Rattle.kit_words.proofs.Common.{arith, inl, inr, Contains, Option, Some, None, Vec, flat_map, none-some, same_Some}
+use Rattle.kit_words.proofs.Common.{slice_get_past}
+use Rattle.std.specs.List.{slice_get}
+use Rattle.ring_machine.proofs.Common.{In, contains_in, in-flat_map}
+use Rattle.map_frame.specs.Common.{Stand, Slot, Geometry, Layer, Tables, IsFramed, StandsAt, all_numbers, numbers_at}
+use Rattle.map_frame.specs.Common.{numbers_in, numbers_under, live}
 use Rattle.map_frame.specs.declared.layers.Geometry.TheVariants as geometry
-use Rattle.map_frame.specs.declared.layers.Layer.{Layer}
-use Rattle.map_frame.specs.declared.tables.Tables.{Tables}
-use Rattle.map_frame.specs.Kept.{IsFramed, StandsAt, all_numbers, numbers_at, numbers_in, numbers_under}
-use Rattle.map_frame.specs.Live.{live}
 
 module _ {X : Type 0} (fs : List (Option X)) (n : ℕ) where
   -- what is there is not taken out

@@ -1,19 +1,11 @@
 -- The layers of a frame as they are shown, and the items of one that are still to come.
-use Rattle.std.proofs.Common.{◌≡◌, ℕ, refl, sym, ap, ◌∙◌, List, [], ◌∷◌, map}
-use Rattle.std.proofs.Common.{true, false, Option, Some, option_map, is_some}
-use Rattle.std.specs.List.{flat_map, slice_get}
-use Rattle.std.proofs.lemmas.Bool.{false≢true}
-use Rattle.std.proofs.lemmas.Option.{slice_get-map}
-use Rattle.ring_machine.specs.Join.{empty_collection}
-use Rattle.map_frame.specs.declared.feature.Feature.{Feature}
-use Rattle.map_frame.specs.declared.layers.Slot.{Slot}
+use Rattle.kit_words.proofs.Common.{◌≡◌, ℕ, refl, sym, ap, ◌∙◌, List, [], ◌∷◌, map, true, false, Option, Some}
+use Rattle.kit_words.proofs.Common.{option_map, is_some, flat_map, false≢true, slice_get-map}
+use Rattle.std.specs.List.{slice_get}
+use Rattle.ring_machine.specs.Common.{empty_collection}
+use Rattle.map_frame.specs.Common.{Feature, Slot, Layer, Tables, live, ShownLayer, ShownFrame, shown_frame, shown_item}
+use Rattle.map_frame.specs.Common.{shown_layer, doc_of, items_at, items_of, view_layer, shown_rest}
 use Rattle.map_frame.specs.declared.layers.Geometry.TheVariants as geometry
-use Rattle.map_frame.specs.declared.layers.Layer.{Layer}
-use Rattle.map_frame.specs.declared.tables.Tables.{Tables}
-use Rattle.map_frame.specs.Live.{live}
-use Rattle.map_frame.specs.Readers.{ShownLayer, ShownFrame, shown_frame, shown_item, shown_layer}
-use Rattle.map_frame.specs.Seen.{doc_of, items_at, items_of, view_layer}
-use Rattle.map_frame.specs.Shown.{shown_rest}
 
 -- ---- layers
 

@@ -1,11 +1,8 @@
 -- A list's element by its number, as the code reads it.
-use Rattle.std.proofs.Common.{◌≡◌, ℕ, ◌<◌, ◌≤◌, refl, sym, ap, ◌∙◌, List, [], ◌∷◌, ◌++◌, length, map, get_or}
-use Rattle.std.proofs.Common.{Option, Some, None, option_map}
-use Rattle.std.specs.Prelude.{Vec}
+use Rattle.kit_words.proofs.Common.{◌≡◌, ℕ, ◌<◌, ◌≤◌, refl, sym, ap, ◌∙◌, List, [], ◌∷◌, ◌++◌, length, map, get_or}
+use Rattle.kit_words.proofs.Common.{Option, Some, None, option_map, Vec, slice_get-map, slice_get_past, slice_get_read}
 use Rattle.std.specs.List.{slice_get}
-use Rattle.std.proofs.lemmas.Option.{slice_get-map, slice_get_past, slice_get_read}
-use Rattle.map_frame.specs.Numbers.{polygon_numbers}
-use Rattle.map_frame.specs.Readers.{element}
+use Rattle.map_frame.specs.Common.{polygon_numbers, element}
 
 module _ {X : Type 0} (xs s : List X) (i : ℕ) (same : s ≡ xs) where
   -- an element that a slice of the list gave

@@ -1,23 +1,13 @@
 -- Tables in which a feature got another id.
-use Rattle.std.proofs.Common.{◌≡◌, ◌<◌, ℕ, Bool, true, false, refl, sym, ap, ◌∙◌, List, [], ◌∷◌, length, map, slice_set}
-use Rattle.std.proofs.Common.{Option, Some, None, option_map, cond, eqb-true}
-use Rattle.std.specs.Prelude.{slice_get, Vec, ◌==◌}
-use Rattle.std.proofs.lemmas.List.{length-map}
-use Rattle.ring_machine.specs.Document.{Text, FeatureOf, DocumentOf}
-use Rattle.ring_machine.specs.Parts.{features, feature, in_item, in_layer}
-use Rattle.ring_machine.specs.WellFormed.{fits_form}
-use Rattle.ring_machine.proofs.Found.{features-in_features, feature-in_features}
-use Rattle.edit_records.specs.Places.{exchanged, exchanged_features}
-use Rattle.edit_records.specs.Records.{with_id}
-use Rattle.edit_records.proofs.PlacesBack.{filled-agree}
-use Rattle.edit_records.proofs.PlacesFilled.{filled-changed}
-use Rattle.map_frame.specs.declared.feature.Feature.{Feature}
-use Rattle.map_frame.specs.declared.names.RingName.{RingName}
-use Rattle.map_frame.specs.declared.tables.Tables.{Tables}
-use Rattle.map_frame.specs.Framed.{Framed}
-use Rattle.map_frame.specs.Kept.{IsFramed}
-use Rattle.map_frame.specs.Renaming.{with_own_id}
-use Rattle.map_frame.specs.Seen.{framed, doc_of, places_of, view_feature}
+use Rattle.kit_words.proofs.Common.{◌≡◌, ◌<◌, ℕ, Bool, true, false, refl, sym, ap, ◌∙◌, List, [], ◌∷◌, length, map}
+use Rattle.kit_words.proofs.Common.{slice_set, Option, Some, None, option_map, cond, eqb-true, slice_get, Vec, ◌==◌}
+use Rattle.kit_words.proofs.Common.{length-map}
+use Rattle.ring_machine.specs.Common.{Text, FeatureOf, DocumentOf, features, feature, in_item, in_layer, fits_form}
+use Rattle.ring_machine.proofs.Common.{features-in_features, feature-in_features}
+use Rattle.edit_records.specs.Common.{exchanged, exchanged_features, with_id}
+use Rattle.edit_records.proofs.Common.{filled-agree, filled-changed}
+use Rattle.map_frame.specs.Common.{Feature, RingName, Tables, Framed, IsFramed, with_own_id, framed, doc_of, places_of}
+use Rattle.map_frame.specs.Common.{view_feature}
 use Rattle.map_frame.proofs.EditedNames.{named_alike}
 use Rattle.map_frame.proofs.EditedStands.{entry_is, entry_fits}
 use Rattle.map_frame.proofs.NamedOnce.{ring_of}

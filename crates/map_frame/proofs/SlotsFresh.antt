@@ -1,10 +1,9 @@
 -- Numbers stay distinct where a fresh one stands directly after one of them.
-use Rattle.std.proofs.Common.{◌≡◌, ◌<◌, ◌+◌, ℕ, refl, sym, ap, ap₂, ◌∙◌, subst, true, List, [], ◌∷◌, ◌++◌, ◌⊎◌, inl, inr, arith}
-use Rattle.std.specs.List.{AllByRecursion}
-use native.Mathlib.Decide.{ℕ_discrete}
-use Rattle.ring_machine.specs.WellFormed.{are_distinct}
-use Rattle.ring_machine.proofs.First.{In, in_left, in_right, in-append}
-use Rattle.map_frame.specs.Growing.{with_new, new_after}
+use Rattle.kit_words.proofs.Common.{◌≡◌, ◌<◌, ◌+◌, ℕ, refl, sym, ap, ap₂, ◌∙◌, subst, true, List, [], ◌∷◌, ◌++◌, ◌⊎◌}
+use Rattle.kit_words.proofs.Common.{inl, inr, arith, AllByRecursion, ℕ_discrete}
+use Rattle.ring_machine.specs.Common.{are_distinct}
+use Rattle.ring_machine.proofs.Common.{In, in_left, in_right, in-append}
+use Rattle.map_frame.specs.Common.{with_new, new_after}
 use Rattle.map_frame.proofs.EditedFeatures.{head_apart, tail_distinct, cons_distinct}
 use Rattle.map_frame.proofs.SlotsGrown.{new_after_here, new_after_other, grown_off}
 

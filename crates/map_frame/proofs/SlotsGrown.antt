@@ -1,10 +1,9 @@
 -- Numbers in which a new one stands directly after another.
-use Rattle.std.proofs.Common.{ne_eqb, eq-eqb, ◌≡◌, ◌≢◌, ℕ, zero, suc, refl, sym, ap, ap₂, ◌∙◌, List, [], ◌∷◌, ◌++◌}
-use Rattle.std.proofs.Common.{slice_set, inl, inr, Some, arith}
-use Rattle.std.specs.Prelude.{if◌then◌else◌, slice_get}
-use Rattle.std.specs.List.{flat_map}
-use Rattle.ring_machine.proofs.First.{In}
-use Rattle.map_frame.specs.Growing.{with_new, new_after}
+use Rattle.kit_words.proofs.Common.{eq-eqb, ◌≡◌, ◌≢◌, ℕ, zero, suc, refl, sym, ap, ap₂, ◌∙◌, List, [], ◌∷◌, ◌++◌}
+use Rattle.kit_words.proofs.Common.{slice_set, inl, inr, Some, arith, if◌then◌else◌, slice_get, flat_map}
+use Rattle.std.proofs.Common.{ne_eqb}
+use Rattle.ring_machine.proofs.Common.{In}
+use Rattle.map_frame.specs.Common.{with_new, new_after}
 use Rattle.map_frame.proofs.NamedOnce.{same_some}
 
 -- ---- one part of a list of parts is changed

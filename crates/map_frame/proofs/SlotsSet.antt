@@ -1,10 +1,7 @@
 -- A table of features in which one place was written.
-use Rattle.std.proofs.Common.{◌≡◌, ◌≢◌, ◌<◌, ◌≤◌, ℕ, zero, suc, refl, ap, List, [], ◌∷◌, length, slice_set, arith}
-use Rattle.std.proofs.Common.{Option, Some, None, option_map}
-use Rattle.std.specs.Prelude.{slice_get}
-use Rattle.std.proofs.lemmas.Option.{slice_get_past}
-use Rattle.map_frame.specs.declared.feature.Feature.{Feature}
-use Rattle.map_frame.specs.Seen.{view_feature}
+use Rattle.kit_words.proofs.Common.{◌≡◌, ◌≢◌, ◌<◌, ◌≤◌, ℕ, zero, suc, refl, ap, List, [], ◌∷◌, length, slice_set, arith}
+use Rattle.kit_words.proofs.Common.{Option, Some, None, option_map, slice_get, slice_get_past}
+use Rattle.map_frame.specs.Common.{Feature, view_feature}
 use Rattle.map_frame.proofs.PlacesSeen.{entry}
 
 module _ {X : Type 0} where

@@ -1,27 +1,12 @@
 -- Tables from which a feature was taken, or into which one was put.
-use Rattle.std.proofs.Common.{◌≡◌, ◌≢◌, ◌+◌, ◌<◌, ℕ, Bool, true, false, refl, sym, ap, ap₂, ◌∙◌, cond, List, [], ◌∷◌}
-use Rattle.std.proofs.Common.{length, map, slice_set, arith, Option, Some, None, is_some, option_map}
-use Rattle.std.specs.Prelude.{slice_get, Vec, ◌==◌}
-use Rattle.std.specs.List.{filter_map}
-use Rattle.std.proofs.lemmas.Bool.{false≢true}
-use Rattle.std.proofs.lemmas.Bool.Decides.{Decides-eqb}
-use Rattle.std.proofs.lemmas.List.{length-set}
-use Rattle.std.proofs.lemmas.Option.{slice_get_within}
-use native.Mathlib.Decide.{ℕ_discrete}
-use Rattle.ring_machine.specs.Document.{FeatureOf, DocumentOf}
-use Rattle.ring_machine.specs.Parts.{feature, rings}
-use Rattle.ring_machine.specs.WellFormed.{are_distinct, fits_form}
-use Rattle.edit_records.specs.Places.{exchanged, exchanged_features}
-use Rattle.map_frame.specs.Numbers.{polygon_numbers}
-use Rattle.map_frame.specs.declared.feature.Feature.{Feature}
-use Rattle.map_frame.specs.declared.names.RingName.{RingName}
-use Rattle.map_frame.specs.declared.tables.Tables.{Tables}
-use Rattle.map_frame.specs.Framed.{Framed}
-use Rattle.map_frame.specs.Kept.{IsFramed, all_numbers}
-use Rattle.map_frame.specs.Named.{number_at, AreNamed}
-use Rattle.map_frame.specs.Naming.{Loss, Gain}
-use Rattle.map_frame.specs.Readers.{element}
-use Rattle.map_frame.specs.Seen.{framed, doc_of, places_of, view_feature}
+use Rattle.kit_words.proofs.Common.{◌≡◌, ◌≢◌, ◌+◌, ◌<◌, ℕ, Bool, true, false, refl, sym, ap, ap₂, ◌∙◌, cond, List, []}
+use Rattle.kit_words.proofs.Common.{◌∷◌, length, map, slice_set, arith, Option, Some, None, is_some, option_map}
+use Rattle.kit_words.proofs.Common.{slice_get, Vec, ◌==◌, filter_map, false≢true, Decides-eqb, length-set}
+use Rattle.kit_words.proofs.Common.{slice_get_within, ℕ_discrete}
+use Rattle.ring_machine.specs.Common.{FeatureOf, DocumentOf, feature, rings, are_distinct, fits_form}
+use Rattle.edit_records.specs.Common.{exchanged, exchanged_features}
+use Rattle.map_frame.specs.Common.{polygon_numbers, Feature, RingName, Tables, Framed, IsFramed, all_numbers, number_at}
+use Rattle.map_frame.specs.Common.{AreNamed, Loss, Gain, element, framed, doc_of, places_of, view_feature}
 use Rattle.map_frame.proofs.CountedFeatures.{length_less}
 use Rattle.map_frame.proofs.EditedNames.{named_anew, named_put}
 use Rattle.map_frame.proofs.EditedStands.{entry_is, entry_fits, edited_entry, edited_doc, edited_kept}

@@ -1,12 +1,12 @@
 -- What building makes of the layers that were read, layer by layer and item by item.
 use Rattle.std.specs.Prelude.{◌≡◌, ℕ, ◌+◌, List, [], ◌∷◌, ◌++◌, length, Option, None, Some, slice_get, Bool, true, false, not, IsTrue, Vec}
 use Rattle.map_frame.specs.Numbers.{feature_numbers}
-use Rattle.topo_outline.specs.Views.{form_of, view_head}
+use Rattle.topo_outline.specs.Common.{form_of, view_head}
 use Rattle.topo_outline.specs.declared.document.Item.{Item}
 use Rattle.topo_outline.specs.declared.document.Item.TheVariants as item
 use Rattle.topo_outline.specs.declared.document.RawFeature.{RawFeature}
 use Rattle.topo_outline.specs.declared.document.RawLayer.{RawLayer}
-use Rattle.topo_reader.specs.Document.{numbered}
+use Rattle.topo_reader.specs.Common.{numbered}
 use Rattle.map_frame.specs.declared.building.Gathered.{Gathered}
 use Rattle.map_frame.specs.declared.feature.Feature.{Feature}
 use Rattle.map_frame.specs.declared.feature.Stand.{Stand}

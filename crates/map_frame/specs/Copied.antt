@@ -1,7 +1,7 @@
 -- What a copy of a frame's tables shares with them.
 use Rattle.std.specs.Prelude.{◌≡◌, ℕ, List, map, option_map}
-use Rattle.ring_machine.specs.Document.{Text, Head, FeatureOf}
-use Rattle.topo_outline.specs.Views.{view_head, view_kept}
+use Rattle.ring_machine.specs.Common.{Text, Head, FeatureOf}
+use Rattle.topo_outline.specs.Common.{view_head, view_kept}
 use Rattle.map_frame.specs.declared.feature.Feature.{Feature}
 use Rattle.map_frame.specs.declared.layers.Slot.{Slot}
 use Rattle.map_frame.specs.declared.layers.Slot.TheVariants as slot

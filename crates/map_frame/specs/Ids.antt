@@ -1,6 +1,6 @@
 -- How an id is seen.
 use Rattle.std.specs.Prelude.{Option, None, Some}
-use Rattle.ring_machine.specs.Document.{Text}
+use Rattle.ring_machine.specs.Common.{Text}
 use Rattle.map_frame.specs.declared.feature.IdSource.{IdSource}
 use Rattle.map_frame.specs.declared.feature.IdSource.TheVariants as source
 

@@ -1,9 +1,7 @@
 -- What is true of every frame.
 use Rattle.std.specs.Prelude.{ℕ, zero, suc, ◌≡◌, ◌<◌, ◌≤◌, List, [], ◌∷◌, length, Option, None, Some, slice_get, IsTrue, Bool, true, false, Contains}
 use Rattle.std.specs.List.{list_all, flat_map, AllByRecursion}
-use Rattle.ring_machine.specs.Parts.{features}
-use Rattle.ring_machine.specs.Join.{empty_collection}
-use Rattle.ring_machine.specs.WellFormed.{WellFormed, are_distinct}
+use Rattle.ring_machine.specs.Common.{features, empty_collection, WellFormed, are_distinct}
 use Rattle.map_frame.specs.declared.feature.Feature.{Feature}
 use Rattle.map_frame.specs.declared.feature.Stand.{Stand}
 use Rattle.map_frame.specs.declared.layers.Slot.{Slot}

@@ -15,3 +15,4 @@ pub mod Renaming
 pub mod Seen
 pub mod Shown
 pub mod Texts
+pub mod Common

@@ -1,6 +1,6 @@
 -- Which ring of which polygon of which feature stands under a ring's number.
 use Rattle.std.specs.Prelude.{ℕ, ◌≡◌, List, Option, Some, slice_get}
-use Rattle.ring_machine.specs.Document.{DocumentOf}
+use Rattle.ring_machine.specs.Common.{DocumentOf}
 use Rattle.map_frame.specs.declared.names.RingName.{RingName}
 use Rattle.map_frame.specs.Readers.{ring_at}
 

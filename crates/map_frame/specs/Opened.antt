@@ -1,13 +1,11 @@
 -- The document of ring numbers that opening makes of what was read.
 use Rattle.std.specs.Prelude.{◌≡◌, ◌≤◌, ℕ, List, length, map, Option, Vec}
-use Rattle.ring_machine.specs.Document.{DocumentOf}
-use Rattle.ring_machine.specs.WellFormed.{WellFormed}
+use Rattle.ring_machine.specs.Common.{DocumentOf, WellFormed, Text, Member}
 use Rattle.topo_outline.specs.Outline.{leaves}
-use Rattle.topo_outline.specs.Views.{view_layer}
+use Rattle.topo_outline.specs.Common.{view_layer}
 use Rattle.topo_outline.specs.declared.document.RawLayer.{RawLayer}
-use Rattle.topo_reader.specs.Document.{layers_from}
+use Rattle.topo_reader.specs.Common.{layers_from}
 use Rattle.map_frame.specs.Numbers.{feature_numbers}
-use Rattle.ring_machine.specs.Document.{Text, Member}
 
 module _ {A : Type 0} where
   -- what was read, each feature with the numbers of its rings: features are numbered from 0 in the

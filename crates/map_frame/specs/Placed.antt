@@ -1,8 +1,7 @@
 -- What is true of the places of every frame.
 use Rattle.std.specs.Prelude.{ℕ, ◌≡◌, ◌<◌, true, IsTrue, List}
-use Rattle.ring_machine.specs.Document.{DocumentOf}
-use Rattle.ring_machine.specs.WellFormed.{are_distinct}
-use Rattle.edit_records.specs.Places.{LayerTree, AreFormed, numbers_placed, has_place, Fills}
+use Rattle.ring_machine.specs.Common.{DocumentOf, are_distinct}
+use Rattle.edit_records.specs.Common.{LayerTree, AreFormed, numbers_placed, has_place, Fills}
 
 -- the features stand at the places of their numbers; a number that a feature ever had has one place
 pub record ArePlaced {R : Type 0} (trees : List LayerTree) (next : ℕ) (d : DocumentOf R)

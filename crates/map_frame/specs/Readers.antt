@@ -1,7 +1,7 @@
 -- What is shown of a document beside its positions: its layers, its features, and where a ring stands.
 use Rattle.std.specs.Prelude.{ℕ, List, map, length, Option, None, Some, option_map, slice_get}
-use Rattle.ring_machine.specs.Document.{Text, Form, Member, Head, FeatureOf, ItemOf, Open, Close, Leaf, Kept, LayerOf, DocumentOf}
-use Rattle.ring_machine.specs.Parts.{feature}
+use Rattle.ring_machine.specs.Common.{Text, Form, Member, Head, FeatureOf, ItemOf, Open, Close, Leaf, Kept, LayerOf}
+use Rattle.ring_machine.specs.Common.{DocumentOf, feature}
 
 -- ---- features
 

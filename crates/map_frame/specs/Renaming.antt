@@ -1,6 +1,6 @@
 -- A feature of the table with another id.
 use Rattle.std.specs.Prelude.{Option, None, Some}
-use Rattle.ring_machine.specs.Document.{Text}
+use Rattle.ring_machine.specs.Common.{Text}
 use Rattle.map_frame.specs.declared.feature.Feature.{Feature}
 
 module _ {A : Type 0} where

@@ -1,10 +1,9 @@
 -- What the code of a frame means.
 use Rattle.std.specs.Prelude.{ℕ, List, [], ◌∷◌, map, length, Option, None, Some, option_map, slice_get}
 use Rattle.std.specs.List.{flat_map}
-use Rattle.ring_machine.specs.Document.{FeatureOf, ItemOf, Open, Close, Leaf, Kept, LayerOf, DocumentOf}
-use Rattle.edit_records.specs.Places.{Place, Begins, Ends, Text_of, Number, Tree, Alone, Places, LayerTree}
-use Rattle.edit_records.specs.Places.{or_empty}
-use Rattle.topo_outline.specs.Views.{view_head, view_kept}
+use Rattle.ring_machine.specs.Common.{FeatureOf, ItemOf, Open, Close, Leaf, Kept, LayerOf, DocumentOf}
+use Rattle.edit_records.specs.Common.{Place, Begins, Ends, Text_of, Number, Tree, Alone, Places, LayerTree, or_empty}
+use Rattle.topo_outline.specs.Common.{view_head, view_kept}
 use Rattle.map_frame.specs.Numbers.{feature_numbers}
 use Rattle.map_frame.specs.declared.feature.Feature.{Feature}
 use Rattle.map_frame.specs.declared.layers.Slot.{Slot}

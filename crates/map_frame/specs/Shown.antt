@@ -1,7 +1,7 @@
 -- What is shown of the items of a layer that are still to come.
 use Rattle.std.specs.Prelude.{ℕ, List, ◌++◌, map, Option}
 use Rattle.std.specs.List.{flat_map}
-use Rattle.topo_outline.specs.Views.{view_head}
+use Rattle.topo_outline.specs.Common.{view_head}
 use Rattle.map_frame.specs.declared.feature.Feature.{Feature}
 use Rattle.map_frame.specs.declared.items.ItemView.{ItemView}
 use Rattle.map_frame.specs.declared.items.ItemView.TheVariants as item

@@ -1,6 +1,6 @@
 -- A feature beside its number and its rings.
 use Rattle.std.specs.Prelude.{ℕ, List, Option}
-use Rattle.ring_machine.specs.Document.{Text, Form, Head, Member, FeatureOf}
+use Rattle.ring_machine.specs.Common.{Text, Form, Head, Member, FeatureOf}
 
 -- what a feature has beside its number and its polygons
 pub record Texts : Type 0 where

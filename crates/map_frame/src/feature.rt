@@ -1,7 +1,7 @@
 // A feature with the numbers of its rings, and where a feature stands.
 ghost use Rattle.std.specs.Prelude.{◌≡◌, Some, map, option_map};
-ghost use Rattle.ring_machine.specs.Document.{Polygon};
-ghost use Rattle.topo_outline.specs.Views.{form_of, view_head, view_kept};
+ghost use Rattle.ring_machine.specs.Common.{Polygon};
+ghost use Rattle.topo_outline.specs.Common.{form_of, view_head, view_kept};
 ghost use Rattle.map_frame.specs.Texts.{read_texts};
 
 use std::alloc::{AllocError, Allocator, Global};

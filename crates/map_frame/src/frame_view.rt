@@ -1,7 +1,7 @@
 // What a map is beside its rings.
 ghost use Rattle.std.specs.Prelude.{◌≡◌, map, length, option_map, slice_get};
-ghost use Rattle.ring_machine.specs.WellFormed.{WellFormed};
-ghost use Rattle.topo_outline.specs.Views.{view_kept};
+ghost use Rattle.ring_machine.specs.Common.{WellFormed};
+ghost use Rattle.topo_outline.specs.Common.{view_kept};
 ghost use Rattle.map_frame.specs.Kept.{IsFramed};
 ghost use Rattle.map_frame.specs.Readers.{shown_frame, shown_item};
 ghost use Rattle.map_frame.specs.Seen.{items_of};

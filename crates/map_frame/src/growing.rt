@@ -1,9 +1,8 @@
 // A new number beside a feature.
 ghost use Rattle.std.specs.Prelude.{◌≡◌, ◌+◌, ◌<◌, ◌∷◌, [], true, false, Vec, length, IfOk, OnErr, OnOk, slice_get};
 ghost use Rattle.std.specs.Vec.{vec_capacity, vec_len};
-ghost use Rattle.edit_records.specs.Places.{grown};
-ghost use Rattle.ring_machine.specs.Parts.{has_feature};
-ghost use Rattle.ring_machine.specs.Refusals.{is_layer};
+ghost use Rattle.edit_records.specs.Common.{grown};
+ghost use Rattle.ring_machine.specs.Common.{has_feature, is_layer};
 ghost use Rattle.map_frame.specs.declared.layers.Layer.{Layer};
 ghost use Rattle.map_frame.specs.declared.layers.Slot.{Slot};
 ghost use Rattle.map_frame.specs.declared.layers.Slot.TheVariants.{Leaves};

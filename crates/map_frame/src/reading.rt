@@ -1,8 +1,7 @@
 // What can be read of a frame: its features by their numbers, and where its rings stand.
 ghost use Rattle.std.specs.Prelude.{◌≡◌, ◌≢◌, ◌≤◌, ℕ, map, length, option_map, unwrap_or, slice_get, Some, None, IfSome};
-ghost use Rattle.ring_machine.specs.Parts.{feature, features, has_feature};
-ghost use Rattle.ring_machine.specs.Refusals.{is_layer};
-ghost use Rattle.topo_outline.specs.Views.{form_of, view_kept};
+ghost use Rattle.ring_machine.specs.Common.{feature, features, has_feature, is_layer};
+ghost use Rattle.topo_outline.specs.Common.{form_of, view_kept};
 ghost use Rattle.map_frame.specs.Numbers.{polygon_numbers};
 ghost use Rattle.map_frame.specs.Live.{live};
 ghost use Rattle.map_frame.specs.Named.{number_at};

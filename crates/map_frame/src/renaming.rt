@@ -1,8 +1,7 @@
 // Giving a feature another id.
 ghost use Rattle.std.specs.Prelude.{◌≡◌, ℕ, None, Some};
-ghost use Rattle.edit_records.specs.Records.{with_id};
-ghost use Rattle.ring_machine.specs.Document.{FeatureOf};
-ghost use Rattle.ring_machine.specs.Parts.{feature};
+ghost use Rattle.edit_records.specs.Common.{with_id};
+ghost use Rattle.ring_machine.specs.Common.{FeatureOf, feature};
 ghost use Rattle.map_frame.specs.declared.feature.Feature.{Feature};
 ghost use Rattle.map_frame.specs.Kept.{IsFramed};
 ghost use Rattle.map_frame.specs.Live.{live};

@@ -1,9 +1,8 @@
 // Taking a feature out of its place, and putting one into it.
 ghost use Rattle.std.specs.Prelude.{◌≡◌, ◌<◌, ℕ, true, [], ◌∷◌, length, map, option_map, IsTrue, None, Some};
 ghost use Rattle.std.specs.List.{flat_map};
-ghost use Rattle.edit_records.specs.Places.{exchanged};
-ghost use Rattle.ring_machine.specs.Parts.{feature, rings};
-ghost use Rattle.ring_machine.specs.WellFormed.{are_distinct, fits_form};
+ghost use Rattle.edit_records.specs.Common.{exchanged};
+ghost use Rattle.ring_machine.specs.Common.{feature, rings, are_distinct, fits_form};
 ghost use Rattle.map_frame.specs.Numbers.{polygon_numbers, feature_numbers};
 ghost use Rattle.map_frame.specs.Kept.{IsFramed};
 ghost use Rattle.map_frame.specs.Naming.{HasRoom, IsOf};

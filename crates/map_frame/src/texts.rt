@@ -1,6 +1,6 @@
 // What a feature has beside its number and its rings.
 ghost use Rattle.std.specs.Prelude.{◌≡◌, IfOk, option_map};
-ghost use Rattle.ring_machine.specs.Parts.{feature};
+ghost use Rattle.ring_machine.specs.Common.{feature};
 ghost use Rattle.map_frame.specs.Texts.{texts_of};
 
 use crate::feature::FeatureTexts;

@@ -1,12 +1,9 @@
 -- Worked examples: forms, and which polygons are told.
-use Rattle.std.proofs.Common.{◌≡◌, ℕ, true, false, refl, pos, List, [], ◌∷◌, None}
-use Rattle.grid_geometry.specs.Position.{Position, position}
-use Rattle.grid_geometry.specs.Segment.{segment}
-use Rattle.ring_machine.specs.Document.{Form, Polygon, MultiPolygon, Null, Feature, Leaf, Document}
-use Rattle.topo_reader.specs.Document.{Polygons}
-use Rattle.map_mending.specs.Mended.{form_after, with_polygons, joined}
-use Rattle.map_mending.specs.Bounding.{bounds_in}
-use Rattle.map_mending.specs.Told.{told_in, polygons_of}
+use Rattle.kit_words.proofs.Common.{◌≡◌, ℕ, true, false, refl, pos, List, [], ◌∷◌, None}
+use Rattle.grid_geometry.specs.Common.{Position, position, segment}
+use Rattle.ring_machine.specs.Common.{Form, Polygon, MultiPolygon, Null, Feature, Leaf, Document}
+use Rattle.topo_reader.specs.Common.{Polygons}
+use Rattle.map_mending.specs.Common.{form_after, with_polygons, joined, bounds_in, told_in, polygons_of}
 
 abbrev at : ℕ → ℕ → Position
 at x y = position (pos x) (pos y)

@@ -1,27 +1,23 @@
 -- Why a map is not mended, step by step.
-use Rattle.std.proofs.Common.{◌≡◌, ◌<◌, ℕ, zero, suc, List, [], ◌∷◌, map, length, get_or, false, sym, ap, ◌∙◌, subst, Result, Ok, Err, arith}
-use Rattle.std.specs.Prelude.{IfErr, IsErrAnd, IsTrue, None, nat_le, sum_by}
-use Rattle.std.proofs.lemmas.Bool.Decides.{nat_tests}
-use Rattle.topo_outline.specs.Layers.{leaves}
-use Rattle.topo_reader.specs.Document.{Polygons, Opened, document_of}
-use Rattle.walk_faults.specs.Findings.{ListsAll}
+use Rattle.kit_words.proofs.Common.{◌≡◌, ◌<◌, ℕ, zero, suc, List, [], ◌∷◌, map, length, get_or, false, sym, ap, ◌∙◌}
+use Rattle.kit_words.proofs.Common.{subst, Result, Ok, Err, arith, IfErr, IsErrAnd, IsTrue, None, nat_le, nat_tests}
+use Rattle.std.specs.Prelude.{sum_by}
+use Rattle.topo_outline.specs.Common.{leaves}
+use Rattle.topo_reader.specs.Common.{Polygons, Opened, document_of}
+use Rattle.walk_faults.specs.Common.{ListsAll}
 use Rattle.segment_paths.specs.Faults as paths
-use Rattle.segment_paths.specs.Paths.{Path, ArePaths}
-use Rattle.segment_paths.specs.Seen.{paths_seen}
+use Rattle.segment_paths.specs.Common.{Path, ArePaths, paths_seen}
 use Rattle.segment_paths.specs.declared.path.SegmentPath.{SegmentPath}
 use Rattle.segment_paths.specs.declared.fault.PathFault.{PathFault}
 use Rattle.segment_paths.specs.declared.fault.PathFault.TheVariants as search
-use Rattle.ring_machine.specs.Document.{Document}
-use Rattle.ring_machine.specs.Planar.{least_conflict}
-use Rattle.grid_geometry.specs.Segment.{Segment, segment_cmp}
-use Rattle.walk_mending.specs.Odd.{is_bounding_in}
-use Rattle.map_mending.specs.Bounding.{AreBounding, MendedBy}
-use Rattle.map_mending.specs.Faults.{IsAt, AreUnpartedIn, AreUnparted, IsMendFault, OnlyUnparted, IsTooLarge, without_paths, by_paths, mended}
-use Rattle.map_mending.specs.Seen.{with_mended}
-use Rattle.map_mending.specs.Told.{polygons_of, TellsParted}
+use Rattle.ring_machine.specs.Common.{Document, least_conflict}
+use Rattle.grid_geometry.specs.Common.{Segment, segment_cmp}
+use Rattle.walk_mending.specs.Common.{is_bounding_in}
+use Rattle.map_mending.specs.Common.{AreBounding, MendedBy, IsAt, AreUnpartedIn, AreUnparted, IsMendFault, OnlyUnparted}
+use Rattle.map_mending.specs.Common.{IsTooLarge, without_paths, by_paths, mended, with_mended, polygons_of, TellsParted}
+use Rattle.map_mending.specs.Common.{Parted}
 use Rattle.map_mending.proofs.Pieces.{document_mended}
 use Rattle.map_mending.proofs.Whole.{are_bounding, mended_size}
-use Rattle.map_mending.specs.declared.parted.Parted.{Parted}
 use Rattle.map_mending.specs.declared.fault.MendFault.{MendFault}
 use Rattle.map_mending.specs.declared.fault.MendFault.TheVariants.{TooLarge, Unmended, Unparted, OutOfMemory}
 

@@ -1,24 +1,22 @@
 -- A mended document is well formed, keeps its texts, and has rings.
-use Rattle.std.proofs.Common.{◌≡◌, ℕ, zero, suc, Bool, true, false, List, [], ◌∷◌, ◌++◌, map, length, refl, sym, ap, ap₂, ◌∙◌, subst, ◌&&◌, arith}
-use Rattle.std.specs.Prelude.{◌==◌, nat_le, if◌then◌else◌}
-use Rattle.std.specs.List.{AllZip, AllByRecursion, flat_map, filter_map, list_all}
-use Rattle.std.proofs.lemmas.Bool.Decides.{nat_tests}
-use Rattle.std.proofs.lemmas.List.Folds.{list_all-append}
-use Rattle.std.proofs.lemmas.List.Concat.{flat_map-append}
-use Rattle.grid_geometry.specs.Position.{Position}
-use Rattle.ring_machine.specs.Ring.{is_ring, is_distinct, canonical}
-use Rattle.ring_machine.specs.Document.{Form, Polygon, MultiPolygon, Null, Feature, Item, Layer, Document, Open, Close, Leaf, Kept}
-use Rattle.ring_machine.specs.Parts.{feature_of, features, rings_of, rings}
-use Rattle.ring_machine.specs.WellFormed.{is_inner, is_geometry, fits_form, are_distinct, WellFormed}
-use Rattle.ring_machine.proofs.Order.{and_both}
-use Rattle.ring_machine.proofs.StaysRing.{canonical_is_ring}
+use Rattle.kit_words.proofs.Common.{◌≡◌, ℕ, zero, suc, Bool, true, false, List, [], ◌∷◌, ◌++◌, map, length, refl, sym}
+use Rattle.kit_words.proofs.Common.{ap, ap₂, ◌∙◌, subst, ◌&&◌, arith, ◌==◌, nat_le, if◌then◌else◌, AllZip}
+use Rattle.kit_words.proofs.Common.{AllByRecursion, flat_map, filter_map, list_all, nat_tests, list_all-append}
+use Rattle.kit_words.proofs.Common.{flat_map-append}
+use Rattle.grid_geometry.specs.Common.{Position}
+use Rattle.ring_machine.specs.Common.{is_ring, is_distinct, canonical, Form, Polygon, MultiPolygon, Null, Feature, Item}
+use Rattle.ring_machine.specs.Common.{Layer, Document, Open, Close, Leaf, Kept, feature_of, features, rings_of, rings}
+use Rattle.ring_machine.specs.Common.{is_inner, is_geometry, fits_form, are_distinct, WellFormed}
+use Rattle.ring_machine.proofs.Common.{and_both, canonical_is_ring}
 use Rattle.topo_outline.specs.declared.members.Owner.TheVariants as owner
-use Rattle.topo_outline.specs.Kept.{IsName, IfThere, IsKeptTransform, AreKeptMembers, IsKeptHead, owner_of, head_of, KeepsItem, KeepsTexts}
-use Rattle.topo_reader.specs.Document.{Polygons, is_simple}
-use Rattle.topo_reader.proofs.Steps.{at_most}
-use Rattle.segment_paths.specs.Paths.{Path}
-use Rattle.walk_mending.specs.Mended.{IsMended, stays, parted}
-use Rattle.map_mending.specs.Mended.{MendsPolygon, MendsPolygons, MendsFeature, MendsItem, MendsLayer, Mended, joined, form_after}
+use Rattle.topo_outline.specs.Common.{IsName, IfThere, IsKeptTransform, AreKeptMembers, IsKeptHead, owner_of, head_of}
+use Rattle.topo_outline.specs.Common.{KeepsItem, KeepsTexts}
+use Rattle.topo_reader.specs.Common.{Polygons, is_simple}
+use Rattle.topo_reader.proofs.Common.{at_most}
+use Rattle.segment_paths.specs.Common.{Path}
+use Rattle.walk_mending.specs.Common.{IsMended, stays, parted}
+use Rattle.map_mending.specs.Common.{MendsPolygon, MendsPolygons, MendsFeature, MendsItem, MendsLayer, Mended, joined}
+use Rattle.map_mending.specs.Common.{form_after}
 
 some_left : (n : ℕ) → (suc n == 0) ≡ true → ⊥
 some_left n e = grind (arith, nat_tests)

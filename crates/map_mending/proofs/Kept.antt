@@ -1,38 +1,24 @@
 -- What a mended document keeps: its vertices, and that nothing is far from where it was.
-use Rattle.std.proofs.Common.{◌≡◌, ℕ, Bool, true, false, cond, List, [], ◌∷◌, map, refl, sym, ap, ◌∙◌, subst, inl, inr, ◌⊎◌, reverse, arith}
-use Rattle.std.specs.Prelude.{nat_lt, nat_le, length}
-use Rattle.std.specs.List.{All, AllZip, flat_map, list_all}
-use Rattle.std.proofs.lemmas.Bool.{false≢true}
-use Rattle.std.proofs.lemmas.List.Elements.{All-tail}
-use Rattle.std.proofs.lemmas.List.Sorted.{IsPermutation-reverse}
-use Rattle.grid_geometry.specs.Position.{Position, position_lt}
-use Rattle.grid_geometry.specs.Segment.{Segment, segment_eq}
-use Rattle.grid_geometry.specs.Ring.{Edge, edges}
-use Rattle.ring_machine.specs.Document.{Feature, Document}
-use Rattle.ring_machine.specs.Parts.{features, rings_of}
-use Rattle.ring_machine.specs.Ring.{canonical, has, is_ring, is_distinct, begins_least, segment_of}
-use Rattle.ring_machine.proofs.Canonical.{canonical_parts}
-use Rattle.ring_machine.proofs.Edges.{edges_to, edges_is}
-use Rattle.ring_machine.proofs.First.{In}
-use Rattle.ring_machine.proofs.Members.{any_in, in_any, in_contains, contains_in, in_flat, in_mapped, in_swap}
-use Rattle.ring_machine.proofs.Neighbours.{all_in, has-in, in-flat_map}
-use Rattle.ring_machine.proofs.Order.{and_both}
-use Rattle.ring_machine.proofs.RingSegments.{segment_eq-true}
-use Rattle.ring_machine.proofs.SortedOnce.{in_permuted}
-use Rattle.snap_geometry.specs.Near.{is_near}
-use Rattle.topo_reader.specs.Document.{Polygons, is_simple}
-use Rattle.walk_faults.specs.Findings.{walk_segments}
-use Rattle.walk_faults.specs.Opens.{is_closed_ring}
-use Rattle.walk_faults.proofs.RingEdges.{vertex_side}
-use Rattle.segment_paths.specs.Paths.{Path, IsWay, segments_of, inner_of}
-use Rattle.walk_mending.specs.Laid.{laid, edge_along}
-use Rattle.walk_mending.specs.Mended.{stays, parted, ArePartsOf, all_rings, is_position_of}
-use Rattle.walk_mending.specs.Odd.{times_in, is_odd_in}
+use Rattle.kit_words.proofs.Common.{◌≡◌, ℕ, Bool, true, false, cond, List, [], ◌∷◌, map, refl, sym, ap, ◌∙◌, subst, inl}
+use Rattle.kit_words.proofs.Common.{inr, ◌⊎◌, reverse, arith, nat_lt, nat_le, length, All, AllZip, flat_map, list_all}
+use Rattle.kit_words.proofs.Common.{false≢true, All-tail, IsPermutation-reverse}
+use Rattle.grid_geometry.specs.Common.{Position, position_lt, Segment, segment_eq, Edge, edges}
+use Rattle.ring_machine.specs.Common.{Feature, Document, features, rings_of, canonical, has, is_ring, is_distinct}
+use Rattle.ring_machine.specs.Common.{begins_least, segment_of}
+use Rattle.ring_machine.proofs.Common.{canonical_parts, edges_to, edges_is, In, any_in, in_any, in_contains}
+use Rattle.ring_machine.proofs.Common.{contains_in, in_flat, in_mapped, in_swap, all_in, has-in, in-flat_map, and_both}
+use Rattle.ring_machine.proofs.Common.{segment_eq-true, in_permuted}
+use Rattle.snap_geometry.specs.Common.{is_near}
+use Rattle.topo_reader.specs.Common.{Polygons, is_simple}
+use Rattle.walk_faults.specs.Common.{walk_segments, is_closed_ring}
+use Rattle.walk_faults.proofs.Common.{vertex_side}
+use Rattle.segment_paths.specs.Common.{Path, IsWay, segments_of, inner_of}
+use Rattle.walk_mending.specs.Common.{laid, edge_along, stays, parted, ArePartsOf, all_rings, is_position_of, times_in}
+use Rattle.walk_mending.specs.Common.{is_odd_in}
 use Rattle.walk_mending.proofs.Bounds.{any_counted, in-among}
 use Rattle.walk_mending.proofs.Laws.{keeps_round, odd_ends, ends_there, odd_some}
-use Rattle.map_mending.specs.Bounding.{MendedBy}
-use Rattle.map_mending.specs.Laws.{GoesAround, KeepsVertices, VerticesStay, ComesFrom, stood, put, StaysNear, AllStayNear}
-use Rattle.map_mending.specs.Mended.{MendsPolygon, MendsFeature, Mended, joined}
+use Rattle.map_mending.specs.Common.{MendedBy, GoesAround, KeepsVertices, VerticesStay, ComesFrom, stood, put}
+use Rattle.map_mending.specs.Common.{StaysNear, AllStayNear, MendsPolygon, MendsFeature, Mended, joined}
 use Rattle.map_mending.proofs.Features.{features_mended}
 
 -- ---- pairs of lists

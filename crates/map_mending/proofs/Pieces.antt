@@ -1,16 +1,13 @@
 -- The items of the layers, before and after.
-use Rattle.std.proofs.Common.{◌≡◌, ℕ, zero, suc, ◌+◌, List, [], ◌∷◌, map, length, drop, get_or, refl, sym, ap, ap₂, ◌∙◌, arith, length-append}
-use Rattle.std.specs.List.{AllZip}
-use Rattle.std.proofs.lemmas.List.{drop-drop, get_or-drop}
-use Rattle.std.proofs.lemmas.Option.{unwrap_or-slice_get}
-use Rattle.ring_machine.specs.Document.{Form, Head}
-use Rattle.topo_outline.specs.Layers.{LayerText, Piece, starts, ends, leaf, text, leaves_in, leaves}
-use Rattle.topo_reader.specs.Document.{Polygons, Opened, polygons_at, numbered, items_from, layers_from, document_of}
-use Rattle.segment_paths.specs.Paths.{Path}
-use Rattle.map_mending.specs.declared.parted.Parted.{Parted}
-use Rattle.map_mending.specs.Mended.{MendsPolygon, MendsPolygons, MendsFeature, MendsItem, MendsLayer, Mended, joined, form_after}
-use Rattle.map_mending.specs.Told.{TellsParted}
-use Rattle.map_mending.specs.Seen.{pieces_after, layers_after, with_mended}
+use Rattle.kit_words.proofs.Common.{◌≡◌, ℕ, zero, suc, ◌+◌, List, [], ◌∷◌, map, length, drop, get_or, refl, sym, ap}
+use Rattle.kit_words.proofs.Common.{ap₂, ◌∙◌, arith, AllZip, drop-drop, get_or-drop, unwrap_or-slice_get}
+use Rattle.std.proofs.Common.{length-append}
+use Rattle.ring_machine.specs.Common.{Form, Head}
+use Rattle.topo_outline.specs.Common.{LayerText, Piece, starts, ends, leaf, text, leaves_in, leaves}
+use Rattle.topo_reader.specs.Common.{Polygons, Opened, polygons_at, numbered, items_from, layers_from, document_of}
+use Rattle.segment_paths.specs.Common.{Path}
+use Rattle.map_mending.specs.Common.{Parted, MendsPolygon, MendsPolygons, MendsFeature, MendsItem, MendsLayer, Mended}
+use Rattle.map_mending.specs.Common.{joined, form_after, TellsParted, pieces_after, layers_after, with_mended}
 
 -- ---- the features are as many
 

@@ -1,10 +1,11 @@
 -- One item more, and one layer more, has the form that its polygons ask for.
-use Rattle.std.proofs.Common.{◌≡◌, ℕ, ◌+◌, ◌<◌, List, [], ◌∷◌, ◌++◌, map, length, take, drop, get_or, set, sym, ap, ap₂, ◌∙◌, arith, append_assoc}
-use Rattle.std.proofs.lemmas.List.{drop-drop, drop-map, drop-set-lt, get_or-drop, length-append, map-append, take_more_set}
-use Rattle.topo_outline.specs.Layers.{Piece, leaves_in}
-use Rattle.topo_reader.specs.Document.{Polygons}
-use Rattle.topo_reader.proofs.Joining.{tail_at}
-use Rattle.map_mending.specs.Seen.{features_at}
+use Rattle.kit_words.proofs.Common.{◌≡◌, ℕ, ◌+◌, ◌<◌, List, [], ◌∷◌, ◌++◌, map, length, take, drop, get_or, set, sym}
+use Rattle.kit_words.proofs.Common.{ap, ap₂, ◌∙◌, arith, append_assoc, drop-drop, drop-map, drop-set-lt, get_or-drop}
+use Rattle.kit_words.proofs.Common.{length-append, map-append, take_more_set}
+use Rattle.topo_outline.specs.Common.{Piece, leaves_in}
+use Rattle.topo_reader.specs.Common.{Polygons}
+use Rattle.topo_reader.proofs.Common.{tail_at}
+use Rattle.map_mending.specs.Common.{features_at}
 
 -- ---- where the list has changed before the place alone
 

@@ -1,16 +1,11 @@
 -- One polygon more, and one feature more.
-use Rattle.std.proofs.Common.{◌≡◌, ℕ, suc, ◌+◌, ◌<◌, List, [], ◌∷◌, ◌++◌, map, length, take, get_or, sym, ap, ap₂, ◌∙◌, subst, append_assoc, arith}
-use Rattle.std.specs.List.{AllZip}
-use Rattle.std.proofs.lemmas.List.{append-nil, length-map, length-take-le, map-append, map_more}
-use Rattle.std.proofs.lemmas.List.Concat.{flat_map-append}
-use Rattle.std.proofs.lemmas.Slice.Zip.{all_zipped_more}
-use Rattle.grid_geometry.specs.Position.{Position}
-use Rattle.topo_reader.specs.Document.{Polygons}
-use Rattle.segment_paths.specs.Paths.{Path}
-use Rattle.map_mending.specs.declared.parted.Parted.{Parted}
-use Rattle.map_mending.specs.Mended.{MendsPolygon, joined}
-use Rattle.map_mending.specs.Told.{told_of, told_from, told_in, TellsParted}
-use Rattle.map_mending.specs.Seen.{StandsFor}
+use Rattle.kit_words.proofs.Common.{◌≡◌, ℕ, suc, ◌+◌, ◌<◌, List, [], ◌∷◌, ◌++◌, map, length, take, get_or, sym, ap, ap₂}
+use Rattle.kit_words.proofs.Common.{◌∙◌, subst, append_assoc, arith, AllZip, append-nil, length-map, length-take-le}
+use Rattle.kit_words.proofs.Common.{map-append, map_more, flat_map-append, all_zipped_more}
+use Rattle.grid_geometry.specs.Common.{Position}
+use Rattle.topo_reader.specs.Common.{Polygons}
+use Rattle.segment_paths.specs.Common.{Path}
+use Rattle.map_mending.specs.Common.{Parted, MendsPolygon, joined, told_of, told_from, told_in, TellsParted, StandsFor}
 
 -- ---- the polygons of a feature
 

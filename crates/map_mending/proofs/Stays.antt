@@ -1,34 +1,21 @@
 -- A document of rings that do not conflict stays as it is, but for where its rings begin.
-use Rattle.std.proofs.Common.{◌≡◌, ℕ, Bool, true, false, cond, List, [], ◌∷◌, ◌++◌, map, length, refl, sym, ap, ap₂, ◌∙◌, subst, inl, inr, None, ◌&&◌, arith}
-use Rattle.std.specs.Prelude.{nat_lt}
-use Rattle.std.specs.List.{AllZip, flat_map, filter_map, list_all, list_any, count_by}
-use Rattle.std.proofs.lemmas.Bool.{false≢true}
-use Rattle.std.proofs.lemmas.List.{length-map}
-use Rattle.std.proofs.lemmas.List.Sums.{sum_by-cons}
-use Rattle.grid_geometry.specs.Position.{Position, position_lt}
-use Rattle.grid_geometry.specs.Segment.{Segment, segment_lt, segment_eq}
-use Rattle.grid_geometry.specs.Conflict.{conflict}
-use Rattle.grid_geometry.specs.Ring.{Edge, links}
-use Rattle.grid_geometry.proofs.Conflicts.{conflict-comm}
-use Rattle.ring_machine.specs.Planar.{pair_lt}
-use Rattle.ring_machine.specs.Ring.{canonical, segments}
-use Rattle.ring_machine.specs.Document.{Form, Polygon, MultiPolygon, Null, Feature, Item, Layer, Document, Open, Close, Leaf, Kept}
-use Rattle.ring_machine.specs.Parts.{feature_of, features, rings_of, rings, all_segments, in_feature, in_item, in_layer, in_rings}
-use Rattle.ring_machine.specs.WellFormed.{fits_form, WellFormed}
-use Rattle.ring_machine.proofs.First.{In, in_left, in_right, least_conflict_is, least_conflict_unique}
-use Rattle.ring_machine.proofs.Local.{Bad, IsLeast}
-use Rattle.ring_machine.proofs.Members.{in_contains, any_in, in_flat}
-use Rattle.ring_machine.proofs.Neighbours.{in-flat_map, all_in}
-use Rattle.ring_machine.proofs.RingSegments.{segment_eq-true}
-use Rattle.topo_reader.specs.Document.{Polygons, is_simple}
-use Rattle.walk_faults.specs.Findings.{walk_segments}
-use Rattle.walk_faults.proofs.RingEdges.{ring_segments}
-use Rattle.segment_paths.specs.Paths.{Path}
-use Rattle.walk_mending.specs.Laid.{edge_along, laid}
-use Rattle.walk_mending.specs.Odd.{times_in, is_odd_in, is_bounding}
-use Rattle.walk_mending.specs.Mended.{IsMended, stays, parted}
-use Rattle.map_mending.specs.Mended.{MendsPolygon, MendsFeature, MendsItem, MendsLayer, Mended, joined, form_after}
-use Rattle.map_mending.specs.Bounding.{MendedBy, NeedsNoMending, bounds_in}
+use Rattle.kit_words.proofs.Common.{◌≡◌, ℕ, Bool, true, false, cond, List, [], ◌∷◌, ◌++◌, map, length, refl, sym, ap}
+use Rattle.kit_words.proofs.Common.{ap₂, ◌∙◌, subst, inl, inr, None, ◌&&◌, arith, nat_lt, AllZip, flat_map, filter_map}
+use Rattle.kit_words.proofs.Common.{list_all, list_any, count_by, false≢true, length-map, sum_by-cons}
+use Rattle.grid_geometry.specs.Common.{Position, position_lt, Segment, segment_lt, segment_eq, conflict, Edge, links}
+use Rattle.grid_geometry.proofs.Common.{conflict-comm}
+use Rattle.ring_machine.specs.Common.{pair_lt, canonical, segments, Form, Polygon, MultiPolygon, Null, Feature, Item}
+use Rattle.ring_machine.specs.Common.{Layer, Document, Open, Close, Leaf, Kept, feature_of, features, rings_of, rings}
+use Rattle.ring_machine.specs.Common.{all_segments, in_feature, in_item, in_layer, in_rings, fits_form, WellFormed}
+use Rattle.ring_machine.proofs.Common.{In, in_left, in_right, least_conflict_is, least_conflict_unique, Bad, IsLeast}
+use Rattle.ring_machine.proofs.Common.{in_contains, any_in, in_flat, in-flat_map, all_in, segment_eq-true}
+use Rattle.topo_reader.specs.Common.{Polygons, is_simple}
+use Rattle.walk_faults.specs.Common.{walk_segments}
+use Rattle.walk_faults.proofs.Common.{ring_segments}
+use Rattle.segment_paths.specs.Common.{Path}
+use Rattle.walk_mending.specs.Common.{edge_along, laid, times_in, is_odd_in, is_bounding, IsMended, stays, parted}
+use Rattle.map_mending.specs.Common.{MendsPolygon, MendsFeature, MendsItem, MendsLayer, Mended, joined, form_after}
+use Rattle.map_mending.specs.Common.{MendedBy, NeedsNoMending, bounds_in}
 
 -- ---- lists
 

@@ -1,27 +1,20 @@
 -- A mended topology is one of rings.
-use Rattle.std.proofs.Common.{◌≡◌, ℕ, suc, ◌+◌, ◌<◌, ◌≤◌, Bool, true, ◌||◌, List, [], ◌∷◌, ◌++◌, map, length, take, drop, refl, sym, ap, ap₂, ◌∙◌, arith, add-one, drop-cons}
-use Rattle.std.specs.Prelude.{nat_le, sum_by, IsTrue}
-use Rattle.std.specs.List.{AllZip, flat_map, filter_map, list_any}
-use Rattle.std.proofs.Math.Seq.{take-add}
-use Rattle.std.proofs.lemmas.List.{drop-drop, length-append, length-map, map-append, take_all}
-use Rattle.std.proofs.lemmas.Option.{unwrap_or-slice_get}
-use Rattle.std.proofs.lemmas.Slice.Zip.{AllZip-long}
-use Rattle.grid_geometry.specs.Position.{Position}
-use Rattle.grid_geometry.specs.Segment.{Segment, segment_cmp}
-use Rattle.ring_machine.specs.Document.{Feature}
-use Rattle.ring_machine.specs.Parts.{feature_of, features, size}
-use Rattle.topo_outline.specs.Layers.{LayerText, Piece, starts, ends, leaf, text, leaves_in, leaves}
-use Rattle.topo_reader.specs.Document.{Polygons, Opened, polygons_at, items_from, layers_from, document_of, IsOfRings, IsOfWalks}
-use Rattle.topo_reader.proofs.Numbering.{rings_within, rings_document, sum_within}
-use Rattle.topo_reader.proofs.Steps.{at_most}
-use Rattle.walk_faults.specs.Findings.{ListsAll}
-use Rattle.segment_paths.specs.Paths.{Path}
-use Rattle.walk_mending.specs.Odd.{is_bounding, is_bounding_in}
-use Rattle.map_mending.specs.declared.parted.Parted.{Parted}
-use Rattle.map_mending.specs.Bounding.{AreBounding, bounds_in}
-use Rattle.map_mending.specs.Mended.{MendsPolygon, joined}
-use Rattle.map_mending.specs.Told.{TellsParted, polygons_of, Parts}
-use Rattle.map_mending.specs.Seen.{layers_after, with_mended}
+use Rattle.kit_words.proofs.Common.{◌≡◌, ℕ, suc, ◌+◌, ◌<◌, ◌≤◌, Bool, true, ◌||◌, List, [], ◌∷◌, ◌++◌, map, length}
+use Rattle.kit_words.proofs.Common.{take, drop, refl, sym, ap, ap₂, ◌∙◌, arith, add-one, drop-cons, nat_le, IsTrue}
+use Rattle.kit_words.proofs.Common.{AllZip, flat_map, filter_map, list_any, take-add, drop-drop, length-append}
+use Rattle.kit_words.proofs.Common.{length-map, map-append, take_all, unwrap_or-slice_get, AllZip-long}
+use Rattle.std.specs.Prelude.{sum_by}
+use Rattle.grid_geometry.specs.Common.{Position, Segment, segment_cmp}
+use Rattle.ring_machine.specs.Common.{Feature, feature_of, features, size}
+use Rattle.topo_outline.specs.Common.{LayerText, Piece, starts, ends, leaf, text, leaves_in, leaves}
+use Rattle.topo_reader.specs.Common.{Polygons, Opened, polygons_at, items_from, layers_from, document_of, IsOfRings}
+use Rattle.topo_reader.specs.Common.{IsOfWalks}
+use Rattle.topo_reader.proofs.Common.{rings_within, rings_document, sum_within, at_most}
+use Rattle.walk_faults.specs.Common.{ListsAll}
+use Rattle.segment_paths.specs.Common.{Path}
+use Rattle.walk_mending.specs.Common.{is_bounding, is_bounding_in}
+use Rattle.map_mending.specs.Common.{Parted, AreBounding, bounds_in, MendsPolygon, joined, TellsParted, polygons_of}
+use Rattle.map_mending.specs.Common.{Parts, layers_after, with_mended}
 use Rattle.map_mending.proofs.Pieces.{layers_count, document_mended}
 use Rattle.map_mending.proofs.Features.{mended_formed, mended_keeps, mended_rings}
 

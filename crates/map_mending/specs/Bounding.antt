@@ -2,13 +2,11 @@
 use Rattle.std.specs.Prelude.{◌≡◌, ◌↔◌, Bool, List, [], Contains, IsTrue, None}
 use Rattle.std.specs.List.{list_all, list_any}
 use Rattle.std.specs.List.Sorted.{IsStrictlySortedBy}
-use Rattle.grid_geometry.specs.Segment.{Segment, segment_cmp}
-use Rattle.ring_machine.specs.Document.{Document}
-use Rattle.ring_machine.specs.Parts.{features, rings, all_segments}
-use Rattle.ring_machine.specs.Planar.{least_conflict}
-use Rattle.topo_reader.specs.Document.{is_simple}
-use Rattle.segment_paths.specs.Paths.{Path, ArePaths}
-use Rattle.walk_mending.specs.Odd.{is_bounding}
+use Rattle.grid_geometry.specs.Common.{Segment, segment_cmp}
+use Rattle.ring_machine.specs.Common.{Document, features, rings, all_segments, least_conflict}
+use Rattle.topo_reader.specs.Common.{is_simple}
+use Rattle.segment_paths.specs.Common.{Path, ArePaths}
+use Rattle.walk_mending.specs.Common.{is_bounding}
 
 -- the segment bounds in some polygon of the document
 abbrev pub bounds_in : Document → Segment → Bool

@@ -1,16 +1,13 @@
 -- Why a map is not mended.
 use Rattle.std.specs.Prelude.{◌≡◌, ℕ, ◌<◌, List, length, map, slice_index_or}
-use Rattle.grid_geometry.specs.Position.{Position}
-use Rattle.grid_geometry.specs.Segment.{Segment}
-use Rattle.ring_machine.specs.Document.{Document}
-use Rattle.ring_machine.specs.Parts.{size}
-use Rattle.topo_reader.specs.Document.{Polygons}
+use Rattle.grid_geometry.specs.Common.{Position, Segment}
+use Rattle.ring_machine.specs.Common.{Document, size}
+use Rattle.topo_reader.specs.Common.{Polygons}
 use Rattle.segment_paths.specs.Faults as paths
-use Rattle.segment_paths.specs.Paths.{Path}
+use Rattle.segment_paths.specs.Common.{Path}
 use Rattle.segment_paths.specs.declared.fault.PathFault.{PathFault}
 use Rattle.segment_paths.specs.declared.fault.PathFault.TheVariants as search
-use Rattle.walk_mending.specs.Laid.{laid}
-use Rattle.walk_mending.specs.Mended.{AreApart}
+use Rattle.walk_mending.specs.Common.{laid, AreApart}
 use Rattle.map_mending.specs.Bounding.{AreBounding, MendedBy}
 use Rattle.map_mending.specs.Mended.{Mended}
 use Rattle.map_mending.specs.Told.{polygons_of}

@@ -1,18 +1,12 @@
 -- What a mended document keeps of the one that was read, and how near to that it stays.
 use Rattle.std.specs.Prelude.{◌≡◌, List, ◌++◌, map, Contains, IsTrue}
 use Rattle.std.specs.List.{AllZip, list_all}
-use Rattle.grid_geometry.specs.Position.{Position}
-use Rattle.grid_geometry.specs.Segment.{Segment}
-use Rattle.grid_geometry.specs.Ring.{Edge, edges}
-use Rattle.ring_machine.specs.Document.{Feature, Document}
-use Rattle.ring_machine.specs.Parts.{features, rings_of}
-use Rattle.ring_machine.specs.Ring.{segment_of}
-use Rattle.snap_geometry.specs.Near.{is_near}
-use Rattle.topo_reader.specs.Document.{is_simple}
-use Rattle.segment_paths.specs.Paths.{Path, segments_of}
-use Rattle.walk_mending.specs.Laid.{laid, KeepsInOrder}
-use Rattle.walk_mending.specs.Mended.{is_position_of}
-use Rattle.walk_mending.specs.Odd.{is_odd_in}
+use Rattle.grid_geometry.specs.Common.{Position, Segment, Edge, edges}
+use Rattle.ring_machine.specs.Common.{Feature, Document, features, rings_of, segment_of}
+use Rattle.snap_geometry.specs.Common.{is_near}
+use Rattle.topo_reader.specs.Common.{is_simple}
+use Rattle.segment_paths.specs.Common.{Path, segments_of}
+use Rattle.walk_mending.specs.Common.{laid, KeepsInOrder, is_position_of, is_odd_in}
 
 -- ---- vertices
 

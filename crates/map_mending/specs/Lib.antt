@@ -4,3 +4,4 @@ pub mod Told
 pub mod Seen
 pub mod Laws
 pub mod Faults
+pub mod Common

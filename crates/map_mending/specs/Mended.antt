@@ -2,13 +2,12 @@
 -- them no rings, and nothing else.
 use Rattle.std.specs.Prelude.{◌≡◌, ℕ, ◌==◌, List, map, flat_map, length, if◌then◌else◌}
 use Rattle.std.specs.List.{AllZip}
-use Rattle.grid_geometry.specs.Position.{Position}
-use Rattle.ring_machine.specs.Document.{Form, Polygon, MultiPolygon, Null, Feature}
-use Rattle.ring_machine.specs.Document.{Item, Open, Close, Leaf, Kept, Layer, Document}
-use Rattle.topo_reader.specs.Document.{Polygons}
-use Rattle.segment_paths.specs.Paths.{Path}
-use Rattle.walk_mending.specs.Laid.{laid}
-use Rattle.walk_mending.specs.Mended.{IsMended}
+use Rattle.grid_geometry.specs.Common.{Position}
+use Rattle.ring_machine.specs.Common.{Form, Polygon, MultiPolygon, Null, Feature, Item, Open, Close, Leaf, Kept, Layer}
+use Rattle.ring_machine.specs.Common.{Document}
+use Rattle.topo_reader.specs.Common.{Polygons}
+use Rattle.segment_paths.specs.Common.{Path}
+use Rattle.walk_mending.specs.Common.{laid, IsMended}
 
 -- the polygons that stand in the place of one: its walks are led along the paths, and mended
 abbrev pub MendsPolygon : List Path → List (List Position) → Polygons → Type 0

@@ -1,12 +1,11 @@
 -- Which polygons were taken apart.
 use Rattle.std.specs.Prelude.{◌≡◌, ℕ, suc, List, [], ◌∷◌, ◌++◌, map, length, if◌then◌else◌}
 use Rattle.std.specs.List.{AllZip, list_all}
-use Rattle.grid_geometry.specs.Position.{Position}
-use Rattle.ring_machine.specs.Document.{Document}
-use Rattle.ring_machine.specs.Parts.{features}
-use Rattle.topo_reader.specs.Document.{Polygons, is_simple}
-use Rattle.segment_paths.specs.Paths.{Path}
-use Rattle.walk_mending.specs.Laid.{laid}
+use Rattle.grid_geometry.specs.Common.{Position}
+use Rattle.ring_machine.specs.Common.{Document, features}
+use Rattle.topo_reader.specs.Common.{Polygons, is_simple}
+use Rattle.segment_paths.specs.Common.{Path}
+use Rattle.walk_mending.specs.Common.{laid}
 use Rattle.map_mending.specs.declared.parted.Parted.{Parted}
 use Rattle.map_mending.specs.Mended.{MendsPolygon, joined}
 

@@ -1,9 +1,7 @@
 // The forms that the polygons of features ask for (TopoJSON 1.0, 2.2).
 ghost use Rattle.std.specs.Prelude.{◌≡◌, map, drop, length};
-ghost use Rattle.topo_outline.specs.Layers.{leaves_in};
-ghost use Rattle.topo_outline.specs.Views.{form_of, view_item, view_layer};
-ghost use Rattle.topo_reader.specs.DocumentView.{view_raw};
-ghost use Rattle.topo_reader.specs.Uses.{feature_positions};
+ghost use Rattle.topo_outline.specs.Common.{leaves_in, form_of, view_item, view_layer};
+ghost use Rattle.topo_reader.specs.Common.{view_raw, feature_positions};
 ghost use Rattle.map_mending.specs.Mended as mended;
 ghost use Rattle.map_mending.specs.Seen.{features_at, piece_after, pieces_after, layers_after, with_mended};
 

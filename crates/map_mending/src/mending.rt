@@ -1,10 +1,8 @@
 // From a map of walks to one of rings.
 ghost use Rattle.std.specs.Prelude.{◌≡◌, map, IfErr, IfOk};
-ghost use Rattle.ring_machine.specs.Parts.{in_rings};
-ghost use Rattle.ring_machine.specs.Ring.{canonical};
-ghost use Rattle.segment_paths.specs.Seen.{paths_seen};
-ghost use Rattle.topo_reader.specs.Document.{document_of, IsOfRings, IsOfWalks};
-ghost use Rattle.topo_reader.specs.DocumentView.{view_raw};
+ghost use Rattle.ring_machine.specs.Common.{in_rings, canonical};
+ghost use Rattle.segment_paths.specs.Common.{paths_seen};
+ghost use Rattle.topo_reader.specs.Common.{document_of, IsOfRings, IsOfWalks, view_raw};
 ghost use Rattle.map_mending.specs.Bounding.{MendedBy, NeedsNoMending};
 ghost use Rattle.map_mending.specs.Faults.{IsMendFault};
 ghost use Rattle.map_mending.specs.Laws.{VerticesStay, AllStayNear};

@@ -2,12 +2,11 @@
 ghost use Rattle.std.specs.Prelude.{◌≡◌, [], ◌∷◌, ◌++◌, map, if◌then◌else◌, IfErr, IfOk, OnOk};
 ghost use Rattle.std.specs.List.{list_all};
 ghost use Rattle.std.specs.List.Sorted.{IsStrictlySortedBy};
-ghost use Rattle.grid_geometry.specs.Segment.{segment_cmp};
-ghost use Rattle.segment_paths.specs.Seen.{paths_seen};
-ghost use Rattle.topo_reader.specs.Document.{is_simple};
-ghost use Rattle.topo_reader.specs.Uses.{positions_of, polygon_positions, feature_positions};
-ghost use Rattle.walk_mending.specs.Laid.{laid};
-ghost use Rattle.walk_mending.specs.Mended.{AreApart, OnlyIfApart};
+ghost use Rattle.grid_geometry.specs.Common.{segment_cmp};
+ghost use Rattle.segment_paths.specs.Common.{paths_seen};
+ghost use Rattle.topo_reader.specs.Common.{is_simple, positions_of, polygon_positions};
+ghost use Rattle.topo_reader.specs.Common.{feature_positions};
+ghost use Rattle.walk_mending.specs.Common.{laid, AreApart, OnlyIfApart};
 ghost use Rattle.map_mending.specs.Faults.{AreUnparted, AreUnpartedIn, OnlyUnparted};
 ghost use Rattle.map_mending.specs.Mended.{MendsPolygon};
 ghost use Rattle.map_mending.specs.Seen.{StandsFor};

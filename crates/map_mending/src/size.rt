@@ -1,6 +1,6 @@
 // How many positions the rings of a map may have.
 ghost use Rattle.std.specs.Prelude.{◌≡◌, ◌+◌, ◌<◌, length, map, nat_le, sum_by, MatchOption};
-ghost use Rattle.topo_reader.specs.Uses.{positions_of, polygon_positions, feature_positions};
+ghost use Rattle.topo_reader.specs.Common.{positions_of, polygon_positions, feature_positions};
 
 use crate::forms::Polygons;
 use grid_geometry::Pos;

@@ -1,24 +1,18 @@
 -- The segments of a ring in an index, edge by edge.
-use Rattle.std.proofs.Common.{◌≡◌, ℕ, true, sym, ap, ◌∙◌, subst, ◌||◌, arith}
+use Rattle.kit_words.proofs.Common.{◌≡◌, ℕ, true, sym, ap, ◌∙◌, subst, ◌||◌, arith, List, [], ◌∷◌, ◌++◌, map, length}
+use Rattle.kit_words.proofs.Common.{take, get_or, ◌<◌, ◌≤◌, ◌+◌, Option, append_assoc, take_all, list_any-append}
+use Rattle.kit_words.proofs.Common.{map-map}
 use Rattle.std.specs.FinSet as set
-use Rattle.std.proofs.Common.{List, [], ◌∷◌, ◌++◌, map, length, take, get_or, ◌<◌, ◌≤◌, ◌+◌, Option}
-use Rattle.std.proofs.Common.{append-nil, append_assoc}
-use Rattle.std.proofs.lemmas.List.{take_all}
-use Rattle.std.proofs.lemmas.List.Folds.{list_any-append}
-use Rattle.std.proofs.lemmas.Simd.{map-map}
-use Rattle.grid_geometry.specs.Segment.{Segment, segment}
-use Rattle.ring_machine.specs.Ring.{segments, segment_of}
-use Rattle.vertex_index.specs.Placement.{Placement, place}
-use Rattle.segment_index.specs.Candidates.{SegmentSet, has, segment_is}
-use Rattle.arc_tables.specs.Ways.{Edge}
-use Rattle.arc_tables.specs.Rings.{edges}
-use Rattle.local_planarity.specs.Edits.{IsFilled}
-use Rattle.local_planarity.proofs.Filling.{filled_same}
-use Rattle.ring_store.specs.Round.{IsRound}
-use Rattle.ring_store.specs.Steps.{sides}
-use Rattle.ring_store.proofs.Edges.{length-edges, laid_edges}
-use Rattle.ring_store.proofs.KeyRings.{laid}
-use Rattle.ring_store.proofs.Pushed.{map_more}
+use Rattle.std.proofs.Common.{append-nil}
+use Rattle.grid_geometry.specs.Common.{Segment, segment}
+use Rattle.ring_machine.specs.Common.{segments, segment_of}
+use Rattle.vertex_index.specs.Common.{Placement, place}
+use Rattle.segment_index.specs.Common.{SegmentSet, has, segment_is}
+use Rattle.arc_tables.specs.Common.{Edge, edges}
+use Rattle.local_planarity.specs.Common.{IsFilled}
+use Rattle.local_planarity.proofs.Common.{filled_same}
+use Rattle.ring_store.specs.Common.{IsRound, sides}
+use Rattle.ring_store.proofs.Common.{length-edges, laid_edges, laid, map_more}
 
 -- the segments of its edges are those of its positions
 pub sides_round : (places : Placement) (ks : List ℕ) → IsRound places ks

@@ -1,13 +1,9 @@
 -- Rings that are moved into one list, and numbers that are put into lists again.
-use Rattle.std.proofs.Common.{◌≡◌, ◌≤◌, ◌+◌, ◌-◌, ℕ, refl, sym, ap, ◌∙◌, List, [], ◌∷◌, ◌++◌, map, length, drop, arith}
-use Rattle.std.proofs.Common.{append-nil, append_assoc}
-use Rattle.std.specs.Prelude.{slice_range}
-use Rattle.std.specs.List.{sum}
-use Rattle.std.proofs.lemmas.List.{length-append, length-take, length-drop}
-use Rattle.std.proofs.lemmas.List.Folds.{drop_split}
-use Rattle.std.proofs.lemmas.List.Concat.{flat_map-append}
-use Rattle.std.proofs.lemmas.List.Sums.{sum_by-cons}
-use Rattle.map_opening.specs.Flat.{joined, all_rings, shape_of, ring_count}
+use Rattle.kit_words.proofs.Common.{◌≡◌, ◌≤◌, ◌+◌, ◌-◌, ℕ, refl, sym, ap, ◌∙◌, List, [], ◌∷◌, ◌++◌, map, length, drop}
+use Rattle.kit_words.proofs.Common.{arith, append_assoc, slice_range, sum, length-append, length-take, length-drop}
+use Rattle.kit_words.proofs.Common.{drop_split, flat_map-append, sum_by-cons}
+use Rattle.std.proofs.Common.{append-nil}
+use Rattle.map_opening.specs.Common.{joined, all_rings, shape_of, ring_count}
 
 -- ---- moved out of lists
 

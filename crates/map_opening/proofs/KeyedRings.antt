@@ -1,24 +1,16 @@
 -- Rings by the keys of their positions: each can be laid, and the positions are those that were read.
-use Rattle.std.proofs.Common.{◌≡◌, ℕ, true, refl, sym, ap, ◌∙◌, subst, List, [], ◌∷◌, map, length, is_some, inl, inr, arith}
-use Rattle.std.specs.Ordering.{nat_cmp}
+use Rattle.kit_words.proofs.Common.{◌≡◌, ℕ, true, refl, sym, ap, ◌∙◌, subst, List, [], ◌∷◌, map, length, is_some, inl}
+use Rattle.kit_words.proofs.Common.{inr, arith, nat_cmp, list_all, flat_map, sum_by, false≢true, length-map}
+use Rattle.kit_words.proofs.Common.{flat_map-map, sum_by-cons}
 use Rattle.std.specs.FinMap as table
-use Rattle.std.specs.List.{list_all, flat_map, sum_by}
-use Rattle.std.proofs.lemmas.Bool.{false≢true}
-use Rattle.std.proofs.lemmas.List.{length-map}
-use Rattle.std.proofs.lemmas.List.Folds.{flat_map-map}
-use Rattle.std.proofs.lemmas.List.Sums.{sum_by-cons}
-use Rattle.grid_geometry.specs.Position.{Position}
-use Rattle.ring_machine.specs.Ring.{is_ring, segments}
-use Rattle.ring_machine.proofs.First.{In}
-use Rattle.ring_machine.proofs.Members.{contains_in, in_contains}
-use Rattle.ring_machine.proofs.Neighbours.{in-map, in-flat_map, all_in}
-use Rattle.ring_machine.proofs.StaysProper.{ring_long, ring_distinct}
-use Rattle.vertex_index.specs.Placement.{Placement, AreDistinct, place}
-use Rattle.ring_store.specs.Round.{IsRound}
-use Rattle.ring_store.proofs.KeyedLists.{AreRead, keyed_at}
-use Rattle.ring_store.proofs.Places.{keys_distinct}
-use Rattle.map_opening.specs.Keyed.{all_keys, IsKeyed}
-use Rattle.map_opening.specs.Laying.{segments_along}
+use Rattle.grid_geometry.specs.Common.{Position}
+use Rattle.ring_machine.specs.Common.{is_ring, segments}
+use Rattle.ring_machine.proofs.Common.{In, contains_in, in_contains, in-map, in-flat_map, all_in, ring_long}
+use Rattle.ring_machine.proofs.Common.{ring_distinct}
+use Rattle.vertex_index.specs.Common.{Placement, AreDistinct, place}
+use Rattle.ring_store.specs.Common.{IsRound}
+use Rattle.ring_store.proofs.Common.{AreRead, keyed_at, keys_distinct}
+use Rattle.map_opening.specs.Common.{all_keys, IsKeyed, segments_along}
 
 -- ---- keys that were put in an empty table
 

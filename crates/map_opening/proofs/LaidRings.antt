@@ -1,21 +1,15 @@
 -- Rings that are laid: none yet, and one more.
-use Rattle.std.proofs.Common.{◌≡◌, ◌≢◌, ℕ, Bool, true, false, refl, sym, ap, ap₂, ◌∙◌, subst, List, [], ◌∷◌}
-use Rattle.std.proofs.Common.{◌++◌, map, Some, None, is_some, inl, append-nil}
-use Rattle.std.specs.Prelude.{◌==◌, IsTrue}
-use Rattle.std.specs.Ordering.{nat_cmp}
+use Rattle.kit_words.proofs.Common.{◌≡◌, ◌≢◌, ℕ, Bool, true, false, refl, sym, ap, ap₂, ◌∙◌, subst, List, [], ◌∷◌, ◌++◌}
+use Rattle.kit_words.proofs.Common.{map, Some, None, is_some, inl, ◌==◌, IsTrue, nat_cmp, false≢true, Decides-eqb}
+use Rattle.kit_words.proofs.Common.{map-append, flat_map-append}
+use Rattle.std.proofs.Common.{append-nil}
 use Rattle.std.specs.FinMap as table
-use Rattle.std.proofs.lemmas.Bool.{false≢true}
-use Rattle.std.proofs.lemmas.Bool.Decides.{Decides-eqb}
-use Rattle.std.proofs.lemmas.List.{map-append}
-use Rattle.std.proofs.lemmas.List.Concat.{flat_map-append}
-use Rattle.ring_machine.specs.Ring.{segments}
-use Rattle.ring_machine.proofs.First.{In, in_left, in_right}
-use Rattle.ring_machine.proofs.Members.{contains_in, in_contains, in_mapped}
-use Rattle.ring_machine.proofs.Neighbours.{in-map}
-use Rattle.vertex_index.specs.Placement.{Placement, place}
-use Rattle.arc_tables.specs.Rings.{Rings, edges}
-use Rattle.ring_store.proofs.AddedRings.{distinct_more, same_map, ring_here, ring_other}
-use Rattle.map_opening.specs.Laying.{IsLaid, segments_along}
+use Rattle.ring_machine.specs.Common.{segments}
+use Rattle.ring_machine.proofs.Common.{In, in_left, in_right, contains_in, in_contains, in_mapped, in-map}
+use Rattle.vertex_index.specs.Common.{Placement, place}
+use Rattle.arc_tables.specs.Common.{Rings, edges}
+use Rattle.ring_store.proofs.Common.{distinct_more, same_map, ring_here, ring_other}
+use Rattle.map_opening.specs.Common.{IsLaid, segments_along}
 
 -- ---- none yet
 

@@ -1,23 +1,19 @@
 -- The segments of rings that are laid: an index that is filled along their keys holds exactly these.
-use Rattle.std.proofs.Common.{◌≡◌, ℕ, true, sym, ap, ◌∙◌, subst, List, [], ◌∷◌, ◌++◌, map, Some, is_some, inl, inr}
-use Rattle.std.specs.Prelude.{Contains, unwrap_or}
+use Rattle.kit_words.proofs.Common.{◌≡◌, ℕ, true, sym, ap, ◌∙◌, subst, List, [], ◌∷◌, ◌++◌, map, Some, is_some, inl}
+use Rattle.kit_words.proofs.Common.{inr, Contains, unwrap_or}
 use Rattle.std.specs.FinMap as table
 use Rattle.std.specs.FinSet as set
-use Rattle.grid_geometry.specs.Segment.{Segment, segment}
-use Rattle.ring_machine.specs.Ring.{segments}
-use Rattle.ring_machine.proofs.First.{In, in-append}
-use Rattle.ring_machine.proofs.Members.{contains_in, in_contains, in_mapped, in_flat, any_in, in_any}
-use Rattle.ring_machine.proofs.Neighbours.{in-map, in-flat_map}
-use Rattle.vertex_index.specs.Placement.{Placement, place}
-use Rattle.segment_index.specs.Candidates.{SegmentSet, segment_is}
-use Rattle.segment_index.proofs.Singles.{same_segment, is-itself}
-use Rattle.arc_tables.specs.Ways.{Edge}
-use Rattle.arc_tables.specs.Rings.{Rings, edges}
-use Rattle.local_planarity.specs.Edits.{IsHeld}
-use Rattle.ring_store.specs.Round.{IsRound}
-use Rattle.ring_store.specs.Standing.{IsSide}
-use Rattle.ring_store.specs.Steps.{sides}
-use Rattle.map_opening.specs.Laying.{IsLaid, segments_along}
+use Rattle.grid_geometry.specs.Common.{Segment, segment}
+use Rattle.ring_machine.specs.Common.{segments}
+use Rattle.ring_machine.proofs.Common.{In, in-append, contains_in, in_contains, in_mapped, in_flat, any_in, in_any}
+use Rattle.ring_machine.proofs.Common.{in-map, in-flat_map}
+use Rattle.vertex_index.specs.Common.{Placement, place}
+use Rattle.segment_index.specs.Common.{SegmentSet, segment_is}
+use Rattle.segment_index.proofs.Common.{same_segment, is-itself}
+use Rattle.arc_tables.specs.Common.{Edge, Rings, edges}
+use Rattle.local_planarity.specs.Common.{IsHeld}
+use Rattle.ring_store.specs.Common.{IsRound, IsSide, sides}
+use Rattle.map_opening.specs.Common.{IsLaid, segments_along}
 use Rattle.map_opening.proofs.FilledLists.{sides_round}
 
 module _ (places : Placement) (keyed : List (List ℕ)) (m : Rings) (numbers : List ℕ) (l : IsLaid m numbers keyed) where

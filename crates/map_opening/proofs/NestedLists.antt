@@ -1,8 +1,7 @@
 -- Lists of lists of lists, and all that stands in them.
-use Rattle.std.proofs.Common.{◌≡◌, refl, sym, ap, ap₂, ◌∙◌, List, [], ◌∷◌, ◌++◌, map, length}
-use Rattle.std.proofs.Common.{get_or, drop, arith}
-use Rattle.std.proofs.lemmas.List.{length-map, map-append, map-id, length-append}
-use Rattle.map_opening.specs.Flat.{joined, all_rings, shape_of}
+use Rattle.kit_words.proofs.Common.{◌≡◌, refl, sym, ap, ap₂, ◌∙◌, List, [], ◌∷◌, ◌++◌, map, length, get_or, drop, arith}
+use Rattle.kit_words.proofs.Common.{length-map, map-append, map-id, length-append}
+use Rattle.map_opening.specs.Common.{joined, all_rings, shape_of}
 
 parts : {A : Type 0} (xs ys us vs : List A) → length xs ≡ length ys → xs ++ us ≡ ys ++ vs
     → (xs ≡ ys) × (us ≡ vs)

@@ -1,25 +1,17 @@
 -- Rings that are laid along the keys of what was read: their tables stand, and hold what was read.
-use Rattle.std.proofs.Common.{◌≡◌, ℕ, true, sym, ap, ◌∙◌, subst, List, [], map, Some, Option}
-use Rattle.std.specs.Prelude.{Contains, unwrap_or}
+use Rattle.kit_words.proofs.Common.{◌≡◌, ℕ, true, sym, ap, ◌∙◌, subst, List, [], map, Some, Option, Contains, unwrap_or}
+use Rattle.kit_words.proofs.Common.{list_all, map-map}
 use Rattle.std.specs.FinMap as table
-use Rattle.std.specs.List.{list_all}
-use Rattle.std.proofs.lemmas.Simd.{map-map}
-use Rattle.grid_geometry.specs.Position.{Position}
-use Rattle.ring_machine.specs.Ring.{is_ring}
-use Rattle.ring_machine.proofs.First.{In}
-use Rattle.ring_machine.proofs.Members.{contains_in, in_contains, in_flat}
-use Rattle.vertex_index.specs.Placement.{Placement, AreDistinct, place}
-use Rattle.segment_index.specs.Candidates.{SegmentSet}
-use Rattle.arc_tables.specs.Ways.{Edge}
-use Rattle.arc_tables.specs.Rings.{Rings, begins, edges}
-use Rattle.local_planarity.specs.Edits.{IsHeld}
-use Rattle.ring_store.specs.Laid.{ring_at}
-use Rattle.ring_store.specs.Round.{GoesRound, IsRound}
-use Rattle.ring_store.specs.Standing.{Stands}
-use Rattle.ring_store.proofs.AddedRings.{same_map}
-use Rattle.ring_store.proofs.KeyRings.{begins_edges, goes_round}
-use Rattle.map_opening.specs.Keyed.{all_keys, IsKeyed}
-use Rattle.map_opening.specs.Laying.{IsLaid, segments_along}
+use Rattle.grid_geometry.specs.Common.{Position}
+use Rattle.ring_machine.specs.Common.{is_ring}
+use Rattle.ring_machine.proofs.Common.{In, contains_in, in_contains, in_flat}
+use Rattle.vertex_index.specs.Common.{Placement, AreDistinct, place}
+use Rattle.segment_index.specs.Common.{SegmentSet}
+use Rattle.arc_tables.specs.Common.{Edge, Rings, begins, edges}
+use Rattle.local_planarity.specs.Common.{IsHeld}
+use Rattle.ring_store.specs.Common.{ring_at, GoesRound, IsRound, Stands}
+use Rattle.ring_store.proofs.Common.{same_map, begins_edges, goes_round}
+use Rattle.map_opening.specs.Common.{all_keys, IsKeyed, IsLaid, segments_along}
 use Rattle.map_opening.proofs.LaidSides.{along_laid, laid_along, held_side, side_held}
 use Rattle.map_opening.proofs.KeyedRings.{round_keyed}
 

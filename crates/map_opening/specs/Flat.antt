@@ -1,8 +1,8 @@
 -- The rings of features in one list, and the features of such a list again.
 use Rattle.std.specs.Prelude.{ℕ, ◌≡◌, List, map, length, Vec}
 use Rattle.std.specs.List.{flat_map, sum, sum_by}
-use Rattle.grid_geometry.specs.Position.{Position}
-use Rattle.ring_parts.specs.Seen.{polygons_seen}
+use Rattle.grid_geometry.specs.Common.{Position}
+use Rattle.ring_parts.specs.Common.{polygons_seen}
 
 -- all that stands in lists
 abbrev pub joined : {R : Type 0} → List (List R) → List R

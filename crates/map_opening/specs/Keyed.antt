@@ -2,8 +2,8 @@
 use Rattle.std.specs.Prelude.{ℕ, ◌≡◌, List, map, IsTrue, Contains}
 use Rattle.std.specs.FinMap as table
 use Rattle.std.specs.List.{flat_map}
-use Rattle.grid_geometry.specs.Position.{Position}
-use Rattle.vertex_index.specs.Placement.{Placement, place}
+use Rattle.grid_geometry.specs.Common.{Position}
+use Rattle.vertex_index.specs.Common.{Placement, place}
 
 -- all keys of these rings
 abbrev pub all_keys : List (List ℕ) → List ℕ

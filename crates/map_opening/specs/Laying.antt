@@ -3,15 +3,13 @@ use Rattle.std.specs.Prelude.{ℕ, ◌≡◌, List, map, length, Some, IsTrue, C
 use Rattle.std.specs.FinMap as table
 use Rattle.std.specs.FinSet as set
 use Rattle.std.specs.List.{flat_map, sum_by}
-use Rattle.grid_geometry.specs.Segment.{Segment}
-use Rattle.ring_machine.specs.Ring.{segments}
-use Rattle.ring_machine.specs.WellFormed.{are_distinct}
-use Rattle.vertex_index.specs.Placement.{Placement, place}
-use Rattle.arc_tables.specs.Rings.{Rings, edges}
-use Rattle.local_planarity.specs.Edits.{IsFilled}
+use Rattle.grid_geometry.specs.Common.{Segment}
+use Rattle.ring_machine.specs.Common.{segments, are_distinct}
+use Rattle.vertex_index.specs.Common.{Placement, place}
+use Rattle.arc_tables.specs.Common.{Rings, edges}
+use Rattle.local_planarity.specs.Common.{IsFilled}
 use Rattle.ring_store.specs.declared.tables.RingTables.{RingTables}
-use Rattle.ring_store.specs.Round.{IsRound}
-use Rattle.ring_store.specs.Standing.{IsSide}
+use Rattle.ring_store.specs.Common.{IsRound, IsSide}
 use Rattle.map_opening.specs.declared.opened.OpenedRings.{OpenedRings}
 
 -- the segments of the rings along these keys, as often as they stand there

@@ -2,3 +2,4 @@ pub mod Flat
 pub mod Keyed
 pub mod Laying
 pub mod Opened
+pub mod Common

@@ -2,12 +2,9 @@
 use Rattle.std.specs.Prelude.{ℕ, ◌≡◌, List, map, length, Option, IsTrue, Contains}
 use Rattle.std.specs.FinMap as table
 use Rattle.std.specs.List.{flat_map, sum_by}
-use Rattle.grid_geometry.specs.Position.{Position}
-use Rattle.grid_geometry.specs.Segment.{Segment}
-use Rattle.ring_machine.specs.Planar.{least_conflict}
-use Rattle.ring_machine.specs.Ring.{segments}
-use Rattle.ring_machine.specs.WellFormed.{are_distinct}
-use Rattle.ring_store.specs.Tables.{AreStanding, ring_in}
+use Rattle.grid_geometry.specs.Common.{Position, Segment}
+use Rattle.ring_machine.specs.Common.{least_conflict, segments, are_distinct}
+use Rattle.ring_store.specs.Common.{AreStanding, ring_in}
 use Rattle.ring_store.specs.declared.tables.RingTables.{RingTables}
 
 -- these rings stand in the tables under these numbers, in order, and no other ring is there; the

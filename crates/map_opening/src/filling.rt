@@ -1,10 +1,10 @@
 // Segments in an index, each tested against those that are there before it comes.
 ghost use Rattle.std.specs.Prelude.{◌≡◌, List, ◌++◌, map, OnOk};
-ghost use Rattle.grid_geometry.specs.Segment.{Segment};
-ghost use Rattle.ring_machine.specs.Ring.{segments};
-ghost use Rattle.vertex_index.specs.Placement.{place};
-ghost use Rattle.ring_store.specs.Round.{IsRound};
-ghost use Rattle.local_planarity.specs.Edits.{IsFilled};
+ghost use Rattle.grid_geometry.specs.Common.{Segment};
+ghost use Rattle.ring_machine.specs.Common.{segments};
+ghost use Rattle.vertex_index.specs.Common.{place};
+ghost use Rattle.ring_store.specs.Common.{IsRound};
+ghost use Rattle.local_planarity.specs.Common.{IsFilled};
 ghost use Rattle.map_opening.specs.Laying.{HasSides};
 
 use grid_geometry::Seg;

@@ -1,7 +1,7 @@
 // The rings of features in one list, and their numbers in features again.
 ghost use Rattle.std.specs.Prelude.{◌≡◌, ◌≤◌, ◌+◌, ◌++◌, map, length, drop, IfOk, OnOk};
 ghost use Rattle.std.specs.List.{sum};
-ghost use Rattle.ring_parts.specs.Seen.{rings_seen, polygons_seen};
+ghost use Rattle.ring_parts.specs.Common.{rings_seen, polygons_seen};
 ghost use Rattle.map_opening.specs.Flat.{joined, all_rings, ring_count, IsFlat, lists_seen, numbers_seen, features_seen};
 
 use grid_geometry::Pos;

@@ -2,9 +2,9 @@
 ghost use Rattle.std.specs.Prelude.{◌≡◌, IfOk, IsTrue};
 ghost use Rattle.std.specs.FinMap as table;
 ghost use Rattle.std.specs.List.{list_all};
-ghost use Rattle.ring_machine.specs.Ring.{is_ring};
-ghost use Rattle.ring_parts.specs.Seen.{rings_seen};
-ghost use Rattle.vertex_index.specs.Placement.{AreDistinct};
+ghost use Rattle.ring_machine.specs.Common.{is_ring};
+ghost use Rattle.ring_parts.specs.Common.{rings_seen};
+ghost use Rattle.vertex_index.specs.Common.{AreDistinct};
 ghost use Rattle.map_opening.specs.Flat.{lists_seen};
 ghost use Rattle.map_opening.specs.Keyed.{IsKeyed};
 

@@ -1,7 +1,7 @@
 // Rings laid one after the other along their keys.
 ghost use Rattle.std.specs.Prelude.{◌≡◌, ◌≤◌, ◌+◌, ℕ, List, [], ◌∷◌, ◌++◌, length, OnOk, Contains};
 ghost use Rattle.std.specs.List.{sum_by};
-ghost use Rattle.ring_store.specs.Round.{IsRound};
+ghost use Rattle.ring_store.specs.Common.{IsRound};
 ghost use Rattle.map_opening.specs.Flat.{lists_seen};
 ghost use Rattle.map_opening.specs.Laying.{AreLaid};
 

@@ -2,8 +2,8 @@
 ghost use Rattle.std.specs.Prelude.{◌≡◌, ◌≤◌, IfOk, IsTrue, length};
 ghost use Rattle.std.specs.FinSet as set;
 ghost use Rattle.std.specs.List.{list_all, sum_by};
-ghost use Rattle.ring_machine.specs.Ring.{is_ring};
-ghost use Rattle.ring_parts.specs.Seen.{rings_seen};
+ghost use Rattle.ring_machine.specs.Common.{is_ring};
+ghost use Rattle.ring_parts.specs.Common.{rings_seen};
 ghost use Rattle.map_opening.specs.Opened.{AreOpened};
 
 use crate::junctions::mark_junctions;

@@ -1,21 +1,16 @@
 -- A text that was read and built again opens as what was saved.
-use Rattle.std.proofs.Common.{◌≡◌, ℕ, List, [], ◌++◌, sym, ap, ◌∙◌, subst, Some, None}
-use Rattle.std.specs.Io.KnownBytes.{Appends}
-use Rattle.grid_geometry.specs.Segment.{Segment}
-use Rattle.ring_machine.specs.Document.{Document}
-use Rattle.ring_machine.specs.Planar.{first_pair, Proper}
-use Rattle.ring_machine.specs.WellFormed.{Same}
-use Rattle.map_text.specs.Saved.{Saved}
-use Rattle.topo_reader.specs.Reads.{Reads, Fits}
-use Rattle.topo_reader.proofs.OneReading.{one_reading}
-use Rattle.map_text.specs.Text.{text_of}
-use Rattle.arc_store.specs.Faults.{Names}
+use Rattle.kit_words.proofs.Common.{◌≡◌, ℕ, List, [], ◌++◌, sym, ap, ◌∙◌, subst, Some, None, Appends}
+use Rattle.grid_geometry.specs.Common.{Segment}
+use Rattle.ring_machine.specs.Common.{Document, first_pair, Proper, Same}
+use Rattle.map_text.specs.Common.{Saved, text_of}
+use Rattle.topo_reader.specs.Common.{Reads, Fits}
+use Rattle.topo_reader.proofs.Common.{one_reading}
+use Rattle.arc_store.specs.Common.{Names}
 use Rattle.arc_store.specs.declared.fault.BuildFault.{BuildFault}
 use Rattle.arc_store.specs.declared.fault.BuildFault.TheVariants as build
 use Rattle.map_saving.specs.declared.fault.SaveFault.{SaveFault}
 use Rattle.map_saving.specs.declared.fault.SaveFault.TheVariants.{Conflict, Unopened, OutOfMemory}
-use Rattle.map_saving.specs.Faults.{IsUnopened, IsUnsaved, unbuilt}
-use Rattle.map_saving.specs.Opens.{HasOpened, OpensAgain}
+use Rattle.map_saving.specs.Common.{IsUnopened, IsUnsaved, unbuilt, HasOpened, OpensAgain}
 
 -- what is read within the limits and is proper opens
 pub has_opened : (bytes : List ℕ) (d e : Document) → (reading : Reads bytes d) × Fits reading → e ≡ d → Proper e → HasOpened bytes

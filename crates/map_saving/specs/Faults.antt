@@ -1,13 +1,12 @@
 -- Why a map is not saved.
 use Rattle.std.specs.Prelude.{◌≡◌, ℕ, List, Some}
-use Rattle.ring_machine.specs.Document.{Document}
-use Rattle.ring_machine.specs.Planar.{first_pair}
+use Rattle.ring_machine.specs.Common.{Document, first_pair}
 use Rattle.arc_store.specs.declared.fault.BuildFault.{BuildFault}
 use Rattle.arc_store.specs.declared.fault.BuildFault.TheVariants as build
 use Rattle.map_saving.specs.declared.fault.SaveFault.{SaveFault}
 use Rattle.map_saving.specs.declared.fault.SaveFault.TheVariants.{Conflict, Unopened, OutOfMemory}
 use Rattle.map_saving.specs.Opens.{HasOpened}
-use Rattle.map_text.specs.Text.{text_of}
+use Rattle.map_text.specs.Common.{text_of}
 
 -- the text does not open
 abbrev pub IsUnopened : List ℕ → SaveFault → Type 0

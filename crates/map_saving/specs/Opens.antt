@@ -1,9 +1,7 @@
 -- Texts that open.
 use Rattle.std.specs.Prelude.{ℕ, List}
-use Rattle.ring_machine.specs.Document.{Document}
-use Rattle.ring_machine.specs.Planar.{Proper}
-use Rattle.ring_machine.specs.WellFormed.{Same}
-use Rattle.topo_reader.specs.Reads.{Reads, Fits}
+use Rattle.ring_machine.specs.Common.{Document, Proper, Same}
+use Rattle.topo_reader.specs.Common.{Reads, Fits}
 
 -- the bytes mean this document, within the limits, and no two of its segments conflict
 pub record OpensTo (bytes : List ℕ) (d : Document) : Type 0 where

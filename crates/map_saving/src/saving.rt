@@ -1,10 +1,8 @@
 // From a map of rings to its text.
 ghost use Rattle.std.specs.Prelude.{◌≡◌, IfOk, IfErr, OnOk};
-ghost use Rattle.map_text.specs.Saved.{Saved};
-ghost use Rattle.map_text.specs.Text.{text_of};
-ghost use Rattle.ring_machine.specs.Planar.{Proper};
-ghost use Rattle.topo_reader.specs.Document.{document_of, IsOfRings};
-ghost use Rattle.topo_reader.specs.DocumentView.{view_raw};
+ghost use Rattle.map_text.specs.Common.{Saved, text_of};
+ghost use Rattle.ring_machine.specs.Common.{Proper};
+ghost use Rattle.topo_reader.specs.Common.{document_of, IsOfRings, view_raw};
 ghost use Rattle.map_saving.specs.Faults.{IsUnsaved, IsUnopened, unbuilt};
 ghost use Rattle.map_saving.specs.Opens.{OpensAgain, HasOpened};
 

@@ -1,22 +1,11 @@
 -- What stands round a position in the rings: where no junction is, every ring goes on alike.
-use Rattle.std.proofs.Common.{◌≡◌, ◌≤◌, Bool, true, false, refl, sym, ap, ap₂, ◌∙◌, subst, cond}
-use Rattle.std.proofs.Common.{List, [], ◌∷◌, ◌++◌, inl, inr, arith, length, append_assoc, pos}
-use Rattle.std.specs.Prelude.{not}
-use Rattle.std.specs.Ordering.{is_gt}
-use Rattle.std.specs.List.{list_all}
-use Rattle.std.proofs.lemmas.List.{length-append}
-use Rattle.grid_geometry.specs.Position.{Position, position, position_eq, position_cmp}
-use Rattle.grid_geometry.specs.Segment.{Segment, segment_eq}
-use Rattle.ring_machine.specs.Ring.{segment_of}
-use Rattle.ring_machine.specs.Document.{Document}
-use Rattle.ring_machine.specs.Parts.{rings}
-use Rattle.ring_machine.specs.Vertices.{around, all_equal, is_junction}
-use Rattle.ring_machine.proofs.Order.{and_both, position_eq-refl}
-use Rattle.ring_machine.proofs.Removal.{position_eq-sym}
-use Rattle.ring_machine.proofs.RingSegments.{segment_eq-true}
-use Rattle.ring_machine.proofs.First.{In}
-use Rattle.ring_machine.proofs.Spots.{Rotated, rotated-trans, spot_of, with_last}
-use Rattle.ring_machine.proofs.Neighbours.{place_around}
+use Rattle.kit_words.proofs.Common.{◌≡◌, ◌≤◌, Bool, true, false, refl, sym, ap, ap₂, ◌∙◌, subst, cond, List, [], ◌∷◌}
+use Rattle.kit_words.proofs.Common.{◌++◌, inl, inr, arith, length, append_assoc, pos, not, is_gt, list_all}
+use Rattle.kit_words.proofs.Common.{length-append}
+use Rattle.grid_geometry.specs.Common.{Position, position, position_eq, position_cmp, Segment, segment_eq}
+use Rattle.ring_machine.specs.Common.{segment_of, Document, rings, around, all_equal, is_junction}
+use Rattle.ring_machine.proofs.Common.{and_both, position_eq-refl, position_eq-sym, segment_eq-true, In, Rotated}
+use Rattle.ring_machine.proofs.Common.{rotated-trans, spot_of, with_last, place_around}
 use Rattle.map_text.proofs.Cuts.{AllTriples}
 use Rattle.map_text.proofs.Lists.{in_split}
 

@@ -1,28 +1,13 @@
 -- The arcs of a document: each of its segments stands in exactly one and there once.
-use Rattle.std.proofs.Common.{◌≡◌, ℕ, ◌≤◌, ◌+◌, Bool, true, false, refl, sym, ap, ap₂, ◌∙◌, subst, cond}
-use Rattle.std.proofs.Common.{List, [], ◌∷◌, ◌++◌, ◌||◌, arith, map}
-use Rattle.std.specs.List.{flat_map, AllByRecursion, list_any, count_by}
-use Rattle.std.proofs.lemmas.Bool.{false≢true}
-use Rattle.std.proofs.lemmas.List.{append-nil}
-use Rattle.std.proofs.lemmas.List.Concat.{flat_map-append}
-use Rattle.std.proofs.lemmas.List.Sums.{sum_by-cons, sum_by-append}
-use Rattle.grid_geometry.specs.Position.{Position}
-use Rattle.grid_geometry.specs.Segment.{Segment, segment_eq}
-use Rattle.grid_geometry.specs.Ring.{Edge, links, edges}
-use Rattle.ring_machine.specs.Ring.{segment_of, is_ring}
-use Rattle.ring_machine.specs.Document.{Document}
-use Rattle.ring_machine.specs.Parts.{rings, all_segments, is_segment}
-use Rattle.ring_machine.specs.Vertices.{around, is_junction}
-use Rattle.ring_machine.specs.Arcs.{arc_segments}
-use Rattle.ring_machine.proofs.Edges.{edges_to, edges_is, edges_to-append}
-use Rattle.ring_machine.proofs.Removal.{none_parts}
-use Rattle.ring_machine.proofs.Arcs.{is_of}
-use Rattle.ring_machine.proofs.StaysRing.{AtMostOne}
-use Rattle.ring_machine.proofs.RingSegments.{ring_once, segment_eq-sym}
-use Rattle.ring_machine.proofs.First.{In}
-use Rattle.ring_machine.proofs.Once.{times, one, times-append}
-use Rattle.ring_machine.proofs.Pieces.{IsPiece}
-use Rattle.map_text.specs.Arcs.{begun, cut_round, pieces, arcs_of}
+use Rattle.kit_words.proofs.Common.{◌≡◌, ℕ, ◌≤◌, ◌+◌, Bool, true, false, refl, sym, ap, ap₂, ◌∙◌, subst, cond, List, []}
+use Rattle.kit_words.proofs.Common.{◌∷◌, ◌++◌, ◌||◌, arith, map, flat_map, AllByRecursion, list_any, count_by}
+use Rattle.kit_words.proofs.Common.{false≢true, append-nil, flat_map-append, sum_by-cons, sum_by-append}
+use Rattle.grid_geometry.specs.Common.{Position, Segment, segment_eq, Edge, links, edges}
+use Rattle.ring_machine.specs.Common.{segment_of, is_ring, Document, rings, all_segments, is_segment, around}
+use Rattle.ring_machine.specs.Common.{is_junction, arc_segments}
+use Rattle.ring_machine.proofs.Common.{edges_to, edges_is, edges_to-append, none_parts, is_of, AtMostOne, ring_once}
+use Rattle.ring_machine.proofs.Common.{segment_eq-sym, In, times, one, times-append, IsPiece}
+use Rattle.map_text.specs.Common.{begun, cut_round, pieces, arcs_of}
 use Rattle.map_text.proofs.Lists.{each-flat_map}
 use Rattle.map_text.proofs.Cuts.{cut_links}
 use Rattle.map_text.proofs.OnceEach.{Simple, Arcs, with_pieces-arcs, with_pieces-times}

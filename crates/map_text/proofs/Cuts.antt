@@ -1,12 +1,9 @@
 -- A way that is cut at junctions: its edges stay, and what it is cut into are pieces.
-use Rattle.std.proofs.Common.{◌≡◌, Bool, true, false, refl, sym, ap, ◌∙◌, subst, cond, List, []}
-use Rattle.std.proofs.Common.{◌∷◌, ◌++◌, reverse}
-use Rattle.std.specs.List.{flat_map, AllByRecursion}
-use Rattle.std.proofs.lemmas.List.{reverse-append}
-use Rattle.grid_geometry.specs.Position.{Position}
-use Rattle.grid_geometry.specs.Ring.{links}
-use Rattle.ring_machine.proofs.Pieces.{Passes, IsTrail, EndsAtJunction, IsPiece}
-use Rattle.map_text.specs.Arcs.{led_from, cut_way}
+use Rattle.kit_words.proofs.Common.{◌≡◌, Bool, true, false, refl, sym, ap, ◌∙◌, subst, cond, List, [], ◌∷◌, ◌++◌}
+use Rattle.kit_words.proofs.Common.{reverse, flat_map, AllByRecursion, reverse-append}
+use Rattle.grid_geometry.specs.Common.{Position, links}
+use Rattle.ring_machine.proofs.Common.{Passes, IsTrail, EndsAtJunction, IsPiece}
+use Rattle.map_text.specs.Common.{led_from, cut_way}
 
 -- the first part begins as the way does
 pub record Begins (p q : Position) (pss : List (List Position)) : Type 0 where

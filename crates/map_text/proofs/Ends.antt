@@ -1,18 +1,11 @@
 -- The arcs of a document are cut at its junctions and nowhere else.
-use Rattle.std.proofs.Common.{◌≡◌, Bool, true, false, refl, sym, ap, ap₂, ◌∙◌, subst, cond, List, []}
-use Rattle.std.proofs.Common.{◌∷◌, ◌++◌, ◌||◌, ◌≤◌, length, arith}
-use Rattle.std.specs.List.{flat_map, AllByRecursion, list_any}
-use Rattle.std.proofs.lemmas.List.{length-append}
-use Rattle.grid_geometry.specs.Position.{Position}
-use Rattle.ring_machine.specs.Document.{Document}
-use Rattle.ring_machine.specs.Parts.{rings}
-use Rattle.ring_machine.specs.Vertices.{is_junction}
-use Rattle.ring_machine.proofs.Removal.{none_parts}
-use Rattle.ring_machine.proofs.First.{In}
-use Rattle.ring_machine.proofs.Neighbours.{all_of}
-use Rattle.map_text.specs.Arcs.{begun, led_from, cut_way, cut_round, pieces, is_arc}
-use Rattle.map_text.specs.Arcs.{with_piece, with_pieces, arcs_of}
-use Rattle.map_text.specs.Saved.{IsCut, between, closed}
+use Rattle.kit_words.proofs.Common.{◌≡◌, Bool, true, false, refl, sym, ap, ap₂, ◌∙◌, subst, cond, List, [], ◌∷◌, ◌++◌}
+use Rattle.kit_words.proofs.Common.{◌||◌, ◌≤◌, length, arith, flat_map, AllByRecursion, list_any, length-append}
+use Rattle.grid_geometry.specs.Common.{Position}
+use Rattle.ring_machine.specs.Common.{Document, rings, is_junction}
+use Rattle.ring_machine.proofs.Common.{none_parts, In, all_of}
+use Rattle.map_text.specs.Common.{begun, led_from, cut_way, cut_round, pieces, is_arc, with_piece, with_pieces, arcs_of}
+use Rattle.map_text.specs.Common.{IsCut, between, closed}
 use Rattle.map_text.proofs.Lists.{each_in, each-append, each-flat_map, in_rotated}
 use Rattle.map_text.proofs.Junctions.{begun_rotated, begun_found, begun_none}
 

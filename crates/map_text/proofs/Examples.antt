@@ -1,15 +1,11 @@
 -- The texts of documents, worked out.
-use Rattle.std.proofs.Common.{refl}
-use Rattle.std.specs.Prelude.{◌≡◌, ℕ, List, pos, negsuc, true, false, [], ◌∷◌, None, Some, codes, map}
-use Rattle.std.specs.Fmt.{digits}
-use Rattle.ring_machine.specs.Document.{Document, Layer, Open, Close, Leaf, Kept}
-use Rattle.ring_machine.specs.Document.{MultiPolygon}
-use Rattle.ring_machine.specs.Vertices.{ins, is_junction}
-use Rattle.ring_machine.specs.Join.{take_out}
-use Rattle.ring_machine.proofs.Worked.{at, under, polygon, null, bare, collection, single}
-use Rattle.ring_machine.proofs.Worked.{document, square_a, square_b, both_squares, triangle, E}
-use Rattle.map_text.specs.Arcs.{pieces, arcs_of, indexes}
-use Rattle.map_text.specs.Text.{arc_text, text_of}
+use Rattle.kit_words.proofs.Common.{refl, ◌≡◌, ℕ, List, pos, negsuc, true, false, [], ◌∷◌, None, Some, codes, map}
+use Rattle.kit_words.proofs.Common.{digits}
+use Rattle.ring_machine.specs.Common.{Document, Layer, Open, Close, Leaf, Kept, MultiPolygon, ins, is_junction}
+use Rattle.ring_machine.specs.Common.{take_out}
+use Rattle.ring_machine.proofs.Common.{at, under, polygon, null, bare, collection, single, document, square_a, square_b}
+use Rattle.ring_machine.proofs.Common.{both_squares, triangle, E}
+use Rattle.map_text.specs.Common.{pieces, arcs_of, indexes, arc_text, text_of}
 
 -- ---- the maps, with the names of their files
 

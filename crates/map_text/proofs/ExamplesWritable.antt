@@ -1,20 +1,16 @@
 -- A document that is writable, worked out.
-use Rattle.std.proofs.Common.{◌≢◌, ℕ, ◌≤◌, List, [], ◌∷◌, refl, subst, arith, codes, bytes_eq}
-use Rattle.std.specs.List.{IsDistinct, AllPairs}
-use Rattle.std.proofs.lemmas.Slice.Eq.{bytes_eq-Decides}
-use Rattle.std.proofs.lemmas.Map.Made.{AllPairs-from_IsDistinct}
+use Rattle.kit_words.proofs.Common.{◌≢◌, ℕ, ◌≤◌, List, [], ◌∷◌, refl, subst, arith, codes, IsDistinct, AllPairs}
+use Rattle.kit_words.proofs.Common.{bytes_eq-Decides, AllPairs-from_IsDistinct}
+use Rattle.std.proofs.Common.{bytes_eq}
 use Rattle.serde_json.proofs.OnLiterals.{serde_json_on_literals}
-use Rattle.grid_geometry.specs.Position.{InRange}
-use Rattle.ring_machine.specs.Document.{Document}
-use Rattle.ring_machine.specs.WellFormed.{Same}
-use Rattle.ring_machine.proofs.Worked.{at}
-use Rattle.json_spans.specs.Grammar.{text, quote, ascii}
+use Rattle.grid_geometry.specs.Common.{InRange}
+use Rattle.ring_machine.specs.Common.{Document, Same}
+use Rattle.ring_machine.proofs.Common.{at}
+use Rattle.json_spans.specs.Common.{text, quote, ascii}
 use Rattle.topo_outline.specs.declared.members.Owner.{Owner}
-use Rattle.topo_outline.specs.Kept.{IsJson, IsName, AreKeptMembers}
-use Rattle.topo_reader.specs.Reads.{Reads}
-use Rattle.map_text.specs.Text.{text_of}
-use Rattle.map_text.specs.Saved.{Saved}
-use Rattle.map_text.specs.Writable.{IsWritable}
+use Rattle.topo_outline.specs.Common.{IsJson, IsName, AreKeptMembers}
+use Rattle.topo_reader.specs.Common.{Reads}
+use Rattle.map_text.specs.Common.{text_of, Saved, IsWritable}
 use Rattle.map_text.proofs.Examples.{M, squares_text, two_squares}
 use Rattle.map_text.proofs.MembersKnown.{plain_name}
 use Rattle.map_text.proofs.ReadingBack.{text_saves}

@@ -1,9 +1,9 @@
 -- A value stays one where more lists and objects may stand one in another.
-use Rattle.std.proofs.Common.{ℕ, zero, suc, ◌+◌, ◌≤◌, List, [], ◌∷◌, arith}
-use Rattle.std.specs.List.{AllByRecursion}
-use Rattle.json_spans.specs.Grammar.{Value, null, yes, no, number, text, list, object, Items, no_item, some_items, SomeItems, item, MoreItems, list_end, next_item, Members, no_member, some_members, SomeMembers, name, Named, member, MoreMembers, object_end, next_member}
-use Rattle.json_spans.specs.Inside.{IsValue}
-use Rattle.topo_outline.specs.Kept.{IsJson}
+use Rattle.kit_words.proofs.Common.{ℕ, zero, suc, ◌+◌, ◌≤◌, List, [], ◌∷◌, arith, AllByRecursion}
+use Rattle.json_spans.specs.Common.{Value, null, yes, no, number, text, list, object, Items, no_item, some_items}
+use Rattle.json_spans.specs.Common.{SomeItems, item, MoreItems, list_end, next_item, Members, no_member, some_members}
+use Rattle.json_spans.specs.Common.{SomeMembers, name, Named, member, MoreMembers, object_end, next_member, IsValue}
+use Rattle.topo_outline.specs.Common.{IsJson}
 
 mutual
   value_deeper : {n : ℕ} {xs r : List ℕ} (m : ℕ) → n ≤ m → Value n xs r → Value m xs r

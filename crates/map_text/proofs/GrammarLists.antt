@@ -1,15 +1,13 @@
 -- The list of values, as the writer writes it, is a value, and these are its items.
-use Rattle.std.proofs.Common.{◌≡◌, ℕ, suc, ◌+◌, List, [], ◌∷◌, ◌++◌, length, map, refl, sym, ap, subst, append_assoc}
-use Rattle.std.specs.List.{AllByRecursion}
-use Rattle.std.proofs.lemmas.List.{append-nil}
-use Rattle.ring_machine.specs.Document.{Text}
-use Rattle.json_spans.specs.Grammar.{no_space, Value, list, no_item, some_items, item, MoreItems, list_end, next_item}
-use Rattle.json_spans.specs.Nodes.{Node}
-use Rattle.json_spans.specs.Inside.{IsValue, Padded, padded, Parted, last_part, next_part, Bracketed, no_part, parts, IsListOf}
-use Rattle.json_spans.proofs.Framing.{value_framed}
-use Rattle.json_spans.proofs.Padding.{stands}
-use Rattle.topo_outline.specs.Kept.{IsJson}
-use Rattle.map_text.specs.Text.{further, list_text}
+use Rattle.kit_words.proofs.Common.{◌≡◌, ℕ, suc, ◌+◌, List, [], ◌∷◌, ◌++◌, length, map, refl, sym, ap, subst}
+use Rattle.kit_words.proofs.Common.{append_assoc, AllByRecursion, append-nil}
+use Rattle.ring_machine.specs.Common.{Text}
+use Rattle.json_spans.specs.Common.{no_space, Value, list, no_item, some_items, item, MoreItems, list_end, next_item}
+use Rattle.json_spans.specs.Common.{Node, IsValue, Padded, padded, Parted, last_part, next_part, Bracketed, no_part}
+use Rattle.json_spans.specs.Common.{parts, IsListOf}
+use Rattle.json_spans.proofs.Common.{value_framed, stands}
+use Rattle.topo_outline.specs.Common.{IsJson}
+use Rattle.map_text.specs.Common.{further, list_text}
 use Rattle.map_text.proofs.GrammarDeeper.{all_at_once}
 
 abbrev pub bytes_of : Node → List ℕ

@@ -1,14 +1,12 @@
 -- A written whole number is a JSON number, and is read as it was.
-use Rattle.std.proofs.Common.{◌≡◌, ℕ, zero, suc, ◌+◌, ◌-◌, ◌*◌, ◌<◌, ◌≤◌, ◌/◌, ◌%◌, ◌^◌, true, refl, subst, List, [], ◌∷◌, ◌++◌, arith, ℤ, pos, negsuc}
-use Rattle.std.specs.Prelude.{unsigned_abs}
-use Rattle.std.specs.Fmt.{decimal, signed_decimal}
-use Rattle.std.proofs.lemmas.Fmt.{decimal_by_steps}
-use Rattle.std.proofs.lemmas.Bool.Decides.{nat_tests}
-use Rattle.std.proofs.lemmas.List.{append-nil}
-use Rattle.json_spans.specs.Bytes.{is_digit, is_nonzero}
-use Rattle.json_spans.specs.Grammar.{Digits, no_digit, digit, SomeDigits, digits, no_exponent, no_fraction, Unsigned, zero_first, digit_first, minus, plain_number, number}
+use Rattle.kit_words.proofs.Common.{◌≡◌, ℕ, zero, suc, ◌+◌, ◌-◌, ◌*◌, ◌<◌, ◌≤◌, ◌/◌, ◌%◌, ◌^◌, true, refl, subst, List}
+use Rattle.kit_words.proofs.Common.{[], ◌∷◌, ◌++◌, arith, ℤ, pos, negsuc, unsigned_abs, signed_decimal}
+use Rattle.kit_words.proofs.Common.{decimal_by_steps, nat_tests, append-nil}
+use Rattle.std.specs.Fmt.{decimal}
+use Rattle.json_spans.specs.Common.{is_digit, is_nonzero, Digits, no_digit, digit, SomeDigits, digits, no_exponent}
+use Rattle.json_spans.specs.Common.{no_fraction, Unsigned, zero_first, digit_first, minus, plain_number, number}
 use Rattle.json_spans.specs.Whole.{value_from, no_point, IsWhole, plain, negative, minus as minus_of}
-use Rattle.topo_outline.specs.Kept.{IsJson}
+use Rattle.topo_outline.specs.Common.{IsJson}
 
 -- ---- digits
 

@@ -1,15 +1,13 @@
 -- The object with these members, as the writer writes it, is a value, and these are its members.
-use Rattle.std.proofs.Common.{◌≡◌, ℕ, suc, ◌+◌, List, [], ◌∷◌, ◌++◌, length, map, refl, sym, ap, subst, append_assoc}
-use Rattle.std.specs.List.{AllByRecursion}
-use Rattle.std.proofs.lemmas.List.{append-nil}
-use Rattle.ring_machine.specs.Document.{Member}
+use Rattle.kit_words.proofs.Common.{◌≡◌, ℕ, suc, ◌+◌, List, [], ◌∷◌, ◌++◌, length, map, refl, sym, ap, subst}
+use Rattle.kit_words.proofs.Common.{append_assoc, AllByRecursion, append-nil}
+use Rattle.ring_machine.specs.Common.{Member}
 use Rattle.json_spans.specs.Grammar.{no_space, Value, object, no_member, some_members, SomeMembers, name, member as behind_name, MoreMembers, object_end, next_member}
-use Rattle.json_spans.specs.Nodes.{Node}
-use Rattle.json_spans.specs.Inside.{IsValue, IsText, quoted, Pair, pair, Parted, last_part, next_part, Bracketed, no_part, parts, IsObjectOf}
-use Rattle.json_spans.proofs.Framing.{chars_framed, value_framed}
-use Rattle.json_spans.proofs.Padding.{stands}
-use Rattle.topo_outline.specs.Kept.{IsJson}
-use Rattle.map_text.specs.Text.{further, member_text, object_text}
+use Rattle.json_spans.specs.Common.{Node, IsValue, IsText, quoted, Pair, pair, Parted, last_part, next_part, Bracketed}
+use Rattle.json_spans.specs.Common.{no_part, parts, IsObjectOf}
+use Rattle.json_spans.proofs.Common.{chars_framed, value_framed, stands}
+use Rattle.topo_outline.specs.Common.{IsJson}
+use Rattle.map_text.specs.Common.{further, member_text, object_text}
 use Rattle.map_text.proofs.GrammarDeeper.{all_at_once}
 use Rattle.map_text.proofs.GrammarLists.{bare}
 

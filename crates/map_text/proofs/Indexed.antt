@@ -1,26 +1,15 @@
 -- The indexes of a ring name its pieces among the arcs.
-use Rattle.std.proofs.Common.{◌≡◌, ◌+◌, Bool, true, false, refl, sym, ap, ap₂, ◌∙◌, cond, List, []}
-use Rattle.std.proofs.Common.{◌∷◌, ◌++◌, ◌||◌, length, map, append_assoc, reverse, ℤ, pos, negsuc}
-use Rattle.std.proofs.Common.{subst, Option, Some, None}
-use Rattle.std.specs.Prelude.{slice_get, option_map, unwrap_or}
-use Rattle.std.specs.List.{flat_map, AllByRecursion, AllZip}
-use Rattle.std.proofs.lemmas.Bool.{false≢true, or_left}
-use Rattle.std.proofs.lemmas.List.{length-append}
-use Rattle.std.proofs.lemmas.List.Folds.{list_any-append}
-use Rattle.json_spans.specs.Nodes.{Node}
-use Rattle.json_spans.specs.Whole.{IsWhole}
-use Rattle.grid_geometry.specs.Position.{Position}
-use Rattle.ring_machine.specs.Document.{Document}
-use Rattle.ring_machine.specs.Parts.{rings}
-use Rattle.ring_machine.specs.Vertices.{is_junction}
-use Rattle.ring_machine.proofs.Order.{or_right}
-use Rattle.ring_machine.proofs.First.{In}
-use Rattle.ring_machine.proofs.Neighbours.{all_of, in-flat_map}
-use Rattle.topo_reader.specs.Arcs.{Arc}
-use Rattle.topo_reader.specs.Indexes.{arc_named}
-use Rattle.topo_reader.specs.Reads.{IsUse, forward, backward}
-use Rattle.map_text.specs.Arcs.{pieces, are_equal, index_from, index_of, indexes, is_arc, with_piece}
-use Rattle.map_text.specs.Arcs.{with_pieces, arcs_of}
+use Rattle.kit_words.proofs.Common.{◌≡◌, ◌+◌, Bool, true, false, refl, sym, ap, ap₂, ◌∙◌, cond, List, [], ◌∷◌, ◌++◌}
+use Rattle.kit_words.proofs.Common.{◌||◌, length, map, append_assoc, reverse, ℤ, pos, negsuc, subst, Option, Some, None}
+use Rattle.kit_words.proofs.Common.{slice_get, option_map, unwrap_or, flat_map, AllByRecursion, AllZip, false≢true}
+use Rattle.kit_words.proofs.Common.{or_left, length-append, list_any-append}
+use Rattle.json_spans.specs.Common.{Node, IsWhole}
+use Rattle.grid_geometry.specs.Common.{Position}
+use Rattle.ring_machine.specs.Common.{Document, rings, is_junction}
+use Rattle.ring_machine.proofs.Common.{or_right, In, all_of, in-flat_map}
+use Rattle.topo_reader.specs.Common.{Arc, arc_named, IsUse, forward, backward}
+use Rattle.map_text.specs.Common.{pieces, are_equal, index_from, index_of, indexes, is_arc, with_piece, with_pieces}
+use Rattle.map_text.specs.Common.{arcs_of}
 use Rattle.map_text.proofs.Lists.{each_in}
 use Rattle.map_text.proofs.OnceEach.{are_equal-true, are_equal-refl, is_same}
 

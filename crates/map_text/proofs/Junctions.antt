@@ -1,22 +1,14 @@
 -- Rings that are cut at junctions: what they are cut into are pieces, where a ring without junction
 -- counts as cut at its first position.
-use Rattle.std.proofs.Common.{◌≡◌, ℕ, ◌≤◌, Bool, true, false, refl, sym, ap, ap₂, ◌∙◌, subst, cond}
-use Rattle.std.proofs.Common.{List, [], ◌∷◌, ◌++◌, ◌||◌, inl, inr, arith, length}
-use Rattle.std.specs.Prelude.{not, nat_le}
-use Rattle.std.specs.List.{AllByRecursion, list_any}
-use Rattle.std.proofs.lemmas.Bool.{false≢true}
-use Rattle.std.proofs.lemmas.List.{length-append}
-use Rattle.grid_geometry.specs.Position.{Position, position_eq, position_lt}
-use Rattle.grid_geometry.specs.Segment.{Segment}
-use Rattle.ring_machine.specs.Ring.{segment_of, has, is_distinct, is_ring, begins_least}
-use Rattle.ring_machine.proofs.Order.{and_both, or_right, position_lt-asym, position_lt-irrefl}
-use Rattle.ring_machine.proofs.Removal.{none_parts, not_true}
-use Rattle.ring_machine.proofs.RingSegments.{same_ends}
-use Rattle.ring_machine.proofs.First.{In, in_left, in_right}
-use Rattle.ring_machine.proofs.Spots.{Rotated, rotated-trans, rotated_distinct}
-use Rattle.ring_machine.proofs.Neighbours.{none_in, all_in, has-in, in-has}
-use Rattle.ring_machine.proofs.Pieces.{IsPiece}
-use Rattle.map_text.specs.Arcs.{before_first, from_first, begun, cut_round, pieces}
+use Rattle.kit_words.proofs.Common.{◌≡◌, ℕ, ◌≤◌, Bool, true, false, refl, sym, ap, ap₂, ◌∙◌, subst, cond, List, [], ◌∷◌}
+use Rattle.kit_words.proofs.Common.{◌++◌, ◌||◌, inl, inr, arith, length, not, nat_le, AllByRecursion, list_any}
+use Rattle.kit_words.proofs.Common.{false≢true, length-append}
+use Rattle.grid_geometry.specs.Common.{Position, position_eq, position_lt, Segment}
+use Rattle.ring_machine.specs.Common.{segment_of, has, is_distinct, is_ring, begins_least}
+use Rattle.ring_machine.proofs.Common.{and_both, or_right, position_lt-asym, position_lt-irrefl, none_parts, not_true}
+use Rattle.ring_machine.proofs.Common.{same_ends, In, in_left, in_right, Rotated, rotated-trans, rotated_distinct}
+use Rattle.ring_machine.proofs.Common.{none_in, all_in, has-in, in-has, IsPiece}
+use Rattle.map_text.specs.Common.{before_first, from_first, begun, cut_round, pieces}
 use Rattle.map_text.proofs.Lists.{each_in, rotated-sym, in_rotated}
 use Rattle.map_text.proofs.Cuts.{AllTriples, GoesOn, Marked, cut_pieces}
 use Rattle.map_text.proofs.Around.{placed, all_triples, other_end, ends_other}

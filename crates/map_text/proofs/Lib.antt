@@ -28,3 +28,4 @@ pub mod ReadingRings
 pub mod ReadingLayers
 pub mod ReadingBack
 pub mod ExamplesWritable
+pub mod Common

@@ -1,8 +1,6 @@
 -- What holds of each element of a list, and where an element stands.
-use Rattle.std.proofs.Common.{◌≡◌, refl, sym, ap, subst, List, [], ◌∷◌, ◌++◌, inl, inr}
-use Rattle.std.specs.List.{flat_map, AllByRecursion}
-use Rattle.ring_machine.proofs.First.{In, in-append, in_left, in_right}
-use Rattle.ring_machine.proofs.Spots.{Rotated}
+use Rattle.kit_words.proofs.Common.{◌≡◌, refl, sym, ap, subst, List, [], ◌∷◌, ◌++◌, inl, inr, flat_map, AllByRecursion}
+use Rattle.ring_machine.proofs.Common.{In, in-append, in_left, in_right, Rotated}
 
 -- ---- each element
 

@@ -1,22 +1,19 @@
 -- A written object has the members that the writer knows, by their words, and keeps the others.
-use Rattle.std.proofs.Common.{◌≡◌, not, ◌&&◌, ℕ, List, [], ◌∷◌, ◌++◌, map, Bool, true, false, refl, sym, ap, ap₂, ◌∙◌, subst, cond, true≢false, bytes_eq}
-use Rattle.std.specs.Prelude.{Option, Some, None, option_map, ◌==◌, if◌then◌else◌}
-use Rattle.std.specs.List.{AllByRecursion, AllZip, IsDistinct}
-use Rattle.std.proofs.lemmas.Bool.{eqb-true, eq-eqb, false_from_ne_true}
-use Rattle.std.proofs.lemmas.Slice.Eq.{bytes_eq-Decides}
-use Rattle.std.proofs.lemmas.Map.Made.{AllPairs-from_IsDistinct, IsDistinct-from_AllPairs}
-use Rattle.ring_machine.specs.Document.{Text, Member}
-use Rattle.json_spans.specs.Nodes.{Node}
+use Rattle.kit_words.proofs.Common.{◌≡◌, not, ◌&&◌, ℕ, List, [], ◌∷◌, ◌++◌, map, Bool, true, false, refl, sym, ap, ap₂}
+use Rattle.kit_words.proofs.Common.{◌∙◌, subst, cond, true≢false, Option, Some, None, option_map, ◌==◌, if◌then◌else◌}
+use Rattle.kit_words.proofs.Common.{AllByRecursion, AllZip, IsDistinct, false_from_ne_true, bytes_eq-Decides}
+use Rattle.kit_words.proofs.Common.{AllPairs-from_IsDistinct, IsDistinct-from_AllPairs}
+use Rattle.std.proofs.Common.{bytes_eq}
+use Rattle.std.proofs.lemmas.Bool.{eqb-true, eq-eqb}
+use Rattle.ring_machine.specs.Common.{Text, Member}
+use Rattle.json_spans.specs.Common.{Node}
 use Rattle.topo_outline.specs.declared.words.Word.{Word}
 use Rattle.topo_outline.specs.declared.words.Word.TheVariants as word
 use Rattle.topo_outline.specs.declared.members.Owner.{Owner}
-use Rattle.topo_outline.specs.Words.{word_of}
-use Rattle.topo_outline.specs.Members.{EntryNode, code, kept, text_of, is_known}
-use Rattle.topo_outline.specs.IsOutline.{HasEntries, value_at}
-use Rattle.ring_machine.proofs.Order.{and_both}
-use Rattle.ring_machine.proofs.Removal.{not_true}
-use Rattle.topo_outline.specs.Kept.{IsJson, IsName, IfThere, IsKeptMember, AreKeptMembers}
-use Rattle.map_text.specs.Text.{member_if, object_text}
+use Rattle.topo_outline.specs.Common.{word_of, EntryNode, code, kept, text_of, is_known, HasEntries, value_at, IsJson}
+use Rattle.topo_outline.specs.Common.{IsName, IfThere, IsKeptMember, AreKeptMembers}
+use Rattle.ring_machine.proofs.Common.{and_both, not_true}
+use Rattle.map_text.specs.Common.{member_if, object_text}
 use Rattle.map_text.proofs.GrammarLists.{bytes_of}
 use Rattle.map_text.proofs.GrammarObjects.{IsMember, object_is_json}
 use Rattle.map_text.proofs.MembersSeen.{Seen, seen, all_seen, Says, object_seen, seen_value, value_seen, text_seen, seen_kept, kept_seen}

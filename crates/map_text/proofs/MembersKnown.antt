@@ -1,16 +1,12 @@
 -- The names and the types that the writer makes are JSON strings, and decode to themselves.
-use Rattle.std.proofs.Common.{◌≡◌, ℕ, true, List, [], ◌∷◌, ◌++◌, refl, codes}
-use Rattle.std.specs.Prelude.{Some, IsUtf8}
-use Rattle.std.specs.List.{list_all}
+use Rattle.kit_words.proofs.Common.{◌≡◌, ℕ, true, List, [], ◌∷◌, ◌++◌, refl, codes, Some, IsUtf8, list_all}
 use Rattle.serde_json.specs.Read.{read}
 use Rattle.serde_json.specs.Data.{string}
 use Rattle.serde_json.proofs.OnLiterals.{serde_json_on_literals}
-use Rattle.json_spans.specs.Bytes.{is_ascii}
-use Rattle.json_spans.specs.Grammar.{Chars, quote, ascii}
-use Rattle.json_spans.specs.Inside.{quoted}
+use Rattle.json_spans.specs.Common.{is_ascii, Chars, quote, ascii, quoted}
 use Rattle.json_spans.proofs.Decoding.{decoded_as}
-use Rattle.ring_machine.proofs.Order.{and_both}
-use Rattle.topo_outline.specs.Kept.{IsName}
+use Rattle.ring_machine.proofs.Common.{and_both}
+use Rattle.topo_outline.specs.Common.{IsName}
 
 -- the name between quotation marks
 abbrev pub token_of : List ℕ → List ℕ

@@ -1,16 +1,15 @@
 -- The members of a written object, as a reader sees them: what their names say, and their texts.
-use Rattle.std.proofs.Common.{◌≡◌, ◌≢◌, not, ℕ, List, [], ◌∷◌, map, Bool, true, false, refl, sym, ap, ◌∙◌, subst, cond}
-use Rattle.std.specs.Prelude.{Option, Some, None, option_map, ◌==◌, if◌then◌else◌, filter}
-use Rattle.std.specs.List.{AllByRecursion, AllZip, AllPairs}
-use Rattle.ring_machine.specs.Document.{Text, Member}
-use Rattle.json_spans.specs.Nodes.{Node}
-use Rattle.json_spans.specs.Decoded.{decoded}
+use Rattle.kit_words.proofs.Common.{◌≡◌, ◌≢◌, not, ℕ, List, [], ◌∷◌, map, Bool, true, false, refl, sym, ap, ◌∙◌, subst}
+use Rattle.kit_words.proofs.Common.{cond, Option, Some, None, option_map, ◌==◌, if◌then◌else◌, AllByRecursion, AllZip}
+use Rattle.kit_words.proofs.Common.{AllPairs}
+use Rattle.std.specs.Prelude.{filter}
+use Rattle.ring_machine.specs.Common.{Text, Member}
+use Rattle.json_spans.specs.Common.{Node, decoded}
 use Rattle.topo_outline.specs.declared.words.Word.{Word}
 use Rattle.topo_outline.specs.declared.members.Owner.{Owner}
-use Rattle.topo_outline.specs.Words.{word_of}
-use Rattle.topo_outline.specs.Members.{EntryNode, entry_of, member, code, kept, kept_text, text_of, is_known}
-use Rattle.topo_outline.specs.IsOutline.{Entries, no_entry, entry, HasEntries, value_at}
-use Rattle.map_text.specs.Text.{object_text}
+use Rattle.topo_outline.specs.Common.{word_of, EntryNode, entry_of, member, code, kept, kept_text, text_of, is_known}
+use Rattle.topo_outline.specs.Common.{Entries, no_entry, entry, HasEntries, value_at}
+use Rattle.map_text.specs.Common.{object_text}
 use Rattle.map_text.proofs.GrammarLists.{bytes_of}
 use Rattle.map_text.proofs.GrammarObjects.{IsMember, as_member, has_members}
 

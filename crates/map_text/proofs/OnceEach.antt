@@ -1,22 +1,14 @@
 -- Pieces, each taken once: every segment of a piece stands in exactly one arc and there once.
-use Rattle.std.proofs.Common.{◌≡◌, ℕ, zero, suc, ◌+◌, ◌≤◌, Bool, true, false, refl, sym, ap, ap₂, ◌∙◌}
-use Rattle.std.proofs.Common.{subst, cond, List, [], ◌∷◌, ◌++◌, ◌||◌, inl, inr, arith, reverse, map}
-use Rattle.std.specs.List.{flat_map, AllByRecursion}
-use Rattle.std.proofs.lemmas.Bool.{false≢true, or_left}
-use Rattle.std.proofs.lemmas.List.{append-nil, reverse-append}
-use Rattle.std.proofs.lemmas.List.Concat.{flat_map-append}
-use Rattle.grid_geometry.specs.Position.{Position, position_eq}
-use Rattle.grid_geometry.specs.Segment.{Segment, segment_eq}
-use Rattle.grid_geometry.specs.Ring.{Edge, links}
-use Rattle.ring_machine.specs.Ring.{segment_of}
-use Rattle.ring_machine.proofs.Order.{and_both, or_true, or_right, position_eq-true, position_eq-refl}
-use Rattle.grid_geometry.proofs.Conflicts.{segment-comm}
-use Rattle.ring_machine.proofs.Arcs.{is_of, links-reverse, flip, flipped}
-use Rattle.ring_machine.proofs.Once.{times, one, times-append}
-use Rattle.ring_machine.proofs.RingSegments.{same_ends, segment_eq-true}
-use Rattle.ring_machine.proofs.First.{In}
-use Rattle.ring_machine.proofs.Pieces.{IsPiece, same_piece, reversed_piece}
-use Rattle.map_text.specs.Arcs.{are_equal, is_arc, with_piece, with_pieces}
+use Rattle.kit_words.proofs.Common.{◌≡◌, ℕ, zero, suc, ◌+◌, ◌≤◌, Bool, true, false, refl, sym, ap, ap₂, ◌∙◌, subst}
+use Rattle.kit_words.proofs.Common.{cond, List, [], ◌∷◌, ◌++◌, ◌||◌, inl, inr, arith, reverse, map, flat_map}
+use Rattle.kit_words.proofs.Common.{AllByRecursion, false≢true, or_left, append-nil, reverse-append, flat_map-append}
+use Rattle.grid_geometry.specs.Common.{Position, position_eq, Segment, segment_eq, Edge, links}
+use Rattle.ring_machine.specs.Common.{segment_of}
+use Rattle.ring_machine.proofs.Common.{and_both, or_true, or_right, position_eq-true, position_eq-refl, is_of}
+use Rattle.ring_machine.proofs.Common.{links-reverse, flip, flipped, times, one, times-append, same_ends}
+use Rattle.ring_machine.proofs.Common.{segment_eq-true, In, IsPiece, same_piece, reversed_piece}
+use Rattle.grid_geometry.proofs.Common.{segment-comm}
+use Rattle.map_text.specs.Common.{are_equal, is_arc, with_piece, with_pieces}
 use Rattle.map_text.proofs.Lists.{each-append}
 
 -- ---- lists compared

@@ -1,17 +1,11 @@
 -- The written arcs are read as they were.
-use Rattle.std.proofs.Common.{◌≡◌, ◌≤◌, ◌<◌, ◌^◌, List, [], ◌∷◌, map, Bool, true, false, length, sym, ap₂, subst, arith, ℤ, pos, ◌+ℤ◌, ◌-ℤ◌}
-use Rattle.std.specs.Prelude.{unsigned_abs}
-use Rattle.std.specs.List.{AllByRecursion}
-use Rattle.std.specs.Fmt.{signed_decimal}
-use Rattle.std.proofs.lemmas.Int.{ints}
-use Rattle.grid_geometry.specs.Position.{Position, position, InRange}
-use Rattle.json_spans.specs.Nodes.{Node}
-use Rattle.json_spans.specs.Inside.{IsListOf}
-use Rattle.json_spans.specs.Whole.{IsWhole}
-use Rattle.topo_outline.specs.Kept.{IsJson}
-use Rattle.topo_reader.specs.Arcs.{origin}
-use Rattle.topo_reader.specs.Reads.{IsSum, Sums, no_pair, pair, ArePositions, IsArc, AreArcs}
-use Rattle.map_text.specs.Text.{pair_text, differences, pairs, arc_text, arcs_text}
+use Rattle.kit_words.proofs.Common.{◌≡◌, ◌≤◌, ◌<◌, ◌^◌, List, [], ◌∷◌, map, Bool, true, false, length, sym, ap₂, subst}
+use Rattle.kit_words.proofs.Common.{arith, ℤ, pos, ◌+ℤ◌, ◌-ℤ◌, unsigned_abs, AllByRecursion, signed_decimal, ints}
+use Rattle.grid_geometry.specs.Common.{Position, position, InRange}
+use Rattle.json_spans.specs.Common.{Node, IsListOf, IsWhole}
+use Rattle.topo_outline.specs.Common.{IsJson}
+use Rattle.topo_reader.specs.Common.{origin, IsSum, Sums, no_pair, pair, ArePositions, IsArc, AreArcs}
+use Rattle.map_text.specs.Common.{pair_text, differences, pairs, arc_text, arcs_text}
 use Rattle.map_text.proofs.GrammarLists.{bytes_of, has_texts, list_is_json}
 use Rattle.map_text.proofs.GrammarNumbers.{whole_is_json, whole_written}
 use Rattle.map_text.proofs.ReadingLists.{all_mapped, Stands, first_same, rest_same, zipped, list_stands, list_json, two}

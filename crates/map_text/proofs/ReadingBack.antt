@@ -1,27 +1,18 @@
 -- The written text of a document is read as the document.
-use Rattle.std.proofs.Common.{◌≡◌, ℕ, ◌≤◌, ◌+◌, List, [], ◌∷◌, ◌++◌, map, length, true, refl, sym, ap, ◌∙◌, subst, codes, ℤ}
-use Rattle.std.specs.Prelude.{Option, Some, None, option_map, is_some}
-use Rattle.std.specs.List.{AllByRecursion, AllZip, flat_map, filter_map}
-use Rattle.grid_geometry.specs.Position.{Position, InRange}
-use Rattle.ring_machine.specs.Document.{Text, Member, Layer, Document}
-use Rattle.ring_machine.specs.Parts.{feature_of, in_feature, in_item, in_layer}
-use Rattle.ring_machine.specs.WellFormed.{is_geometry, Same}
-use Rattle.ring_machine.specs.Vertices.{is_junction}
-use Rattle.json_spans.specs.Nodes.{Node}
+use Rattle.kit_words.proofs.Common.{◌≡◌, ℕ, ◌≤◌, ◌+◌, List, [], ◌∷◌, ◌++◌, map, length, true, refl, sym, ap, ◌∙◌, subst}
+use Rattle.kit_words.proofs.Common.{codes, ℤ, Option, Some, None, option_map, is_some, AllByRecursion, AllZip, flat_map}
+use Rattle.kit_words.proofs.Common.{filter_map}
+use Rattle.grid_geometry.specs.Common.{Position, InRange}
+use Rattle.ring_machine.specs.Common.{Text, Member, Layer, Document, feature_of, in_feature, in_item, in_layer}
+use Rattle.ring_machine.specs.Common.{is_geometry, Same, is_junction}
+use Rattle.json_spans.specs.Common.{Node}
 use Rattle.topo_outline.specs.declared.words.Word.TheVariants as word
 use Rattle.topo_outline.specs.declared.members.Owner.TheVariants as owner
-use Rattle.topo_outline.specs.Words.{word_of}
-use Rattle.topo_outline.specs.Members.{EntryNode}
-use Rattle.topo_outline.specs.Layers.{LayerText}
-use Rattle.topo_outline.specs.IsOutline.{value_at, HasEntries, IsTransform, no_transform, IsOutline}
-use Rattle.topo_outline.specs.Kept.{IsJson, IsName, IfThere, IsKeptTransform, KeepsItem}
-use Rattle.topo_reader.specs.Arcs.{Arc}
-use Rattle.topo_reader.specs.Document.{Opened, document_of}
-use Rattle.topo_reader.specs.Reads.{AreArcs, Reads}
-use Rattle.map_text.specs.Arcs.{pieces, arcs_of, indexes}
-use Rattle.map_text.specs.Text.{object_text, member, member_if, arcs_text, layer_member, text_of}
-use Rattle.map_text.specs.Saved.{Saved}
-use Rattle.map_text.specs.Writable.{IsWritable}
+use Rattle.topo_outline.specs.Common.{word_of, EntryNode, LayerText, value_at, HasEntries, IsTransform, no_transform}
+use Rattle.topo_outline.specs.Common.{IsOutline, IsJson, IsName, IfThere, IsKeptTransform, KeepsItem}
+use Rattle.topo_reader.specs.Common.{Arc, Opened, document_of, AreArcs, Reads}
+use Rattle.map_text.specs.Common.{pieces, arcs_of, indexes, object_text, member, member_if, arcs_text, layer_member}
+use Rattle.map_text.specs.Common.{text_of, Saved, IsWritable}
 use Rattle.map_text.proofs.Ends.{arcs_long, arcs_each}
 use Rattle.map_text.proofs.Saved.{saved_by}
 use Rattle.map_text.proofs.GrammarLists.{bytes_of, bare}

@@ -1,24 +1,20 @@
 -- The written text of a feature, and that of a collection, is a geometry with its id, its properties
 -- and its members.
-use Rattle.std.proofs.Common.{◌≡◌, ℕ, List, [], ◌∷◌, ◌++◌, map, true, refl, sym, ap, ◌∙◌, subst, append_assoc, codes, ℤ}
-use Rattle.std.specs.Prelude.{Option, Some, option_map}
-use Rattle.std.specs.List.{AllByRecursion}
-use Rattle.ring_machine.specs.Document.{Text, Form, Head, Member, FeatureOf}
+use Rattle.kit_words.proofs.Common.{◌≡◌, ℕ, List, [], ◌∷◌, ◌++◌, map, true, refl, sym, ap, ◌∙◌, subst, append_assoc}
+use Rattle.kit_words.proofs.Common.{codes, ℤ, Option, Some, option_map, AllByRecursion}
+use Rattle.ring_machine.specs.Common.{Text, Form, Head, Member, FeatureOf}
 use Rattle.ring_machine.specs.Document as form
 use Rattle.json_spans.specs.Grammar.{null, text as string_value}
-use Rattle.json_spans.specs.Inside.{IsValue, IsText, quoted}
-use Rattle.json_spans.specs.Nodes.{Node}
-use Rattle.json_spans.specs.Decoded.{decoded}
+use Rattle.json_spans.specs.Common.{IsValue, IsText, quoted, Node, decoded}
 use Rattle.topo_outline.specs.declared.words.Word.TheVariants as word
 use Rattle.topo_outline.specs.declared.members.Owner.{Owner}
 use Rattle.topo_outline.specs.declared.members.Owner.TheVariants as owner
-use Rattle.topo_outline.specs.Words.{word_of}
-use Rattle.topo_outline.specs.Members.{EntryNode, is_known, text_of, kept, head}
-use Rattle.topo_outline.specs.Layers.{Piece, starts, ends, leaf}
-use Rattle.topo_outline.specs.IsOutline.{HasType, value_at, IsGeometry, AreGeometries, null_geometry, polygon, multi_polygon, collection}
-use Rattle.topo_outline.specs.Kept.{IsJson, IsName, IfThere, IsKeptHead, owner_of, head_of}
-use Rattle.topo_reader.specs.Arcs.{Arc}
-use Rattle.map_text.specs.Text.{list_text, object_text, member_text, further, commas, member, member_if, type_text, polygon_text, shape_text, feature_text, opening_text, closing_text}
+use Rattle.topo_outline.specs.Common.{word_of, EntryNode, is_known, text_of, kept, head, Piece, starts, ends, leaf}
+use Rattle.topo_outline.specs.Common.{HasType, value_at, IsGeometry, AreGeometries, null_geometry, polygon}
+use Rattle.topo_outline.specs.Common.{multi_polygon, collection, IsJson, IsName, IfThere, IsKeptHead, owner_of, head_of}
+use Rattle.topo_reader.specs.Common.{Arc}
+use Rattle.map_text.specs.Common.{list_text, object_text, member_text, further, commas, member, member_if, type_text}
+use Rattle.map_text.specs.Common.{polygon_text, shape_text, feature_text, opening_text, closing_text}
 use Rattle.map_text.proofs.GrammarLists.{bytes_of, has_texts, list_is_json}
 use Rattle.map_text.proofs.MembersKnown.{type_named, id_named, properties_named, arcs_named, geometries_named, polygon_named, multi_polygon_named, collection_named}
 use Rattle.map_text.proofs.MembersFields.{Field, present, IsField, HasFields, written_object, written_json}

@@ -1,13 +1,11 @@
 -- The written text of a tree of items is read as a geometry with the same items.
-use Rattle.std.proofs.Common.{◌≡◌, List, [], ◌∷◌, ◌++◌, map, ℤ}
-use Rattle.std.specs.List.{AllByRecursion, AllZip}
-use Rattle.ring_machine.specs.Document.{Text, Head, FeatureOf, Open, Close, Leaf, Kept}
-use Rattle.json_spans.specs.Nodes.{Node}
+use Rattle.kit_words.proofs.Common.{◌≡◌, List, [], ◌∷◌, ◌++◌, map, ℤ, AllByRecursion, AllZip}
+use Rattle.ring_machine.specs.Common.{Text, Head, FeatureOf, Open, Close, Leaf, Kept}
+use Rattle.json_spans.specs.Common.{Node}
 use Rattle.topo_outline.specs.declared.members.Owner.TheVariants as owner
-use Rattle.topo_outline.specs.Layers.{Piece, starts, ends, leaf, text}
-use Rattle.topo_outline.specs.IsOutline.{IsGeometry, AreGeometries, no_geometry, geometry}
-use Rattle.topo_outline.specs.Kept.{IsJson, IsKeptHead, IsKeptGeometry, owner_of, head_of}
-use Rattle.topo_reader.specs.Arcs.{Arc}
+use Rattle.topo_outline.specs.Common.{Piece, starts, ends, leaf, text, IsGeometry, AreGeometries, no_geometry, geometry}
+use Rattle.topo_outline.specs.Common.{IsJson, IsKeptHead, IsKeptGeometry, owner_of, head_of}
+use Rattle.topo_reader.specs.Common.{Arc}
 use Rattle.map_text.proofs.GrammarLists.{bytes_of}
 use Rattle.map_text.proofs.ReadingLists.{first_same, rest_same}
 use Rattle.map_text.proofs.ReadingPlaces.{kept_geometry}

@@ -1,23 +1,17 @@
 -- The written layers are read with the same items, and their features with the same rings.
-use Rattle.std.proofs.Common.{◌≡◌, ℕ, ◌+◌, List, [], ◌∷◌, ◌++◌, map, length, true, false, refl, sym, ap, ap₂, ◌∙◌, subst, append_assoc, arith, ℤ}
-use Rattle.std.specs.Prelude.{Some, slice_get}
-use Rattle.std.specs.List.{AllByRecursion, AllZip, flat_map, filter_map}
-use Rattle.std.proofs.lemmas.List.{length-append, length-map}
-use Rattle.std.proofs.lemmas.Slice.Zip.{AllZip-long}
-use Rattle.grid_geometry.specs.Position.{Position}
-use Rattle.ring_machine.specs.Document.{Text, Head, Member, Feature, FeatureOf, Item, Layer, Open, Close, Leaf, Kept}
-use Rattle.ring_machine.specs.Parts.{feature_of, in_feature, in_item, in_layer}
-use Rattle.ring_machine.specs.WellFormed.{is_geometry}
-use Rattle.json_spans.specs.Nodes.{Node}
-use Rattle.topo_outline.specs.Members.{EntryNode}
-use Rattle.topo_outline.specs.Layers.{Piece, starts, ends, leaf, text, LayerText, leaves_in, leaves}
-use Rattle.topo_outline.specs.IsOutline.{AreLayers, no_layer}
+use Rattle.kit_words.proofs.Common.{◌≡◌, ℕ, ◌+◌, List, [], ◌∷◌, ◌++◌, map, length, true, false, refl, sym, ap, ap₂, ◌∙◌}
+use Rattle.kit_words.proofs.Common.{subst, append_assoc, arith, ℤ, Some, slice_get, AllByRecursion, AllZip, flat_map}
+use Rattle.kit_words.proofs.Common.{filter_map, length-append, length-map, AllZip-long}
+use Rattle.grid_geometry.specs.Common.{Position}
+use Rattle.ring_machine.specs.Common.{Text, Head, Member, Feature, FeatureOf, Item, Layer, Open, Close, Leaf, Kept}
+use Rattle.ring_machine.specs.Common.{feature_of, in_feature, in_item, in_layer, is_geometry}
+use Rattle.json_spans.specs.Common.{Node}
+use Rattle.topo_outline.specs.Common.{EntryNode, Piece, starts, ends, leaf, text, LayerText, leaves_in, leaves}
+use Rattle.topo_outline.specs.Common.{AreLayers, no_layer, IsJson, IsName, head_of}
 use Rattle.topo_outline.specs.IsOutline as shape
-use Rattle.topo_outline.specs.Kept.{IsJson, IsName, head_of}
-use Rattle.topo_reader.specs.Arcs.{Arc}
-use Rattle.topo_reader.specs.Reads.{GeometryUses, AreRings, IsRing}
-use Rattle.topo_reader.specs.Document.{Polygons, polygons_at, items_from, layers_from}
-use Rattle.map_text.specs.Text.{items_text, layer_member}
+use Rattle.topo_reader.specs.Common.{Arc, GeometryUses, AreRings, IsRing, Polygons, polygons_at, items_from}
+use Rattle.topo_reader.specs.Common.{layers_from}
+use Rattle.map_text.specs.Common.{items_text, layer_member}
 use Rattle.map_text.proofs.MembersSeen.{Seen, seen, seen_as, all_seen}
 use Rattle.map_text.proofs.ReadingLists.{first_same, rest_same}
 use Rattle.map_text.proofs.ReadingUses.{IsShape, geometry_uses}

@@ -1,11 +1,9 @@
 -- The items of a written list stand for what it was made of, one by one.
-use Rattle.std.proofs.Common.{◌≡◌, List, [], ◌∷◌, map, refl, ap}
-use Rattle.std.specs.List.{AllByRecursion, AllZip}
-use Rattle.ring_machine.specs.Document.{Text}
-use Rattle.json_spans.specs.Nodes.{Node}
-use Rattle.json_spans.specs.Inside.{IsListFor}
-use Rattle.topo_outline.specs.Kept.{IsJson}
-use Rattle.map_text.specs.Text.{list_text}
+use Rattle.kit_words.proofs.Common.{◌≡◌, List, [], ◌∷◌, map, refl, ap, AllByRecursion, AllZip}
+use Rattle.ring_machine.specs.Common.{Text}
+use Rattle.json_spans.specs.Common.{Node, IsListFor}
+use Rattle.topo_outline.specs.Common.{IsJson}
+use Rattle.map_text.specs.Common.{list_text}
 use Rattle.map_text.proofs.GrammarLists.{bytes_of, has_texts, list_is_json}
 
 pub all_mapped : {A : Type 0} (Q : A → Type 0) (P : Text → Type 0) (f : A → Text) (xs : List A) → ((x : A) → Q x → P (f x)) → AllByRecursion Q xs → AllByRecursion P (map f xs)

@@ -1,17 +1,15 @@
 -- What a kept text means does not depend on the place where it stands.
-use Rattle.std.proofs.Common.{◌≡◌, ℕ, ◌+◌, List, [], ◌∷◌, map, length, refl, sym, ap, ap₂, ◌∙◌, subst, codes, ◌⊎◌, inl, inr}
-use Rattle.std.specs.Prelude.{Option, Some, None, option_map}
-use Rattle.std.specs.List.{AllZip}
-use Rattle.ring_machine.specs.Document.{Text, Member}
-use Rattle.json_spans.specs.Nodes.{Node}
-use Rattle.json_spans.specs.Inside.{IsText, IsNumber, IsValue, Padded, padded, Pair, pair, Parted, last_part, next_part, Bracketed, no_part, parts, IsListOf, IsObjectOf}
-use Rattle.json_spans.specs.Decoded.{decoded}
+use Rattle.kit_words.proofs.Common.{◌≡◌, ℕ, ◌+◌, List, [], ◌∷◌, map, length, refl, sym, ap, ap₂, ◌∙◌, subst, codes, ◌⊎◌}
+use Rattle.kit_words.proofs.Common.{inl, inr, Option, Some, None, option_map, AllZip}
+use Rattle.ring_machine.specs.Common.{Text, Member}
+use Rattle.json_spans.specs.Common.{Node, IsText, IsNumber, IsValue, Padded, padded, Pair, pair, Parted, last_part}
+use Rattle.json_spans.specs.Common.{next_part, Bracketed, no_part, parts, IsListOf, IsObjectOf, decoded}
 use Rattle.topo_outline.specs.declared.words.Word.{Word}
 use Rattle.topo_outline.specs.declared.words.Word.TheVariants as word
-use Rattle.topo_outline.specs.Members.{EntryNode, entry_of, code}
-use Rattle.topo_outline.specs.Layers.{Piece, text}
-use Rattle.topo_outline.specs.IsOutline.{Entries, no_entry, entry, HasEntries, value_at, HasType, AreTwoNumbers, IsTransform, transform, IsGeometry, point, multi_point, null_geometry, polygon, multi_polygon, collection, null_transform, no_transform}
-use Rattle.topo_outline.specs.Kept.{IsKeptGeometry, IsKeptTransform}
+use Rattle.topo_outline.specs.Common.{EntryNode, entry_of, code, Piece, text, Entries, no_entry, entry, HasEntries}
+use Rattle.topo_outline.specs.Common.{value_at, HasType, AreTwoNumbers, IsTransform, transform, IsGeometry, point}
+use Rattle.topo_outline.specs.Common.{multi_point, null_geometry, polygon, multi_polygon, collection, null_transform}
+use Rattle.topo_outline.specs.Common.{no_transform, IsKeptGeometry, IsKeptTransform}
 use Rattle.map_text.proofs.GrammarLists.{bytes_of}
 use Rattle.map_text.proofs.GrammarObjects.{as_member}
 use Rattle.map_text.proofs.MembersSeen.{Seen, seen, all_seen, Says, entries_of, are_entries, entries_seen, seen_value, value_seen}

@@ -1,24 +1,20 @@
 -- The rings of a document, by the indexes of their arcs: what is written for each feature.
-use Rattle.std.proofs.Common.{◌≡◌, ℕ, suc, ◌+◌, ◌<◌, ◌≤◌, ◌^◌, List, [], ◌∷◌, ◌++◌, map, length, Bool, true, false, refl, ap, arith, cond, ℤ, pos, negsuc}
-use Rattle.std.specs.Prelude.{unsigned_abs, Option, Some, None, option_map, reverse, slice_get, sum_by, IsTrue}
-use Rattle.std.specs.List.{AllByRecursion, AllZip, list_all, flat_map, filter_map}
+use Rattle.kit_words.proofs.Common.{◌≡◌, ℕ, suc, ◌+◌, ◌<◌, ◌≤◌, ◌^◌, List, [], ◌∷◌, ◌++◌, map, length, Bool, true}
+use Rattle.kit_words.proofs.Common.{false, refl, ap, arith, cond, ℤ, pos, negsuc, unsigned_abs, Option, Some, None}
+use Rattle.kit_words.proofs.Common.{option_map, reverse, slice_get, IsTrue, AllByRecursion, AllZip, list_all, flat_map}
+use Rattle.kit_words.proofs.Common.{filter_map, length-append, sum_by-cons, slice_get_within}
+use Rattle.std.specs.Prelude.{sum_by}
 use Rattle.std.proofs.lemmas.Bool.{eqb-true}
-use Rattle.std.proofs.lemmas.List.{length-append}
-use Rattle.std.proofs.lemmas.List.Sums.{sum_by-cons}
-use Rattle.std.proofs.lemmas.Option.{slice_get_within}
-use Rattle.grid_geometry.specs.Position.{Position}
-use Rattle.ring_machine.specs.Ring.{is_ring}
-use Rattle.ring_machine.specs.Document.{Form, Document, Feature, FeatureOf, Item, Layer, Open, Close, Leaf, Kept}
+use Rattle.grid_geometry.specs.Common.{Position}
+use Rattle.ring_machine.specs.Common.{is_ring, Form, Document, Feature, FeatureOf, Item, Layer, Open, Close, Leaf, Kept}
+use Rattle.ring_machine.specs.Common.{feature_of, features, rings_of, rings, size, in_feature, in_item, fits_form}
+use Rattle.ring_machine.specs.Common.{is_junction}
 use Rattle.ring_machine.specs.Document as form
-use Rattle.ring_machine.specs.Parts.{feature_of, features, rings_of, rings, size, in_feature, in_item}
-use Rattle.ring_machine.specs.WellFormed.{fits_form}
-use Rattle.ring_machine.specs.Vertices.{is_junction}
-use Rattle.ring_machine.proofs.First.{In}
-use Rattle.ring_machine.proofs.Neighbours.{all_of, all_in}
-use Rattle.topo_outline.specs.Kept.{IsKeptHead, KeepsItem, owner_of, head_of}
-use Rattle.topo_reader.specs.Arcs.{Arc}
-use Rattle.topo_reader.specs.Reads.{IsRing}
-use Rattle.map_text.specs.Arcs.{led_from, cut_way, cut_round, begun, pieces, is_arc, with_piece, with_pieces, arcs_of, indexes}
+use Rattle.ring_machine.proofs.Common.{In, all_of, all_in}
+use Rattle.topo_outline.specs.Common.{IsKeptHead, KeepsItem, owner_of, head_of}
+use Rattle.topo_reader.specs.Common.{Arc, IsRing}
+use Rattle.map_text.specs.Common.{led_from, cut_way, cut_round, begun, pieces, is_arc, with_piece, with_pieces, arcs_of}
+use Rattle.map_text.specs.Common.{indexes}
 use Rattle.map_text.proofs.Junctions.{begun_rotated}
 use Rattle.map_text.proofs.Indexed.{Names, indexes_name}
 use Rattle.map_text.proofs.RingsBack.{pieces_lead}

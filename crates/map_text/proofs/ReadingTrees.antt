@@ -1,10 +1,9 @@
 -- The items of a layer are one tree, and its text is put together from those of its parts.
-use Rattle.std.proofs.Common.{◌≡◌, ℕ, zero, suc, List, [], ◌∷◌, ◌++◌, map, Bool, true, false, refl, sym, ap, ◌∙◌, subst, append_assoc, ℤ}
-use Rattle.std.proofs.lemmas.List.{append-nil}
-use Rattle.ring_machine.specs.Document.{Text, Head, FeatureOf, ItemOf, Open, Close, Leaf, Kept}
-use Rattle.ring_machine.specs.Parts.{in_item}
-use Rattle.ring_machine.specs.WellFormed.{is_inner, is_geometry}
-use Rattle.map_text.specs.Text.{further, commas, feature_text, opening_text, closing_text, comma_if, items_text}
+use Rattle.kit_words.proofs.Common.{◌≡◌, ℕ, zero, suc, List, [], ◌∷◌, ◌++◌, map, Bool, true, false, refl, sym, ap, ◌∙◌}
+use Rattle.kit_words.proofs.Common.{subst, append_assoc, ℤ, append-nil}
+use Rattle.ring_machine.specs.Common.{Text, Head, FeatureOf, ItemOf, Open, Close, Leaf, Kept, in_item, is_inner}
+use Rattle.ring_machine.specs.Common.{is_geometry}
+use Rattle.map_text.specs.Common.{further, commas, feature_text, opening_text, closing_text, comma_if, items_text}
 
 -- an item whose rings are lists of indexes
 abbrev pub Entry : Type 0

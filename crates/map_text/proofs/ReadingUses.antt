@@ -1,17 +1,11 @@
 -- The written indexes of a feature's rings are read as uses of the arcs that they name.
-use Rattle.std.proofs.Common.{◌≡◌, ◌<◌, ◌^◌, List, [], ◌∷◌, map, refl, sym, subst, arith, ℤ}
-use Rattle.std.specs.Prelude.{unsigned_abs}
-use Rattle.std.specs.List.{AllByRecursion, AllZip}
-use Rattle.std.specs.Fmt.{signed_decimal}
-use Rattle.ring_machine.specs.Document.{Text, Form, Polygon, MultiPolygon, Null}
-use Rattle.json_spans.specs.Nodes.{Node}
-use Rattle.json_spans.specs.Inside.{IsList}
-use Rattle.json_spans.specs.Whole.{IsWhole}
-use Rattle.topo_outline.specs.IsOutline.{AreLists, AreListsOfLists}
-use Rattle.topo_outline.specs.Kept.{IsJson, IfThere}
-use Rattle.topo_reader.specs.Arcs.{Arc}
-use Rattle.topo_reader.specs.Reads.{IsUse, RingUses, PolygonUses, GeometryUses}
-use Rattle.map_text.specs.Text.{list_text, ring_text, polygon_text, shape_text}
+use Rattle.kit_words.proofs.Common.{◌≡◌, ◌<◌, ◌^◌, List, [], ◌∷◌, map, refl, sym, subst, arith, ℤ, unsigned_abs}
+use Rattle.kit_words.proofs.Common.{AllByRecursion, AllZip, signed_decimal}
+use Rattle.ring_machine.specs.Common.{Text, Form, Polygon, MultiPolygon, Null}
+use Rattle.json_spans.specs.Common.{Node, IsList, IsWhole}
+use Rattle.topo_outline.specs.Common.{AreLists, AreListsOfLists, IsJson, IfThere}
+use Rattle.topo_reader.specs.Common.{Arc, IsUse, RingUses, PolygonUses, GeometryUses}
+use Rattle.map_text.specs.Common.{list_text, ring_text, polygon_text, shape_text}
 use Rattle.map_text.proofs.GrammarLists.{bytes_of, HasTexts, has_texts, list_is_json}
 use Rattle.map_text.proofs.GrammarNumbers.{whole_is_json, whole_written}
 use Rattle.map_text.proofs.Indexed.{Names, is_use}

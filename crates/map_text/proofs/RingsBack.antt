@@ -1,20 +1,14 @@
 -- The pieces of a ring, joined again, are the ring.
-use Rattle.std.proofs.Common.{◌≡◌, ◌≢◌, ◌≤◌, Bool, true, false, refl, sym, ap, ◌∙◌, subst, cond}
-use Rattle.std.proofs.Common.{List, [], ◌∷◌, ◌++◌, arith, length}
-use Rattle.std.specs.Prelude.{not}
-use Rattle.std.specs.List.{flat_map, AllByRecursion}
-use Rattle.std.proofs.lemmas.Bool.{false≢true}
-use Rattle.std.proofs.lemmas.List.{append-nil, length-append}
-use Rattle.grid_geometry.specs.Position.{Position, position_eq}
-use Rattle.ring_machine.specs.Ring.{has, is_distinct, is_ring, canonical}
-use Rattle.ring_machine.proofs.Order.{and_both, position_eq-refl}
-use Rattle.ring_machine.proofs.Removal.{none_parts, not_true}
-use Rattle.ring_machine.proofs.Canonical.{Pivot, canonical_at, canonical_swap}
-use Rattle.ring_machine.proofs.Spots.{rotated_distinct}
-use Rattle.topo_reader.specs.Arcs.{Arc}
-use Rattle.topo_reader.specs.Reads.{Chain, there, along, Once, last, same, next, IsRing}
+use Rattle.kit_words.proofs.Common.{◌≡◌, ◌≢◌, ◌≤◌, Bool, true, false, refl, sym, ap, ◌∙◌, subst, cond, List, [], ◌∷◌}
+use Rattle.kit_words.proofs.Common.{◌++◌, arith, length, not, flat_map, AllByRecursion, false≢true, append-nil}
+use Rattle.kit_words.proofs.Common.{length-append}
+use Rattle.grid_geometry.specs.Common.{Position, position_eq}
+use Rattle.ring_machine.specs.Common.{has, is_distinct, is_ring, canonical}
+use Rattle.ring_machine.proofs.Common.{and_both, position_eq-refl, none_parts, not_true, Pivot, canonical_at}
+use Rattle.ring_machine.proofs.Common.{canonical_swap, rotated_distinct}
+use Rattle.topo_reader.specs.Common.{Arc, Chain, there, along, Once, last, same, next, IsRing}
 use Rattle.topo_reader.proofs.Repeats.{differ}
-use Rattle.map_text.specs.Arcs.{led_from, cut_way, cut_round, begun, pieces}
+use Rattle.map_text.specs.Common.{led_from, cut_way, cut_round, begun, pieces}
 use Rattle.map_text.proofs.Cuts.{Begins, first_part}
 use Rattle.map_text.proofs.Junctions.{Ring, ring_parts, begun_rotated}
 

@@ -1,15 +1,9 @@
 -- The arcs of a document of rings have each of its borders once.
-use Rattle.std.proofs.Common.{◌≡◌, sym, subst, List}
-use Rattle.std.specs.Prelude.{ℕ, IsTrue}
-use Rattle.std.specs.List.{list_all}
-use Rattle.ring_machine.specs.Ring.{is_ring}
-use Rattle.ring_machine.specs.Document.{Document}
-use Rattle.ring_machine.specs.Parts.{rings}
-use Rattle.ring_machine.specs.WellFormed.{Same}
-use Rattle.ring_machine.proofs.Neighbours.{all_in}
-use Rattle.topo_reader.specs.Reads.{Reads}
-use Rattle.map_text.specs.Arcs.{arcs_of}
-use Rattle.map_text.specs.Saved.{HasEachOnce, Saved}
+use Rattle.kit_words.proofs.Common.{◌≡◌, sym, subst, List, ℕ, IsTrue, list_all}
+use Rattle.ring_machine.specs.Common.{is_ring, Document, rings, Same}
+use Rattle.ring_machine.proofs.Common.{all_in}
+use Rattle.topo_reader.specs.Common.{Reads}
+use Rattle.map_text.specs.Common.{arcs_of, HasEachOnce, Saved}
 use Rattle.map_text.proofs.Borders.{segments_once}
 use Rattle.map_text.proofs.Ends.{arcs_cut}
 

@@ -1,21 +1,20 @@
 -- The JSON string that is written for a text is one, and stands for that text.
-use Rattle.std.proofs.Common.{◌≡◌, ℕ, zero, suc, ◌+◌, ◌/◌, ◌%◌, ◌<◌, ◌≤◌, ◌⊎◌, Bool, true, false, cond, ◌&&◌, nat_lt, nat_le, List, [], ◌∷◌, ◌++◌, refl, sym, ap, ◌∙◌, subst, inl, inr, arith, append_assoc, append-nil, lt-ltb, le-ltb, le-leb}
-use Rattle.std.specs.Prelude.{IsUtf8}
-use Rattle.std.specs.Char.{digit_char}
-use Rattle.std.proofs.lemmas.Bool.{cases_lt, cases_eq, and_parts}
-use Rattle.std.proofs.lemmas.Bool.Decides.{nat_tests}
-use Rattle.std.proofs.lemmas.Str.{encode_ascii}
+use Rattle.kit_words.proofs.Common.{◌≡◌, ℕ, zero, suc, ◌+◌, ◌/◌, ◌%◌, ◌<◌, ◌≤◌, ◌⊎◌, Bool, true, false, cond, ◌&&◌}
+use Rattle.kit_words.proofs.Common.{nat_lt, nat_le, List, [], ◌∷◌, ◌++◌, refl, sym, ap, ◌∙◌, subst, inl, inr, arith}
+use Rattle.kit_words.proofs.Common.{append_assoc, le-ltb, le-leb, IsUtf8, digit_char, cases_lt, cases_eq, and_parts}
+use Rattle.kit_words.proofs.Common.{nat_tests, encode_ascii}
+use Rattle.std.proofs.Common.{append-nil, lt-ltb}
 use Rattle.std.proofs.lemmas.Grind.{flat_map-append}
 use Rattle.std.proofs.Math.Utf8.{scalar, scalars, encode, encodes, next, scalar_cases}
 use Rattle.json.specs.Print.{escape_letter, escape_byte, escape}
 use Rattle.json.proofs.Printed.Strings.{escape_byte_plain}
-use Rattle.json_spans.specs.Bytes.{is_ascii, is_escape, is_hex, is_three, is_tail, is_tail_e0, is_tail_ed, is_tail_f0, is_tail_f4}
+use Rattle.json_spans.specs.Common.{is_ascii, is_escape, is_hex, is_three, is_tail, is_tail_e0, is_tail_ed, is_tail_f0}
+use Rattle.json_spans.specs.Common.{is_tail_f4, IsText}
 use Rattle.json_spans.specs.Grammar.{Chars, quote, ascii, two, three, three_e0, three_ed, four, four_f0, four_f4, escape as escaped, code}
 use Rattle.json_spans.specs.Grammar as grammar
-use Rattle.json_spans.specs.Inside.{IsText}
 use Rattle.json_spans.specs.Inside as inside
-use Rattle.topo_outline.specs.Kept.{IsJson}
-use Rattle.map_text.specs.Strings.{string_text}
+use Rattle.topo_outline.specs.Common.{IsJson}
+use Rattle.map_text.specs.Common.{string_text}
 
 -- before the characters of a string more of them stand
 abbrev Leads : List ℕ → Type 0

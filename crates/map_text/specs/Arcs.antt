@@ -3,10 +3,8 @@ use Rattle.std.specs.Prelude.{ℕ, ◌+◌, ℤ, pos, negsuc, Bool, true, false,
 use Rattle.std.specs.Prelude.{if◌then◌else◌, List, [], ◌∷◌, ◌++◌, map, reverse, Option, None, Some}
 use Rattle.std.specs.Prelude.{unwrap_or}
 use Rattle.std.specs.List.{list_any, flat_map, fold}
-use Rattle.grid_geometry.specs.Position.{Position, position_eq}
-use Rattle.ring_machine.specs.Document.{DocumentOf, Document}
-use Rattle.ring_machine.specs.Parts.{rings, in_rings}
-use Rattle.ring_machine.specs.Vertices.{is_junction}
+use Rattle.grid_geometry.specs.Common.{Position, position_eq}
+use Rattle.ring_machine.specs.Common.{DocumentOf, Document, rings, in_rings, is_junction}
 
 -- ---- a ring, cut at its junctions (TopoJSON 1.0, 2.1.3)
 

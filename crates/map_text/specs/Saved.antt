@@ -1,14 +1,9 @@
 -- When a text keeps a document: it means the document, and each border stands in it once.
 use Rattle.std.specs.Prelude.{◌≡◌, ℕ, ◌++◌, List, [], ◌∷◌, IsTrue, IsFalse, Bool, if◌then◌else◌}
 use Rattle.std.specs.List.{list_any, count_by, AllByRecursion}
-use Rattle.grid_geometry.specs.Position.{Position}
-use Rattle.grid_geometry.specs.Segment.{Segment, segment_eq}
-use Rattle.ring_machine.specs.Document.{Document}
-use Rattle.ring_machine.specs.Parts.{is_segment}
-use Rattle.ring_machine.specs.WellFormed.{Same}
-use Rattle.ring_machine.specs.Vertices.{is_junction}
-use Rattle.ring_machine.specs.Arcs.{arc_segments}
-use Rattle.topo_reader.specs.Reads.{Reads}
+use Rattle.grid_geometry.specs.Common.{Position, Segment, segment_eq}
+use Rattle.ring_machine.specs.Common.{Document, is_segment, Same, is_junction, arc_segments}
+use Rattle.topo_reader.specs.Common.{Reads}
 
 -- the arc begins and ends at a junction and has none between, or it is closed and has none
 pub data IsCut (junction : Position → Bool) (arc : List Position) : Type 0 where

@@ -2,7 +2,7 @@
 use Rattle.std.specs.Prelude.{ℕ, List}
 use Rattle.serde_json.specs.Data.{string}
 use Rattle.serde_json.specs.Written.{compact_text}
-use Rattle.ring_machine.specs.Document.{Text}
+use Rattle.ring_machine.specs.Common.{Text}
 
 -- the JSON string that is written for a text (RFC 8259, 7), as `serde_json` writes it: the text
 -- between quotation marks, in which a backslash stands before `"` and `\`, and a control character

@@ -3,10 +3,9 @@ use Rattle.std.specs.Prelude.{ℤ, pos, ◌-ℤ◌, Bool, true, false, List, [],
 use Rattle.std.specs.Prelude.{None, Some, is_some, codes}
 use Rattle.std.specs.List.{flat_map}
 use Rattle.std.specs.Fmt.{signed_decimal}
-use Rattle.grid_geometry.specs.Position.{Position, position}
-use Rattle.ring_machine.specs.Document.{Text, Form, Polygon, MultiPolygon, Null, Member, Head}
-use Rattle.ring_machine.specs.Document.{FeatureOf, ItemOf, Open, Close, Leaf, Kept, LayerOf}
-use Rattle.ring_machine.specs.Document.{DocumentOf, Document}
+use Rattle.grid_geometry.specs.Common.{Position, position}
+use Rattle.ring_machine.specs.Common.{Text, Form, Polygon, MultiPolygon, Null, Member, Head, FeatureOf, ItemOf, Open}
+use Rattle.ring_machine.specs.Common.{Close, Leaf, Kept, LayerOf, DocumentOf, Document}
 use Rattle.map_text.specs.Arcs.{arcs_of, indexed}
 
 -- ---- lists and objects (RFC 8259, 4 and 5)

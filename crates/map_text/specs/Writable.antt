@@ -1,12 +1,9 @@
 -- Which documents have texts that are read as they were.
 use Rattle.std.specs.Prelude.{◌<◌, ◌^◌, IsTrue}
 use Rattle.std.specs.List.{AllByRecursion, list_all}
-use Rattle.grid_geometry.specs.Position.{InRange}
-use Rattle.ring_machine.specs.Ring.{is_ring}
-use Rattle.ring_machine.specs.Document.{Document}
-use Rattle.ring_machine.specs.Parts.{rings, size}
-use Rattle.ring_machine.specs.WellFormed.{WellFormed}
-use Rattle.topo_outline.specs.Kept.{KeepsTexts}
+use Rattle.grid_geometry.specs.Common.{InRange}
+use Rattle.ring_machine.specs.Common.{is_ring, Document, rings, size, WellFormed}
+use Rattle.topo_outline.specs.Common.{KeepsTexts}
 
 -- The document is well formed, its texts are such as opening keeps, each list of positions is a
 -- ring of positions in range, and the number of its positions fits 63 bits.

@@ -1,5 +1,5 @@
 -- Pieces that are appended one after another.
-use Rattle.std.proofs.Common.{◌≡◌, ℕ, List, ◌++◌, ap, ◌∙◌, append_assoc}
+use Rattle.kit_words.proofs.Common.{◌≡◌, ℕ, List, ◌++◌, ap, ◌∙◌, append_assoc}
 
 pub two : (old a b mid new : List ℕ) → mid ≡ old ++ a → new ≡ mid ++ b → new ≡ old ++ (a ++ b)
 two old a b mid new e f = f ∙ ap (λ (z : List ℕ). z ++ b) e ∙ append_assoc old a b

@@ -1,20 +1,17 @@
 -- What is told of the areas of what was read is told of the documents.
-use Rattle.std.proofs.Common.{◌≡◌, ◌≤◌, List, length, sym, ap, ◌∙◌, arith}
+use Rattle.kit_words.proofs.Common.{◌≡◌, ◌≤◌, List, length, sym, ap, ◌∙◌, arith, AllZip, take_all, length-map}
+use Rattle.kit_words.proofs.Common.{AllZip-long}
 use Rattle.std.specs.Prelude.{sum_by, flat_map}
-use Rattle.std.specs.List.{AllZip}
-use Rattle.std.proofs.lemmas.List.{take_all, length-map}
-use Rattle.std.proofs.lemmas.Slice.Zip.{AllZip-long}
-use Rattle.grid_geometry.specs.Position.{Position}
-use Rattle.ring_machine.specs.Parts.{size}
-use Rattle.topo_outline.specs.Layers.{leaves}
-use Rattle.topo_reader.specs.Document.{Polygons, Opened, document_of}
-use Rattle.topo_reader.proofs.Numbering.{rings_within, rings_document, sum_within}
-use Rattle.segment_paths.specs.Paths.{Path}
+use Rattle.grid_geometry.specs.Common.{Position}
+use Rattle.ring_machine.specs.Common.{size}
+use Rattle.topo_outline.specs.Common.{leaves}
+use Rattle.topo_reader.specs.Common.{Polygons, Opened, document_of}
+use Rattle.topo_reader.proofs.Common.{rings_within, rings_document, sum_within}
+use Rattle.segment_paths.specs.Common.{Path}
 use Rattle.area_changes.specs.declared.change.AreaChange.{AreaChange}
-use Rattle.area_changes.specs.Areas.{changes_from}
+use Rattle.area_changes.specs.Common.{changes_from}
 use Rattle.map_mending.specs.declared.parted.Parted.{Parted}
-use Rattle.map_mending.specs.Mended.{MendsPolygon, joined}
-use Rattle.map_mending.specs.Told.{TellsParted, polygons_of}
+use Rattle.map_mending.specs.Common.{MendsPolygon, joined, TellsParted, polygons_of}
 use Rattle.map_mending.proofs.Whole.{polygons_read}
 
 -- a document has as many positions as the polygons that were read

@@ -1,35 +1,20 @@
 -- The editor opens a map exactly where its walks are linear rings and no two of its segments conflict.
-use Rattle.std.proofs.Common.{◌≡◌, ℕ, List, map, length, sym, ap, ◌∙◌, subst, arith}
-use Rattle.std.specs.Prelude.{Ok}
-use Rattle.std.specs.List.{flat_map, list_all}
-use Rattle.std.proofs.lemmas.List.{take_all}
-use Rattle.std.proofs.lemmas.List.Folds.{flat_map-map}
-use Rattle.grid_geometry.specs.Conflict.{conflict}
-use Rattle.grid_geometry.specs.Position.{Position}
-use Rattle.grid_geometry.specs.Ring.{Edge, edges}
-use Rattle.grid_geometry.specs.Segment.{Segment, segment_lt}
-use Rattle.grid_geometry.proofs.Conflicts.{conflict-comm}
-use Rattle.ring_machine.specs.Document.{Document}
-use Rattle.ring_machine.specs.Parts.{rings, in_rings}
-use Rattle.ring_machine.specs.Planar.{pair_lt, least_conflict, first_pair}
-use Rattle.ring_machine.specs.Ring.{canonical, segment_of, segments}
-use Rattle.ring_machine.proofs.Cycles.{in_rotated, rotated-sym, edges_canonical}
-use Rattle.ring_machine.proofs.First.{In, least_conflict_is, least_conflict_unique}
-use Rattle.ring_machine.proofs.Local.{Bad, same_least}
-use Rattle.ring_machine.proofs.Members.{in_mapped, in_flat}
-use Rattle.ring_machine.proofs.Neighbours.{in-map, in-flat_map}
-use Rattle.ring_machine.proofs.RingsOf.{rings-in_rings}
-use Rattle.ring_machine.proofs.Spots.{Rotated}
-use Rattle.topo_outline.specs.Layers.{leaves}
-use Rattle.topo_reader.specs.Document.{Polygons, Opened, document_of, is_simple, IsOfWalks}
-use Rattle.topo_reader.specs.Opening.{OpensWalks}
+use Rattle.kit_words.proofs.Common.{◌≡◌, ℕ, List, map, length, sym, ap, ◌∙◌, subst, arith, Ok, flat_map, list_all}
+use Rattle.kit_words.proofs.Common.{take_all, flat_map-map}
+use Rattle.grid_geometry.specs.Common.{conflict, Position, Edge, edges, Segment, segment_lt}
+use Rattle.grid_geometry.proofs.Common.{conflict-comm}
+use Rattle.ring_machine.specs.Common.{Document, rings, in_rings, pair_lt, least_conflict, first_pair, canonical}
+use Rattle.ring_machine.specs.Common.{segment_of, segments}
+use Rattle.ring_machine.proofs.Common.{in_rotated, rotated-sym, edges_canonical, In, least_conflict_is}
+use Rattle.ring_machine.proofs.Common.{least_conflict_unique, Bad, same_least, in_mapped, in_flat, in-map, in-flat_map}
+use Rattle.ring_machine.proofs.Common.{rings-in_rings, Rotated}
+use Rattle.topo_outline.specs.Common.{leaves}
+use Rattle.topo_reader.specs.Common.{Polygons, Opened, document_of, is_simple, IsOfWalks, OpensWalks}
 use Rattle.topo_reader.specs.Opening as reader
-use Rattle.topo_reader.proofs.MeaningOfText.{opens, is_read, is_read_by}
-use Rattle.topo_reader.proofs.Numbering.{rings_within, rings_document}
-use Rattle.topo_reader.proofs.OfRings.{answers_of_walks}
+use Rattle.topo_reader.proofs.Common.{opens, is_read, is_read_by, rings_within, rings_document, answers_of_walks}
 use Rattle.topo_reader.proofs.WalksAndRings.{rings_are_walks, walks_are_rings}
-use Rattle.walk_faults.specs.Opens.{all_walks, Opens}
-use Rattle.mend_report.specs.Looking.{EditorOpens}
+use Rattle.walk_faults.specs.Common.{all_walks, Opens}
+use Rattle.mend_report.specs.Common.{EditorOpens}
 
 -- ---- rings begun elsewhere
 

@@ -1,17 +1,11 @@
 -- Worked examples: what is reported of small maps.
-use Rattle.std.proofs.Common.{◌≡◌, ℕ, Bool, true, refl, pos, List, [], ◌∷◌}
-use Rattle.std.specs.Prelude.{codes, if◌then◌else◌}
-use Rattle.std.specs.List.{fold}
-use Rattle.std.specs.Fmt.{digits}
-use Rattle.grid_geometry.specs.Conflict.{cross, is_within}
-use Rattle.grid_geometry.specs.Orientation.{is_on, are_split, orientation}
-use Rattle.grid_geometry.specs.Position.{Position, position, position_lt, position_eq}
-use Rattle.grid_geometry.specs.Segment.{Segment, segment_eq, segment_lt}
-use Rattle.walk_faults.specs.Walks.{walks_of}
-use Rattle.walk_faults.specs.Findings.{short_walks, all_repeats, all_positions, all_segments}
-use Rattle.walk_faults.specs.Meeting.{touches_among, crossings_among}
+use Rattle.kit_words.proofs.Common.{◌≡◌, ℕ, Bool, true, refl, pos, List, [], ◌∷◌, codes, if◌then◌else◌, fold, digits}
+use Rattle.grid_geometry.specs.Common.{cross, is_within, is_on, are_split, orientation, Position, position, position_lt}
+use Rattle.grid_geometry.specs.Common.{position_eq, Segment, segment_eq, segment_lt}
+use Rattle.walk_faults.specs.Common.{walks_of, short_walks, all_repeats, all_positions, all_segments, touches_among}
+use Rattle.walk_faults.specs.Common.{crossings_among}
 use Rattle.grid_reader.specs.declared.told.Told.{Told}
-use Rattle.mend_report.specs.Report.{report_text}
+use Rattle.mend_report.specs.Common.{report_text}
 
 abbrev at : ℕ → ℕ → Position
 at x y = position (pos x) (pos y)

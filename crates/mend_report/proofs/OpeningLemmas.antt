@@ -1,29 +1,22 @@
 -- The status is 0 exactly where the map opens.
-use Rattle.std.proofs.Common.{◌≡◌, ◌↔◌, ℕ, suc, ◌==◌, ◌&&◌, Bool, true, false, refl, sym, ap, ap₂, ◌∙◌, subst, List, [], ◌∷◌, length, arith}
-use Rattle.std.specs.Prelude.{Result, Ok, Err, IfOk, is_some, if◌then◌else◌}
-use Rattle.std.proofs.lemmas.Bool.{false≢true, eqb-true}
-use Rattle.topo_reader.specs.Document.{Opened}
-use Rattle.topo_outline.specs.Layers.{OutlineText}
-use Rattle.grid_reader.specs.Grid.{heights}
-use Rattle.grid_reader.specs.Wholes.{all_whole}
-use Rattle.grid_reader.specs.Told.{IsTold}
+use Rattle.kit_words.proofs.Common.{◌≡◌, ◌↔◌, ℕ, suc, ◌==◌, ◌&&◌, Bool, true, false, refl, sym, ap, ap₂, ◌∙◌, subst}
+use Rattle.kit_words.proofs.Common.{List, [], ◌∷◌, length, arith, Result, Ok, Err, IfOk, is_some, if◌then◌else◌}
+use Rattle.kit_words.proofs.Common.{false≢true}
+use Rattle.std.proofs.lemmas.Bool.{eqb-true}
+use Rattle.topo_reader.specs.Common.{Opened}
+use Rattle.topo_outline.specs.Common.{OutlineText}
+use Rattle.grid_reader.specs.Common.{heights, all_whole, IsTold}
 use Rattle.grid_reader.specs.declared.told.Told.{Told}
 use Rattle.grid_reader.specs.declared.wants.Wants.{Wants}
-use Rattle.topo_reader.proofs.Steps.{ok_same}
+use Rattle.topo_reader.proofs.Common.{ok_same}
 use Rattle.topo_outline.specs.declared.fault.RingAt.{RingAt}
-use Rattle.walk_faults.specs.Findings.{Found}
-use Rattle.walk_faults.specs.Opens.{Opens, IsNothing}
+use Rattle.walk_faults.specs.Common.{Found, Opens, IsNothing}
 use Rattle.walk_faults.specs.declared.findings.Crossing.{Crossing}
 use Rattle.walk_faults.specs.declared.findings.Findings.{Findings}
 use Rattle.walk_faults.specs.declared.findings.Repeat.{Repeat}
 use Rattle.walk_faults.specs.declared.findings.Touch.{Touch}
 use Rattle.walk_faults.proofs.Opening.{nothing_opens}
-use Rattle.mend_report.specs.Looking.{OpensOn, Looked, MapOpens}
-use Rattle.mend_report.specs.Report.{is_plain, is_clear}
-use Rattle.mend_report.specs.declared.asked.Asked.{Asked}
-use Rattle.mend_report.specs.declared.asked.Report.{Report}
-use Rattle.mend_report.specs.declared.looking.LookFault.{LookFault}
-use Rattle.mend_report.specs.Status.{status_of}
+use Rattle.mend_report.specs.Common.{OpensOn, Looked, MapOpens, is_plain, is_clear, Asked, Report, LookFault, status_of}
 
 -- ---- nothing is found
 

@@ -1,15 +1,12 @@
 -- The places of a map that was looked at.
-use Rattle.std.proofs.Common.{◌≡◌, ℕ, Bool, true, sym, ap, ◌∙◌, subst, List, Option, Some, None}
-use Rattle.std.specs.Prelude.{IfSome, Vec, is_some, not}
-use Rattle.std.proofs.lemmas.Bool.{false≢true}
-use Rattle.segment_paths.specs.Paths.{Path}
-use Rattle.segment_paths.specs.Seen.{paths_seen}
-use Rattle.topo_reader.specs.Document.{Opened, Polygons}
+use Rattle.kit_words.proofs.Common.{◌≡◌, ℕ, Bool, true, sym, ap, ◌∙◌, subst, List, Option, Some, None, IfSome, Vec}
+use Rattle.kit_words.proofs.Common.{is_some, not, false≢true}
+use Rattle.segment_paths.specs.Common.{Path, paths_seen}
+use Rattle.topo_reader.specs.Common.{Opened, Polygons}
 use Rattle.walk_faults.specs.declared.findings.Findings.{Findings}
-use Rattle.place_text.specs.Text.{IsPlaceText}
-use Rattle.mend_report.specs.Remaking.{PlacesRemade}
-use Rattle.walk_faults.specs.Findings.{Found}
-use Rattle.mend_report.specs.declared.remaking.Remade.{Remade}
+use Rattle.place_text.specs.Common.{IsPlaceText}
+use Rattle.mend_report.specs.Common.{PlacesRemade, Remade}
+use Rattle.walk_faults.specs.Common.{Found}
 
 -- where nothing is asked for, all that is asked for holds
 pub none_holds : {X : Type 0} (o : Option X) (none : Bool) (P : X → Type 0) → is_some o ≡ not none → none ≡ true → IfSome o P

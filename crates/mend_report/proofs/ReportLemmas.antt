@@ -1,12 +1,10 @@
 -- The parts of a report.
-use Rattle.std.proofs.Common.{◌≡◌, ℕ, Bool, List, ◌++◌, ◌∙◌, ap, sym, take, length}
+use Rattle.kit_words.proofs.Common.{◌≡◌, ℕ, Bool, List, ◌++◌, ◌∙◌, ap, sym, take, length, take-map, length-map}
 use Rattle.std.specs.Prelude.{flat_map}
-use Rattle.std.proofs.lemmas.List.{take-map, length-map}
-use Rattle.grid_geometry.specs.Position.{Position}
-use Rattle.grid_geometry.specs.Text.{position_text}
-use Rattle.segment_paths.specs.Seen.{path_seen, paths_seen}
+use Rattle.grid_geometry.specs.Common.{Position, position_text}
+use Rattle.segment_paths.specs.Common.{path_seen, paths_seen}
 use Rattle.segment_paths.specs.declared.path.SegmentPath.{SegmentPath}
-use Rattle.mend_report.specs.Report.{opens_line, lines, counts_line, all_counts_line, path_line}
+use Rattle.mend_report.specs.Common.{opens_line, lines, counts_line, all_counts_line, path_line}
 use Rattle.mend_report.specs.declared.lines.FindingCounts.{FindingCounts}
 
 -- what is appended for a map that opens, where the test is known

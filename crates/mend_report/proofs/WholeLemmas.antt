@@ -1,22 +1,14 @@
 -- A map of whole numbers is looked at, and mended, as the editor reads it.
-use Rattle.std.proofs.Common.{◌≡◌, ◌↔◌, ℕ, ◌==◌, true, sym, ap, ◌∙◌, subst, List}
+use Rattle.kit_words.proofs.Common.{◌≡◌, ◌↔◌, ℕ, ◌==◌, true, sym, ap, ◌∙◌, subst, List, Result, Ok, Err, IfOk, ◌&&◌}
 use Rattle.std.proofs.lemmas.Bool.{eqb-true}
-use Rattle.std.specs.Prelude.{Result, Ok, Err, IfOk, ◌&&◌}
-use Rattle.topo_reader.specs.Document.{Opened, document_of}
-use Rattle.topo_reader.specs.Opening.{OpensWalks}
-use Rattle.topo_reader.proofs.MeaningOfText.{is_read_by}
-use Rattle.grid_reader.specs.Told.{IsTold}
+use Rattle.topo_reader.specs.Common.{Opened, document_of, OpensWalks}
+use Rattle.topo_reader.proofs.Common.{is_read_by}
+use Rattle.grid_reader.specs.Common.{IsTold}
 use Rattle.grid_reader.specs.declared.told.Told.{Told}
 use Rattle.grid_reader.specs.declared.wants.Wants.{Wants}
 use Rattle.grid_reader.proofs.AsWhole.{whole_on_grid, whole_told, grid_is_whole}
-use Rattle.mend_report.specs.Looking.{OpensOn, MapOpens, EditorOpens, HasWalks}
-use Rattle.mend_report.specs.Remaking.{IsRemade, RemakesWhole}
-use Rattle.mend_report.specs.Report.{is_plain}
-use Rattle.mend_report.specs.Status.{status_of}
-use Rattle.mend_report.specs.declared.asked.Asked.{Asked}
-use Rattle.mend_report.specs.declared.asked.Report.{Report}
-use Rattle.mend_report.specs.declared.looking.LookFault.{LookFault}
-use Rattle.mend_report.specs.declared.remaking.Remade.{Remade}
+use Rattle.mend_report.specs.Common.{OpensOn, MapOpens, EditorOpens, HasWalks, IsRemade, RemakesWhole, is_plain}
+use Rattle.mend_report.specs.Common.{status_of, Asked, Report, LookFault, Remade}
 use Rattle.mend_report.specs.declared.report.RepairFault.{RepairFault}
 use Rattle.mend_report.proofs.EditorOpens.{walks_open, rings_open}
 use Rattle.mend_report.proofs.OpeningLemmas.{both_if, one}

@@ -1,14 +1,12 @@
 -- Why a map that was looked through is not mended.
 use Rattle.std.specs.Prelude.{List, ◌⊎◌}
-use Rattle.ring_machine.specs.Document.{Document}
+use Rattle.ring_machine.specs.Common.{Document}
 use Rattle.topo_outline.specs.declared.fault.Limit.TheVariants as limit
-use Rattle.segment_paths.specs.Paths.{Path}
-use Rattle.map_mending.specs.Bounding.{MendedBy}
-use Rattle.map_mending.specs.Mended.{Mended}
-use Rattle.map_mending.specs.Faults.{IsMendFault}
+use Rattle.segment_paths.specs.Common.{Path}
+use Rattle.map_mending.specs.Common.{MendedBy, Mended, IsMendFault}
 use Rattle.map_mending.specs.declared.fault.MendFault.{MendFault}
 use Rattle.map_mending.specs.declared.fault.MendFault.TheVariants as mending
-use Rattle.map_saving.specs.Faults.{IsUnsaved}
+use Rattle.map_saving.specs.Common.{IsUnsaved}
 use Rattle.map_saving.specs.declared.fault.SaveFault.{SaveFault}
 use Rattle.map_saving.specs.declared.fault.SaveFault.TheVariants as saving
 use Rattle.mend_report.specs.declared.remaking.RemakeFault.{RemakeFault}

@@ -3,3 +3,4 @@ pub mod Looking
 pub mod Faults
 pub mod Remaking
 pub mod Status
+pub mod Common

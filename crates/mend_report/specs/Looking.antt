@@ -1,20 +1,15 @@
 -- What looking at the bytes of a map comes to.
 use Rattle.std.specs.Prelude.{◌≡◌, ℕ, true, List, Option, None}
-use Rattle.grid_geometry.specs.Position.{Position}
-use Rattle.grid_reader.specs.Opening.{grid_opening}
-use Rattle.grid_reader.specs.Told.{IsTold}
+use Rattle.grid_geometry.specs.Common.{Position}
+use Rattle.grid_reader.specs.Common.{grid_opening, IsTold}
 use Rattle.grid_reader.specs.declared.told.Told.{Told}
 use Rattle.grid_reader.specs.declared.wants.Wants.{Wants}
-use Rattle.place_text.specs.Text.{IsPlaceText}
-use Rattle.ring_machine.specs.Document.{Text}
-use Rattle.ring_machine.specs.Planar.{first_pair}
-use Rattle.segment_paths.specs.Paths.{Path}
-use Rattle.topo_reader.specs.Document.{Opened, document_of}
-use Rattle.topo_reader.specs.Opening.{OpensIn, OpensWalks, IsFaultIn}
+use Rattle.place_text.specs.Common.{IsPlaceText}
+use Rattle.ring_machine.specs.Common.{Text, first_pair}
+use Rattle.segment_paths.specs.Common.{Path}
+use Rattle.topo_reader.specs.Common.{Opened, document_of, OpensIn, OpensWalks, IsFaultIn}
 use Rattle.topo_reader.specs.Opening as reader
-use Rattle.walk_faults.specs.Findings.{Found, HasMore}
-use Rattle.walk_faults.specs.Opens.{Opens}
-use Rattle.walk_faults.specs.Walks.{walks_of}
+use Rattle.walk_faults.specs.Common.{Found, HasMore, Opens, walks_of}
 use Rattle.walk_faults.specs.declared.findings.Findings.{Findings}
 use Rattle.mend_report.specs.Report.{is_plain}
 use Rattle.mend_report.specs.declared.asked.Asked.{Asked}

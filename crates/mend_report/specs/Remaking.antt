@@ -1,27 +1,18 @@
 -- What mending the bytes of a map comes to.
 use Rattle.std.specs.Prelude.{◌≡◌, ℕ, List, ◌++◌, Option, Some, Vec, IfSome}
-use Rattle.ring_machine.specs.Document.{Document}
-use Rattle.ring_machine.specs.Planar.{Proper}
-use Rattle.ring_machine.specs.Ring.{canonical}
-use Rattle.ring_machine.specs.Parts.{in_rings}
-use Rattle.topo_reader.specs.Document.{Opened, document_of}
-use Rattle.topo_reader.specs.Reads.{ReadsWalks}
-use Rattle.grid_reader.specs.Opening.{ReadsOnGrid}
-use Rattle.grid_reader.specs.Told.{IsTold}
+use Rattle.ring_machine.specs.Common.{Document, Proper, canonical, in_rings}
+use Rattle.topo_reader.specs.Common.{Opened, document_of, ReadsWalks}
+use Rattle.grid_reader.specs.Common.{ReadsOnGrid, IsTold}
 use Rattle.grid_reader.specs.declared.told.Told.{Told}
 use Rattle.grid_reader.specs.declared.wants.Wants.{Wants}
-use Rattle.walk_faults.specs.Findings.{Found}
+use Rattle.walk_faults.specs.Common.{Found}
 use Rattle.walk_faults.specs.declared.findings.Findings.{Findings}
-use Rattle.place_text.specs.Text.{IsPlaceText}
-use Rattle.map_text.specs.Saved.{Saved}
-use Rattle.map_text.specs.Text.{text_of}
-use Rattle.area_changes.specs.Areas.{changes_from}
-use Rattle.segment_paths.specs.Seen.{paths_seen}
-use Rattle.map_mending.specs.Bounding.{MendedBy, NeedsNoMending}
-use Rattle.map_mending.specs.Mended.{Mended}
-use Rattle.map_mending.specs.Told.{Parts, polygons_of}
-use Rattle.map_mending.specs.Laws.{VerticesStay, AllStayNear}
-use Rattle.map_saving.specs.Opens.{OpensAgain}
+use Rattle.place_text.specs.Common.{IsPlaceText}
+use Rattle.map_text.specs.Common.{Saved, text_of}
+use Rattle.area_changes.specs.Common.{changes_from}
+use Rattle.segment_paths.specs.Common.{paths_seen}
+use Rattle.map_mending.specs.Common.{MendedBy, NeedsNoMending, Mended, Parts, polygons_of, VerticesStay, AllStayNear}
+use Rattle.map_saving.specs.Common.{OpensAgain}
 use Rattle.mend_report.specs.Faults.{IsRemakeFault}
 use Rattle.mend_report.specs.Looking.{OpensOn, IsEnd, EndsLook}
 use Rattle.mend_report.specs.Report.{mended_report}

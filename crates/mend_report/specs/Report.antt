@@ -2,10 +2,10 @@
 use Rattle.std.specs.Prelude.{ℕ, Bool, ◌&&◌, ◌==◌, List, [], ◌++◌, length, take, codes, decimal, flat_map, if◌then◌else◌}
 use Rattle.std.specs.Fmt.{signed_decimal}
 use Rattle.area_changes.specs.declared.change.AreaChange.{AreaChange}
-use Rattle.grid_geometry.specs.Text.{position_text, segment_text}
+use Rattle.grid_geometry.specs.Common.{position_text, segment_text}
 use Rattle.grid_reader.specs.declared.told.Told.{Told}
 use Rattle.map_mending.specs.declared.parted.Parted.{Parted}
-use Rattle.segment_paths.specs.Paths.{Path}
+use Rattle.segment_paths.specs.Common.{Path}
 use Rattle.topo_outline.specs.declared.fault.RingAt.{RingAt}
 use Rattle.walk_faults.specs.declared.findings.Crossing.{Crossing}
 use Rattle.walk_faults.specs.declared.findings.Findings.{Findings}

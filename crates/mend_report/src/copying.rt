@@ -1,6 +1,6 @@
 //! The walks of a map that is mended once more: the map itself is gone then.
 ghost use Rattle.std.specs.Prelude.{◌≡◌, map, IfOk};
-ghost use Rattle.topo_reader.specs.Uses.{positions_of, polygon_positions, feature_positions};
+ghost use Rattle.topo_reader.specs.Common.{positions_of, polygon_positions, feature_positions};
 
 use grid_geometry::Pos;
 use std::alloc::{AllocError, Allocator};

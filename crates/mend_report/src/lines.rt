@@ -1,11 +1,11 @@
 //! The lines of a report.
 ghost use Rattle.std.specs.Prelude.{◌≡◌, ◌++◌, codes, flat_map, OnOk};
-ghost use Rattle.grid_geometry.specs.Text.{position_text};
+ghost use Rattle.grid_geometry.specs.Common.{position_text};
 ghost use Rattle.mend_report.specs.Report.{short_line, repeat_line, touch_line, crossing_line};
 ghost use Rattle.mend_report.specs.Report.{counts_line, all_counts_line, path_line, parts_line};
 ghost use Rattle.mend_report.specs.Report.{area_line, found_text, decimals_line, heights_line};
 ghost use Rattle.mend_report.specs.Report.{lines_line};
-ghost use Rattle.segment_paths.specs.Seen.{path_seen};
+ghost use Rattle.segment_paths.specs.Common.{path_seen};
 
 use crate::texts::{push_number, push_position, push_ring, push_segment};
 use area_changes::AreaChange;

@@ -1,11 +1,8 @@
 //! From the bytes of a map to all that keeps it from opening.
 ghost use Rattle.std.specs.Prelude.{IfErr, IfOk};
-ghost use Rattle.grid_reader.specs.Opening.{ReadsOnGrid};
-ghost use Rattle.grid_reader.specs.Told.{IsTold};
-ghost use Rattle.grid_reader.specs.OnGridView.{view_on_grid};
-ghost use Rattle.topo_reader.specs.Document.{document_of, IsOfWalks};
-ghost use Rattle.topo_reader.specs.DocumentView.{view_raw};
-ghost use Rattle.walk_faults.specs.Findings.{Found};
+ghost use Rattle.grid_reader.specs.Common.{ReadsOnGrid, IsTold, view_on_grid};
+ghost use Rattle.topo_reader.specs.Common.{document_of, IsOfWalks, view_raw};
+ghost use Rattle.walk_faults.specs.Common.{Found};
 ghost use Rattle.mend_report.specs.Looking.{OpensOn, IsEnd, EndsLook};
 
 use grid_reader::{OnGrid, Told, Wants, read_on_grid};

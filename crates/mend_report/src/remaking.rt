@@ -1,8 +1,7 @@
 //! From a map of walks to the text of the map that it is mended to.
 ghost use Rattle.std.specs.Prelude.{◌≡◌, IfOk, IfErr};
-ghost use Rattle.topo_reader.specs.Document.{document_of, IsOfWalks};
-ghost use Rattle.topo_reader.specs.DocumentView.{view_raw};
-ghost use Rattle.walk_faults.specs.Seen.{features_seen};
+ghost use Rattle.topo_reader.specs.Common.{document_of, IsOfWalks, view_raw};
+ghost use Rattle.walk_faults.specs.Common.{features_seen};
 ghost use Rattle.mend_report.specs.Remaking.{IsRemade};
 ghost use Rattle.mend_report.specs.Faults.{IsRemakeFault};
 

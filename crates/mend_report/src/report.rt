@@ -2,20 +2,18 @@
 ghost use Rattle.std.specs.Prelude.{◌≡◌, ◌↔◌, ◌++◌, ◌&&◌, [], length, take, flat_map, is_some, Ok, None};
 ghost use Rattle.std.specs.Prelude.{option_map, IfErr, IfOk, IfSome};
 ghost use Rattle.std.specs.Prelude.{OnOk};
-ghost use Rattle.walk_faults.specs.Seen.{features_seen};
-ghost use Rattle.walk_faults.specs.Findings.{Found};
-ghost use Rattle.place_text.specs.Text.{IsPlaceText};
+ghost use Rattle.walk_faults.specs.Common.{features_seen, Found};
+ghost use Rattle.place_text.specs.Common.{IsPlaceText};
 ghost use Rattle.mend_report.specs.Report.{short_line, repeat_line, touch_line, crossing_line};
 ghost use Rattle.mend_report.specs.Report.{is_plain, is_clear, opens_line, report_of, findings_text, grid_text};
 ghost use Rattle.mend_report.specs.Report.{path_line, parts_line, area_line, mended_report};
 ghost use Rattle.mend_report.specs.Remaking.{Remakes, RemakesWhole, TellsMending, PlacesMending, IsMendEnd};
 ghost use Rattle.mend_report.specs.Remaking.{IsRemade, TellsRemade, PlacesRemade, EndsMending};
-ghost use Rattle.topo_reader.specs.Document.{document_of, IsOfWalks};
-ghost use Rattle.topo_reader.specs.DocumentView.{view_raw};
-ghost use Rattle.segment_paths.specs.Seen.{paths_seen};
+ghost use Rattle.topo_reader.specs.Common.{document_of, IsOfWalks, view_raw};
+ghost use Rattle.segment_paths.specs.Common.{paths_seen};
 ghost use Rattle.mend_report.specs.Looking.{under, Looked, HasPlaces, MapOpens, EditorOpens, HasWalks, IsEnd, EndsLook};
 ghost use Rattle.mend_report.specs.Status.{is_open, status_of};
-ghost use Rattle.grid_reader.specs.Told.{IsTold};
+ghost use Rattle.grid_reader.specs.Common.{IsTold};
 
 use crate::asked::{Asked, Report};
 use crate::copying::copied;

@@ -1,6 +1,6 @@
 //! Numbers, rings, positions and segments, appended to a text.
 ghost use Rattle.std.specs.Prelude.{◌≡◌, ◌++◌, OnOk};
-ghost use Rattle.grid_geometry.specs.Text.{position_text, segment_text};
+ghost use Rattle.grid_geometry.specs.Common.{position_text, segment_text};
 ghost use Rattle.mend_report.specs.Report.{ring_text};
 
 use grid_geometry::{Pos, Seg};

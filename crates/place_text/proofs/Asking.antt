@@ -1,30 +1,22 @@
 -- What is asked for, and what tables answer of it.
-use Rattle.std.proofs.Common.{◌≡◌, ◌<◌, ◌+◌, ◌||◌, ℕ, zero, suc, Bool, true, false, cond, refl, sym, ap, ◌∙◌, subst}
-use Rattle.std.proofs.Common.{List, [], ◌∷◌, ◌++◌, length, map, take, get_or, arith, Option, Some, None, All}
-use Rattle.std.specs.Prelude.{option_map, unwrap_or, Vec}
+use Rattle.kit_words.proofs.Common.{◌≡◌, ◌<◌, ◌+◌, ◌||◌, ℕ, zero, suc, Bool, true, false, cond, refl, sym, ap, ◌∙◌}
+use Rattle.kit_words.proofs.Common.{subst, List, [], ◌∷◌, ◌++◌, length, map, take, get_or, arith, Option, Some, None}
+use Rattle.kit_words.proofs.Common.{option_map, unwrap_or, Vec, is_eq, IsTotalOrder, tied_itself, Ordering, map-append}
+use Rattle.kit_words.proofs.Common.{take_more, list_any-append}
+use Rattle.std.proofs.Common.{All}
 use Rattle.std.specs.BTreeMap.{BTreeMap, IsEmpty}
 use Rattle.std.specs.Map.{lookup}
-use Rattle.std.specs.Ordering.{is_eq}
-use Rattle.std.specs.Cmp.{IsTotalOrder, tied_itself}
-use Rattle.std.specs.declared.cmp.Ordering.{Ordering}
-use Rattle.std.proofs.lemmas.List.{map-append, take_more}
-use Rattle.std.proofs.lemmas.List.Folds.{list_any-append}
-use Rattle.grid_geometry.specs.Position.{Position, position_cmp}
-use Rattle.grid_geometry.specs.Segment.{Segment, segment_cmp}
-use Rattle.ring_machine.proofs.Order.{or_right}
-use Rattle.ring_machine.proofs.SortedOnce.{position_total}
-use Rattle.segment_index.proofs.Singles.{segment_total}
-use Rattle.segment_paths.specs.Paths.{Path}
+use Rattle.grid_geometry.specs.Common.{Position, position_cmp, Segment, segment_cmp}
+use Rattle.ring_machine.proofs.Common.{or_right, position_total}
+use Rattle.segment_index.proofs.Common.{segment_total}
+use Rattle.segment_paths.specs.Common.{Path}
 use Rattle.walk_faults.specs.declared.findings.Crossing.{Crossing}
 use Rattle.walk_faults.specs.declared.findings.Findings.{Findings}
 use Rattle.walk_faults.specs.declared.findings.Touch.{Touch}
-use Rattle.walk_faults.specs.Walks.{each_at}
-use Rattle.place_text.specs.declared.places.Kind.TheVariants.{Cross}
-use Rattle.place_text.specs.declared.sides.Side.{Side}
-use Rattle.place_text.specs.declared.tables.Tables.{Tables}
-use Rattle.place_text.specs.Owners.{vertex_features, segment_features}
-use Rattle.place_text.specs.Sides.{crossing_sides, sides_of, touch_side}
-use Rattle.place_text.specs.Tables.{is_among, asked_with, numbers_in, touch_pos, side_segment, path_segment, TellsAll, AreEmpty, Answers}
+use Rattle.walk_faults.specs.Common.{each_at}
+use Rattle.place_text.specs.Common.{Cross, Side, Tables, vertex_features, segment_features, crossing_sides, sides_of}
+use Rattle.place_text.specs.Common.{touch_side, is_among, asked_with, numbers_in, touch_pos, side_segment, path_segment}
+use Rattle.place_text.specs.Common.{TellsAll, AreEmpty, Answers}
 
 module _ {K : Type 0} (cmp : K → K → Ordering) where
   -- ---- one key after another

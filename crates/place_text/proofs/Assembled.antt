@@ -1,13 +1,12 @@
 -- Pieces of a topology of places, put together.
-use Rattle.std.proofs.Common.{◌≡◌, ℕ, Bool, true, false, refl, sym, ap, ap₂, ◌∙◌, List, ◌++◌, ◌∷◌, [], append_assoc, append-nil, arith, pos}
-use Rattle.std.specs.Borrow.{Bor}
-use Rattle.std.specs.Prelude.{◌-ℤ◌, Option, None, Some, codes, is_some, option_map}
-use Rattle.std.proofs.lemmas.Int.{ints}
-use Rattle.ring_machine.specs.Document.{Text}
-use Rattle.grid_geometry.specs.Position.{Position, position}
-use Rattle.grid_geometry.specs.Segment.{Segment}
-use Rattle.map_text.specs.Text.{arc_text, list_text, pair_text}
-use Rattle.place_text.specs.Sides.{ends, pair_behind}
+use Rattle.kit_words.proofs.Common.{◌≡◌, ℕ, Bool, true, false, refl, sym, ap, ap₂, ◌∙◌, List, ◌++◌, ◌∷◌, []}
+use Rattle.kit_words.proofs.Common.{append_assoc, arith, pos, Bor, ◌-ℤ◌, Option, None, Some, codes, is_some, option_map}
+use Rattle.kit_words.proofs.Common.{ints}
+use Rattle.std.proofs.Common.{append-nil}
+use Rattle.ring_machine.specs.Common.{Text}
+use Rattle.grid_geometry.specs.Common.{Position, position, Segment}
+use Rattle.map_text.specs.Common.{arc_text, list_text, pair_text}
+use Rattle.place_text.specs.Common.{ends, pair_behind}
 use Rattle.place_text.proofs.Appending.{five, six}
 
 list_two : (a b : Text) → codes "[" ++ (a ++ (codes "," ++ (b ++ codes "]"))) ≡ list_text (a ∷ b ∷ [])

@@ -1,13 +1,11 @@
 -- The pairs of segments that cross, and their positions.
-use Rattle.std.proofs.Common.{◌≡◌, ◌<◌, ◌+◌, ℕ, sym, ap, subst, ◌∙◌, List, [], ◌∷◌, ◌++◌, length, take, get_or}
-use Rattle.std.specs.Prelude.{All, IsTrue}
-use Rattle.std.specs.List.{AllZip}
-use Rattle.std.proofs.lemmas.List.{take_more}
-use Rattle.grid_geometry.specs.Position.{Position}
-use Rattle.grid_geometry.specs.Conflict.{cross}
-use Rattle.snap_geometry.specs.Crossing.{IsRoundedCrossing}
+use Rattle.kit_words.proofs.Common.{◌≡◌, ◌<◌, ◌+◌, ℕ, sym, ap, subst, ◌∙◌, List, [], ◌∷◌, ◌++◌, length, take, get_or}
+use Rattle.kit_words.proofs.Common.{IsTrue, AllZip, take_more}
+use Rattle.std.specs.Prelude.{All}
+use Rattle.grid_geometry.specs.Common.{Position, cross}
+use Rattle.snap_geometry.specs.Common.{IsRoundedCrossing}
 use Rattle.walk_faults.specs.declared.findings.Crossing.{Crossing}
-use Rattle.place_text.specs.Places.{AreCrossings}
+use Rattle.place_text.specs.Common.{AreCrossings}
 
 both_more : {X Y : Type 0} (R : X → Y → Type 0) (xs : List X) (ys : List Y) (x : X) (y : Y) → AllZip R xs ys → R x y → AllZip R (xs ++ x ∷ []) (ys ++ y ∷ [])
 both_more R [] [] x y h r = (r, tt)

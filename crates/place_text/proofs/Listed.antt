@@ -1,11 +1,11 @@
 -- Texts with commas between them, one after another.
-use Rattle.std.proofs.Common.{◌≡◌, ℕ, suc, ◌+◌, ◌<◌, length, take, List, [], ◌∷◌, ◌++◌, map, true, refl, sym, ap, ◌∙◌, arith, append_assoc, append-nil, get_or}
-use Rattle.std.specs.Prelude.{codes, nat_lt}
-use Rattle.std.proofs.lemmas.List.{map-append, take_more}
-use Rattle.std.proofs.lemmas.List.Concat.{flat_map-append}
-use Rattle.ring_machine.specs.Document.{Text}
-use Rattle.map_text.specs.Text.{further, commas, comma_if}
-use Rattle.walk_faults.specs.Walks.{each_at}
+use Rattle.kit_words.proofs.Common.{◌≡◌, ℕ, suc, ◌+◌, ◌<◌, length, take, List, [], ◌∷◌, ◌++◌, map, true, refl, sym, ap}
+use Rattle.kit_words.proofs.Common.{◌∙◌, arith, append_assoc, get_or, codes, nat_lt, map-append, take_more}
+use Rattle.kit_words.proofs.Common.{flat_map-append}
+use Rattle.std.proofs.Common.{append-nil}
+use Rattle.ring_machine.specs.Common.{Text}
+use Rattle.map_text.specs.Common.{further, commas, comma_if}
+use Rattle.walk_faults.specs.Common.{each_at}
 use Rattle.place_text.proofs.Numbered.{each_next, so_many}
 
 positive : (i : ℕ) → nat_lt 0 (suc i) ≡ true

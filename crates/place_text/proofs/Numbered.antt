@@ -1,7 +1,8 @@
 -- What each element of a list gives with its number, one after another.
-use Rattle.std.proofs.Common.{◌≡◌, ◌<◌, ◌+◌, ℕ, zero, suc, refl, sym, ap, ◌∙◌, List, [], ◌∷◌, ◌++◌, length, take, get_or, arith, append_assoc, append-nil}
-use Rattle.std.proofs.lemmas.List.{take_more}
-use Rattle.walk_faults.specs.Walks.{each_at}
+use Rattle.kit_words.proofs.Common.{◌≡◌, ◌<◌, ◌+◌, ℕ, zero, suc, refl, sym, ap, ◌∙◌, List, [], ◌∷◌, ◌++◌, length, take}
+use Rattle.kit_words.proofs.Common.{get_or, arith, append_assoc, take_more}
+use Rattle.std.proofs.Common.{append-nil}
+use Rattle.walk_faults.specs.Common.{each_at}
 
 each_at-append : {X Y : Type 0} (f : ℕ → X → List Y) (k : ℕ) (xs ys : List X) → each_at f k (xs ++ ys) ≡ each_at f k xs ++ each_at f (k + length xs) ys
 each_at-append f k [] ys = let e : k ≡ k + 0 = omega arith in ap (λ n. each_at f n ys) e

@@ -1,24 +1,21 @@
 -- What tables tell is what the map tells, wherever the text asks.
-use Rattle.std.proofs.Common.{◌≡◌, ◌<◌, ◌+◌, ℕ, suc, refl, sym, ap, ap₂, ◌∙◌, List, [], ◌∷◌, ◌++◌, length, map, take, get_or, arith, Option, Some, None, All}
-use Rattle.std.specs.Prelude.{codes, is_some}
-use Rattle.std.proofs.lemmas.List.{map-append}
-use Rattle.grid_geometry.specs.Position.{Position}
-use Rattle.ring_machine.specs.Document.{Text}
-use Rattle.map_text.specs.Text.{arcs_text}
-use Rattle.segment_paths.specs.Paths.{Path}
+use Rattle.kit_words.proofs.Common.{◌≡◌, ◌<◌, ◌+◌, ℕ, suc, refl, sym, ap, ap₂, ◌∙◌, List, [], ◌∷◌, ◌++◌, length, map}
+use Rattle.kit_words.proofs.Common.{take, get_or, arith, Option, Some, None, codes, is_some, map-append}
+use Rattle.std.proofs.Common.{All}
+use Rattle.grid_geometry.specs.Common.{Position}
+use Rattle.ring_machine.specs.Common.{Text}
+use Rattle.map_text.specs.Common.{arcs_text}
+use Rattle.segment_paths.specs.Common.{Path}
 use Rattle.topo_outline.specs.declared.fault.RingAt.{RingAt}
 use Rattle.walk_faults.specs.declared.findings.Findings.{Findings}
 use Rattle.walk_faults.specs.declared.findings.Touch.{Touch}
-use Rattle.walk_faults.specs.Walks.{each_at}
+use Rattle.walk_faults.specs.Common.{each_at}
 use Rattle.place_text.specs.declared.owners.Owners.{Owners}
-use Rattle.place_text.specs.declared.places.Kind.TheVariants.{Short, On, Cross}
-use Rattle.place_text.specs.declared.places.Place.{Place}
-use Rattle.place_text.specs.declared.sides.Side.{Side}
-use Rattle.place_text.specs.Owners.{Telling, telling, pair_features}
-use Rattle.place_text.specs.Places.{list_at, place_at, short_place, repeat_place, touch_place, crossing_place, places_of, ArePlaces, walk_at}
-use Rattle.place_text.specs.Sides.{sides_of, side_ends}
-use Rattle.place_text.specs.Tables.{numbers_of, told_by, told_paths, Answers}
-use Rattle.place_text.specs.Text.{place_text, side_text, sides_text, path_text, path_layer, collection_text, transform_text, ways, topology_text, IsPlaceText}
+use Rattle.place_text.specs.Common.{Short, On, Cross, Place, Side, Telling, telling, pair_features, list_at, place_at}
+use Rattle.place_text.specs.Common.{short_place, repeat_place, touch_place, crossing_place, places_of, ArePlaces}
+use Rattle.place_text.specs.Common.{walk_at, sides_of, side_ends, numbers_of, told_by, told_paths, Answers, place_text}
+use Rattle.place_text.specs.Common.{side_text, sides_text, path_text, path_layer, collection_text, transform_text, ways}
+use Rattle.place_text.specs.Common.{topology_text, IsPlaceText}
 
 -- ---- elements that give the same
 

@@ -1,13 +1,10 @@
 -- The places of walks of fewer than three positions, one after another.
-use Rattle.std.proofs.Common.{◌≡◌, ◌<◌, ◌+◌, ℕ, ap, ◌∙◌, List, ◌++◌, map, length, take, get_or, Option, Some}
-use Rattle.std.specs.Prelude.{option_to_list}
-use Rattle.std.proofs.lemmas.List.{get_or_default}
-use Rattle.grid_geometry.specs.Position.{Position}
+use Rattle.kit_words.proofs.Common.{◌≡◌, ◌<◌, ◌+◌, ℕ, ap, ◌∙◌, List, ◌++◌, map, length, take, get_or, Option, Some}
+use Rattle.kit_words.proofs.Common.{option_to_list, get_or_default}
+use Rattle.grid_geometry.specs.Common.{Position}
 use Rattle.topo_outline.specs.declared.fault.RingAt.{RingAt}
-use Rattle.walk_faults.specs.Walks.{each_at}
-use Rattle.place_text.specs.declared.places.Kind.TheVariants.{Short}
-use Rattle.place_text.specs.declared.places.Place.{Place}
-use Rattle.place_text.specs.Places.{place_at, short_place, walk_at}
+use Rattle.walk_faults.specs.Common.{each_at}
+use Rattle.place_text.specs.Common.{Short, Place, place_at, short_place, walk_at}
 use Rattle.place_text.proofs.Numbered.{one_more}
 
 -- one walk more, whose first position was found or not

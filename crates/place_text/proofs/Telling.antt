@@ -1,22 +1,16 @@
 -- What tables hold, while features are told one after another.
-use Rattle.std.proofs.Common.{◌≡◌, ◌<◌, ◌≤◌, ◌+◌, ℕ, zero, suc, Bool, true, false, cond, refl, sym, ap, ap₂, ◌∙◌, subst}
-use Rattle.std.proofs.Common.{List, [], ◌∷◌, ◌++◌, length, map, take, drop, get_or, drop-cons, arith, append-nil, Option, Some, None}
-use Rattle.std.specs.Prelude.{option_map}
-use Rattle.std.specs.List.{flat_map, list_any}
-use Rattle.std.specs.Ordering.{is_eq}
-use Rattle.std.proofs.lemmas.List.{map-append, take_more, take-map, length-map}
-use Rattle.std.proofs.lemmas.List.Concat.{flat_map-append}
-use Rattle.grid_geometry.specs.Position.{Position, position_cmp, position_eq}
-use Rattle.grid_geometry.specs.Segment.{Segment, segment, segment_cmp, segment_eq}
-use Rattle.grid_geometry.specs.Ring.{links}
-use Rattle.ring_machine.proofs.Order.{position_eq-true}
-use Rattle.ring_machine.proofs.Removal.{position_eq-sym}
-use Rattle.ring_machine.proofs.SortedOnce.{ties}
-use Rattle.segment_index.proofs.Singles.{segment_eq-is}
-use Rattle.walk_faults.specs.Findings.{segment_at}
-use Rattle.place_text.specs.declared.tables.Tables.{Tables}
-use Rattle.place_text.specs.Owners.{feature_positions, feature_segments, has_vertex, has_segment, numbers_where}
-use Rattle.place_text.specs.Tables.{is_among, once, once_if, numbers_in, Tells, TellsAll}
+use Rattle.kit_words.proofs.Common.{◌≡◌, ◌<◌, ◌≤◌, ◌+◌, ℕ, zero, suc, Bool, true, false, cond, refl, sym, ap, ap₂, ◌∙◌}
+use Rattle.kit_words.proofs.Common.{subst, List, [], ◌∷◌, ◌++◌, length, map, take, drop, get_or, drop-cons, arith}
+use Rattle.kit_words.proofs.Common.{Option, Some, None, option_map, flat_map, list_any, is_eq, map-append, take_more}
+use Rattle.kit_words.proofs.Common.{take-map, length-map, flat_map-append}
+use Rattle.std.proofs.Common.{append-nil}
+use Rattle.grid_geometry.specs.Common.{Position, position_cmp, position_eq, Segment, segment, segment_cmp, segment_eq}
+use Rattle.grid_geometry.specs.Common.{links}
+use Rattle.ring_machine.proofs.Common.{position_eq-true, position_eq-sym, ties}
+use Rattle.segment_index.proofs.Common.{segment_eq-is}
+use Rattle.walk_faults.specs.Common.{segment_at}
+use Rattle.place_text.specs.Common.{Tables, feature_positions, feature_segments, has_vertex, has_segment, numbers_where}
+use Rattle.place_text.specs.Common.{is_among, once, once_if, numbers_in, Tells, TellsAll}
 use Rattle.place_text.proofs.Numbered.{so_many}
 use Rattle.place_text.proofs.Told.{both_told, next_number}
 

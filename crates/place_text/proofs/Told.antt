@@ -1,13 +1,10 @@
 -- Numbers of features that are told at a key, each once.
-use Rattle.std.proofs.Common.{◌≡◌, ◌<◌, ◌≤◌, ◌+◌, ◌-◌, ◌==◌, ◌||◌, ℕ, zero, suc, Bool, true, false, cond, refl, sym, ap, ◌∙◌}
-use Rattle.std.proofs.Common.{List, [], ◌∷◌, ◌++◌, length, take, get_or, arith, append-nil, Option, Some, None}
-use Rattle.std.specs.Prelude.{slice_get, option_map, if◌then◌else◌}
-use Rattle.std.specs.Ordering.{is_eq}
-use Rattle.std.specs.declared.cmp.Ordering.{Ordering}
-use Rattle.std.proofs.lemmas.List.Folds.{list_any-append}
-use Rattle.walk_faults.specs.Walks.{each_at}
-use Rattle.place_text.specs.Owners.{number_if, numbers_where}
-use Rattle.place_text.specs.Tables.{is_last, once, is_among, once_if}
+use Rattle.kit_words.proofs.Common.{◌≡◌, ◌<◌, ◌≤◌, ◌+◌, ◌-◌, ◌==◌, ◌||◌, ℕ, zero, suc, Bool, true, false, cond, refl}
+use Rattle.kit_words.proofs.Common.{sym, ap, ◌∙◌, List, [], ◌∷◌, ◌++◌, length, take, get_or, arith, Option, Some, None}
+use Rattle.kit_words.proofs.Common.{slice_get, option_map, if◌then◌else◌, is_eq, Ordering, list_any-append}
+use Rattle.std.proofs.Common.{append-nil}
+use Rattle.walk_faults.specs.Common.{each_at}
+use Rattle.place_text.specs.Common.{number_if, numbers_where, is_last, once, is_among, once_if}
 use Rattle.place_text.proofs.Numbered.{each_next}
 
 -- ---- a number at the end of a list

@@ -1,21 +1,14 @@
 -- The numbers of features that have one of two things or both.
-use Rattle.std.proofs.Common.{◌≡◌, ◌<◌, ◌+◌, ℕ, suc, Bool, true, false, ◌||◌, sym, ap, ap₂, ◌∙◌, subst, List, [], ◌∷◌, ◌++◌, ◌⊎◌, inl, inr, length, take, get_or, map, Contains, arith}
-use Rattle.std.specs.Prelude.{if◌then◌else◌}
-use Rattle.std.specs.List.{AllByRecursion}
-use Rattle.std.specs.List.Sorted.{IsStrictlySortedBy}
-use Rattle.std.specs.Ordering.{nat_cmp}
-use Rattle.std.specs.Cmp.{nat_cmp_is}
-use Rattle.std.specs.declared.cmp.Ordering.TheVariants.{Less}
-use Rattle.std.proofs.lemmas.Cmp.{nat_cmp_total}
-use Rattle.std.proofs.lemmas.List.{map-append, take_more}
-use Rattle.grid_geometry.specs.Position.{Position}
-use Rattle.ring_machine.proofs.First.{In, in-append, in_left, in_right}
-use Rattle.ring_machine.proofs.Members.{contains_in, in_contains}
+use Rattle.kit_words.proofs.Common.{◌≡◌, ◌<◌, ◌+◌, ℕ, suc, Bool, true, false, ◌||◌, sym, ap, ap₂, ◌∙◌, subst, List, []}
+use Rattle.kit_words.proofs.Common.{◌∷◌, ◌++◌, ◌⊎◌, inl, inr, length, take, get_or, map, Contains, arith, if◌then◌else◌}
+use Rattle.kit_words.proofs.Common.{AllByRecursion, IsStrictlySortedBy, nat_cmp, nat_cmp_is, Less, nat_cmp_total}
+use Rattle.kit_words.proofs.Common.{map-append, take_more}
+use Rattle.grid_geometry.specs.Common.{Position}
+use Rattle.ring_machine.proofs.Common.{In, in-append, in_left, in_right, contains_in, in_contains}
 use Rattle.walk_faults.specs.declared.findings.Crossing.{Crossing}
-use Rattle.walk_faults.specs.Findings.{ListsAll}
-use Rattle.walk_faults.specs.Walks.{each_at}
-use Rattle.walk_faults.proofs.Ascending.{same_ascending}
-use Rattle.place_text.specs.Owners.{number_if, numbers_where, has_segment, segment_features, pair_features}
+use Rattle.walk_faults.specs.Common.{ListsAll, each_at}
+use Rattle.walk_faults.proofs.Common.{same_ascending}
+use Rattle.place_text.specs.Common.{number_if, numbers_where, has_segment, segment_features, pair_features}
 
 module _ {X : Type 0} where
   -- ---- they ascend

@@ -1,17 +1,15 @@
 -- The positions of a path, one after another, and lists of arcs in two parts.
-use Rattle.std.proofs.Common.{◌≡◌, ◌<◌, ◌+◌, ℕ, suc, Bool, true, false, ◌||◌, ◌==◌, not, refl, sym, ap, ap₂, ◌∙◌, List, [], ◌∷◌, ◌++◌, map, length, take, drop, get_or, drop-cons, arith, pos, append_assoc, append-nil}
-use Rattle.std.specs.Prelude.{◌-ℤ◌, codes, nat_lt}
-use Rattle.std.proofs.lemmas.Bool.Decides.{nat_tests}
-use Rattle.std.proofs.lemmas.Int.{ints}
-use Rattle.std.proofs.lemmas.List.{map-append, length-map, take_more}
-use Rattle.std.proofs.lemmas.List.Concat.{flat_map-append}
-use Rattle.ring_machine.specs.Document.{Text}
-use Rattle.grid_geometry.specs.Position.{Position, position}
-use Rattle.map_text.specs.Text.{further, commas, comma_if, pair_text, pairs, differences, arc_text, list_text}
-use Rattle.segment_paths.specs.Seen.{path_seen}
+use Rattle.kit_words.proofs.Common.{◌≡◌, ◌<◌, ◌+◌, ℕ, suc, Bool, true, false, ◌||◌, ◌==◌, not, refl, sym, ap, ap₂, ◌∙◌}
+use Rattle.kit_words.proofs.Common.{List, [], ◌∷◌, ◌++◌, map, length, take, drop, get_or, drop-cons, arith, pos}
+use Rattle.kit_words.proofs.Common.{append_assoc, ◌-ℤ◌, codes, nat_lt, nat_tests, ints, map-append, length-map}
+use Rattle.kit_words.proofs.Common.{take_more, flat_map-append}
+use Rattle.std.proofs.Common.{append-nil}
+use Rattle.ring_machine.specs.Common.{Text}
+use Rattle.grid_geometry.specs.Common.{Position, position}
+use Rattle.map_text.specs.Common.{further, commas, comma_if, pair_text, pairs, differences, arc_text, list_text}
+use Rattle.segment_paths.specs.Common.{path_seen}
 use Rattle.segment_paths.specs.declared.path.SegmentPath.{SegmentPath}
-use Rattle.place_text.specs.Sides.{pair_behind, way}
-use Rattle.place_text.specs.Text.{behind_if}
+use Rattle.place_text.specs.Common.{pair_behind, way, behind_if}
 use Rattle.place_text.proofs.Appending.{four}
 use Rattle.place_text.proofs.Listed.{commas_next}
 use Rattle.place_text.proofs.Numbered.{so_many}

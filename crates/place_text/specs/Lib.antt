@@ -3,3 +3,4 @@ pub mod Places
 pub mod Sides
 pub mod Tables
 pub mod Text
+pub mod Common

@@ -1,12 +1,10 @@
 -- Which features a vertex, a segment, or a pair of segments belongs to.
 use Rattle.std.specs.Prelude.{ℕ, Bool, ◌||◌, if◌then◌else◌, List, [], ◌∷◌, map}
 use Rattle.std.specs.List.{flat_map, list_any}
-use Rattle.grid_geometry.specs.Position.{Position, position_eq}
-use Rattle.grid_geometry.specs.Segment.{Segment, segment_eq}
+use Rattle.grid_geometry.specs.Common.{Position, position_eq, Segment, segment_eq}
 use Rattle.walk_faults.specs.declared.findings.Crossing.{Crossing}
 use Rattle.walk_faults.specs.declared.findings.Findings.{Findings}
-use Rattle.walk_faults.specs.Findings.{walk_segments}
-use Rattle.walk_faults.specs.Walks.{each_at}
+use Rattle.walk_faults.specs.Common.{walk_segments, each_at}
 use Rattle.place_text.specs.Places.{list_at}
 
 -- ---- what a feature has, which is given by its polygons and their rings, which are walks

@@ -1,14 +1,14 @@
 -- The places of what keeps a map from opening: positions, each with the finding that it stands for.
 use Rattle.std.specs.Prelude.{◌≡◌, ℕ, List, [], ◌∷◌, ◌++◌, map, take, Option, Some, None, unwrap_or, slice_get}
 use Rattle.std.specs.List.{AllZip}
-use Rattle.grid_geometry.specs.Position.{Position}
-use Rattle.snap_geometry.specs.Crossing.{IsRoundedCrossing}
+use Rattle.grid_geometry.specs.Common.{Position}
+use Rattle.snap_geometry.specs.Common.{IsRoundedCrossing}
 use Rattle.topo_outline.specs.declared.fault.RingAt.{RingAt}
 use Rattle.walk_faults.specs.declared.findings.Crossing.{Crossing}
 use Rattle.walk_faults.specs.declared.findings.Findings.{Findings}
 use Rattle.walk_faults.specs.declared.findings.Repeat.{Repeat}
 use Rattle.walk_faults.specs.declared.findings.Touch.{Touch}
-use Rattle.walk_faults.specs.Walks.{each_at}
+use Rattle.walk_faults.specs.Common.{each_at}
 use Rattle.place_text.specs.declared.places.Kind.{Kind}
 use Rattle.place_text.specs.declared.places.Kind.TheVariants.{Short, Repeats, On, Cross}
 use Rattle.place_text.specs.declared.places.Place.{Place}

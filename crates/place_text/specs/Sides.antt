@@ -1,12 +1,11 @@
 -- The segments that findings speak of.
 use Rattle.std.specs.Prelude.{ℕ, ◌-ℤ◌, Bool, true, false, List, [], ◌∷◌, ◌++◌}
-use Rattle.grid_geometry.specs.Position.{Position, position}
-use Rattle.grid_geometry.specs.Segment.{Segment}
-use Rattle.segment_paths.specs.Paths.{Path}
+use Rattle.grid_geometry.specs.Common.{Position, position, Segment}
+use Rattle.segment_paths.specs.Common.{Path}
 use Rattle.walk_faults.specs.declared.findings.Crossing.{Crossing}
 use Rattle.walk_faults.specs.declared.findings.Findings.{Findings}
 use Rattle.walk_faults.specs.declared.findings.Touch.{Touch}
-use Rattle.walk_faults.specs.Walks.{each_at}
+use Rattle.walk_faults.specs.Common.{each_at}
 use Rattle.place_text.specs.declared.places.Kind.{Kind}
 use Rattle.place_text.specs.declared.places.Kind.TheVariants.{On, Cross}
 use Rattle.place_text.specs.declared.sides.Side.{Side}

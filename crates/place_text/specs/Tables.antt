@@ -5,9 +5,8 @@ use Rattle.std.specs.List.{list_any}
 use Rattle.std.specs.BTreeMap.{BTreeMap, get}
 use Rattle.std.specs.Ordering.{is_eq}
 use Rattle.std.specs.declared.cmp.Ordering.{Ordering}
-use Rattle.grid_geometry.specs.Position.{Position, position_cmp}
-use Rattle.grid_geometry.specs.Segment.{Segment, segment_cmp}
-use Rattle.segment_paths.specs.Paths.{Path}
+use Rattle.grid_geometry.specs.Common.{Position, position_cmp, Segment, segment_cmp}
+use Rattle.segment_paths.specs.Common.{Path}
 use Rattle.walk_faults.specs.declared.findings.Crossing.{Crossing}
 use Rattle.walk_faults.specs.declared.findings.Touch.{Touch}
 use Rattle.place_text.specs.declared.owners.Owners.{Owners}

@@ -1,18 +1,18 @@
 -- The text of the places of findings: a topology of points and lines, without white space.
 use Rattle.std.specs.Prelude.{◌≡◌, ℕ, ◌+◌, Bool, if◌then◌else◌, List, [], ◌∷◌, ◌++◌, map, length, Option, Some, None, is_some, codes, decimal}
-use Rattle.grid_geometry.specs.Position.{Position}
-use Rattle.ring_machine.specs.Document.{Text}
+use Rattle.grid_geometry.specs.Common.{Position}
+use Rattle.ring_machine.specs.Common.{Text}
 use Rattle.topo_outline.specs.declared.fault.RingAt.{RingAt}
-use Rattle.map_text.specs.Text.{list_text, pair_text, arcs_text, commas, further}
+use Rattle.map_text.specs.Common.{list_text, pair_text, arcs_text, commas, further}
 use Rattle.walk_faults.specs.declared.findings.Findings.{Findings}
-use Rattle.walk_faults.specs.Walks.{each_at}
+use Rattle.walk_faults.specs.Common.{each_at}
 use Rattle.place_text.specs.declared.places.Kind.{Kind}
 use Rattle.place_text.specs.declared.places.Kind.TheVariants.{Short, Repeats, On, Cross}
 use Rattle.place_text.specs.declared.places.Place.{Place}
 use Rattle.place_text.specs.declared.sides.Side.{Side}
 use Rattle.place_text.specs.Owners.{Telling, telling}
 use Rattle.place_text.specs.Places.{ArePlaces}
-use Rattle.segment_paths.specs.Paths.{Path}
+use Rattle.segment_paths.specs.Common.{Path}
 use Rattle.place_text.specs.Sides.{sides_of, side_ends, way}
 
 -- ---- properties

@@ -1,7 +1,7 @@
 // Numbers and pairs of them, appended to a text (RFC 8259).
 ghost use Rattle.std.specs.Prelude.{◌≡◌, ◌++◌, ◌-ℤ◌, OnOk};
-ghost use Rattle.grid_geometry.specs.Position.{position};
-ghost use Rattle.map_text.specs.Text.{comma_if, pair_text};
+ghost use Rattle.grid_geometry.specs.Common.{position};
+ghost use Rattle.map_text.specs.Common.{comma_if, pair_text};
 ghost use Rattle.place_text.specs.Sides.{pair_behind};
 
 use grid_geometry::Pos;

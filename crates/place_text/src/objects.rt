@@ -1,7 +1,7 @@
 // The objects of a topology of places, appended to a text.
 ghost use Rattle.std.specs.Prelude.{◌≡◌, ◌++◌, OnOk};
-ghost use Rattle.segment_paths.specs.Seen.{path_seen};
-ghost use Rattle.map_text.specs.Text.{arc_text};
+ghost use Rattle.segment_paths.specs.Common.{path_seen};
+ghost use Rattle.map_text.specs.Common.{arc_text};
 ghost use Rattle.place_text.specs.Sides.{ends, way};
 ghost use Rattle.place_text.specs.Tables.{told_by};
 ghost use Rattle.place_text.specs.Text.{kind_text, ring_text, features_text, whose_text};

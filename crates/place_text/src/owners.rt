@@ -2,11 +2,9 @@
 ghost use Rattle.std.specs.Prelude.{◌≡◌, ◌++◌, List, map, option_map, All, IfOk, OnOk};
 ghost use Rattle.std.specs.Prelude.{Contains};
 ghost use Rattle.std.specs.Ordering.{nat_cmp};
-ghost use Rattle.grid_geometry.specs.Position.{Position, position_cmp};
-ghost use Rattle.grid_geometry.specs.Segment.{Segment, segment_cmp};
-ghost use Rattle.segment_paths.specs.Seen.{paths_seen};
-ghost use Rattle.walk_faults.specs.Findings.{ListsAll};
-ghost use Rattle.walk_faults.specs.Seen.{features_seen};
+ghost use Rattle.grid_geometry.specs.Common.{Position, position_cmp, Segment, segment_cmp};
+ghost use Rattle.segment_paths.specs.Common.{paths_seen};
+ghost use Rattle.walk_faults.specs.Common.{ListsAll, features_seen};
 ghost use Rattle.place_text.specs.Places.{list_at};
 ghost use Rattle.place_text.specs.Sides.{sides_of};
 ghost use Rattle.place_text.specs.Owners.{pair_features};

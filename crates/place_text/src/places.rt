@@ -1,8 +1,7 @@
 // The places of findings.
 ghost use Rattle.std.specs.Prelude.{◌≡◌, ◌++◌, All, IsTrue, take, option_to_list, IfOk, OnOk};
-ghost use Rattle.grid_geometry.specs.Conflict.{cross};
-ghost use Rattle.walk_faults.specs.Seen.{features_seen};
-ghost use Rattle.walk_faults.specs.Walks.{each_at};
+ghost use Rattle.grid_geometry.specs.Common.{cross};
+ghost use Rattle.walk_faults.specs.Common.{features_seen, each_at};
 ghost use Rattle.place_text.specs.Places.{walk_at, short_place, repeat_place, touch_place};
 ghost use Rattle.place_text.specs.Places.{crossing_place, AreCrossings, ArePlaces};
 

@@ -1,6 +1,6 @@
 // The segments that findings speak of.
 ghost use Rattle.std.specs.Prelude.{◌≡◌, ◌++◌, IfOk, OnOk};
-ghost use Rattle.walk_faults.specs.Walks.{each_at};
+ghost use Rattle.walk_faults.specs.Common.{each_at};
 ghost use Rattle.place_text.specs.Sides.{touch_side, crossing_sides, sides_of};
 
 use crate::places::Kind;

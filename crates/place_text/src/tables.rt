@@ -1,10 +1,9 @@
 // By vertex and by segment the numbers of the features that have it.
 ghost use Rattle.std.specs.Prelude.{◌≡◌, ◌∷◌, [], option_map, option_copied, unwrap_or, OnOk};
 ghost use Rattle.std.specs.List.{flat_map};
-ghost use Rattle.grid_geometry.specs.Position.{position_cmp};
-ghost use Rattle.grid_geometry.specs.Segment.{segment_cmp};
-ghost use Rattle.walk_faults.specs.Findings.{segment_at, walk_segments};
-ghost use Rattle.walk_faults.specs.Seen.{rings_seen, polygons_seen, features_seen};
+ghost use Rattle.grid_geometry.specs.Common.{position_cmp, segment_cmp};
+ghost use Rattle.walk_faults.specs.Common.{segment_at, walk_segments, rings_seen, polygons_seen};
+ghost use Rattle.walk_faults.specs.Common.{features_seen};
 ghost use Rattle.place_text.specs.Owners.{feature_positions, feature_segments};
 ghost use Rattle.place_text.specs.Tables.{once, once_if, numbers_of, numbers_in, numbers_at, asked_with};
 ghost use Rattle.place_text.specs.Tables.{Tells, TellsAll, AreEmpty};

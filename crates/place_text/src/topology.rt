@@ -1,9 +1,8 @@
 // The topology of places.
 ghost use Rattle.std.specs.Prelude.{◌≡◌, ◌≤◌, ◌||◌, ◌++◌, nat_lt, map, option_map, IfOk, OnOk};
-ghost use Rattle.map_text.specs.Text.{arc_text, arcs_text, commas, list_text};
-ghost use Rattle.segment_paths.specs.Seen.{paths_seen};
-ghost use Rattle.walk_faults.specs.Findings.{Found};
-ghost use Rattle.walk_faults.specs.Seen.{features_seen};
+ghost use Rattle.map_text.specs.Common.{arc_text, arcs_text, commas, list_text};
+ghost use Rattle.segment_paths.specs.Common.{paths_seen};
+ghost use Rattle.walk_faults.specs.Common.{Found, features_seen};
 ghost use Rattle.place_text.specs.Sides.{side_ends, way};
 ghost use Rattle.place_text.specs.Tables.{told_by};
 ghost use Rattle.place_text.specs.Text.{transform_text, place_text, sides_text, paths_text, ways};

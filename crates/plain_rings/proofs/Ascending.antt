@@ -1,21 +1,12 @@
 -- Ascending segments: each is at most those after it, and past the reach of a segment none is in conflict with it.
-use Rattle.std.proofs.Common.{◌≡◌, ℕ, suc, ◌+◌, ◌≤◌, ◌<◌, Bool, true, false, refl, sym, ap, ◌∙◌, cond, List, [], ◌∷◌, length, drop, get_or, arith, ℤ, ◌≤ℤ◌, ◌<ℤ◌, int_le, int_lt, None, Some}
-use Rattle.std.specs.Cmp.{IsStrictWeakOrder}
-use Rattle.std.specs.List.{All, find, AllByRecursion}
-use Rattle.std.specs.List.Sorted.{IsSorted}
-use Rattle.std.specs.Int.{int_min, int_max}
-use Rattle.std.specs.declared.cmp.Ordering.{Ordering}
-use Rattle.std.specs.declared.cmp.Ordering.TheVariants.{Less, Equal, Greater}
-use Rattle.std.specs.Ordering.{int_cmp, ordering_then, is_lt}
-use Rattle.std.proofs.lemmas.Bool.{false≢true}
-use Rattle.std.proofs.lemmas.Int.{ints, clamps}
-use Rattle.std.proofs.lemmas.List.{at_drop_more, get_or-drop, get_or_default, length-drop}
-use Rattle.std.proofs.lemmas.List.Sorted.{sorted_far}
-use Rattle.grid_geometry.specs.Segment.{Segment, IsSegment, segment_cmp, segment_lt, box_of, boxes_meet}
-use Rattle.grid_geometry.specs.Conflict.{conflict}
-use Rattle.grid_geometry.proofs.Boxes.{conflict-boxes_meet}
-use Rattle.ring_machine.proofs.Orders.{segment_ordered}
-use Rattle.ring_machine.proofs.Order.{and_both}
+use Rattle.kit_words.proofs.Common.{◌≡◌, ℕ, suc, ◌+◌, ◌≤◌, ◌<◌, Bool, true, false, refl, sym, ap, ◌∙◌, cond, List, []}
+use Rattle.kit_words.proofs.Common.{◌∷◌, length, drop, get_or, arith, ℤ, ◌≤ℤ◌, ◌<ℤ◌, int_le, int_lt, None, Some}
+use Rattle.kit_words.proofs.Common.{IsStrictWeakOrder, All, find, AllByRecursion, IsSorted, int_min, int_max, Ordering}
+use Rattle.kit_words.proofs.Common.{Less, Equal, Greater, int_cmp, ordering_then, is_lt, false≢true, ints, clamps}
+use Rattle.kit_words.proofs.Common.{at_drop_more, get_or-drop, get_or_default, length-drop, sorted_far}
+use Rattle.grid_geometry.specs.Common.{Segment, IsSegment, segment_cmp, segment_lt, box_of, boxes_meet, conflict}
+use Rattle.grid_geometry.proofs.Common.{conflict-boxes_meet}
+use Rattle.ring_machine.proofs.Common.{segment_ordered, and_both}
 
 -- ---- from an index to each element
 

@@ -1,26 +1,16 @@
 -- A plain map whose rings are changed in place of those that it had.
-use Rattle.std.proofs.Common.{◌≡◌, ◌≤◌, ℕ, true, ap, ◌∙◌, subst, List, map, length, Vec, None, arith}
-use Rattle.std.specs.Prelude.{IsTrue, nat_le}
-use Rattle.std.specs.List.{list_all, sum_by}
-use Rattle.std.proofs.lemmas.List.{length-map}
-use Rattle.grid_geometry.specs.Position.{Position}
-use Rattle.ring_machine.specs.Ring.{is_ring}
-use Rattle.ring_machine.specs.Parts.{rings, size, in_rings}
-use Rattle.ring_machine.specs.Vertices.{ins, ins_ring, del, del_ring}
-use Rattle.ring_machine.specs.Planar.{Proper}
-use Rattle.ring_machine.specs.WellFormed.{WellFormed}
-use Rattle.ring_machine.specs.Refusals.{first_of, insert_refusals, remove_refusals}
-use Rattle.ring_machine.proofs.FormedRings.{formed-in_rings}
-use Rattle.ring_machine.proofs.RingsOf.{rings-in_rings}
-use Rattle.ring_machine.proofs.Accepted.{insert-accepted, inserted, removed}
-use Rattle.topo_outline.specs.Kept.{KeepsTexts}
-use Rattle.topo_outline.proofs.KeptRings.{keeps-in_rings}
+use Rattle.kit_words.proofs.Common.{◌≡◌, ◌≤◌, ℕ, true, ap, ◌∙◌, subst, List, map, length, Vec, None, arith, IsTrue}
+use Rattle.kit_words.proofs.Common.{nat_le, list_all, sum_by, length-map}
+use Rattle.grid_geometry.specs.Common.{Position}
+use Rattle.ring_machine.specs.Common.{is_ring, rings, size, in_rings, ins, ins_ring, del, del_ring, Proper, WellFormed}
+use Rattle.ring_machine.specs.Common.{first_of, insert_refusals, remove_refusals}
+use Rattle.ring_machine.proofs.Common.{formed-in_rings, rings-in_rings, insert-accepted, inserted, removed}
+use Rattle.topo_outline.specs.Common.{KeepsTexts}
+use Rattle.topo_outline.proofs.Common.{keeps-in_rings}
 use Rattle.topo_reader.specs.declared.document.RawDoc.{RawDoc}
-use Rattle.topo_reader.specs.Document.{Opened, document_of}
-use Rattle.topo_reader.specs.DocumentView.{view_raw}
-use Rattle.plain_rings.specs.Plain.{IsPlain}
-use Rattle.plain_rings.specs.Rings.{held}
-use Rattle.topo_reader.proofs.RingsChanged.{rings_changed}
+use Rattle.topo_reader.specs.Common.{Opened, document_of, view_raw}
+use Rattle.plain_rings.specs.Common.{IsPlain, held}
+use Rattle.topo_reader.proofs.Common.{rings_changed}
 use Rattle.plain_rings.proofs.EditedRings.{del_fewer}
 
 -- each ring of what is held changed

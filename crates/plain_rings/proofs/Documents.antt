@@ -1,17 +1,14 @@
 -- The document of what was read: its features stand in the order of the text, with their numbers and polygons.
-use Rattle.std.proofs.Common.{◌≡◌, ℕ, zero, suc, ◌+◌, Bool, true, false, refl, sym, ap, ap₂, ◌∙◌, cond, List, [], ◌∷◌, ◌++◌, map, length, append_assoc, arith, Option, None, Some, ◌||◌}
-use Rattle.std.specs.Prelude.{◌==◌, slice_get, unwrap_or, is_some, option_map}
-use Rattle.std.specs.List.{list_any, flat_map, filter_map, find}
-use Rattle.std.proofs.lemmas.List.{length-map, map-append, length-append}
-use Rattle.std.proofs.lemmas.List.Folds.{flat_map-map}
-use Rattle.std.proofs.lemmas.Option.{slice_get-map}
-use Rattle.grid_geometry.specs.Position.{Position}
-use Rattle.ring_machine.specs.Document.{Feature, Item, Layer}
-use Rattle.ring_machine.specs.Parts.{feature_of, features, feature, has_feature, rings}
-use Rattle.ring_machine.specs.Refusals.{or_else, feature_at, no_feature}
+use Rattle.kit_words.proofs.Common.{◌≡◌, ℕ, zero, suc, ◌+◌, Bool, true, false, refl, sym, ap, ap₂, ◌∙◌, cond, List, []}
+use Rattle.kit_words.proofs.Common.{◌∷◌, ◌++◌, map, length, append_assoc, arith, Option, None, Some, ◌||◌, ◌==◌}
+use Rattle.kit_words.proofs.Common.{slice_get, unwrap_or, is_some, option_map, list_any, flat_map, filter_map, find}
+use Rattle.kit_words.proofs.Common.{length-map, map-append, length-append, flat_map-map, slice_get-map}
+use Rattle.grid_geometry.specs.Common.{Position}
+use Rattle.ring_machine.specs.Common.{Feature, Item, Layer, feature_of, features, feature, has_feature, rings, or_else}
+use Rattle.ring_machine.specs.Common.{feature_at, no_feature}
 use Rattle.topo_outline.specs.Shape.{Piece, starts, ends, leaf, text, LayerText}
 use Rattle.topo_outline.specs.Outline.{leaves_in, leaves}
-use Rattle.topo_reader.specs.Document.{Opened, polygons_at, items_from, layers_from, document_of}
+use Rattle.topo_reader.specs.Common.{Opened, polygons_at, items_from, layers_from, document_of}
 
 abbrev pub Polygons : Type 0
 Polygons = List (List (List Position))

@@ -1,22 +1,14 @@
 -- Rings after an edit that gives them more or fewer positions.
-use Rattle.std.proofs.Common.{◌≡◌, ◌+◌, ◌≤◌, Bool, true, false, refl, sym, ap, ap₂, ◌∙◌, cond, List, [], ◌∷◌, map, length, arith, ◌&&◌, ◌||◌, inl, inr}
-use Rattle.std.specs.Prelude.{not, nat_lt}
-use Rattle.std.specs.List.{list_all, flat_map, filter, sum_by}
-use Rattle.std.proofs.lemmas.List.{length-map, length-append}
-use Rattle.std.proofs.lemmas.List.Sums.{sum_by-cons}
-use Rattle.grid_geometry.specs.Position.{Position, position_eq}
-use Rattle.grid_geometry.specs.Segment.{segment, segment_eq}
-use Rattle.grid_geometry.specs.Ring.{edges}
-use Rattle.grid_geometry.proofs.Conflicts.{segment-comm}
-use Rattle.ring_machine.specs.Ring.{has, is_ring, segment_of, segments}
-use Rattle.ring_machine.specs.Vertices.{ins_ring, del_ring}
-use Rattle.ring_machine.proofs.Order.{and_both, or_true, position_eq-true, position_eq-refl}
-use Rattle.ring_machine.proofs.Orders.{segment_ordered}
-use Rattle.ring_machine.proofs.Removal.{none_parts, others}
-use Rattle.ring_machine.proofs.RingSegments.{segment_eq-true, same_ends}
-use Rattle.ring_machine.proofs.StaysProper.{ins_is_ring, del_is_ring, edges_start}
-use Rattle.plain_rings.specs.Edits.{are_long}
-use Rattle.plain_rings.specs.Rings.{has_vertex}
+use Rattle.kit_words.proofs.Common.{◌≡◌, ◌+◌, ◌≤◌, Bool, true, false, refl, sym, ap, ap₂, ◌∙◌, cond, List, [], ◌∷◌, map}
+use Rattle.kit_words.proofs.Common.{length, arith, ◌&&◌, ◌||◌, inl, inr, not, nat_lt, list_all, flat_map, filter}
+use Rattle.kit_words.proofs.Common.{sum_by, length-map, length-append, sum_by-cons}
+use Rattle.grid_geometry.specs.Common.{Position, position_eq, segment, segment_eq, edges}
+use Rattle.grid_geometry.proofs.Common.{segment-comm}
+use Rattle.ring_machine.specs.Common.{has, is_ring, segment_of, segments, ins_ring, del_ring}
+use Rattle.ring_machine.proofs.Common.{and_both, or_true, position_eq-true, position_eq-refl, segment_ordered}
+use Rattle.ring_machine.proofs.Common.{none_parts, others, segment_eq-true, same_ends, ins_is_ring, del_is_ring}
+use Rattle.ring_machine.proofs.Common.{edges_start}
+use Rattle.plain_rings.specs.Common.{are_long, has_vertex}
 use Rattle.plain_rings.proofs.StaysPlain.{canonical_length}
 
 -- ---- the ends of a segment

@@ -1,19 +1,13 @@
 -- The first pair in conflict of ascending segments is the least pair in conflict.
-use Rattle.std.proofs.Common.{◌≡◌, ℕ, ◌+◌, ◌<◌, Bool, true, false, refl, sym, ap, ◌∙◌, subst, cond, List, [], ◌∷◌, length, drop, get_or, ◌&&◌, ◌||◌, inl, inr, Option, None, Some}
-use Rattle.std.specs.List.{find}
-use Rattle.std.specs.List.Sorted.{IsSorted, IsPermutation}
-use Rattle.std.proofs.lemmas.Bool.{false≢true}
-use Rattle.std.proofs.lemmas.List.{at_drop_more}
-use Rattle.std.proofs.lemmas.List.Sorted.{IsPermutation-sym}
-use Rattle.grid_geometry.specs.Segment.{Segment, segment_cmp, segment_lt, segment_eq}
-use Rattle.grid_geometry.specs.Conflict.{conflict}
-use Rattle.grid_geometry.proofs.Conflicts.{conflict-comm, conflict-same}
-use Rattle.ring_machine.specs.Planar.{pair_lt, least_conflict}
-use Rattle.ring_machine.proofs.Orders.{segment_ordered}
-use Rattle.ring_machine.proofs.Local.{Bad, IsLeast, same_least}
-use Rattle.ring_machine.proofs.First.{In, least_conflict_is, least_conflict_unique}
-use Rattle.ring_machine.proofs.SortedOnce.{in_permuted, in_recursion}
-use Rattle.plain_rings.specs.Pairs.{paired, first_in}
+use Rattle.kit_words.proofs.Common.{◌≡◌, ℕ, ◌+◌, ◌<◌, Bool, true, false, refl, sym, ap, ◌∙◌, subst, cond, List, [], ◌∷◌}
+use Rattle.kit_words.proofs.Common.{length, drop, get_or, ◌&&◌, ◌||◌, inl, inr, Option, None, Some, find, IsSorted}
+use Rattle.kit_words.proofs.Common.{IsPermutation, false≢true, at_drop_more, IsPermutation-sym}
+use Rattle.grid_geometry.specs.Common.{Segment, segment_cmp, segment_lt, segment_eq, conflict}
+use Rattle.grid_geometry.proofs.Common.{conflict-comm, conflict-same}
+use Rattle.ring_machine.specs.Common.{pair_lt, least_conflict}
+use Rattle.ring_machine.proofs.Common.{segment_ordered, Bad, IsLeast, same_least, In, least_conflict_is}
+use Rattle.ring_machine.proofs.Common.{least_conflict_unique, in_permuted, in_recursion}
+use Rattle.plain_rings.specs.Common.{paired, first_in}
 use Rattle.plain_rings.proofs.Ascending.{Ascends, ascends}
 
 -- a pair of the segments in conflict, the lesser one first

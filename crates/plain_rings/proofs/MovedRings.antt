@@ -1,29 +1,17 @@
 -- A ring in which a position has moved to one that is free is a ring.
-use Rattle.std.proofs.Common.{◌≡◌, ℕ, ◌<◌, ◌≤◌, Bool, true, false, refl, sym, ap, ap₂, ◌∙◌, subst, cond, List, [], ◌∷◌, ◌++◌, map, length, get_or, arith, ◌&&◌, Vec, Option, None, Some}
-use Rattle.std.specs.List.{list_all, flat_map}
-use Rattle.std.proofs.lemmas.Bool.{false≢true}
-use Rattle.std.specs.Prelude.{slice_get, option_map, Result, Err}
-use Rattle.std.specs.Vec.{with_items}
-use Rattle.std.proofs.lemmas.List.{length-map, with_items_is}
-use Rattle.std.proofs.lemmas.Option.{slice_get-map, slice_get_past}
-use Rattle.grid_geometry.specs.Position.{Position, position_eq}
-use Rattle.grid_geometry.specs.Segment.{Segment}
+use Rattle.kit_words.proofs.Common.{◌≡◌, ℕ, ◌<◌, ◌≤◌, Bool, true, false, refl, sym, ap, ap₂, ◌∙◌, subst, cond, List, []}
+use Rattle.kit_words.proofs.Common.{◌∷◌, ◌++◌, map, length, get_or, arith, ◌&&◌, Vec, Option, None, Some, list_all}
+use Rattle.kit_words.proofs.Common.{flat_map, false≢true, slice_get, option_map, Result, Err, with_items, length-map}
+use Rattle.kit_words.proofs.Common.{with_items_is, slice_get-map, slice_get_past}
+use Rattle.grid_geometry.specs.Common.{Position, position_eq, Segment}
 use Rattle.plain_rings.specs.declared.fault.BuildFault.{BuildFault}
 use Rattle.plain_rings.specs.declared.fault.BuildFault.TheVariants.{Conflict}
-use Rattle.ring_machine.specs.Ring.{has, is_ring, segments}
-use Rattle.ring_machine.specs.Parts.{rings}
-use Rattle.ring_machine.specs.Planar.{first_pair, least_conflict}
-use Rattle.ring_machine.specs.Vertices.{put_ring}
-use Rattle.ring_machine.proofs.StaysRing.{canonical_is_ring, put-distinct}
-use Rattle.ring_machine.proofs.StaysProper.{ring_long, ring_distinct}
-use Rattle.ring_machine.proofs.Order.{and_both}
-use Rattle.ring_machine.proofs.Removal.{none_parts}
-use Rattle.plain_rings.specs.Faults.{Names}
-use Rattle.plain_rings.specs.Rings.{has_vertex, held_polygon, held_feature, held, rings_in, all_rings}
+use Rattle.ring_machine.specs.Common.{has, is_ring, segments, rings, first_pair, least_conflict, put_ring}
+use Rattle.ring_machine.proofs.Common.{canonical_is_ring, put-distinct, ring_long, ring_distinct, and_both, none_parts}
+use Rattle.plain_rings.specs.Common.{Names, has_vertex, held_polygon, held_feature, held, rings_in, all_rings}
 use Rattle.topo_reader.specs.declared.document.RawDoc.{RawDoc}
-use Rattle.topo_reader.specs.Document.{document_of, IsOfRings}
-use Rattle.topo_reader.specs.DocumentView.{view_raw}
-use Rattle.ring_parts.proofs.Lists.{some_here}
+use Rattle.topo_reader.specs.Common.{document_of, IsOfRings, view_raw}
+use Rattle.ring_parts.proofs.Common.{some_here}
 use Rattle.plain_rings.proofs.RingLists.{ring_at, at_place}
 use Rattle.plain_rings.proofs.Documents.{rings_are}
 use Rattle.plain_rings.proofs.StaysPlain.{moved}

@@ -1,13 +1,10 @@
 -- Each of several equal neighbours once: the same segments, and those that ascend still do.
-use Rattle.std.proofs.Common.{◌≡◌, zero, suc, ◌+◌, Bool, true, false, sym, ap, ◌∙◌, subst, cond, List, [], ◌∷◌, get_or, arith}
-use Rattle.std.specs.List.{All, AllByRecursion, dedup, dedup_from}
-use Rattle.std.specs.List.Sorted.{IsSorted}
-use Rattle.std.specs.List.Retain.{IsFiltered, DiffersFromLast}
-use Rattle.std.proofs.lemmas.List.Filters.{dedup_is, All-dedup}
-use Rattle.grid_geometry.specs.Segment.{Segment, IsSegment, segment_cmp, segment_lt, segment_eq}
-use Rattle.ring_machine.specs.Planar.{least_conflict}
-use Rattle.ring_machine.proofs.Orders.{segment_ordered}
-use Rattle.ring_machine.proofs.SortedOnce.{none_new, none_lost}
+use Rattle.kit_words.proofs.Common.{◌≡◌, zero, suc, ◌+◌, Bool, true, false, sym, ap, ◌∙◌, subst, cond, List, [], ◌∷◌}
+use Rattle.kit_words.proofs.Common.{get_or, arith, All, AllByRecursion, dedup, dedup_from, IsSorted, IsFiltered}
+use Rattle.kit_words.proofs.Common.{DiffersFromLast, dedup_is, All-dedup}
+use Rattle.grid_geometry.specs.Common.{Segment, IsSegment, segment_cmp, segment_lt, segment_eq}
+use Rattle.ring_machine.specs.Common.{least_conflict}
+use Rattle.ring_machine.proofs.Common.{segment_ordered, none_new, none_lost}
 use Rattle.plain_rings.proofs.Ascending.{Ascends, ascends}
 use Rattle.plain_rings.proofs.LeastPair.{same_segments}
 

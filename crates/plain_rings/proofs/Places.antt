@@ -1,14 +1,9 @@
 -- The places of a ring, each between two others that differ.
-use Rattle.std.proofs.Common.{◌≡◌, ◌≢◌, ℕ, ◌+◌, ◌<◌, true, false, sym, ap, ◌∙◌, List, [], ◌∷◌, ◌++◌, length, drop, take, get_or}
-use Rattle.std.specs.Prelude.{not}
-use Rattle.std.proofs.lemmas.Bool.{false≢true}
-use Rattle.std.proofs.lemmas.List.{drop_more}
-use Rattle.grid_geometry.specs.Position.{Position, position_eq}
-use Rattle.grid_geometry.specs.Segment.{Segment}
-use Rattle.ring_machine.specs.Ring.{has, is_distinct, is_ring}
-use Rattle.ring_machine.proofs.Order.{and_both}
-use Rattle.ring_machine.proofs.Removal.{none_parts, not_true}
-use Rattle.ring_machine.proofs.StaysProper.{ring_distinct}
+use Rattle.kit_words.proofs.Common.{◌≡◌, ◌≢◌, ℕ, ◌+◌, ◌<◌, true, false, sym, ap, ◌∙◌, List, [], ◌∷◌, ◌++◌, length, drop}
+use Rattle.kit_words.proofs.Common.{take, get_or, not, false≢true, drop_more}
+use Rattle.grid_geometry.specs.Common.{Position, position_eq, Segment}
+use Rattle.ring_machine.specs.Common.{has, is_distinct, is_ring}
+use Rattle.ring_machine.proofs.Common.{and_both, none_parts, not_true, ring_distinct}
 use Rattle.plain_rings.proofs.RingSteps.{apart}
 
 -- positions two steps from each other differ

@@ -1,9 +1,9 @@
 -- One more place of a list that is changed in place.
-use Rattle.std.proofs.Common.{◌≡◌, ℕ, zero, suc, ◌+◌, ◌<◌, List, [], ◌∷◌, ◌++◌, map, take, drop, set, get_or, length, refl, ap, ap₂, ◌∙◌, sym, arith, Vec}
-use Rattle.std.specs.Vec.{with_items}
+use Rattle.kit_words.proofs.Common.{◌≡◌, ℕ, zero, suc, ◌+◌, ◌<◌, List, [], ◌∷◌, ◌++◌, map, take, drop, set, get_or}
+use Rattle.kit_words.proofs.Common.{length, refl, ap, ap₂, ◌∙◌, sym, arith, Vec, with_items, get_or_default}
+use Rattle.kit_words.proofs.Common.{length-take, length-drop, length-append, length-map, map-set, with_items_is}
+use Rattle.kit_words.proofs.Common.{take-map, map_over_more}
 use Rattle.std.specs.List.{drop-map}
-use Rattle.std.proofs.lemmas.List.{get_or_default, length-take, length-drop, length-append, length-map, map-set, with_items_is, take-map}
-use Rattle.std.proofs.lemmas.List.Edits.{map_over_more}
 
 pub put_step : {X : Type 0} (f : X → X) (xs ys : List X) (i : ℕ) (r y : X) → i < length xs → ys ≡ map f (take i xs) ++ drop i xs → y ≡ f (get_or ys i r) → set ys i y ≡ map f (take (i + 1) xs) ++ drop (i + 1) xs
 put_step f xs ys i r y l h e =

@@ -1,20 +1,13 @@
 -- The conditions of a move, asked of the rings of a document.
-use Rattle.std.proofs.Common.{◌≡◌, Bool, true, false, refl, ap, ap₂, ◌∙◌, cond, List, [], ◌∷◌, map, ◌||◌, ◌&&◌, Option}
-use Rattle.std.specs.Prelude.{not}
-use Rattle.std.specs.List.{list_any, flat_map, filter}
-use Rattle.std.proofs.lemmas.List.Folds.{list_any-append}
-use Rattle.grid_geometry.specs.Position.{Position, position_eq}
-use Rattle.grid_geometry.specs.Segment.{Segment}
-use Rattle.ring_machine.specs.Ring.{spots, segments}
-use Rattle.ring_machine.specs.Document.{Document}
-use Rattle.ring_machine.specs.Parts.{rings}
-use Rattle.ring_machine.specs.Vertices.{put_ring, around}
-use Rattle.ring_machine.specs.Planar.{first_pair, least_conflict}
+use Rattle.kit_words.proofs.Common.{◌≡◌, Bool, true, false, refl, ap, ap₂, ◌∙◌, cond, List, [], ◌∷◌, map, ◌||◌, ◌&&◌}
+use Rattle.kit_words.proofs.Common.{Option, not, list_any, flat_map, filter, list_any-append}
+use Rattle.grid_geometry.specs.Common.{Position, position_eq, Segment}
+use Rattle.ring_machine.specs.Common.{spots, segments, Document, rings, put_ring, around, first_pair, least_conflict}
+use Rattle.ring_machine.specs.Common.{NoVertex, Occupied, Sweeps, ◌unless◌, conflict_of, move_refusals}
 use Rattle.ring_machine.specs.Sweep as machine
-use Rattle.ring_machine.specs.Command.{NoVertex, Occupied, Sweeps}
-use Rattle.ring_machine.specs.Refusals.{◌unless◌, conflict_of, move_refusals}
-use Rattle.ring_machine.proofs.RingsOf.{rings-in_rings}
-use Rattle.plain_rings.specs.Rings.{has_vertex, is_other, edge_sweeps, spot_sweeps, edges_sweep, crosses_on_way, refusals}
+use Rattle.ring_machine.proofs.Common.{rings-in_rings}
+use Rattle.plain_rings.specs.Common.{has_vertex, is_other, edge_sweeps, spot_sweeps, edges_sweep, crosses_on_way}
+use Rattle.plain_rings.specs.Common.{refusals}
 
 -- ---- some element of some list
 

@@ -1,30 +1,22 @@
 -- The conditions of an insertion and of a removal, asked of the rings of a document.
-use Rattle.std.proofs.Common.{◌≡◌, Bool, true, false, refl, sym, ap, ap₂, ◌∙◌, cond, List, [], ◌∷◌, ◌++◌, map, Option, None, Some, length, Vec, ℤ}
-use Rattle.std.specs.Prelude.{not, nat_le, ◌&&◌}
-use Rattle.std.specs.List.{list_any, list_all, flat_map, filter, fold, sum_by}
-use Rattle.std.proofs.lemmas.List.Concat.{flat_map-append}
-use Rattle.grid_geometry.specs.Position.{Position, position_eq}
-use Rattle.grid_geometry.specs.Segment.{Segment, segment, segment_eq}
-use Rattle.ring_machine.specs.Ring.{segments, spots}
-use Rattle.ring_machine.specs.Document.{Document}
-use Rattle.ring_machine.specs.Parts.{rings}
+use Rattle.kit_words.proofs.Common.{◌≡◌, Bool, true, false, refl, sym, ap, ap₂, ◌∙◌, cond, List, [], ◌∷◌, ◌++◌, map}
+use Rattle.kit_words.proofs.Common.{Option, None, Some, length, Vec, ℤ, not, nat_le, ◌&&◌, list_any, list_all, flat_map}
+use Rattle.kit_words.proofs.Common.{filter, fold, sum_by, flat_map-append}
+use Rattle.grid_geometry.specs.Common.{Position, position_eq, Segment, segment, segment_eq}
+use Rattle.ring_machine.specs.Common.{segments, spots, Document, rings, ins_ring, del_ring, all_equal, is_junction}
+use Rattle.ring_machine.specs.Common.{first_pair, least_conflict, is_flat, add_position, vertices, Refusal, NoVertex}
+use Rattle.ring_machine.specs.Common.{NoSegment, Occupied, Junction, RingShort, SegmentExists, TooLarge, Conflict}
+use Rattle.ring_machine.specs.Common.{Sweeps, ◌unless◌, first_of, conflict_of}
 use Rattle.ring_machine.specs.Parts as parts
-use Rattle.ring_machine.specs.Vertices.{ins_ring, del_ring, all_equal, is_junction}
 use Rattle.ring_machine.specs.Vertices as machine
-use Rattle.ring_machine.specs.Planar.{first_pair, least_conflict}
 use Rattle.ring_machine.specs.Sweep as sweep
-use Rattle.ring_machine.specs.Thin.{is_flat}
-use Rattle.ring_machine.specs.Query.{add_position, vertices}
-use Rattle.ring_machine.specs.Command.{Refusal, NoVertex, NoSegment, Occupied, Junction, RingShort, SegmentExists, TooLarge, Conflict, Sweeps}
-use Rattle.ring_machine.specs.Refusals.{◌unless◌, first_of, conflict_of}
 use Rattle.ring_machine.specs.Refusals as asked
-use Rattle.ring_machine.proofs.RingsOf.{rings-in_rings}
+use Rattle.ring_machine.proofs.Common.{rings-in_rings}
 use Rattle.topo_reader.specs.declared.document.RawDoc.{RawDoc}
-use Rattle.topo_reader.specs.Document.{document_of, IsOfRings}
-use Rattle.topo_reader.specs.DocumentView.{view_raw}
-use Rattle.plain_rings.specs.Rings.{has_vertex, is_other, holds_other, all_rings}
-use Rattle.plain_rings.specs.Edits.{has_segment, around_spot, around_ring, around, are_long, past_sweeps, insert_refusals, remove_refusals}
-use Rattle.plain_rings.specs.Thin.{is_flat_side, is_thin}
+use Rattle.topo_reader.specs.Common.{document_of, IsOfRings, view_raw}
+use Rattle.plain_rings.specs.Common.{has_vertex, is_other, holds_other, all_rings, has_segment, around_spot}
+use Rattle.plain_rings.specs.Common.{around_ring, around, are_long, past_sweeps, insert_refusals, remove_refusals}
+use Rattle.plain_rings.specs.Common.{is_flat_side, is_thin}
 use Rattle.plain_rings.proofs.Refusing.{any_in_each}
 use Rattle.plain_rings.proofs.MovedRings.{rings_held}
 use Rattle.plain_rings.proofs.EditedRings.{all_counted}

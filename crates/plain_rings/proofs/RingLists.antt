@@ -1,15 +1,13 @@
 -- Lists of rings, a ring at a time, however the code holds them.
-use Rattle.std.proofs.Common.{◌≡◌, ℕ, zero, suc, ◌+◌, ◌<◌, ◌≤◌, Bool, true, false, refl, sym, ap, ap₂, ◌∙◌, List, [], ◌∷◌, ◌++◌, map, length, take, drop, get_or, ◌-◌, arith, ◌&&◌, Some}
-use Rattle.std.specs.Prelude.{slice_get, sum_by}
-use Rattle.std.specs.List.{list_all, list_any, fold}
-use Rattle.std.proofs.lemmas.List.Sums.{sum_by-cons}
-use Rattle.std.proofs.lemmas.Bool.{false≢true}
-use Rattle.std.proofs.lemmas.List.{take_all, length-map}
-use Rattle.std.proofs.lemmas.List.Folds.{list_all-map, list_all_at}
-use Rattle.grid_geometry.specs.Position.{Position, position_eq}
-use Rattle.ring_machine.specs.Ring.{has, is_ring}
-use Rattle.ring_machine.proofs.Removal.{position_eq-sym}
-use Rattle.ring_parts.proofs.Lists.{one_more}
+use Rattle.kit_words.proofs.Common.{◌≡◌, ℕ, zero, suc, ◌+◌, ◌<◌, ◌≤◌, Bool, true, false, refl, sym, ap, ap₂, ◌∙◌, List}
+use Rattle.kit_words.proofs.Common.{[], ◌∷◌, ◌++◌, map, length, take, drop, get_or, ◌-◌, arith, ◌&&◌, Some, slice_get}
+use Rattle.kit_words.proofs.Common.{list_all, list_any, fold, sum_by-cons, false≢true, take_all, length-map}
+use Rattle.kit_words.proofs.Common.{list_all-map, list_all_at}
+use Rattle.std.specs.Prelude.{sum_by}
+use Rattle.grid_geometry.specs.Common.{Position, position_eq}
+use Rattle.ring_machine.specs.Common.{has, is_ring}
+use Rattle.ring_machine.proofs.Common.{position_eq-sym}
+use Rattle.ring_parts.proofs.Common.{one_more}
 
 -- what passes for all passes for one
 pub passes_at : {A : Type 0} (test : A → Bool) (xs : List A) (i : ℕ) (x : A) → i < length xs → x ≡ get_or xs i x → list_all test xs ≡ true → test x ≡ true

@@ -1,20 +1,13 @@
 -- The steps round a ring: no two neighbours are equal, so each step is a segment.
-use Rattle.std.proofs.Common.{◌≡◌, ◌≢◌, ℕ, zero, suc, ◌+◌, ◌<◌, ◌≤◌, true, false, refl, sym, ap, ◌∙◌, subst, cond, List, [], ◌∷◌, ◌++◌, map, length, drop, get_or, arith, ℤ, append_assoc, drop_of_length-le}
-use Rattle.std.specs.Prelude.{not}
-use Rattle.std.specs.Ordering.{is_gt, int_cmp, ordering_then}
-use Rattle.std.specs.declared.cmp.Ordering.{Ordering}
-use Rattle.std.specs.declared.cmp.Ordering.TheVariants.{Less, Equal, Greater}
-use Rattle.std.specs.List.{All, AllByRecursion, list_all, flat_map}
-use Rattle.std.proofs.lemmas.Bool.{false≢true}
-use Rattle.std.proofs.lemmas.Int.{ints}
-use Rattle.std.proofs.lemmas.List.{at_drop_more, drop_more}
-use Rattle.grid_geometry.specs.Position.{Position, position_eq, position_cmp}
-use Rattle.grid_geometry.specs.Segment.{Segment, segment, IsSegment}
-use Rattle.grid_geometry.specs.Ring.{Edge, links, edges}
-use Rattle.ring_machine.specs.Ring.{has, is_distinct, is_ring, segment_of, segments}
-use Rattle.ring_machine.proofs.Order.{and_both, position_eq-refl, same_position}
-use Rattle.ring_machine.proofs.Removal.{none_parts, not_true}
-use Rattle.ring_machine.proofs.StaysProper.{ring_distinct}
+use Rattle.kit_words.proofs.Common.{◌≡◌, ◌≢◌, ℕ, zero, suc, ◌+◌, ◌<◌, ◌≤◌, true, false, refl, sym, ap, ◌∙◌, subst, cond}
+use Rattle.kit_words.proofs.Common.{List, [], ◌∷◌, ◌++◌, map, length, drop, get_or, arith, ℤ, append_assoc}
+use Rattle.kit_words.proofs.Common.{drop_of_length-le, not, is_gt, int_cmp, ordering_then, Ordering, Less, Equal}
+use Rattle.kit_words.proofs.Common.{Greater, All, AllByRecursion, list_all, flat_map, false≢true, ints, at_drop_more}
+use Rattle.kit_words.proofs.Common.{drop_more}
+use Rattle.grid_geometry.specs.Common.{Position, position_eq, position_cmp, Segment, segment, IsSegment, Edge, links}
+use Rattle.grid_geometry.specs.Common.{edges}
+use Rattle.ring_machine.specs.Common.{has, is_distinct, is_ring, segment_of, segments}
+use Rattle.ring_machine.proofs.Common.{and_both, position_eq-refl, same_position, none_parts, not_true, ring_distinct}
 
 -- the edges of the way from a over the positions to z
 abbrev pub walk : Position → List Position → Position → List Edge

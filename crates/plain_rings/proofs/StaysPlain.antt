@@ -1,27 +1,16 @@
 -- A plain map stays one when a vertex moves.
-use Rattle.std.proofs.Common.{◌≡◌, ◌+◌, ◌≤◌, refl, sym, ap, ap₂, ◌∙◌, subst, List, [], ◌∷◌, map, length, arith, None}
-use Rattle.std.specs.Prelude.{IsTrue, sum_by, if◌then◌else◌}
-use Rattle.std.specs.List.{list_all}
-use Rattle.std.proofs.lemmas.List.{length-map, length-append}
-use Rattle.std.proofs.lemmas.List.Sums.{sum_by-cons}
-use Rattle.grid_geometry.specs.Position.{Position, position_eq}
-use Rattle.ring_machine.specs.Ring.{canonical, is_ring}
-use Rattle.ring_machine.specs.Document.{Document}
-use Rattle.ring_machine.specs.Parts.{rings, size}
-use Rattle.ring_machine.specs.Vertices.{put, put_ring}
-use Rattle.ring_machine.specs.Planar.{Proper}
-use Rattle.ring_machine.specs.WellFormed.{WellFormed}
-use Rattle.ring_machine.specs.Refusals.{first_of, move_refusals}
-use Rattle.ring_machine.proofs.Canonical.{canonical_parts}
-use Rattle.ring_machine.proofs.FormedRings.{formed-in_rings}
-use Rattle.ring_machine.proofs.RingsOf.{rings-in_rings}
-use Rattle.ring_machine.proofs.StaysProper.{put_is_proper}
-use Rattle.ring_machine.proofs.Accepted.{move-accepted}
-use Rattle.topo_outline.specs.Kept.{KeepsTexts}
-use Rattle.topo_outline.proofs.KeptRings.{keeps-in_rings}
-use Rattle.topo_reader.specs.Document.{Opened, document_of}
-use Rattle.plain_rings.specs.Plain.{IsPlain}
-use Rattle.topo_reader.proofs.RingsChanged.{rings_changed}
+use Rattle.kit_words.proofs.Common.{◌≡◌, ◌+◌, ◌≤◌, refl, sym, ap, ap₂, ◌∙◌, subst, List, [], ◌∷◌, map, length, arith}
+use Rattle.kit_words.proofs.Common.{None, IsTrue, if◌then◌else◌, list_all, length-map, length-append, sum_by-cons}
+use Rattle.std.specs.Prelude.{sum_by}
+use Rattle.grid_geometry.specs.Common.{Position, position_eq}
+use Rattle.ring_machine.specs.Common.{canonical, is_ring, Document, rings, size, put, put_ring, Proper, WellFormed}
+use Rattle.ring_machine.specs.Common.{first_of, move_refusals}
+use Rattle.ring_machine.proofs.Common.{canonical_parts, formed-in_rings, rings-in_rings, put_is_proper, move-accepted}
+use Rattle.topo_outline.specs.Common.{KeepsTexts}
+use Rattle.topo_outline.proofs.Common.{keeps-in_rings}
+use Rattle.topo_reader.specs.Common.{Opened, document_of}
+use Rattle.plain_rings.specs.Common.{IsPlain}
+use Rattle.topo_reader.proofs.Common.{rings_changed}
 
 pub canonical_length : (ps : List Position) → length (canonical ps) ≡ length ps
 canonical_length ps =

@@ -1,13 +1,10 @@
 -- One vertex of a pass of thinning, and the pass as far as it has come.
-use Rattle.std.proofs.Common.{◌≡◌, ℕ, ◌+◌, Bool, true, false, refl, sym, ap, ap₂, ◌∙◌, cond, ℤ, Option, None, Some, arith}
-use Rattle.std.specs.Prelude.{not, ◌&&◌}
-use Rattle.grid_geometry.specs.Position.{Position}
-use Rattle.ring_machine.specs.Document.{Document}
-use Rattle.ring_machine.specs.Vertices.{del, is_junction}
-use Rattle.ring_machine.specs.Command.{Refusal}
-use Rattle.ring_machine.specs.Refusals.{first_of, remove_refusals}
-use Rattle.ring_machine.specs.Thin.{Thinning, is_flat, without, thin_at}
-use Rattle.plain_rings.specs.Faults.{Refuses}
+use Rattle.kit_words.proofs.Common.{◌≡◌, ℕ, ◌+◌, Bool, true, false, refl, sym, ap, ap₂, ◌∙◌, cond, ℤ, Option, None}
+use Rattle.kit_words.proofs.Common.{Some, arith, not, ◌&&◌}
+use Rattle.grid_geometry.specs.Common.{Position}
+use Rattle.ring_machine.specs.Common.{Document, del, is_junction, Refusal, first_of, remove_refusals, Thinning, is_flat}
+use Rattle.ring_machine.specs.Common.{without, thin_at}
+use Rattle.plain_rings.specs.Common.{Refuses}
 use Rattle.plain_rings.specs.declared.fault.EditFault.{EditFault}
 use Rattle.plain_rings.specs.declared.fault.EditFault.TheVariants.{OutOfMemory}
 use Rattle.plain_rings.specs.declared.fault.EditFault.TheVariants as edit

@@ -1,8 +1,8 @@
 -- The area of polygons, and how many positions they have.
 use Rattle.std.specs.Prelude.{ℕ, ℤ, pos, ◌+ℤ◌, List, length}
 use Rattle.std.specs.List.{fold, sum_by}
-use Rattle.grid_geometry.specs.Position.{Position}
-use Rattle.ring_machine.specs.Query.{polygon_area}
+use Rattle.grid_geometry.specs.Common.{Position}
+use Rattle.ring_machine.specs.Common.{polygon_area}
 
 -- twice the area, the sum over the polygons
 abbrev pub areas : List (List (List Position)) → ℤ

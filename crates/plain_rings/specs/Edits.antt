@@ -2,15 +2,10 @@
 use Rattle.std.specs.Prelude.{Bool, not, ◌||◌, nat_le, nat_lt, List, [], ◌∷◌, map}
 use Rattle.std.specs.Prelude.{length, Option, if◌then◌else◌}
 use Rattle.std.specs.List.{list_any, list_all, flat_map, sum_by}
-use Rattle.grid_geometry.specs.Position.{Position, position_eq}
-use Rattle.grid_geometry.specs.Segment.{Segment, segment, segment_eq}
-use Rattle.grid_geometry.specs.Ring.{Edge}
-use Rattle.ring_machine.specs.Ring.{has, segments, segment_of, spots}
-use Rattle.ring_machine.specs.Vertices.{ins_ring, del_ring, all_equal}
-use Rattle.ring_machine.specs.Planar.{least_conflict}
-use Rattle.ring_machine.specs.Command.{Refusal, NoVertex, NoSegment, Occupied, Junction, RingShort}
-use Rattle.ring_machine.specs.Command.{SegmentExists, TooLarge, Sweeps}
-use Rattle.ring_machine.specs.Refusals.{◌unless◌, conflict_of}
+use Rattle.grid_geometry.specs.Common.{Position, position_eq, Segment, segment, segment_eq, Edge}
+use Rattle.ring_machine.specs.Common.{has, segments, segment_of, spots, ins_ring, del_ring, all_equal, least_conflict}
+use Rattle.ring_machine.specs.Common.{Refusal, NoVertex, NoSegment, Occupied, Junction, RingShort, SegmentExists}
+use Rattle.ring_machine.specs.Common.{TooLarge, Sweeps, ◌unless◌, conflict_of}
 use Rattle.plain_rings.specs.Rings.{has_vertex, holds_other}
 use Rattle.plain_rings.specs.declared.edit.RingEdit.{RingEdit}
 use Rattle.plain_rings.specs.declared.edit.RingEdit.TheVariants.{Insert, Remove}

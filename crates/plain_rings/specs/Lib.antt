@@ -5,3 +5,4 @@ pub mod Areas
 pub mod Plain
 pub mod Faults
 pub mod Thin
+pub mod Common

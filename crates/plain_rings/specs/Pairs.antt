@@ -1,8 +1,7 @@
 -- The first pair in conflict of ascending segments, by a walk over them.
 use Rattle.std.specs.Prelude.{List, [], ◌∷◌, Option, None, Some}
 use Rattle.std.specs.List.{find}
-use Rattle.grid_geometry.specs.Segment.{Segment}
-use Rattle.grid_geometry.specs.Conflict.{conflict}
+use Rattle.grid_geometry.specs.Common.{Segment, conflict}
 
 -- s with the segment found, else what the rest gives
 abbrev pub paired :

@@ -1,15 +1,9 @@
 -- The rings of a topology as the code holds them, and what is asked of a list of rings.
 use Rattle.std.specs.Prelude.{Bool, not, ◌&&◌, ◌||◌, List, [], ◌∷◌, Vec, map, Option}
 use Rattle.std.specs.List.{list_any, flat_map}
-use Rattle.grid_geometry.specs.Position.{Position, position_eq}
-use Rattle.grid_geometry.specs.Segment.{Segment, segment, is_end}
-use Rattle.grid_geometry.specs.Conflict.{conflict}
-use Rattle.grid_geometry.specs.Held.{is_held}
-use Rattle.ring_machine.specs.Ring.{has, segments, spots}
-use Rattle.ring_machine.specs.Vertices.{put_ring}
-use Rattle.ring_machine.specs.Planar.{least_conflict}
-use Rattle.ring_machine.specs.Command.{Refusal, NoVertex, Occupied, Sweeps}
-use Rattle.ring_machine.specs.Refusals.{◌unless◌, conflict_of}
+use Rattle.grid_geometry.specs.Common.{Position, position_eq, Segment, segment, is_end, conflict, is_held}
+use Rattle.ring_machine.specs.Common.{has, segments, spots, put_ring, least_conflict, Refusal, NoVertex, Occupied}
+use Rattle.ring_machine.specs.Common.{Sweeps, ◌unless◌, conflict_of}
 
 -- ---- what is held
 

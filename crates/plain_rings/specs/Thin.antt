@@ -1,10 +1,8 @@
 -- Which positions are flat.
 use Rattle.std.specs.Prelude.{ℤ, pos, unsigned_abs, int_le, Bool, ◌&&◌, List}
 use Rattle.std.specs.List.{list_all}
-use Rattle.grid_geometry.specs.Position.{Position}
-use Rattle.grid_geometry.specs.Segment.{Segment}
-use Rattle.grid_geometry.specs.Orientation.{orientation}
-use Rattle.ring_machine.specs.Vertices.{all_equal}
+use Rattle.grid_geometry.specs.Common.{Position, Segment, orientation}
+use Rattle.ring_machine.specs.Common.{all_equal}
 use Rattle.plain_rings.specs.Edits.{around}
 
 -- twice the area of the triangle of p and the ends of s is at most t

@@ -1,8 +1,8 @@
 // The neighbours of a position.
 ghost use Rattle.std.specs.Prelude.{◌≡◌, ◌≢◌, ◌++◌, OnOk, IfOk, IsTrue, map};
 ghost use Rattle.std.specs.List.{list_all};
-ghost use Rattle.grid_geometry.specs.Segment.{segment};
-ghost use Rattle.ring_machine.specs.Ring.{is_ring};
+ghost use Rattle.grid_geometry.specs.Common.{segment};
+ghost use Rattle.ring_machine.specs.Common.{is_ring};
 ghost use Rattle.ring_machine.specs.Vertices as machine;
 ghost use Rattle.plain_rings.specs.Edits.{around_spot, around_ring, around};
 

@@ -1,10 +1,8 @@
 // Edits that give a ring more or fewer positions, made in a copy of the rings.
 ghost use Rattle.std.specs.Prelude.{◌≡◌, ◌&&◌, ◌∷◌, ◌++◌, IfOk, OnOk, IsTrue, map};
 ghost use Rattle.std.specs.List.{flat_map, list_all};
-ghost use Rattle.grid_geometry.specs.Position.{position_eq};
-ghost use Rattle.grid_geometry.specs.Segment.{segment, segment_eq};
-ghost use Rattle.ring_machine.specs.Ring.{is_ring, segments};
-ghost use Rattle.ring_machine.specs.Vertices.{ins_ring, del_ring};
+ghost use Rattle.grid_geometry.specs.Common.{position_eq, segment, segment_eq};
+ghost use Rattle.ring_machine.specs.Common.{is_ring, segments, ins_ring, del_ring};
 ghost use Rattle.plain_rings.specs.Edits.{edited_ring, begin_of};
 ghost use Rattle.plain_rings.specs.Rings.{held_polygon, held_feature, held};
 

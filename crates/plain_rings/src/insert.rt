@@ -1,11 +1,9 @@
 // A vertex inserted, where it may be.
 ghost use Rattle.std.specs.Prelude.{◌≡◌, None, IfErr, IfOk, OnOk, IsTrue, map};
 ghost use Rattle.std.specs.List.{list_all, list_any};
-ghost use Rattle.grid_geometry.specs.Segment.{segment, segment_eq};
-ghost use Rattle.ring_machine.specs.Refusals.{first_of};
-ghost use Rattle.ring_machine.specs.Ring.{is_ring, segments};
+ghost use Rattle.grid_geometry.specs.Common.{segment, segment_eq};
+ghost use Rattle.ring_machine.specs.Common.{first_of, is_ring, segments, ins_ring};
 ghost use Rattle.plain_rings.specs.Edits.{insert_refusals, has_segment};
-ghost use Rattle.ring_machine.specs.Vertices.{ins_ring};
 ghost use Rattle.plain_rings.specs.Faults.{Refuses};
 ghost use Rattle.plain_rings.specs.Rings.{all_rings, held};
 

@@ -1,19 +1,14 @@
 ghost use Rattle.std.specs.Prelude.{◌≡◌, ◌↔◌, Err, None, Some, IfOk, OnOk, IfErr, OnErr, IsOk};
 ghost use Rattle.std.specs.Prelude.{IsTrue, length, map, ℕ, ◌+◌, if◌then◌else◌};
 ghost use Rattle.std.specs.List.{list_all, flat_map};
-ghost use Rattle.ring_machine.specs.Parts.{features, has_feature, rings};
-ghost use Rattle.ring_machine.specs.Planar.{Proper, first_pair, least_conflict};
-ghost use Rattle.ring_machine.specs.Query.{area_of};
-ghost use Rattle.ring_machine.specs.Refusals.{first_of, feature_at, move_refusals};
-ghost use Rattle.ring_machine.specs.Refusals.{insert_refusals, remove_refusals};
-ghost use Rattle.ring_machine.specs.Ring.{is_ring, segments};
-ghost use Rattle.ring_machine.specs.Thin.{thinned, thin_at};
-ghost use Rattle.ring_machine.specs.Vertices.{put, ins, del};
-ghost use Rattle.topo_reader.specs.Document.{document_of, IsOfRings};
-ghost use Rattle.topo_reader.specs.DocumentView.{view_raw};
+ghost use Rattle.ring_machine.specs.Common.{features, has_feature, rings, Proper, first_pair};
+ghost use Rattle.ring_machine.specs.Common.{least_conflict, area_of, first_of, feature_at};
+ghost use Rattle.ring_machine.specs.Common.{move_refusals, insert_refusals, remove_refusals};
+ghost use Rattle.ring_machine.specs.Common.{is_ring, segments, thinned, thin_at, put, ins, del};
+ghost use Rattle.ring_machine.specs.Common.{IsThinnedPart};
+ghost use Rattle.topo_reader.specs.Common.{document_of, IsOfRings, view_raw};
 ghost use Rattle.plain_rings.specs.Faults.{Names, Refuses};
 ghost use Rattle.plain_rings.specs.Rings.{all_rings, held, refusals};
-ghost use Rattle.ring_machine.specs.Thin.{IsThinnedPart};
 ghost use Rattle.plain_rings.specs.declared.fault.BuildFault.TheVariants.{Conflict};
 
 use crate::area::feature_area;

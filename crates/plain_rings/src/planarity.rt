@@ -1,9 +1,9 @@
 ghost use Rattle.std.specs.Prelude.{◌≡◌, int_lt};
 ghost use Rattle.std.specs.List.{All, find};
 ghost use Rattle.std.specs.List.Sorted.{IsSorted};
-ghost use Rattle.grid_geometry.specs.Segment.{IsSegment, segment_cmp};
+ghost use Rattle.grid_geometry.specs.Common.{IsSegment, segment_cmp};
 ghost use Rattle.grid_geometry.specs.Conflict as geometry;
-ghost use Rattle.ring_machine.specs.Planar.{least_conflict};
+ghost use Rattle.ring_machine.specs.Common.{least_conflict};
 ghost use Rattle.plain_rings.specs.Pairs.{first_in};
 
 use grid_geometry::{Seg, conflict};

@@ -1,7 +1,7 @@
 // A position in the place of another, in every ring.
 ghost use Rattle.std.specs.Prelude.{◌≡◌, IfOk, map, if◌then◌else◌};
-ghost use Rattle.grid_geometry.specs.Position.{position_eq};
-ghost use Rattle.ring_machine.specs.Vertices.{put_ring};
+ghost use Rattle.grid_geometry.specs.Common.{position_eq};
+ghost use Rattle.ring_machine.specs.Common.{put_ring};
 ghost use Rattle.plain_rings.specs.Rings.{held_polygon, held_feature, held};
 
 use grid_geometry::Pos;

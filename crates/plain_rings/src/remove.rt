@@ -1,11 +1,9 @@
 // A vertex left out, where it may be.
 ghost use Rattle.std.specs.Prelude.{◌≡◌, None, IfErr, IfOk, OnOk, IsTrue, map};
 ghost use Rattle.std.specs.List.{list_all, list_any};
-ghost use Rattle.ring_machine.specs.Refusals.{first_of};
-ghost use Rattle.ring_machine.specs.Ring.{is_ring};
+ghost use Rattle.ring_machine.specs.Common.{first_of, is_ring, del_ring};
 ghost use Rattle.plain_rings.specs.Edits.{remove_refusals, are_long, past_sweeps};
 ghost use Rattle.plain_rings.specs.Edits as spec;
-ghost use Rattle.ring_machine.specs.Vertices.{del_ring};
 ghost use Rattle.plain_rings.specs.Faults.{Refuses};
 ghost use Rattle.plain_rings.specs.Rings.{all_rings, held};
 

@@ -1,9 +1,8 @@
 // The segments of rings.
 ghost use Rattle.std.specs.Prelude.{◌≡◌, ◌≢◌, [], ◌∷◌, ◌++◌, OnOk, IfOk, IsTrue, map, false};
 ghost use Rattle.std.specs.List.{list_all, flat_map};
-ghost use Rattle.grid_geometry.specs.Segment.{segment};
-ghost use Rattle.ring_machine.specs.Ring.{is_ring, segments};
-ghost use Rattle.ring_machine.specs.Vertices.{put_ring};
+ghost use Rattle.grid_geometry.specs.Common.{segment};
+ghost use Rattle.ring_machine.specs.Common.{is_ring, segments, put_ring};
 ghost use Rattle.plain_rings.specs.Rings.{has_vertex};
 
 use crate::put::moved_ring;

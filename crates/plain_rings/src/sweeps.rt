@@ -1,7 +1,7 @@
 // Which positions stand in a ring or in a triangle, and which moves sweep over one.
 ghost use Rattle.std.specs.Prelude.{◌≡◌, ◌≢◌, map};
 ghost use Rattle.std.specs.List.{list_any};
-ghost use Rattle.grid_geometry.specs.Segment.{segment};
+ghost use Rattle.grid_geometry.specs.Common.{segment};
 ghost use Rattle.ring_machine.specs.Ring as machine;
 ghost use Rattle.plain_rings.specs.Rings as spec;
 

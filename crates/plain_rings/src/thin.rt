@@ -1,8 +1,7 @@
 // Which vertices are flat.
 ghost use Rattle.std.specs.Prelude.{◌≡◌, [], IfOk, IsTrue, map};
 ghost use Rattle.std.specs.List.{list_all, flat_map, fold};
-ghost use Rattle.ring_machine.specs.Query.{add_position};
-ghost use Rattle.ring_machine.specs.Ring.{is_ring};
+ghost use Rattle.ring_machine.specs.Common.{add_position, is_ring};
 ghost use Rattle.plain_rings.specs.Rings.{all_rings};
 ghost use Rattle.plain_rings.specs.Thin.{is_flat_side, is_thin};
 

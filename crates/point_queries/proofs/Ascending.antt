@@ -1,29 +1,16 @@
 -- Ascending numbers, each once: sorted ones, and those of features.
-use Rattle.std.proofs.Common.{◌≡◌, ◌≢◌, ℕ, ◌<◌, Bool, true, false, refl, sym, ap, ap₂, ◌∙◌, subst, cond}
-use Rattle.std.proofs.Common.{List, [], ◌∷◌, map, ◌⊎◌, inl, inr, arith, zero, suc, ◌≤◌, length, get_or, Result, Ok, Err, is_ok, MatchResult}
-use Rattle.std.specs.Prelude.{nat_le, nat_eq, not, ◌==◌}
-use Rattle.std.specs.List.{AllByRecursion, fold, filter, dedup, list_any}
+use Rattle.kit_words.proofs.Common.{◌≡◌, ◌≢◌, ℕ, ◌<◌, Bool, true, false, refl, sym, ap, ap₂, ◌∙◌, subst, cond, List, []}
+use Rattle.kit_words.proofs.Common.{◌∷◌, map, ◌⊎◌, inl, inr, arith, zero, suc, ◌≤◌, length, get_or, Result, Ok, Err}
+use Rattle.kit_words.proofs.Common.{is_ok, MatchResult, nat_le, nat_eq, not, ◌==◌, AllByRecursion, fold, filter, dedup}
+use Rattle.kit_words.proofs.Common.{list_any, IsPermutation, IsStrictlySortedBy, IsBinarySearchResult, IsFiltered}
+use Rattle.kit_words.proofs.Common.{DiffersFromLast, nat_cmp, eq_by_cmp, Less, false≢true, cases_lt, Decides-eqb}
+use Rattle.kit_words.proofs.Common.{nat_tests, nat_cmp_total, dedup_is, IsStrictlySortedBy-dedup, IsPermutation-sym}
+use Rattle.kit_words.proofs.Common.{searched}
 use Rattle.std.specs.List.Sorted as sorting
-use Rattle.std.specs.List.Sorted.{IsPermutation, IsStrictlySortedBy, IsBinarySearchResult}
-use Rattle.std.specs.List.Retain.{IsFiltered, DiffersFromLast}
-use Rattle.std.specs.Ordering.{nat_cmp, eq_by_cmp}
-use Rattle.std.specs.declared.cmp.Ordering.TheVariants.{Less}
-use Rattle.std.proofs.lemmas.Bool.{false≢true, cases_lt}
-use Rattle.std.proofs.lemmas.Bool.Decides.{Decides-eqb, nat_tests}
-use Rattle.std.proofs.lemmas.Cmp.{nat_cmp_total}
-use Rattle.std.proofs.lemmas.List.Filters.{dedup_is}
-use Rattle.std.proofs.lemmas.List.Kept.{IsStrictlySortedBy-dedup}
-use Rattle.std.proofs.lemmas.List.Sorted.{IsPermutation-sym, searched}
-use Rattle.ring_machine.specs.Document.{Feature}
-use Rattle.ring_machine.specs.Query.{add_number, numbers}
-use Rattle.ring_machine.specs.WellFormed.{are_distinct}
-use Rattle.ring_machine.proofs.First.{In, filter-in}
-use Rattle.ring_machine.proofs.Neighbours.{in-map}
-use Rattle.ring_machine.proofs.Order.{and_both}
-use Rattle.ring_machine.proofs.Removal.{not_true}
-use Rattle.ring_machine.proofs.Members.{contains_in, in_contains, in_filter, in_any, any_in, in_mapped}
-use Rattle.ring_machine.proofs.SortedOnce.{in_at, in_recursion, in_permuted, none_new, none_lost}
-use Rattle.point_queries.specs.Users.{Rises, IsSorted}
+use Rattle.ring_machine.specs.Common.{Feature, add_number, numbers, are_distinct}
+use Rattle.ring_machine.proofs.Common.{In, filter-in, in-map, and_both, not_true, contains_in, in_contains, in_filter}
+use Rattle.ring_machine.proofs.Common.{in_any, any_in, in_mapped, in_at, in_recursion, in_permuted, none_new, none_lost}
+use Rattle.point_queries.specs.Common.{Rises, IsSorted}
 
 -- ---- one list for the same numbers
 

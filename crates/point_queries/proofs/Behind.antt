@@ -1,20 +1,14 @@
 -- What passes the level of a position behind it: edges of a ring that holds it, and the rings of given segments.
-use Rattle.std.proofs.Common.{◌≡◌, ◌<◌, ◌+◌, ◌⊎◌, ℕ, Bool, true, false, not, refl, sym, ap, ap₂, ◌∙◌, subst, cond, ◌&&◌, pos, ℤ}
-use Rattle.std.proofs.Common.{List, [], ◌∷◌, ◌++◌, take, get_or, length, int_lt, inl, inr, arith}
-use Rattle.std.specs.Ordering.{is_gt}
-use Rattle.std.proofs.lemmas.Bool.{false≢true}
-use Rattle.std.proofs.lemmas.List.{take_more}
-use Rattle.grid_geometry.specs.Orientation.{orientation}
-use Rattle.grid_geometry.specs.Position.{Position, position_cmp}
-use Rattle.grid_geometry.specs.Ring.{Edge, edges, links, is_counted, is_odd_count, is_inside, xor}
-use Rattle.grid_geometry.specs.Segment.{Segment, segment}
-use Rattle.ring_machine.specs.Document.{Document}
-use Rattle.ring_machine.proofs.First.{In, in-append, in_left, in_right}
-use Rattle.ring_machine.proofs.Members.{contains_in, in_contains}
+use Rattle.kit_words.proofs.Common.{◌≡◌, ◌<◌, ◌+◌, ◌⊎◌, ℕ, Bool, true, false, not, refl, sym, ap, ap₂, ◌∙◌, subst, cond}
+use Rattle.kit_words.proofs.Common.{◌&&◌, pos, ℤ, List, [], ◌∷◌, ◌++◌, take, get_or, length, int_lt, inl, inr, arith}
+use Rattle.kit_words.proofs.Common.{is_gt, false≢true, take_more}
+use Rattle.grid_geometry.specs.Common.{orientation, Position, position_cmp, Edge, edges, links, is_counted}
+use Rattle.grid_geometry.specs.Common.{is_odd_count, is_inside, xor, Segment, segment}
+use Rattle.ring_machine.specs.Common.{Document}
+use Rattle.ring_machine.proofs.Common.{In, in-append, in_left, in_right, contains_in, in_contains}
 use Rattle.map_frame.specs.declared.names.RingName.{RingName}
-use Rattle.arc_store.specs.Named.{ListsRings}
-use Rattle.point_queries.specs.Near.{is_behind, AreBehind}
-use Rattle.point_queries.specs.Odd.{odd, ring_has}
+use Rattle.arc_store.specs.Common.{ListsRings}
+use Rattle.point_queries.specs.Common.{is_behind, AreBehind, odd, ring_has}
 use Rattle.point_queries.proofs.Holding.{passes_level, behind_edge, xor_through}
 use Rattle.point_queries.proofs.OddRings.{has_of, of_has}
 use Rattle.point_queries.proofs.Odds.{odd-some, odd-xor, xor-comm, xor-false, xor-same}

@@ -1,13 +1,10 @@
 -- The names that stand an odd number of times, a name at a time.
-use Rattle.std.proofs.Common.{◌≡◌, ℕ, ◌+◌, ◌<◌, ◌⊎◌, sym, ap, ◌∙◌, subst, inl, inr}
-use Rattle.std.proofs.Common.{List, [], ◌∷◌, ◌++◌, Contains, take, get_or, length}
-use Rattle.std.proofs.lemmas.List.{take_more}
-use Rattle.grid_geometry.specs.Ring.{xor}
-use Rattle.ring_machine.proofs.First.{in_left, in_right}
-use Rattle.ring_machine.proofs.Members.{contains_in, in_contains}
+use Rattle.kit_words.proofs.Common.{◌≡◌, ℕ, ◌+◌, ◌<◌, ◌⊎◌, sym, ap, ◌∙◌, subst, inl, inr, List, [], ◌∷◌, ◌++◌, Contains}
+use Rattle.kit_words.proofs.Common.{take, get_or, length, take_more}
+use Rattle.grid_geometry.specs.Common.{xor}
+use Rattle.ring_machine.proofs.Common.{in_left, in_right, contains_in, in_contains}
 use Rattle.map_frame.specs.declared.names.RingName.{RingName}
-use Rattle.point_queries.specs.Near.{Cancels, HaveOdd}
-use Rattle.point_queries.specs.Odd.{is_name}
+use Rattle.point_queries.specs.Common.{Cancels, HaveOdd, is_name}
 use Rattle.point_queries.proofs.Odds.{odd_more}
 
 pub have_more : (names : List RingName) (i : ℕ) (d : RingName) (a b : List RingName) → i < length names

@@ -1,30 +1,20 @@
 -- The features that hold a position, by rings that stand an odd number of times where they hold it.
-use Rattle.std.proofs.Common.{◌≡◌, ℕ, zero, suc, Bool, true, false, refl, sym, ap, ap₂, ◌∙◌, subst, ◌&&◌, arith}
-use Rattle.std.proofs.Common.{List, [], ◌∷◌, map, Some, unwrap_or}
-use Rattle.std.specs.Prelude.{not, ◌==◌, is_some, slice_get, option_map}
-use Rattle.std.specs.List.{list_any, filter, fold, find}
-use Rattle.std.specs.BTreeSet.{BTreeSet, contains}
-use Rattle.std.proofs.lemmas.Bool.{false≢true}
-use Rattle.std.proofs.lemmas.Bool.Decides.{Decides-eqb}
-use Rattle.grid_geometry.specs.Position.{Position}
-use Rattle.grid_geometry.specs.Ring.{xor, is_inside}
-use Rattle.ring_machine.specs.Document.{Document, Feature}
-use Rattle.ring_machine.specs.Parts.{features, feature}
-use Rattle.ring_machine.specs.Query.{is_on_border, is_in_polygon, is_in_feature, border_at, inside_at}
-use Rattle.ring_machine.specs.WellFormed.{are_distinct}
-use Rattle.ring_machine.proofs.First.{In, filter-in}
-use Rattle.ring_machine.proofs.Found.{found}
-use Rattle.ring_machine.proofs.Members.{in_contains, in_filter, any_in, in_any, there, mapped_there}
-use Rattle.ring_machine.proofs.Order.{and_both}
-use Rattle.ring_machine.proofs.Removal.{not_true}
+use Rattle.kit_words.proofs.Common.{◌≡◌, ℕ, zero, suc, Bool, true, false, refl, sym, ap, ap₂, ◌∙◌, subst, ◌&&◌, arith}
+use Rattle.kit_words.proofs.Common.{List, [], ◌∷◌, map, Some, not, ◌==◌, is_some, slice_get, option_map, list_any}
+use Rattle.kit_words.proofs.Common.{filter, fold, find, BTreeSet, contains, false≢true, Decides-eqb}
+use Rattle.std.proofs.Common.{unwrap_or}
+use Rattle.grid_geometry.specs.Common.{Position, xor, is_inside}
+use Rattle.ring_machine.specs.Common.{Document, Feature, features, feature, is_on_border, is_in_polygon, is_in_feature}
+use Rattle.ring_machine.specs.Common.{border_at, inside_at, are_distinct}
+use Rattle.ring_machine.proofs.Common.{In, filter-in, found, in_contains, in_filter, any_in, in_any, there}
+use Rattle.ring_machine.proofs.Common.{mapped_there, and_both, not_true}
 use Rattle.map_frame.specs.declared.names.RingName.{RingName}
-use Rattle.map_frame.specs.Readers.{element, ring_at}
-use Rattle.arc_store.proofs.FrameNames.{place_of}
-use Rattle.map_frame.proofs.NamedForgotten.{element_is}
-use Rattle.map_frame.proofs.ReadFeatures.{in_get}
+use Rattle.map_frame.specs.Common.{element, ring_at}
+use Rattle.arc_store.proofs.Common.{place_of}
+use Rattle.map_frame.proofs.Common.{element_is, in_get}
 use Rattle.point_queries.specs.declared.odd.PolygonName.{PolygonName}
-use Rattle.point_queries.specs.Odd.{odd, AreOdd, TellsInside, is_name, is_polygon, is_held, polygon_of, polygon_cmp, ring_of}
-use Rattle.point_queries.specs.Users.{IsSorted}
+use Rattle.point_queries.specs.Common.{odd, AreOdd, TellsInside, is_name, is_polygon, is_held, polygon_of, polygon_cmp}
+use Rattle.point_queries.specs.Common.{ring_of, IsSorted}
 use Rattle.point_queries.proofs.Ascending.{numbers_found, in_numbers, numbers_have}
 use Rattle.point_queries.proofs.Odds.{both, odd-alike, odd-exchange, odd-some, xor-assoc, xor-false}
 use Rattle.point_queries.proofs.SharedBorders.{found_in}

@@ -1,24 +1,14 @@
 -- A ring that holds a position has it in its bounding box.
-use Rattle.std.proofs.Common.{ℤ, pos, ◌≡◌, ◌-ℤ◌, ◌≤ℤ◌, ◌<ℤ◌, arith, Bool, true, false, cond}
-use Rattle.std.proofs.Common.{List, [], ◌∷◌, ◌++◌, refl, sym, ap, ap₂, ◌∙◌, ◌&&◌, Contains, subst}
-use Rattle.std.proofs.Common.{int_lt, int_le, not}
-use Rattle.std.specs.Int.{int_min, int_max}
-use Rattle.std.specs.List.{AllByRecursion}
-use Rattle.std.specs.Ordering.{is_gt}
-use Rattle.std.proofs.lemmas.Bool.{false≢true}
-use Rattle.std.proofs.lemmas.Int.{ints, clamps}
-use Rattle.grid_geometry.specs.Position.{Position, position_cmp}
-use Rattle.grid_geometry.specs.Orientation.{orientation}
-use Rattle.grid_geometry.specs.Ring.{links, xor, is_counted, is_odd_count, is_inside}
-use Rattle.grid_geometry.specs.Segment.{Segment, Box, segment, box_of, boxes_meet}
-use Rattle.grid_geometry.proofs.Algebra.{expand, up_down, down_up, down_down, above_above, weak}
+use Rattle.kit_words.proofs.Common.{ℤ, pos, ◌≡◌, ◌-ℤ◌, ◌≤ℤ◌, ◌<ℤ◌, arith, Bool, true, false, cond, List, [], ◌∷◌, ◌++◌}
+use Rattle.kit_words.proofs.Common.{refl, sym, ap, ap₂, ◌∙◌, ◌&&◌, Contains, subst, int_lt, int_le, not, int_min}
+use Rattle.kit_words.proofs.Common.{int_max, AllByRecursion, is_gt, false≢true, ints, clamps}
+use Rattle.grid_geometry.specs.Common.{Position, position_cmp, orientation, links, xor, is_counted, is_odd_count}
+use Rattle.grid_geometry.specs.Common.{is_inside, Segment, Box, segment, box_of, boxes_meet}
+use Rattle.grid_geometry.proofs.Common.{expand, up_down, down_up, down_down, above_above, weak, side}
 use Rattle.grid_geometry.proofs.Balances.{turn}
-use Rattle.grid_geometry.proofs.HeldLaw.{side}
-use Rattle.ring_machine.proofs.Members.{in_contains}
-use Rattle.ring_machine.proofs.Neighbours.{all_of}
-use Rattle.ring_machine.proofs.Order.{and_both}
-use Rattle.ring_boxes.specs.Covering.{box_at}
-use Rattle.point_queries.specs.Near.{ray_to, ray_back}
+use Rattle.ring_machine.proofs.Common.{in_contains, all_of, and_both}
+use Rattle.ring_boxes.specs.Common.{box_at}
+use Rattle.point_queries.specs.Common.{ray_to, ray_back}
 use Rattle.point_queries.proofs.Odds.{xor-false, xor-same}
 
 -- ---- whether an edge counts, by how far its ends are above

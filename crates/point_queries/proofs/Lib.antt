@@ -16,3 +16,4 @@ mod Behind
 mod NearRings
 mod HeldFeatures
 mod RingsCovered
+pub mod Common

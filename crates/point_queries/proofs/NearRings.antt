@@ -1,31 +1,21 @@
 -- Which rings hold a position, by the segments that count as far as the boxes that have it.
-use Rattle.std.proofs.Common.{◌≡◌, ℤ, Bool, true, false, refl, sym, ap, ap₂, ◌∙◌, subst, cond, ◌&&◌, int_le, arith}
+use Rattle.kit_words.proofs.Common.{◌≡◌, ℤ, Bool, true, false, refl, sym, ap, ap₂, ◌∙◌, subst, cond, ◌&&◌, int_le}
+use Rattle.kit_words.proofs.Common.{arith, unsigned_abs, ◌≤◌, w64, List, [], ◌∷◌, Option, Some, Contains, unwrap_or}
+use Rattle.kit_words.proofs.Common.{filter, list_all, list_any, ints, to_z-of_z}
 use mir.Val.{of_z, to_z}
-use Rattle.std.proofs.Common.{unsigned_abs, ◌≤◌, w64, List, [], ◌∷◌, Option, Some, Contains}
-use Rattle.std.specs.Prelude.{unwrap_or}
 use Rattle.std.specs.FinSet as set
-use Rattle.std.specs.List.{filter, list_all, list_any}
-use Rattle.std.proofs.lemmas.Int.{ints, to_z-of_z}
-use Rattle.grid_geometry.specs.Position.{Position}
-use Rattle.grid_geometry.specs.Ring.{Edge, edges, is_counted, is_inside, xor}
-use Rattle.grid_geometry.specs.Segment.{Segment, Box, box_of, boxes_meet, segment, segment_eq}
-use Rattle.ring_machine.specs.Document.{Document}
-use Rattle.ring_machine.specs.Parts.{rings}
-use Rattle.ring_machine.specs.Ring.{segment_of, segments, is_ring}
-use Rattle.ring_machine.proofs.First.{In}
-use Rattle.ring_machine.proofs.Members.{in_contains, contains_in, any_in, in_any, in_filter, in_mapped, there}
-use Rattle.ring_machine.proofs.Neighbours.{edge_in, in-map, in-flat_map}
-use Rattle.ring_machine.proofs.Order.{and_both}
-use Rattle.ring_machine.proofs.Orders.{segment_ordered}
-use Rattle.ring_machine.proofs.RingSegments.{segment_eq-true}
-use Rattle.segment_index.specs.Bounds.{is_within}
-use Rattle.segment_index.specs.Candidates.{SegmentSet}
-use Rattle.ring_boxes.specs.Covering.{Covers, IsCovered, box_at, lies_in}
+use Rattle.grid_geometry.specs.Common.{Position, Edge, edges, is_counted, is_inside, xor, Segment, Box, box_of}
+use Rattle.grid_geometry.specs.Common.{boxes_meet, segment, segment_eq}
+use Rattle.ring_machine.specs.Common.{Document, rings, segment_of, segments, is_ring}
+use Rattle.ring_machine.proofs.Common.{In, in_contains, contains_in, any_in, in_any, in_filter, in_mapped, there}
+use Rattle.ring_machine.proofs.Common.{edge_in, in-map, in-flat_map, and_both, segment_ordered, segment_eq-true}
+use Rattle.segment_index.specs.Common.{is_within, SegmentSet}
+use Rattle.ring_boxes.specs.Common.{Covers, IsCovered, box_at, lies_in}
 use Rattle.map_frame.specs.declared.names.RingName.{RingName}
-use Rattle.arc_store.specs.Near.{ListsNear}
-use Rattle.arc_store.proofs.Indexed.{segment_in}
-use Rattle.point_queries.specs.Near.{ray_to, ray_back, is_behind, AreBehind, HaveOdd}
-use Rattle.point_queries.specs.Odd.{odd, holds, is_passed, is_name, ring_of, ring_has, HavePassed, TellsInside}
+use Rattle.arc_store.specs.Common.{ListsNear}
+use Rattle.arc_store.proofs.Common.{segment_in}
+use Rattle.point_queries.specs.Common.{ray_to, ray_back, is_behind, AreBehind, HaveOdd, odd, holds, is_passed, is_name}
+use Rattle.point_queries.specs.Common.{ring_of, ring_has, HavePassed, TellsInside}
 use Rattle.point_queries.proofs.Behind.{behind_is, some_behind}
 use Rattle.point_queries.proofs.Holding.{behind_edge, behind_within, both_sides, box_has, counted_within, has_box, holds_in_diagonal}
 use Rattle.point_queries.proofs.Odds.{odd-some}

@@ -1,23 +1,15 @@
 -- The rings that have some segments, a segment at a time.
-use Rattle.std.proofs.Common.{◌≡◌, ℕ, suc, ◌+◌, ◌<◌, Bool, true, false, refl, sym, ap, ap₂, ◌∙◌, subst, ◌&&◌, arith}
-use Rattle.std.proofs.Common.{List, [], ◌∷◌, ◌++◌, take, length, get_or, append_assoc, inl, inr, Option, Some, None, is_some}
-use Rattle.std.specs.Prelude.{◌==◌, unwrap_or}
-use Rattle.std.specs.List.{list_any}
-use Rattle.std.proofs.lemmas.Bool.{false≢true}
-use Rattle.std.proofs.lemmas.Bool.Decides.{Decides-eqb}
-use Rattle.std.proofs.lemmas.List.{append-nil, take_more}
-use Rattle.grid_geometry.specs.Position.{Position}
-use Rattle.grid_geometry.specs.Ring.{xor}
-use Rattle.grid_geometry.specs.Segment.{Segment, segment, segment_eq}
-use Rattle.ring_machine.specs.Document.{Document}
-use Rattle.ring_machine.specs.Ring.{segments}
-use Rattle.ring_machine.proofs.First.{in-append}
-use Rattle.ring_machine.proofs.Members.{contains_in, in_contains, any_in, in_any, same_answer}
-use Rattle.ring_machine.proofs.Order.{and_both}
+use Rattle.kit_words.proofs.Common.{◌≡◌, ℕ, suc, ◌+◌, ◌<◌, Bool, true, false, refl, sym, ap, ap₂, ◌∙◌, subst, ◌&&◌}
+use Rattle.kit_words.proofs.Common.{arith, List, [], ◌∷◌, ◌++◌, take, length, get_or, append_assoc, inl, inr, Option}
+use Rattle.kit_words.proofs.Common.{Some, None, is_some, ◌==◌, unwrap_or, list_any, false≢true, Decides-eqb, append-nil}
+use Rattle.kit_words.proofs.Common.{take_more}
+use Rattle.grid_geometry.specs.Common.{Position, xor, Segment, segment, segment_eq}
+use Rattle.ring_machine.specs.Common.{Document, segments}
+use Rattle.ring_machine.proofs.Common.{in-append, contains_in, in_contains, any_in, in_any, same_answer, and_both}
 use Rattle.map_frame.specs.declared.names.RingName.{RingName}
-use Rattle.arc_store.specs.Named.{RingHas, AreOnce, ListsRings}
-use Rattle.arc_store.proofs.FrameNames.{place_of}
-use Rattle.point_queries.specs.Odd.{AreApart, ListsOdd, ring_of, ring_has, is_name}
+use Rattle.arc_store.specs.Common.{RingHas, AreOnce, ListsRings}
+use Rattle.arc_store.proofs.Common.{place_of}
+use Rattle.point_queries.specs.Common.{AreApart, ListsOdd, ring_of, ring_has, is_name}
 use Rattle.point_queries.proofs.Odds.{odd-append, odd_apart, xor-false}
 
 -- ---- names of rings

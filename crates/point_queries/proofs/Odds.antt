@@ -1,17 +1,12 @@
 -- Odd numbers: of lists one after another, of lists in another order, and of pairs of two lists.
-use Rattle.std.proofs.Common.{◌≡◌, ℕ, zero, suc, ◌+◌, Bool, true, false, refl, sym, ap, ap₂, ◌∙◌, cond, not}
-use Rattle.std.proofs.Common.{List, [], ◌∷◌, ◌++◌, take, get_or, length, ◌<◌, ◌||◌, ◌&&◌, inl, inr, arith}
+use Rattle.kit_words.proofs.Common.{◌≡◌, ℕ, zero, suc, ◌+◌, Bool, true, false, refl, sym, ap, ap₂, ◌∙◌, cond, not, List}
+use Rattle.kit_words.proofs.Common.{[], ◌∷◌, ◌++◌, take, get_or, length, ◌<◌, ◌||◌, ◌&&◌, inl, inr, arith, list_any}
+use Rattle.kit_words.proofs.Common.{filter, IsPermutation, false≢true, append-nil, take_more, filter_more}
+use Rattle.kit_words.proofs.Common.{sum_by-IsPermutation, sum_by-cons}
 use Rattle.std.specs.Prelude.{sum_by}
-use Rattle.std.specs.List.{list_any, filter}
-use Rattle.std.specs.List.Sorted.{IsPermutation}
-use Rattle.std.proofs.lemmas.Bool.{false≢true}
-use Rattle.std.proofs.lemmas.List.{append-nil, take_more}
-use Rattle.std.proofs.lemmas.List.Elements.{filter_more}
-use Rattle.std.proofs.lemmas.List.Sorted.{sum_by-IsPermutation}
-use Rattle.std.proofs.lemmas.List.Sums.{sum_by-cons}
-use Rattle.grid_geometry.specs.Ring.{xor}
-use Rattle.ring_machine.proofs.First.{In}
-use Rattle.point_queries.specs.Odd.{odd, AreApart}
+use Rattle.grid_geometry.specs.Common.{xor}
+use Rattle.ring_machine.proofs.Common.{In}
+use Rattle.point_queries.specs.Common.{odd, AreApart}
 
 -- ---- of two truths
 

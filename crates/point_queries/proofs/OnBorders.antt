@@ -1,34 +1,20 @@
 -- The features on whose borders a position lies, by the segments near it.
-use Rattle.std.proofs.Common.{◌≡◌, ℕ, ℤ, Bool, true, false, refl, sym, ap, ap₂, ◌∙◌, subst, cond, ◌&&◌, arith}
-use Rattle.std.proofs.Common.{List, [], ◌∷◌, map, inl, inr, int_le}
-use Rattle.std.specs.List.{flat_map}
-use Rattle.std.specs.Int.{int_min, int_max}
-use Rattle.std.proofs.lemmas.Int.{ints, clamps}
-use Rattle.grid_geometry.specs.Orientation.{is_on, is_between, is_in_box}
-use Rattle.grid_geometry.specs.Position.{Position}
-use Rattle.grid_geometry.specs.Ring.{Edge, edges}
-use Rattle.grid_geometry.specs.Segment.{Segment, Box, segment, segment_eq, box_of, boxes_meet}
-use Rattle.grid_geometry.proofs.Conflicts.{segment-comm}
-use Rattle.ring_machine.specs.Document.{Document, Feature}
-use Rattle.ring_machine.specs.Parts.{features, rings, rings_of, all_segments}
-use Rattle.ring_machine.specs.Query.{segments_of, is_on_border, border_at}
-use Rattle.ring_machine.specs.Ring.{segment_of, segments}
-use Rattle.ring_machine.specs.WellFormed.{are_distinct}
-use Rattle.ring_machine.proofs.First.{In}
-use Rattle.ring_machine.proofs.Neighbours.{in-flat_map}
-use Rattle.ring_machine.proofs.Order.{and_both}
-use Rattle.ring_machine.proofs.Orders.{segment_ordered}
-use Rattle.ring_machine.proofs.RingSegments.{segment_eq-true}
+use Rattle.kit_words.proofs.Common.{◌≡◌, ℕ, ℤ, Bool, true, false, refl, sym, ap, ap₂, ◌∙◌, subst, cond, ◌&&◌, arith}
+use Rattle.kit_words.proofs.Common.{List, [], ◌∷◌, map, inl, inr, int_le, flat_map, int_min, int_max, ints, clamps}
+use Rattle.grid_geometry.specs.Common.{is_on, is_between, is_in_box, Position, Edge, edges, Segment, Box, segment}
+use Rattle.grid_geometry.specs.Common.{segment_eq, box_of, boxes_meet}
+use Rattle.grid_geometry.proofs.Common.{segment-comm}
+use Rattle.ring_machine.specs.Common.{Document, Feature, features, rings, rings_of, all_segments, segments_of}
+use Rattle.ring_machine.specs.Common.{is_on_border, border_at, segment_of, segments, are_distinct}
+use Rattle.ring_machine.proofs.Common.{In, in-flat_map, and_both, segment_ordered, segment_eq-true, contains_in}
+use Rattle.ring_machine.proofs.Common.{in_contains, in_mapped, in_flat, any_in, in_any}
 use Rattle.map_frame.specs.declared.names.RingName.{RingName}
-use Rattle.arc_store.specs.Near.{ListsNear}
-use Rattle.feature_exchange.proofs.Ends.{segment_ends}
-use Rattle.arc_store.proofs.Indexed.{in_segments, segment_in}
-use Rattle.ring_machine.proofs.Members.{contains_in, in_contains, in_mapped, in_flat, any_in, in_any}
-use Rattle.arc_store.specs.Users.{HasOne, ListsUsers}
-use Rattle.point_queries.specs.Users.{IsSorted, on_edge}
+use Rattle.arc_store.specs.Common.{ListsNear, HasOne, ListsUsers}
+use Rattle.feature_exchange.proofs.Common.{segment_ends}
+use Rattle.arc_store.proofs.Common.{in_segments, segment_in, ring_named}
+use Rattle.point_queries.specs.Common.{IsSorted, on_edge}
 use Rattle.point_queries.proofs.Ascending.{numbers_found}
 use Rattle.point_queries.proofs.Odds.{both}
-use Rattle.arc_store.proofs.FrameNames.{ring_named}
 use Rattle.point_queries.proofs.SharedBorders.{named_ring}
 
 -- ---- a segment on which the position lies

@@ -1,19 +1,11 @@
 -- A ring holds a position where it has an odd number of the segments that count.
-use Rattle.std.proofs.Common.{◌≡◌, Bool, true, false, refl, sym, ap, ap₂, ◌∙◌, subst, List, [], ◌∷◌, ◌||◌, arith}
-use Rattle.std.specs.Prelude.{map, not}
-use Rattle.std.specs.List.{list_any}
-use Rattle.grid_geometry.specs.Position.{Position}
-use Rattle.grid_geometry.specs.Ring.{Edge, edges, is_odd_count, is_inside, xor}
-use Rattle.grid_geometry.specs.Segment.{Segment, segment_eq}
-use Rattle.ring_machine.specs.Ring.{segment_of, segments, is_ring}
-use Rattle.ring_machine.proofs.Arcs.{is_of}
-use Rattle.ring_machine.proofs.First.{In}
-use Rattle.ring_machine.proofs.Members.{any_in, in_any, same_answer}
-use Rattle.ring_machine.proofs.Orders.{segment_ordered}
-use Rattle.ring_machine.proofs.RingSegments.{segment_eq-true, segment_eq-sym, ring_once}
-use Rattle.ring_machine.proofs.StaysProper.{ring_long, ring_distinct}
-use Rattle.ring_machine.proofs.StaysRing.{AtMostOne}
-use Rattle.point_queries.specs.Odd.{odd, AreApart, is_passed}
+use Rattle.kit_words.proofs.Common.{◌≡◌, Bool, true, false, refl, sym, ap, ap₂, ◌∙◌, subst, List, [], ◌∷◌, ◌||◌, arith}
+use Rattle.kit_words.proofs.Common.{map, not, list_any}
+use Rattle.grid_geometry.specs.Common.{Position, Edge, edges, is_odd_count, is_inside, xor, Segment, segment_eq}
+use Rattle.ring_machine.specs.Common.{segment_of, segments, is_ring}
+use Rattle.ring_machine.proofs.Common.{is_of, In, any_in, in_any, same_answer, segment_ordered, segment_eq-true}
+use Rattle.ring_machine.proofs.Common.{segment_eq-sym, ring_once, ring_long, ring_distinct, AtMostOne}
+use Rattle.point_queries.specs.Common.{odd, AreApart, is_passed}
 use Rattle.point_queries.proofs.Odds.{odd-alike, odd-exchange, odd_apart}
 use Rattle.point_queries.proofs.Passing.{passed_edge}
 

@@ -1,25 +1,15 @@
 -- The segments near a box that count, each once, have all that count and meet it.
-use Rattle.std.proofs.Common.{◌≡◌, Bool, true, false, refl, sym, ap, ap₂, ◌∙◌, subst, List, [], ◌∷◌, ◌||◌, ◌&&◌}
-use Rattle.std.specs.List.{AllByRecursion, filter, list_any, dedup}
-use Rattle.std.specs.List.Sorted.{IsPermutation, IsSorted, IsStrictlySortedBy}
-use Rattle.std.specs.List.Retain.{IsFiltered, DiffersFromLast}
-use Rattle.std.specs.Ordering.{eq_by_cmp, is_lt}
-use Rattle.std.specs.Cmp.{tied_then}
-use Rattle.std.specs.declared.cmp.Ordering.TheVariants.{Less}
-use Rattle.std.proofs.lemmas.List.Filters.{dedup_is}
-use Rattle.std.proofs.lemmas.List.Kept.{IsStrictlySortedBy-dedup}
-use Rattle.std.proofs.lemmas.List.Sorted.{IsPermutation-sym}
-use Rattle.grid_geometry.specs.Position.{Position, position_cmp}
-use Rattle.grid_geometry.specs.Segment.{Segment, Box, segment_eq, segment_cmp, segment_lt}
-use Rattle.ring_machine.specs.Document.{Document}
-use Rattle.ring_machine.proofs.First.{In, filter-in}
-use Rattle.ring_machine.proofs.Members.{contains_in, in_contains, in_filter}
-use Rattle.ring_machine.proofs.Orders.{segment_ordered}
-use Rattle.ring_machine.proofs.RingSegments.{segment_eq-true}
-use Rattle.ring_machine.proofs.SortedOnce.{in_permuted, none_new, none_lost, ties}
-use Rattle.segment_index.proofs.Singles.{segment_total}
-use Rattle.arc_store.specs.Near.{ListsNear}
-use Rattle.point_queries.specs.Odd.{AreApart, ArePassed, is_passed}
+use Rattle.kit_words.proofs.Common.{◌≡◌, Bool, true, false, refl, sym, ap, ap₂, ◌∙◌, subst, List, [], ◌∷◌, ◌||◌, ◌&&◌}
+use Rattle.kit_words.proofs.Common.{AllByRecursion, filter, list_any, dedup, IsPermutation, IsSorted}
+use Rattle.kit_words.proofs.Common.{IsStrictlySortedBy, IsFiltered, DiffersFromLast, eq_by_cmp, is_lt, tied_then, Less}
+use Rattle.kit_words.proofs.Common.{dedup_is, IsStrictlySortedBy-dedup, IsPermutation-sym}
+use Rattle.grid_geometry.specs.Common.{Position, position_cmp, Segment, Box, segment_eq, segment_cmp, segment_lt}
+use Rattle.ring_machine.specs.Common.{Document}
+use Rattle.ring_machine.proofs.Common.{In, filter-in, contains_in, in_contains, in_filter, segment_ordered}
+use Rattle.ring_machine.proofs.Common.{segment_eq-true, in_permuted, none_new, none_lost, ties}
+use Rattle.segment_index.proofs.Common.{segment_total}
+use Rattle.arc_store.specs.Common.{ListsNear}
+use Rattle.point_queries.specs.Common.{AreApart, ArePassed, is_passed}
 
 -- ---- ascending segments, each once
 

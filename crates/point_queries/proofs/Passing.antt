@@ -1,15 +1,11 @@
 -- An edge that counts for a position: in either direction, and near the ray.
-use Rattle.std.proofs.Common.{◌≡◌, ℤ, pos, neg_ℤ, ◌≤◌, Bool, true, false, refl, ap, ◌∙◌, cond}
-use Rattle.std.proofs.Common.{int_le, int_lt, unsigned_abs, arith}
-use Rattle.std.specs.Ordering.{is_gt}
-use Rattle.std.proofs.lemmas.Int.{ints}
-use Rattle.grid_geometry.specs.Position.{Position, InRange, position_cmp}
-use Rattle.grid_geometry.specs.Orientation.{orientation}
-use Rattle.grid_geometry.specs.Ring.{is_counted}
-use Rattle.grid_geometry.specs.Segment.{Segment, box_of, boxes_meet, segment}
+use Rattle.kit_words.proofs.Common.{◌≡◌, ℤ, pos, neg_ℤ, ◌≤◌, Bool, true, false, refl, ap, ◌∙◌, cond, int_le, int_lt}
+use Rattle.kit_words.proofs.Common.{unsigned_abs, arith, is_gt, ints}
+use Rattle.grid_geometry.specs.Common.{Position, InRange, position_cmp, orientation, is_counted, Segment, box_of}
+use Rattle.grid_geometry.specs.Common.{boxes_meet, segment}
 use Rattle.point_queries.proofs.Holding.{counted_meets}
-use Rattle.grid_geometry.proofs.Turns.{orientation-reverse}
-use Rattle.point_queries.specs.Odd.{ray, is_passed}
+use Rattle.grid_geometry.proofs.Common.{orientation-reverse}
+use Rattle.point_queries.specs.Common.{ray, is_passed}
 
 -- ---- the direction does not matter
 

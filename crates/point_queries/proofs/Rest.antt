@@ -1,11 +1,9 @@
 -- Sums over what is left of a list, an element at a time.
-use Rattle.std.proofs.Common.{◌≡◌, ℕ, ◌<◌, ◌+◌, refl, sym, ap, ◌∙◌, List, [], ◌∷◌, length, get_or, drop}
-use Rattle.std.specs.Prelude.{sum_by, ◌-ℤ◌}
-use Rattle.std.specs.List.{fold}
-use Rattle.std.proofs.lemmas.List.{drop_more}
-use Rattle.std.proofs.lemmas.List.Sums.{sum_by-cons}
-use Rattle.grid_geometry.specs.Position.{Position}
-use Rattle.ring_machine.specs.Query.{absolute_area, polygon_area}
+use Rattle.kit_words.proofs.Common.{◌≡◌, ℕ, ◌<◌, ◌+◌, refl, sym, ap, ◌∙◌, List, [], ◌∷◌, length, get_or, drop, ◌-ℤ◌}
+use Rattle.kit_words.proofs.Common.{fold, drop_more, sum_by-cons}
+use Rattle.std.specs.Prelude.{sum_by}
+use Rattle.grid_geometry.specs.Common.{Position}
+use Rattle.ring_machine.specs.Common.{absolute_area, polygon_area}
 
 pub fold_rest : {A C : Type 0} (f : C → A → C) (z : C) (xs : List A) (i : ℕ) (d : A) → i < length xs → fold f z (drop i xs) ≡ fold f (f z (get_or xs i d)) (drop (i + 1) xs)
 fold_rest f z xs i d l = ap (fold f z) (drop_more xs i d l)

@@ -1,25 +1,16 @@
 -- The boxes of rings: what one ring more brings, of a polygon, of a feature, and of a map.
-use Rattle.std.proofs.Common.{◌≡◌, ◌≤◌, ◌<◌, ◌+◌, ℕ, refl, sym, ap, subst, ◌∙◌, List, [], ◌∷◌, ◌++◌, length, get_or, take, Option, None, Some, inl, inr, arith, Contains}
-use Rattle.std.specs.Prelude.{Vec, IsTrue, true, ◌==◌}
-use Rattle.std.specs.List.{AllByRecursion, flat_map}
-use Rattle.std.proofs.lemmas.Bool.{cases_lt}
-use Rattle.std.proofs.lemmas.List.{map_more, take_all}
-use Rattle.grid_geometry.specs.Position.{Position}
-use Rattle.ring_machine.specs.Ring.{is_ring}
-use Rattle.ring_machine.specs.Document.{Document, Feature}
-use Rattle.ring_machine.specs.Parts.{features, feature, rings, rings_of}
-use Rattle.ring_machine.specs.Planar.{Proper}
-use Rattle.ring_machine.specs.Refusals.{feature_at, or_else, no_feature}
-use Rattle.ring_machine.specs.WellFormed.{WellFormed}
-use Rattle.ring_machine.proofs.First.{In, in-append}
-use Rattle.ring_machine.proofs.Found.{feature_found, found_in}
-use Rattle.ring_machine.proofs.Members.{contains_in, in_contains, in_flat}
-use Rattle.ring_machine.proofs.Neighbours.{in-map, in-flat_map, all_of, all_in}
-use Rattle.ring_machine.proofs.SortedOnce.{in_recursion}
-use Rattle.ring_parts.specs.Seen.{rings_seen, polygons_seen}
-use Rattle.segment_index.specs.Candidates.{SegmentSet}
-use Rattle.ring_boxes.specs.Covering.{Covers, IsCovered, Keeps}
-use Rattle.point_queries.specs.Covered.{CoversFeature}
+use Rattle.kit_words.proofs.Common.{◌≡◌, ◌≤◌, ◌<◌, ◌+◌, ℕ, refl, sym, ap, subst, ◌∙◌, List, [], ◌∷◌, ◌++◌, length}
+use Rattle.kit_words.proofs.Common.{get_or, take, Option, None, Some, inl, inr, arith, Contains, Vec, IsTrue, true}
+use Rattle.kit_words.proofs.Common.{◌==◌, AllByRecursion, flat_map, cases_lt, map_more, take_all}
+use Rattle.grid_geometry.specs.Common.{Position}
+use Rattle.ring_machine.specs.Common.{is_ring, Document, Feature, features, feature, rings, rings_of, Proper}
+use Rattle.ring_machine.specs.Common.{feature_at, or_else, no_feature, WellFormed}
+use Rattle.ring_machine.proofs.Common.{In, in-append, feature_found, found_in, contains_in, in_contains, in_flat}
+use Rattle.ring_machine.proofs.Common.{in-map, in-flat_map, all_of, all_in, in_recursion}
+use Rattle.ring_parts.specs.Common.{rings_seen, polygons_seen}
+use Rattle.segment_index.specs.Common.{SegmentSet}
+use Rattle.ring_boxes.specs.Common.{Covers, IsCovered, Keeps}
+use Rattle.point_queries.specs.Common.{CoversFeature}
 
 -- ---- rings
 

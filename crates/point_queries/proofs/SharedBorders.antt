@@ -1,30 +1,20 @@
 -- Two features have a segment in common where a ring of one has the segment of an edge of the other.
-use Rattle.std.proofs.Common.{◌≡◌, ℕ, Bool, true, refl, sym, ap, ap₂, ◌∙◌, subst, arith}
-use Rattle.std.proofs.Common.{List, [], ◌∷◌, map, Option, Some, None, option_map, ◌&&◌}
-use Rattle.std.specs.Prelude.{not, ◌==◌}
-use Rattle.std.specs.List.{find, filter, flat_map, list_any}
-use Rattle.std.proofs.lemmas.Bool.Decides.{Decides-eqb}
-use Rattle.grid_geometry.specs.Position.{Position}
-use Rattle.grid_geometry.specs.Ring.{Edge, edges}
-use Rattle.grid_geometry.specs.Segment.{Segment, segment, segment_eq}
-use Rattle.ring_machine.specs.Document.{Document, Feature}
-use Rattle.ring_machine.specs.Parts.{features, feature, rings_of}
-use Rattle.ring_machine.specs.Query.{segments_of, have_common, neighbours_of}
-use Rattle.ring_machine.specs.Refusals.{feature_at, or_else, no_feature}
-use Rattle.ring_machine.specs.Ring.{segment_of, segments}
-use Rattle.ring_machine.specs.WellFormed.{are_distinct}
-use Rattle.ring_machine.proofs.First.{In, filter-in}
+use Rattle.kit_words.proofs.Common.{◌≡◌, ℕ, Bool, true, refl, sym, ap, ap₂, ◌∙◌, subst, arith, List, [], ◌∷◌, map}
+use Rattle.kit_words.proofs.Common.{Option, Some, None, option_map, ◌&&◌, not, ◌==◌, find, filter, flat_map, list_any}
+use Rattle.kit_words.proofs.Common.{Decides-eqb}
+use Rattle.grid_geometry.specs.Common.{Position, Edge, edges, Segment, segment, segment_eq}
+use Rattle.ring_machine.specs.Common.{Document, Feature, features, feature, rings_of, segments_of, have_common}
+use Rattle.ring_machine.specs.Common.{neighbours_of, feature_at, or_else, no_feature, segment_of, segments}
+use Rattle.ring_machine.specs.Common.{are_distinct}
+use Rattle.ring_machine.proofs.Common.{In, filter-in, in-map, in-flat_map, and_both, contains_in, in_contains}
+use Rattle.ring_machine.proofs.Common.{in_filter, in_mapped, in_flat, any_in, in_any, mapped_there}
 use Rattle.ring_machine.proofs.Found as finding
-use Rattle.ring_machine.proofs.Neighbours.{in-map, in-flat_map}
-use Rattle.ring_machine.proofs.Order.{and_both}
 use Rattle.map_frame.specs.declared.names.RingName.{RingName}
-use Rattle.map_frame.specs.Readers.{Shown, shown, element, ring_at}
-use Rattle.ring_machine.proofs.Members.{contains_in, in_contains, in_filter, in_mapped, in_flat, any_in, in_any, mapped_there}
-use Rattle.map_frame.proofs.NamedForgotten.{element_is}
-use Rattle.map_frame.proofs.ReadFeatures.{in_get}
-use Rattle.arc_store.proofs.FrameNames.{ring_named}
-use Rattle.arc_store.specs.Users.{HasOne, ListsUsers}
-use Rattle.point_queries.specs.Users.{IsSorted}
+use Rattle.map_frame.specs.Common.{Shown, shown, element, ring_at}
+use Rattle.map_frame.proofs.Common.{element_is, in_get}
+use Rattle.arc_store.proofs.Common.{ring_named}
+use Rattle.arc_store.specs.Common.{HasOne, ListsUsers}
+use Rattle.point_queries.specs.Common.{IsSorted}
 use Rattle.point_queries.proofs.Ascending.{numbers_found}
 use Rattle.point_queries.proofs.Odds.{both}
 

@@ -1,21 +1,14 @@
 -- The rings that have a segment of some edges, an edge and a ring at a time.
-use Rattle.std.proofs.Common.{◌≡◌, ℕ, ◌+◌, ◌<◌, refl, sym, ap, ◌∙◌, subst, List, [], ◌∷◌, ◌++◌, take, length}
-use Rattle.std.proofs.Common.{get_or, append_assoc, inl, inr, cond, true, false}
-use Rattle.std.specs.List.{flat_map}
-use Rattle.std.proofs.lemmas.List.{append-nil, take_more}
-use Rattle.std.proofs.lemmas.List.Concat.{flat_map-append}
-use Rattle.grid_geometry.specs.Position.{Position}
-use Rattle.grid_geometry.specs.Ring.{Edge}
-use Rattle.grid_geometry.specs.Orientation.{is_on}
-use Rattle.grid_geometry.specs.Segment.{Segment, segment}
-use Rattle.ring_machine.specs.Document.{Document}
-use Rattle.ring_machine.proofs.First.{in-append, in_left, in_right}
+use Rattle.kit_words.proofs.Common.{◌≡◌, ℕ, ◌+◌, ◌<◌, refl, sym, ap, ◌∙◌, subst, List, [], ◌∷◌, ◌++◌, take, length}
+use Rattle.kit_words.proofs.Common.{get_or, append_assoc, inl, inr, cond, true, false, flat_map, append-nil, take_more}
+use Rattle.kit_words.proofs.Common.{flat_map-append}
+use Rattle.grid_geometry.specs.Common.{Position, Edge, is_on, Segment, segment}
+use Rattle.ring_machine.specs.Common.{Document}
+use Rattle.ring_machine.proofs.Common.{in-append, in_left, in_right, contains_in, in_contains}
 use Rattle.map_frame.specs.declared.names.RingName.{RingName}
-use Rattle.arc_store.specs.Named.{RingHas, ListsRings}
-use Rattle.ring_machine.proofs.Members.{contains_in, in_contains}
-use Rattle.arc_store.specs.Users.{ListsUsers}
+use Rattle.arc_store.specs.Common.{RingHas, ListsRings, ListsUsers}
 use Rattle.arc_store.proofs.SharedNames.{users_none}
-use Rattle.point_queries.specs.Users.{on_edge}
+use Rattle.point_queries.specs.Common.{on_edge}
 
 pub users_one : (d : Document) (p q : Position) (old new : List RingName)
     → ListsRings d (segment p q) old new → ListsUsers d ((p, q) ∷ []) old new

@@ -1,16 +1,14 @@
 -- What the readers of a map say of a feature, its polygons and their rings.
-use Rattle.std.proofs.Common.{◌≡◌, ℕ, ◌≤◌, ◌+◌, zero, suc, Bool, true, false, cond, refl, sym, ap, ◌∙◌, List, [], ◌∷◌, map, length, get_or, Some, None, arith}
-use Rattle.std.specs.Prelude.{◌==◌, Option, is_some, option_map, unwrap_or, slice_get, sum_by}
-use Rattle.std.specs.List.{find, flat_map, list_any}
-use Rattle.std.proofs.lemmas.List.Sums.{sum_by-cons, sum_by-append}
-use Rattle.std.proofs.lemmas.Option.{unwrap_or-slice_get}
-use Rattle.grid_geometry.specs.Position.{Position}
-use Rattle.ring_machine.specs.Document.{Document, Feature}
-use Rattle.ring_machine.specs.Parts.{features, feature, has_feature, rings_of, size}
-use Rattle.ring_machine.specs.Refusals.{feature_at, or_else, no_feature}
-use Rattle.map_frame.specs.Readers.{Shown, shown, element, ring_at}
-use Rattle.ring_machine.proofs.Members.{is_some-mapped}
-use Rattle.std.proofs.lemmas.List.{length-map}
+use Rattle.kit_words.proofs.Common.{◌≡◌, ℕ, ◌≤◌, ◌+◌, zero, suc, Bool, true, false, cond, refl, sym, ap, ◌∙◌, List, []}
+use Rattle.kit_words.proofs.Common.{◌∷◌, map, length, get_or, Some, None, arith, ◌==◌, Option, is_some, option_map}
+use Rattle.kit_words.proofs.Common.{unwrap_or, slice_get, find, flat_map, list_any, sum_by-cons, sum_by-append}
+use Rattle.kit_words.proofs.Common.{unwrap_or-slice_get, length-map}
+use Rattle.std.specs.Prelude.{sum_by}
+use Rattle.grid_geometry.specs.Common.{Position}
+use Rattle.ring_machine.specs.Common.{Document, Feature, features, feature, has_feature, rings_of, size, feature_at}
+use Rattle.ring_machine.specs.Common.{or_else, no_feature}
+use Rattle.map_frame.specs.Common.{Shown, shown, element, ring_at}
+use Rattle.ring_machine.proofs.Common.{is_some-mapped}
 
 -- the ring with these numbers, and none where there is no such ring
 pub ring_is : (d : Document) (n polygon ring : ℕ) → unwrap_or (ring_at d n polygon ring) [] ≡ get_or (get_or (feature_at d n).polygons polygon []) ring []

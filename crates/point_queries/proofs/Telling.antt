@@ -1,22 +1,15 @@
 -- Which rings hold a position, by the rings of the segments that count for it.
-use Rattle.std.proofs.Common.{◌≡◌, true, refl, sym, ap, ap₂, ◌∙◌, subst, List, [], Option, Some, inl}
-use Rattle.std.specs.Prelude.{is_some, unwrap_or}
-use Rattle.std.specs.List.{AllByRecursion, list_any, list_all}
-use Rattle.grid_geometry.specs.Position.{Position, InRange, position_eq}
-use Rattle.grid_geometry.specs.Ring.{is_inside}
-use Rattle.grid_geometry.specs.Segment.{Segment, Box, segment_eq, box_of, boxes_meet}
-use Rattle.ring_machine.specs.Document.{Document}
-use Rattle.ring_machine.specs.Parts.{features, rings, rings_of, is_segment}
-use Rattle.ring_machine.specs.Ring.{has, segments, is_ring}
-use Rattle.ring_machine.proofs.First.{In}
-use Rattle.ring_machine.proofs.Members.{in_contains, contains_in, any_in, there}
-use Rattle.ring_machine.proofs.Neighbours.{in-flat_map, all_in}
-use Rattle.ring_machine.proofs.Order.{position_eq-true}
-use Rattle.ring_machine.proofs.SortedOnce.{in_recursion}
+use Rattle.kit_words.proofs.Common.{◌≡◌, true, refl, sym, ap, ap₂, ◌∙◌, subst, List, [], Option, Some, inl, is_some}
+use Rattle.kit_words.proofs.Common.{unwrap_or, AllByRecursion, list_any, list_all}
+use Rattle.grid_geometry.specs.Common.{Position, InRange, position_eq, is_inside, Segment, Box, segment_eq, box_of}
+use Rattle.grid_geometry.specs.Common.{boxes_meet}
+use Rattle.ring_machine.specs.Common.{Document, features, rings, rings_of, is_segment, has, segments, is_ring}
+use Rattle.ring_machine.proofs.Common.{In, in_contains, contains_in, any_in, there, in-flat_map, all_in}
+use Rattle.ring_machine.proofs.Common.{position_eq-true, in_recursion}
 use Rattle.map_frame.specs.declared.names.RingName.{RingName}
-use Rattle.feature_exchange.proofs.Ends.{end_is}
-use Rattle.arc_store.proofs.Indexed.{end_vertex, in_segments, segment_in}
-use Rattle.point_queries.specs.Odd.{odd, ray, is_passed, is_name, ring_of, ring_has, HavePassed, TellsInside}
+use Rattle.feature_exchange.proofs.Common.{end_is}
+use Rattle.arc_store.proofs.Common.{end_vertex, in_segments, segment_in}
+use Rattle.point_queries.specs.Common.{odd, ray, is_passed, is_name, ring_of, ring_has, HavePassed, TellsInside}
 use Rattle.point_queries.proofs.Odds.{odd-alike}
 use Rattle.point_queries.proofs.OnBorders.{of_ends}
 use Rattle.point_queries.proofs.PassedRings.{odd_ring}

@@ -1,9 +1,8 @@
 -- The boxes of a feature.
 use Rattle.std.specs.Prelude.{◌≡◌, ℕ, Contains}
-use Rattle.ring_machine.specs.Document.{Document, Feature}
-use Rattle.ring_machine.specs.Parts.{features, rings_of}
-use Rattle.segment_index.specs.Candidates.{SegmentSet}
-use Rattle.ring_boxes.specs.Covering.{Covers}
+use Rattle.ring_machine.specs.Common.{Document, Feature, features, rings_of}
+use Rattle.segment_index.specs.Common.{SegmentSet}
+use Rattle.ring_boxes.specs.Common.{Covers}
 
 -- each ring of a feature with this number lies in one of the boxes
 abbrev pub CoversFeature : SegmentSet → Document → ℕ → Type 0

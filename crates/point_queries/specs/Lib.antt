@@ -3,3 +3,4 @@ pub mod Near
 pub mod Odd
 pub mod Told
 pub mod Users
+pub mod Common

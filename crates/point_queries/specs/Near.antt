@@ -1,9 +1,7 @@
 -- A ray that ends, and the names that stand an odd number of times.
 use Rattle.std.specs.Prelude.{◌≡◌, ◌&&◌, not, ℤ, int_lt, Bool, List, Contains, IsTrue}
-use Rattle.grid_geometry.specs.Position.{Position}
-use Rattle.grid_geometry.specs.Ring.{xor}
-use Rattle.grid_geometry.specs.Segment.{Segment, Box}
-use Rattle.ring_machine.specs.Document.{Document}
+use Rattle.grid_geometry.specs.Common.{Position, xor, Segment, Box}
+use Rattle.ring_machine.specs.Common.{Document}
 use Rattle.map_frame.specs.declared.names.RingName.{RingName}
 use Rattle.point_queries.specs.Odd.{odd, is_name, is_passed, ring_has}
 

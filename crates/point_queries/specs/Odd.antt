@@ -5,14 +5,11 @@ use Rattle.std.specs.List.{list_any}
 use Rattle.std.specs.BTreeSet.{BTreeSet, contains}
 use Rattle.std.specs.Ordering.{nat_cmp, ordering_then}
 use Rattle.std.specs.declared.cmp.Ordering.{Ordering}
-use Rattle.grid_geometry.specs.Position.{Position}
-use Rattle.grid_geometry.specs.Ring.{is_counted, is_inside, xor}
-use Rattle.grid_geometry.specs.Segment.{Segment, Box, segment, segment_eq, box_of, boxes_meet}
-use Rattle.ring_machine.specs.Document.{Document}
-use Rattle.ring_machine.specs.Parts.{is_segment}
-use Rattle.ring_machine.specs.Ring.{segments}
+use Rattle.grid_geometry.specs.Common.{Position, is_counted, is_inside, xor, Segment, Box, segment, segment_eq, box_of}
+use Rattle.grid_geometry.specs.Common.{boxes_meet}
+use Rattle.ring_machine.specs.Common.{Document, is_segment, segments}
 use Rattle.map_frame.specs.declared.names.RingName.{RingName}
-use Rattle.map_frame.specs.Readers.{ring_at}
+use Rattle.map_frame.specs.Common.{ring_at}
 use Rattle.point_queries.specs.declared.odd.PolygonName.{PolygonName}
 
 -- an odd number of the elements pass the test

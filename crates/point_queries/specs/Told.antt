@@ -1,7 +1,6 @@
 -- What a fault of a question says.
 use Rattle.std.specs.Prelude.{ℕ, ◌≡◌, true, false}
-use Rattle.ring_machine.specs.Document.{Document}
-use Rattle.ring_machine.specs.Parts.{has_feature}
+use Rattle.ring_machine.specs.Common.{Document, has_feature}
 use Rattle.point_queries.specs.declared.sharing.QueryFault.{QueryFault}
 use Rattle.point_queries.specs.declared.sharing.QueryFault.TheVariants.{NoFeature, OutOfMemory}
 

@@ -1,10 +1,7 @@
 -- The edges on which a position lies, and numbers in order.
 use Rattle.std.specs.Prelude.{ℕ, ◌<◌, ◌↔◌, List, [], ◌∷◌, Contains, if◌then◌else◌}
 use Rattle.std.specs.List.{AllByRecursion}
-use Rattle.grid_geometry.specs.Orientation.{is_on}
-use Rattle.grid_geometry.specs.Position.{Position}
-use Rattle.grid_geometry.specs.Ring.{Edge}
-use Rattle.grid_geometry.specs.Segment.{Segment}
+use Rattle.grid_geometry.specs.Common.{is_on, Position, Edge, Segment}
 
 -- the edge of a segment on which p lies
 abbrev pub on_edge : Position → Segment → List Edge

@@ -2,9 +2,8 @@
 ghost use Rattle.std.specs.Prelude.{◌≡◌, ◌≤◌, ◌*◌, ◌↔◌, unsigned_abs, [], length, get_or};
 ghost use Rattle.std.specs.Prelude.{IfOk, IsOk, IsTrue};
 ghost use Rattle.std.specs.List.{sum_by};
-ghost use Rattle.ring_machine.specs.Parts.{has_feature};
+ghost use Rattle.ring_machine.specs.Common.{has_feature, feature_at};
 ghost use Rattle.ring_machine.specs.Query as query;
-ghost use Rattle.ring_machine.specs.Refusals.{feature_at};
 
 use arc_store::Map;
 use grid_geometry::term;

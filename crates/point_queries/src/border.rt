@@ -2,7 +2,7 @@
 ghost use Rattle.std.specs.Prelude.{◌≡◌, map, IfOk, OnOk};
 ghost use Rattle.std.specs.List.{flat_map};
 ghost use Rattle.ring_machine.specs.Query as query;
-ghost use Rattle.arc_store.specs.Users.{ListsUsers};
+ghost use Rattle.arc_store.specs.Common.{ListsUsers};
 ghost use Rattle.point_queries.specs.Users.{on_edge};
 
 use crate::numbers::{Numbers, sort_once};

@@ -1,10 +1,9 @@
 // The boxes of the rings of a map, in which `at_near` looks.
 ghost use Rattle.std.specs.Prelude.{IfOk, IsTrue, OnOk};
 ghost use Rattle.std.specs.List.{AllByRecursion, flat_map};
-ghost use Rattle.ring_machine.specs.Parts.{rings};
-ghost use Rattle.ring_machine.specs.Ring.{is_ring};
-ghost use Rattle.ring_parts.specs.Seen.{rings_seen, polygons_seen};
-ghost use Rattle.ring_boxes.specs.Covering.{Covers, Keeps};
+ghost use Rattle.ring_machine.specs.Common.{rings, is_ring};
+ghost use Rattle.ring_parts.specs.Common.{rings_seen, polygons_seen};
+ghost use Rattle.ring_boxes.specs.Common.{Covers, Keeps};
 ghost use Rattle.point_queries.specs.Covered.{CoversFeature};
 
 use arc_store::Map;

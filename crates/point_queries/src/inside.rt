@@ -1,7 +1,7 @@
 // The features at a position: those that hold it, and those on whose borders it lies.
 ghost use Rattle.std.specs.Prelude.{◌≡◌, ◌==◌, IfOk};
 ghost use Rattle.std.specs.List.{filter, list_any};
-ghost use Rattle.grid_geometry.specs.Position.{Position};
+ghost use Rattle.grid_geometry.specs.Common.{Position};
 ghost use Rattle.ring_machine.specs.Query as query;
 ghost use Rattle.point_queries.specs.Odd as odd;
 ghost use Rattle.point_queries.specs.Users.{Rises};

@@ -3,9 +3,9 @@ ghost use Rattle.std.specs.Prelude.{◌≡◌, ◌≤◌, ◌⊎◌, true, int_l
 ghost use Rattle.std.specs.Prelude.{OnOk, IfSome};
 ghost use Rattle.std.specs.List.{filter, list_any};
 ghost use Rattle.std.specs.List.Sorted.{IsPermutation};
-ghost use Rattle.ring_machine.specs.Parts.{rings};
+ghost use Rattle.ring_machine.specs.Common.{rings};
 ghost use Rattle.ring_machine.specs.Query as query;
-ghost use Rattle.ring_boxes.specs.Covering.{Covers};
+ghost use Rattle.ring_boxes.specs.Common.{Covers};
 ghost use Rattle.point_queries.specs.Odd as odd;
 ghost use Rattle.map_frame.specs.declared.names.RingName.{RingName};
 ghost use Rattle.point_queries.specs.Near.{ray_to, ray_back, is_behind, AreBehind, Cancels, HaveOdd};

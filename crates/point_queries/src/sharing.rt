@@ -2,11 +2,10 @@
 ghost use Rattle.std.specs.Prelude.{◌≡◌, ◌==◌, ◌↔◌, not, [], map, length, get_or};
 ghost use Rattle.std.specs.Prelude.{IfOk, IfErr, OnOk, IsTrue};
 ghost use Rattle.std.specs.List.{filter, flat_map};
-ghost use Rattle.grid_geometry.specs.Ring.{edges};
-ghost use Rattle.ring_machine.specs.Parts.{has_feature};
+ghost use Rattle.grid_geometry.specs.Common.{edges};
+ghost use Rattle.ring_machine.specs.Common.{has_feature, feature_at};
 ghost use Rattle.ring_machine.specs.Query as query;
-ghost use Rattle.ring_machine.specs.Refusals.{feature_at};
-ghost use Rattle.arc_store.specs.Users.{ListsUsers};
+ghost use Rattle.arc_store.specs.Common.{ListsUsers};
 ghost use Rattle.point_queries.specs.Told.{Tells};
 
 use crate::numbers::{Numbers, sort_once};

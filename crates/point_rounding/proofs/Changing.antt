@@ -1,16 +1,13 @@
 -- Coordinates and their new texts, one after another, as a loop makes them.
-use Rattle.std.proofs.Common.{◌≡◌, ℕ, suc, ◌+◌, ◌<◌, ◌≤◌, List, [], ◌∷◌, ◌++◌, length, map, drop, get_or, refl, sym, ap, ◌∙◌, subst, append_assoc, add-one, drop-cons}
-use Rattle.std.specs.Prelude.{ℤ, Result, Ok, Err}
-use Rattle.std.specs.Fmt.{signed_decimal}
-use Rattle.std.proofs.lemmas.List.{append-nil, drop_all}
-use Rattle.json_spans.specs.Nodes.{Node}
-use Rattle.json_spans.specs.Left.{node}
+use Rattle.kit_words.proofs.Common.{◌≡◌, ℕ, suc, ◌+◌, ◌<◌, ◌≤◌, List, [], ◌∷◌, ◌++◌, length, map, drop, get_or, refl}
+use Rattle.kit_words.proofs.Common.{sym, ap, ◌∙◌, subst, append_assoc, add-one, drop-cons, ℤ, Result, Ok, Err}
+use Rattle.kit_words.proofs.Common.{signed_decimal, append-nil, drop_all}
+use Rattle.json_spans.specs.Common.{Node, node}
 use Rattle.json_spans.specs.declared.span.Span.{Span}
 use Rattle.point_rounding.specs.declared.fault.PointFault.{PointFault}
 use Rattle.point_rounding.specs.declared.fault.PointFault.TheVariants as fault
-use Rattle.point_rounding.specs.Gives.{Fails, Gives}
-use Rattle.point_rounding.specs.Points.{all_coordinates}
-use Rattle.point_rounding.specs.Rounded.{◌>>=◌, each, number_on_grid, new_text, spliced, rounded_under, root_of, rounded_points}
+use Rattle.point_rounding.specs.Common.{Fails, Gives, all_coordinates, ◌>>=◌, each, number_on_grid, new_text, spliced}
+use Rattle.point_rounding.specs.Common.{rounded_under, root_of, rounded_points}
 
 -- one fault stands for another
 carry : {Y Z : Type 0} (e : PointFault) (r : Result Y PointFault) (s : Result Z PointFault) → ((f : PointFault) → r ≡ Err f → s ≡ Err f)

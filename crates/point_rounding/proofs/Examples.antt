@@ -1,10 +1,8 @@
 -- Coordinates on a grid, and texts with them, worked out.
-use Rattle.std.proofs.Common.{refl}
-use Rattle.std.specs.Prelude.{◌≡◌, ℕ, ◌^◌, pos, negsuc, List, [], ◌∷◌, codes, Ok, Err}
-use Rattle.json_spans.specs.Nodes.{Node}
-use Rattle.json_spans.specs.Whole.{value_from}
+use Rattle.kit_words.proofs.Common.{refl, ◌≡◌, ℕ, ◌^◌, pos, negsuc, List, [], ◌∷◌, codes, Ok, Err}
+use Rattle.json_spans.specs.Common.{Node, value_from}
 use Rattle.point_rounding.specs.declared.fault.PointFault.TheVariants as fault
-use Rattle.point_rounding.specs.Rounded.{number_on_grid, each, new_text, spliced}
+use Rattle.point_rounding.specs.Common.{number_on_grid, each, new_text, spliced}
 
 -- ---- one coordinate, at place 7
 

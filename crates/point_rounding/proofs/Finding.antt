@@ -1,10 +1,8 @@
 -- Coordinates, one after another, as a loop meets them.
-use Rattle.std.proofs.Common.{◌≡◌, ℕ, zero, suc, ◌-◌, ◌≢◌, List, [], ◌∷◌, ◌++◌, Bool, true, false, refl, sym, ◌∙◌, append_assoc, sub-one}
-use Rattle.std.proofs.lemmas.List.{append-nil}
-use Rattle.std.specs.List.{flat_map}
-use Rattle.json_spans.specs.Nodes.{Node}
-use Rattle.json_spans.specs.Walk.{items}
-use Rattle.point_rounding.specs.Points.{says, value_named, parts_of, pair, coordinates_of, coordinates_in}
+use Rattle.kit_words.proofs.Common.{◌≡◌, ℕ, zero, suc, ◌-◌, ◌≢◌, List, [], ◌∷◌, ◌++◌, Bool, true, false, refl, sym, ◌∙◌}
+use Rattle.kit_words.proofs.Common.{append_assoc, sub-one, append-nil, flat_map}
+use Rattle.json_spans.specs.Common.{Node, items}
+use Rattle.point_rounding.specs.Common.{says, value_named, parts_of, pair, coordinates_of, coordinates_in}
 
 -- ---- members
 

@@ -1,13 +1,10 @@
 -- That no width cuts off what is computed of a coordinate.
 use mir.Syntax.{w64, w128}
 use mir.Val.{SFits, to_z, of_z}
-use Rattle.std.proofs.Common.{◌≡◌, ℕ, ◌+◌, ◌-◌, ◌*◌, ◌<◌, ◌≤◌, ◌^◌, ap₂, ◌∙◌, arith, false}
-use Rattle.std.specs.Prelude.{ℤ, pos, negsuc, ◌*ℤ◌, unsigned_abs, nat_le}
-use Rattle.std.proofs.lemmas.Int.{ints, to_z-of_z, fits_signed_mul}
-use Rattle.std.proofs.lemmas.Nat.{pow-add}
-use Rattle.std.proofs.Math.Nat.{mul-le-mul_right}
-use Rattle.exact_decimals.proofs.Powers.{power_mono}
-use Rattle.point_rounding.specs.Rounded.{is_within}
+use Rattle.kit_words.proofs.Common.{◌≡◌, ℕ, ◌+◌, ◌-◌, ◌*◌, ◌<◌, ◌≤◌, ◌^◌, ap₂, ◌∙◌, arith, false, ℤ, pos, negsuc, ◌*ℤ◌}
+use Rattle.kit_words.proofs.Common.{unsigned_abs, nat_le, ints, to_z-of_z, fits_signed_mul, pow-add, mul-le-mul_right}
+use Rattle.exact_decimals.proofs.Common.{power_mono}
+use Rattle.point_rounding.specs.Common.{is_within}
 
 pub power_fits : (digits finer : ℕ) → 10 ^ (36 - finer - digits) ≤ 10 ^ 36
 power_fits digits finer = power_mono (36 - finer - digits) 36 (omega arith)

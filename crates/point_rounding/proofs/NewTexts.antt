@@ -1,11 +1,9 @@
 -- New texts, put in one after another.
-use Rattle.std.proofs.Common.{◌≡◌, ℕ, ◌+◌, ◌<◌, ◌≤◌, List, ◌++◌, length, map, drop, get_or, refl, append_assoc}
-use Rattle.std.specs.Fmt.{signed_decimal}
-use Rattle.std.proofs.lemmas.List.{drop_all}
-use Rattle.json_spans.specs.Left.{node}
+use Rattle.kit_words.proofs.Common.{◌≡◌, ℕ, ◌+◌, ◌<◌, ◌≤◌, List, ◌++◌, length, map, drop, get_or, refl, append_assoc}
+use Rattle.kit_words.proofs.Common.{signed_decimal, drop_all}
+use Rattle.json_spans.specs.Common.{node}
 use Rattle.point_rounding.specs.declared.rounding.Change.{Change}
-use Rattle.point_rounding.specs.Changes.{change}
-use Rattle.point_rounding.specs.Rounded.{between, end_of, spliced}
+use Rattle.point_rounding.specs.Common.{change, between, end_of, spliced}
 use Rattle.point_rounding.proofs.Changing.{here}
 
 pub spliced_turn : (bytes : List ℕ) (from to : ℕ) (changes : List Change) (i : ℕ) (a : Change) (text front one two whole : List ℕ)

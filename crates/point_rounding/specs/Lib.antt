@@ -3,3 +3,4 @@ pub mod Rounded
 pub mod Found
 pub mod Changes
 pub mod Gives
+pub mod Common

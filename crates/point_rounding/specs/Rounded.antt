@@ -2,13 +2,10 @@
 -- that it is rounded to, and all else is as it stands.
 use Rattle.std.specs.Prelude.{ℕ, ◌+◌, ◌-◌, ◌^◌, ℤ, pos, ◌*ℤ◌, unsigned_abs, nat_le, Bool, true, false, List, [], ◌∷◌, ◌++◌, length, take, drop, Option, Some, None, Result, Ok, Err}
 use Rattle.std.specs.Fmt.{signed_decimal}
-use Rattle.json_spans.specs.Nodes.{Node}
-use Rattle.json_spans.specs.Trimmed.{trimmed}
-use Rattle.json_spans.specs.Kinds.{kind_of}
+use Rattle.json_spans.specs.Common.{Node, trimmed, kind_of}
 use Rattle.json_spans.specs.declared.kinds.Kind.{Kind}
 use Rattle.json_spans.specs.declared.kinds.Kind.TheVariants as kind
-use Rattle.exact_decimals.specs.Decimal.{Parts, parts_of}
-use Rattle.exact_decimals.specs.Fine.{fine, rounded}
+use Rattle.exact_decimals.specs.Common.{Parts, parts_of, fine, rounded}
 use Rattle.point_rounding.specs.declared.fault.PointFault.{PointFault}
 use Rattle.point_rounding.specs.declared.fault.PointFault.TheVariants as fault
 use Rattle.point_rounding.specs.Points.{all_coordinates}

@@ -2,8 +2,7 @@
 // 2.2.2).
 ghost use Rattle.std.specs.Prelude.{◌≡◌, ◌++◌, map, IfOk, OnOk};
 ghost use Rattle.std.specs.List.{flat_map};
-ghost use Rattle.json_spans.specs.Left.{node};
-ghost use Rattle.json_spans.specs.Walk.{items};
+ghost use Rattle.json_spans.specs.Common.{node, items};
 ghost use Rattle.point_rounding.specs.Found.{found};
 ghost use Rattle.point_rounding.specs.Points.{says, value_in, has_type, parts_of, pair, point, points, coordinates_of, coordinates_in, all_coordinates};
 

@@ -1,8 +1,7 @@
 // Coordinates rounded to whole numbers of a grid.
 ghost use Rattle.std.specs.Prelude.{◌≡◌, ◌≤◌, ◌-◌, ◌^◌, ◌*ℤ◌, pos, true, map, unsigned_abs, Some};
-ghost use Rattle.json_spans.specs.Left.{node};
-ghost use Rattle.exact_decimals.specs.Seen.{parts};
-ghost use Rattle.exact_decimals.specs.Fine.{rounded};
+ghost use Rattle.json_spans.specs.Common.{node};
+ghost use Rattle.exact_decimals.specs.Common.{parts, rounded};
 ghost use Rattle.point_rounding.specs.Gives.{Gives};
 ghost use Rattle.point_rounding.specs.Rounded.{is_within, on_grid, number_on_grid, each, new_text};
 ghost use Rattle.point_rounding.specs.Changes.{change};

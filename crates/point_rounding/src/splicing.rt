@@ -1,7 +1,7 @@
 // The text in which each coordinate has its new text.
 ghost use Rattle.std.specs.Prelude.{◌≡◌, ◌++◌, map, drop, IfOk, OnOk};
 ghost use Rattle.std.specs.Fmt.{signed_decimal};
-ghost use Rattle.json_spans.specs.Left.{node};
+ghost use Rattle.json_spans.specs.Common.{node};
 ghost use Rattle.point_rounding.specs.Rounded.{between, end_of, spliced};
 ghost use Rattle.point_rounding.specs.Changes.{change};
 

@@ -1,7 +1,6 @@
 // A whole text with its points on a grid.
 ghost use Rattle.std.specs.Prelude.{◌≡◌, ◌≤◌, Ok};
-ghost use Rattle.json_spans.specs.Left.{node};
-ghost use Rattle.json_spans.specs.Grammar.{Json};
+ghost use Rattle.json_spans.specs.Common.{node, Json};
 ghost use Rattle.point_rounding.specs.Gives.{Gives};
 ghost use Rattle.point_rounding.specs.Rounded.{rounded_under, rounded_points};
 

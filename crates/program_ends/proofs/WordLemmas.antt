@@ -1,7 +1,6 @@
 -- What clap found among the words of a program is what its arguments were given.
-use Rattle.std.proofs.Common.{◌≡◌, ℕ, ap, ◌∙◌, refl, true, List, [], Option, Some, None, option_map}
-use Rattle.std.specs.Borrow.{Bor}
-use Rattle.std.specs.Prelude.{unwrap_or}
+use Rattle.kit_words.proofs.Common.{◌≡◌, ℕ, ap, ◌∙◌, refl, true, List, [], Option, Some, None, option_map, Bor}
+use Rattle.kit_words.proofs.Common.{unwrap_or}
 use Rattle.clap.specs.Words.{App, HasMatchesOf, first_of, first_value, found_of, is_simple, matches_of}
 use Rattle.clap.specs.declared.parser.matches.ArgMatches.{ArgMatches}
 use Rattle.clap.proofs.WalkLemmas.{first_value-rows}

@@ -1,3 +1,4 @@
 pub mod Stops
 pub mod Endings
 pub mod Words
+pub mod Common

@@ -1,17 +1,11 @@
 -- The least box that has another one and those of the first so many segments.
-use Rattle.std.proofs.Common.{◌≡◌, ◌<◌, ◌+◌, ◌&&◌, ℕ, ℤ, true, sym, ap, ◌∙◌, int_le, List, [], length, get_or, take, inl, inr, arith}
-use Rattle.std.specs.Int.{int_min, int_max}
-use Rattle.std.proofs.lemmas.Int.{ints}
-use Rattle.std.proofs.lemmas.List.Folds.{list_any_more, list_any_kept}
-use Rattle.grid_geometry.specs.Position.{Position}
-use Rattle.grid_geometry.specs.Segment.{Segment, Box, box_of}
-use Rattle.ring_machine.proofs.Order.{or_true, or_right}
-use Rattle.segment_index.specs.Bounds.{is_within, box_around}
-use Rattle.segment_index.specs.Candidates.{SegmentSet, has, segment_is}
-use Rattle.segment_index.proofs.Branches.{meet_parts}
-use Rattle.segment_index.proofs.Singles.{same_segment, is-itself}
-use Rattle.ring_boxes.specs.Covering.{box_at, IsAround}
-use Rattle.ring_boxes.specs.Held.{AreBoxesOf, IsLeast}
+use Rattle.kit_words.proofs.Common.{◌≡◌, ◌<◌, ◌+◌, ◌&&◌, ℕ, ℤ, true, sym, ap, ◌∙◌, int_le, List, [], length, get_or}
+use Rattle.kit_words.proofs.Common.{take, inl, inr, arith, int_min, int_max, ints, list_any_more, list_any_kept}
+use Rattle.grid_geometry.specs.Common.{Position, Segment, Box, box_of}
+use Rattle.ring_machine.proofs.Common.{or_true, or_right}
+use Rattle.segment_index.specs.Common.{is_within, box_around, SegmentSet, has, segment_is}
+use Rattle.segment_index.proofs.Common.{meet_parts, same_segment, is-itself}
+use Rattle.ring_boxes.specs.Common.{box_at, IsAround, AreBoxesOf, IsLeast}
 use Rattle.ring_boxes.proofs.Coordinates.{le_itself, min_left, min_right, max_left, max_right}
 
 below_both : (a b c : ℤ) → int_le c a ≡ true → int_le c b ≡ true → int_le c (int_min a b) ≡ true

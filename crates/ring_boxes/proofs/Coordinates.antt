@@ -1,9 +1,6 @@
 -- The lesser and the greater of coordinates, also as the code computes them.
-use Rattle.std.proofs.Common.{◌≡◌, ◌≤◌, ◌⊎◌, inl, inr, ℤ, Bool, true, false, cond, ◌&&◌, refl}
-use Rattle.std.proofs.Common.{int_le, w64, to_z, of_z, unsigned_abs, arith}
-use Rattle.std.specs.Prelude.{int_lt}
-use Rattle.std.specs.Int.{int_min, int_max}
-use Rattle.std.proofs.lemmas.Int.{ints}
+use Rattle.kit_words.proofs.Common.{◌≡◌, ◌≤◌, ◌⊎◌, inl, inr, ℤ, Bool, true, false, cond, ◌&&◌, refl, int_le, w64, to_z}
+use Rattle.kit_words.proofs.Common.{of_z, unsigned_abs, arith, int_lt, int_min, int_max, ints}
 
 pub le_itself : (a : ℤ) → int_le a a ≡ true
 le_itself a = grind (arith, ints)

@@ -1,21 +1,14 @@
 -- What is held after an add, and what is given for a position.
-use Rattle.std.proofs.Common.{◌≡◌, ◌≤◌, ◌<◌, ◌+◌, ℕ, ℤ, Bool, true, false, cond, None, subst, ◌&&◌, ◌||◌}
-use Rattle.std.proofs.Common.{refl, sym, ap, ◌∙◌, int_le, List, [], ◌++◌, length, get_or, take, inl, inr, Result, Ok}
-use Rattle.std.proofs.Common.{Err, OnOk, OnErr, arith}
+use Rattle.kit_words.proofs.Common.{◌≡◌, ◌≤◌, ◌<◌, ◌+◌, ℕ, ℤ, Bool, true, false, cond, None, subst, ◌&&◌, ◌||◌, refl}
+use Rattle.kit_words.proofs.Common.{sym, ap, ◌∙◌, int_le, List, [], ◌++◌, length, get_or, take, inl, inr, Result, Ok}
+use Rattle.kit_words.proofs.Common.{Err, OnOk, OnErr, arith, int_min, int_max, list_any, ints, list_any_more}
+use Rattle.kit_words.proofs.Common.{list_any_at}
 use Rattle.std.specs.FinSet as set
-use Rattle.std.specs.Int.{int_min, int_max}
-use Rattle.std.specs.List.{list_any}
-use Rattle.std.proofs.lemmas.Int.{ints}
-use Rattle.std.proofs.lemmas.List.Folds.{list_any_more, list_any_at}
-use Rattle.grid_geometry.specs.Position.{Position}
-use Rattle.grid_geometry.specs.Segment.{Segment, box_of, boxes_meet, segment_eq}
-use Rattle.ring_machine.proofs.Members.{same_answer}
-use Rattle.ring_machine.proofs.Order.{or_true}
-use Rattle.segment_index.specs.Candidates.{SegmentSet, Gives, has, segment_is, times_in}
-use Rattle.segment_index.specs.Times.{times_by}
-use Rattle.segment_index.proofs.Singles.{same_segment, segment_eq-is, segment_total, is-itself, times-some}
-use Rattle.ring_boxes.specs.Covering.{box_at, lies_in}
-use Rattle.ring_boxes.specs.Held.{AreBoxesOf, IsWidened, StaysHeld}
+use Rattle.grid_geometry.specs.Common.{Position, Segment, box_of, boxes_meet, segment_eq}
+use Rattle.ring_machine.proofs.Common.{same_answer, or_true}
+use Rattle.segment_index.specs.Common.{SegmentSet, Gives, has, segment_is, times_in, times_by}
+use Rattle.segment_index.proofs.Common.{same_segment, segment_eq-is, segment_total, is-itself, times-some}
+use Rattle.ring_boxes.specs.Common.{box_at, lies_in, AreBoxesOf, IsWidened, StaysHeld}
 
 -- what holds where there is a value holds there in another form
 pub on_ok : {X E P Q : Type 0} (r : Result X E) → (P → Q) → OnOk r P → OnOk r Q

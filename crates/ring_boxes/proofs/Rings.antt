@@ -1,10 +1,8 @@
 -- The positions of a ring, one after another, in a box that is widened by each.
-use Rattle.std.proofs.Common.{◌≡◌, ◌<◌, ◌+◌, ℕ, true, sym, ap, ◌∙◌, List, length, get_or, below_more}
-use Rattle.std.proofs.lemmas.List.{get_or_default}
-use Rattle.grid_geometry.specs.Position.{Position}
-use Rattle.grid_geometry.specs.Segment.{Segment}
-use Rattle.ring_boxes.specs.Covering.{lies_in}
-use Rattle.ring_boxes.specs.Held.{IsWider}
+use Rattle.kit_words.proofs.Common.{◌≡◌, ◌<◌, ◌+◌, ℕ, true, sym, ap, ◌∙◌, List, length, get_or, below_more}
+use Rattle.kit_words.proofs.Common.{get_or_default}
+use Rattle.grid_geometry.specs.Common.{Position, Segment}
+use Rattle.ring_boxes.specs.Common.{lies_in, IsWider}
 
 -- a box has the positions below an index
 abbrev pub HasBelow : Segment → List Position → ℕ → Type 0

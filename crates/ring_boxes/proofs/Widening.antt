@@ -1,12 +1,9 @@
 -- Boxes that have all that others have.
-use Rattle.std.proofs.Common.{◌≡◌, Bool, true, false, cond, ◌&&◌, refl, subst, ap, ◌∙◌, int_le, Option, None, Some, unwrap_or}
-use Rattle.std.specs.Prelude.{IsNone, IfSome}
-use Rattle.std.specs.Int.{int_min, int_max}
-use Rattle.std.specs.Ordering.{is_gt}
-use Rattle.grid_geometry.specs.Position.{Position, position, position_cmp}
-use Rattle.grid_geometry.specs.Segment.{Segment, segment}
-use Rattle.ring_boxes.specs.Covering.{lies_in}
-use Rattle.ring_boxes.specs.Held.{IsWider}
+use Rattle.kit_words.proofs.Common.{◌≡◌, Bool, true, false, cond, ◌&&◌, refl, subst, ap, ◌∙◌, int_le, Option, None}
+use Rattle.kit_words.proofs.Common.{Some, IsNone, IfSome, int_min, int_max, is_gt}
+use Rattle.std.proofs.Common.{unwrap_or}
+use Rattle.grid_geometry.specs.Common.{Position, position, position_cmp, Segment, segment}
+use Rattle.ring_boxes.specs.Common.{lies_in, IsWider}
 use Rattle.ring_boxes.proofs.Coordinates.{le_itself, min_left, min_right, max_left, max_right, all_one}
 
 four : (a b c d : Bool) → ((a && b) && (c && d)) ≡ true → (a ≡ true) × (b ≡ true) × (c ≡ true) × (d ≡ true)

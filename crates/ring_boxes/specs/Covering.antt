@@ -1,10 +1,8 @@
 -- Boxes, each by a diagonal, that the rings of a map lie in.
 use Rattle.std.specs.Prelude.{◌≡◌, Bool, true, List, Contains}
 use Rattle.std.specs.FinSet as set
-use Rattle.grid_geometry.specs.Position.{Position}
-use Rattle.grid_geometry.specs.Segment.{Segment, Box, box_of, boxes_meet}
-use Rattle.segment_index.specs.Bounds.{is_within}
-use Rattle.segment_index.specs.Candidates.{SegmentSet}
+use Rattle.grid_geometry.specs.Common.{Position, Segment, Box, box_of, boxes_meet}
+use Rattle.segment_index.specs.Common.{is_within, SegmentSet}
 
 -- the box of one position
 abbrev pub box_at : Position → Box

@@ -1,10 +1,8 @@
 -- Boxes that are held, and wider ones.
 use Rattle.std.specs.Prelude.{◌≡◌, true, List}
 use Rattle.std.specs.FinSet as set
-use Rattle.grid_geometry.specs.Position.{Position}
-use Rattle.grid_geometry.specs.Segment.{Segment, Box, box_of}
-use Rattle.segment_index.specs.Bounds.{is_within}
-use Rattle.segment_index.specs.Candidates.{SegmentSet, AreAmong, has}
+use Rattle.grid_geometry.specs.Common.{Position, Segment, Box, box_of}
+use Rattle.segment_index.specs.Common.{is_within, SegmentSet, AreAmong, has}
 use Rattle.ring_boxes.specs.Covering.{lies_in}
 
 -- each box that was held still is

@@ -1,10 +1,9 @@
 ghost use Rattle.std.specs.Prelude.{◌≡◌, ◌≤◌, ◌∷◌, true, List, length};
 ghost use Rattle.std.specs.Prelude.{Contains, IsTrue, IfOk, OnOk};
 ghost use Rattle.std.specs.FinSet as set;
-ghost use Rattle.grid_geometry.specs.Position.{Position};
-ghost use Rattle.grid_geometry.specs.Segment.{Segment};
-ghost use Rattle.ring_machine.specs.Ring.{is_distinct};
-ghost use Rattle.segment_index.specs.Candidates.{AreAmong, has};
+ghost use Rattle.grid_geometry.specs.Common.{Position, Segment};
+ghost use Rattle.ring_machine.specs.Common.{is_distinct};
+ghost use Rattle.segment_index.specs.Common.{AreAmong, has};
 ghost use Rattle.ring_boxes.specs.Covering.{lies_in, IsAround, IsCovered, Keeps};
 ghost use Rattle.ring_boxes.specs.Held.{AreBoxesOf, IsWidened, StaysHeld};
 

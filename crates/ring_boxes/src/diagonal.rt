@@ -1,9 +1,8 @@
 //! Boxes, each by the diagonal from its least x and y to its greatest.
 ghost use Rattle.std.specs.Prelude.{◌≡◌, ◌≤◌, true, length, Contains, IsTrue};
 ghost use Rattle.std.specs.Int.{int_min, int_max};
-ghost use Rattle.grid_geometry.specs.Position.{Position, position};
-ghost use Rattle.grid_geometry.specs.Segment.{Segment};
-ghost use Rattle.ring_machine.specs.Ring.{is_distinct};
+ghost use Rattle.grid_geometry.specs.Common.{Position, position, Segment};
+ghost use Rattle.ring_machine.specs.Common.{is_distinct};
 ghost use Rattle.ring_boxes.specs.Covering.{box_at, lies_in};
 ghost use Rattle.ring_boxes.specs.Held.{IsLeast, IsWider};
 

@@ -1,26 +1,13 @@
 -- What an accepted edit of a vertex gives: a proper document, with every position on its side.
-use Rattle.std.proofs.Common.{◌≡◌, ℕ, ℤ, Bool, true, false, refl, sym, ap, ◌∙◌, cond, List, [], ◌∷◌, arith}
-use Rattle.std.proofs.Common.{◌++◌, map, ◌||◌, ◌&&◌, Option, None, Some, inl, inr}
-use Rattle.std.specs.Prelude.{not}
-use Rattle.std.specs.List.{list_any, fold, filter}
-use Rattle.std.specs.Option.{option_and_then}
-use Rattle.std.proofs.lemmas.Bool.{false≢true}
-use Rattle.std.proofs.lemmas.List.Folds.{list_any-append}
-use Rattle.grid_geometry.specs.Position.{Position, position_eq}
-use Rattle.grid_geometry.specs.Segment.{segment}
-use Rattle.grid_geometry.specs.Ring.{is_inside}
-use Rattle.ring_machine.specs.Ring.{has, canonical}
-use Rattle.ring_machine.specs.Document.{Document}
-use Rattle.ring_machine.specs.Parts.{rings, is_vertex, is_segment}
-use Rattle.ring_machine.specs.Vertices.{put, ins, del, del_ring, is_junction}
-use Rattle.ring_machine.specs.Planar.{Proper, first_pair}
-use Rattle.ring_machine.specs.Sweep.{move_sweeps, insert_sweeps, remove_sweeps}
-use Rattle.ring_machine.specs.Sides.{ring_at, KeepsSides}
-use Rattle.ring_machine.specs.Query.{vertices}
-use Rattle.ring_machine.specs.Command.{Refusal}
-use Rattle.ring_machine.specs.Refusals.{first_of, planar, conflict_of, is_small, are_long}
-use Rattle.ring_machine.specs.Refusals.{is_bridged, move_refusals, insert_refusals, remove_refusals}
-use Rattle.ring_machine.specs.Thin.{Thinning, is_flat, without, thin_at, thinned}
+use Rattle.kit_words.proofs.Common.{◌≡◌, ℕ, ℤ, Bool, true, false, refl, sym, ap, ◌∙◌, cond, List, [], ◌∷◌, arith, ◌++◌}
+use Rattle.kit_words.proofs.Common.{map, ◌||◌, ◌&&◌, Option, None, Some, inl, inr, not, list_any, fold, filter}
+use Rattle.kit_words.proofs.Common.{option_and_then, false≢true, list_any-append}
+use Rattle.grid_geometry.specs.Common.{Position, position_eq, segment, is_inside}
+use Rattle.ring_machine.specs.Common.{has, canonical, Document, rings, is_vertex, is_segment, put, ins, del, del_ring}
+use Rattle.ring_machine.specs.Common.{is_junction, Proper, first_pair, move_sweeps, insert_sweeps, remove_sweeps}
+use Rattle.ring_machine.specs.Common.{ring_at, KeepsSides, vertices, Refusal, first_of, planar, conflict_of, is_small}
+use Rattle.ring_machine.specs.Common.{are_long, is_bridged, move_refusals, insert_refusals, remove_refusals, Thinning}
+use Rattle.ring_machine.specs.Common.{is_flat, without, thin_at, thinned}
 use Rattle.ring_machine.proofs.Order.{or_true, or_right, refuted}
 use Rattle.ring_machine.proofs.Canonical.{canonical_parts}
 use Rattle.ring_machine.proofs.Removal.{not_true}

@@ -1,19 +1,13 @@
 -- A feature cut in two, and two features joined: which features there are, and that the document
 -- stays well formed.
-use Rattle.std.proofs.Common.{◌≡◌, ℕ, ◌≤◌, Bool, true, false, refl, sym, ap, ap₂, ◌∙◌, subst}
-use Rattle.std.proofs.Common.{List, [], ◌∷◌, map, length, ◌||◌, Some, arith}
-use Rattle.std.specs.Prelude.{◌==◌}
+use Rattle.kit_words.proofs.Common.{◌≡◌, ℕ, ◌≤◌, Bool, true, false, refl, sym, ap, ap₂, ◌∙◌, subst, List, [], ◌∷◌, map}
+use Rattle.kit_words.proofs.Common.{length, ◌||◌, Some, arith, ◌==◌, list_any}
 use Rattle.std.specs.Option.{is_some}
-use Rattle.std.specs.List.{list_any}
-use Rattle.grid_geometry.specs.Position.{Position}
-use Rattle.ring_machine.specs.Document.{Form, Polygon, MultiPolygon, Null, FeatureOf, Feature, Document}
-use Rattle.ring_machine.specs.Document.{Text}
-use Rattle.ring_machine.specs.Parts.{features, feature, has_feature}
-use Rattle.ring_machine.specs.Cut.{Path, is_cut_by, first_polygon, second_polygon, change_first}
-use Rattle.ring_machine.specs.Cut.{first_that, instead, stays, cut}
-use Rattle.ring_machine.specs.Join.{take_out, joined_polygons, joined_feature, join}
-use Rattle.ring_machine.specs.Refusals.{is_layer}
-use Rattle.ring_machine.specs.WellFormed.{fits_form, WellFormed}
+use Rattle.grid_geometry.specs.Common.{Position}
+use Rattle.ring_machine.specs.Common.{Form, Polygon, MultiPolygon, Null, FeatureOf, Feature, Document, Text, features}
+use Rattle.ring_machine.specs.Common.{feature, has_feature, Path, is_cut_by, first_polygon, second_polygon}
+use Rattle.ring_machine.specs.Common.{change_first, first_that, instead, stays, cut, take_out, joined_polygons}
+use Rattle.ring_machine.specs.Common.{joined_feature, join, is_layer, fits_form, WellFormed}
 use Rattle.ring_machine.proofs.Neighbours.{all_in}
 use Rattle.ring_machine.proofs.Found.{has_feature-found, feature_in}
 use Rattle.ring_machine.proofs.Instead.{feature-instead_other}

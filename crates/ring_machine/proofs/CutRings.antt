@@ -1,14 +1,8 @@
 -- A ring that a path cuts: begun at the path's first position it is p, xs, q, ys.
-use Rattle.std.proofs.Common.{◌≡◌, true, false, refl, sym, ap, ◌∙◌, List, [], ◌∷◌, ◌++◌, length}
-use Rattle.std.proofs.Common.{reverse, ◌&&◌, inl, inr}
-use Rattle.std.specs.Prelude.{not, nat_le}
-use Rattle.std.proofs.lemmas.Bool.{false≢true}
-use Rattle.std.proofs.lemmas.List.{append-nil}
-use Rattle.std.proofs.lemmas.List.Folds.{list_any-append}
-use Rattle.grid_geometry.specs.Position.{Position, position_eq}
-use Rattle.grid_geometry.specs.Ring.{Edge, edges}
-use Rattle.ring_machine.specs.Ring.{canonical, has, is_distinct, is_ring, begins_least}
-use Rattle.ring_machine.specs.Cut.{Path, first_part, second_part}
+use Rattle.kit_words.proofs.Common.{◌≡◌, true, false, refl, sym, ap, ◌∙◌, List, [], ◌∷◌, ◌++◌, length, reverse, ◌&&◌}
+use Rattle.kit_words.proofs.Common.{inl, inr, not, nat_le, false≢true, append-nil, list_any-append}
+use Rattle.grid_geometry.specs.Common.{Position, position_eq, Edge, edges}
+use Rattle.ring_machine.specs.Common.{canonical, has, is_distinct, is_ring, begins_least, Path, first_part, second_part}
 use Rattle.ring_machine.proofs.Order.{and_both, position_eq-refl}
 use Rattle.ring_machine.proofs.Canonical.{canonical_at, canonical_swap, canonical_parts, pivot_of}
 use Rattle.ring_machine.proofs.Edges.{edges_is, edges_to, edges_to-append}

@@ -1,18 +1,11 @@
 -- The edges round a ring: a closed chain, begun elsewhere or gone round in reverse.
-use Rattle.std.proofs.Common.{◌≡◌, ◌≤◌, ◌+◌, ℕ, Bool, true, false, refl, sym, ap, ap₂, ◌∙◌, subst}
-use Rattle.std.proofs.Common.{List, [], ◌∷◌, ◌++◌, length, map, reverse, ◌||◌, ◌&&◌, inl, inr, arith}
-use Rattle.std.specs.Prelude.{not}
-use Rattle.std.specs.List.{list_any}
-use Rattle.std.proofs.lemmas.Bool.{false≢true}
-use Rattle.std.proofs.lemmas.List.{append-nil, map-append, reverse-append, length-append}
-use Rattle.std.proofs.lemmas.List.{length-map, length-reverse}
-use Rattle.std.proofs.lemmas.List.Folds.{list_any-append}
-use Rattle.grid_geometry.specs.Position.{Position, position_eq}
-use Rattle.grid_geometry.specs.Segment.{Segment, segment_eq}
-use Rattle.grid_geometry.specs.Ring.{Edge, links, edges}
-use Rattle.grid_geometry.proofs.Conflicts.{segment-comm}
-use Rattle.ring_machine.specs.Ring.{has, is_distinct, is_ring, canonical}
-use Rattle.ring_machine.specs.Arcs.{Chain}
+use Rattle.kit_words.proofs.Common.{◌≡◌, ◌≤◌, ◌+◌, ℕ, Bool, true, false, refl, sym, ap, ap₂, ◌∙◌, subst, List, [], ◌∷◌}
+use Rattle.kit_words.proofs.Common.{◌++◌, length, map, reverse, ◌||◌, ◌&&◌, inl, inr, arith, not, list_any, false≢true}
+use Rattle.kit_words.proofs.Common.{append-nil, map-append, reverse-append, length-append, length-map, length-reverse}
+use Rattle.kit_words.proofs.Common.{list_any-append}
+use Rattle.grid_geometry.specs.Common.{Position, position_eq, Segment, segment_eq, Edge, links, edges}
+use Rattle.grid_geometry.proofs.Common.{segment-comm}
+use Rattle.ring_machine.specs.Common.{has, is_distinct, is_ring, canonical, Chain}
 use Rattle.ring_machine.proofs.Order.{and_both}
 use Rattle.ring_machine.proofs.Canonical.{canonical_parts}
 use Rattle.ring_machine.proofs.Edges.{edges_to, edges_is, edges_to-append, starts, chain_append}

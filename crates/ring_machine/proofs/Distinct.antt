@@ -1,11 +1,8 @@
 -- Positions of which none stands twice, in two parts.
-use Rattle.std.proofs.Common.{◌≡◌, Bool, true, false, refl, sym, ap₂, ◌∙◌, List, [], ◌∷◌, ◌++◌}
-use Rattle.std.proofs.Common.{◌||◌, ◌&&◌, inl, inr}
-use Rattle.std.specs.Prelude.{not}
-use Rattle.std.proofs.lemmas.Bool.{false≢true}
-use Rattle.std.proofs.lemmas.List.Folds.{list_any-append}
-use Rattle.grid_geometry.specs.Position.{Position, position_eq}
-use Rattle.ring_machine.specs.Ring.{has, is_distinct}
+use Rattle.kit_words.proofs.Common.{◌≡◌, Bool, true, false, refl, sym, ap₂, ◌∙◌, List, [], ◌∷◌, ◌++◌, ◌||◌, ◌&&◌, inl}
+use Rattle.kit_words.proofs.Common.{inr, not, false≢true, list_any-append}
+use Rattle.grid_geometry.specs.Common.{Position, position_eq}
+use Rattle.ring_machine.specs.Common.{has, is_distinct}
 use Rattle.ring_machine.proofs.Order.{and_both}
 use Rattle.ring_machine.proofs.Removal.{none_parts, not_true}
 use Rattle.ring_machine.proofs.First.{In, in_right}

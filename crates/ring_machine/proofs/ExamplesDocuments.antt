@@ -1,20 +1,9 @@
 -- Definitions of documents, their parts and their edits, worked out.
-use Rattle.std.proofs.Common.{refl, ap}
-use Rattle.std.specs.Prelude.{◌≡◌, nat_le, true, false, List, [], ◌∷◌, map, Some, None}
-use Rattle.grid_geometry.specs.Position.{Position}
-use Rattle.grid_geometry.specs.Segment.{segment}
-use Rattle.grid_geometry.specs.Orientation.{orientation, is_on, are_split}
-use Rattle.grid_geometry.specs.Conflict.{cross, is_within, conflict}
-use Rattle.ring_machine.specs.Document.{Document, Open, Close}
-use Rattle.ring_machine.specs.Parts.{size}
-use Rattle.ring_machine.specs.WellFormed.{is_geometry}
-use Rattle.ring_machine.specs.Vertices.{around, is_junction}
-use Rattle.ring_machine.specs.Sweep.{holds_other, crosses_on_way}
-use Rattle.ring_machine.specs.Sides.{ring_at}
-use Rattle.ring_machine.specs.Cut.{Path, path_of, first_part, second_part, goes_first}
-use Rattle.ring_machine.specs.Cut.{first_polygon, second_polygon}
-use Rattle.ring_machine.specs.Query.{counts_of}
-use Rattle.ring_machine.specs.Refusals.{is_small}
+use Rattle.kit_words.proofs.Common.{refl, ap, ◌≡◌, nat_le, true, false, List, [], ◌∷◌, map, Some, None}
+use Rattle.grid_geometry.specs.Common.{Position, segment, orientation, is_on, are_split, cross, is_within, conflict}
+use Rattle.ring_machine.specs.Common.{Document, Open, Close, size, is_geometry, around, is_junction, holds_other}
+use Rattle.ring_machine.specs.Common.{crosses_on_way, ring_at, Path, path_of, first_part, second_part, goes_first}
+use Rattle.ring_machine.specs.Common.{first_polygon, second_polygon, counts_of, is_small}
 use Rattle.ring_machine.proofs.Worked.{at, under, M, S, H, Q, T, bare, plain, square_a, square_b}
 use Rattle.ring_machine.proofs.Worked.{both_squares, corner_hole, square_hole}
 

@@ -1,9 +1,8 @@
 -- Of segments of which no two conflict, fewer do not conflict either.
-use Rattle.std.proofs.Common.{◌≡◌, refl, subst, List, Option, None, Some}
-use Rattle.grid_geometry.specs.Segment.{Segment, segment_lt}
-use Rattle.grid_geometry.specs.Conflict.{conflict}
-use Rattle.grid_geometry.proofs.Conflicts.{conflict-comm}
-use Rattle.ring_machine.specs.Planar.{least_conflict, pair_lt}
+use Rattle.kit_words.proofs.Common.{◌≡◌, refl, subst, List, Option, None, Some}
+use Rattle.grid_geometry.specs.Common.{Segment, segment_lt, conflict}
+use Rattle.grid_geometry.proofs.Common.{conflict-comm}
+use Rattle.ring_machine.specs.Common.{least_conflict, pair_lt}
 use Rattle.ring_machine.proofs.First.{In, least_conflict_is}
 use Rattle.ring_machine.proofs.Local.{Bad, IsLeast}
 

@@ -1,9 +1,7 @@
 -- The first element that passes a test, with what stands before and after it.
-use Rattle.std.proofs.Common.{◌≡◌, Bool, true, false, refl, ap, ◌∙◌, List, [], ◌∷◌, ◌++◌, cond}
-use Rattle.std.proofs.Common.{◌||◌, Some}
-use Rattle.std.specs.List.{list_any, find}
-use Rattle.std.proofs.lemmas.Bool.{false≢true}
-use Rattle.ring_machine.specs.Cut.{change_first, first_that}
+use Rattle.kit_words.proofs.Common.{◌≡◌, Bool, true, false, refl, ap, ◌∙◌, List, [], ◌∷◌, ◌++◌, cond, ◌||◌, Some}
+use Rattle.kit_words.proofs.Common.{list_any, find, false≢true}
+use Rattle.ring_machine.specs.Common.{change_first, first_that}
 use Rattle.ring_machine.proofs.Removal.{none_parts}
 
 pub record FirstThat {A : Type 0} (test : A → Bool) (xs : List A) : Type 0 where

@@ -1,12 +1,9 @@
 -- A document whose rings are changed in place is as well formed as it was.
-use Rattle.std.proofs.Common.{◌≡◌, ℕ, zero, suc, refl, sym, ap, ap₂, ◌∙◌, ◌&&◌, List, [], ◌∷◌, map}
-use Rattle.std.specs.Prelude.{◌==◌}
-use Rattle.std.specs.List.{list_all}
-use Rattle.std.proofs.lemmas.List.{length-map}
-use Rattle.ring_machine.specs.Document.{Form, Polygon, MultiPolygon, Null, FeatureOf, ItemOf, LayerOf}
-use Rattle.ring_machine.specs.Document.{DocumentOf, Open, Close, Leaf, Kept}
-use Rattle.ring_machine.specs.Parts.{features, in_feature, in_item, in_layer, in_rings}
-use Rattle.ring_machine.specs.WellFormed.{is_inner, is_geometry, fits_form, are_distinct, WellFormed}
+use Rattle.kit_words.proofs.Common.{◌≡◌, ℕ, zero, suc, refl, sym, ap, ap₂, ◌∙◌, ◌&&◌, List, [], ◌∷◌, map, ◌==◌}
+use Rattle.kit_words.proofs.Common.{list_all, length-map}
+use Rattle.ring_machine.specs.Common.{Form, Polygon, MultiPolygon, Null, FeatureOf, ItemOf, LayerOf, DocumentOf, Open}
+use Rattle.ring_machine.specs.Common.{Close, Leaf, Kept, features, in_feature, in_item, in_layer, in_rings, is_inner}
+use Rattle.ring_machine.specs.Common.{is_geometry, fits_form, are_distinct, WellFormed}
 use Rattle.ring_machine.proofs.RingsOf.{features-in_rings}
 
 module _ {R S : Type 0} (g : R → S) where

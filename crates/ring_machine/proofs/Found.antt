@@ -1,21 +1,16 @@
 -- Features by their numbers: which one is found, and where it stands among the others.
-use Rattle.std.proofs.Common.{◌≡◌, ℕ, Bool, true, false, refl, sym, ap, ap₂, ◌∙◌, subst, cond, List, [], arith}
-use Rattle.std.proofs.Common.{◌∷◌, ◌++◌, map, ◌||◌, ◌&&◌, inl, inr, Some, None, option_map, is_some}
-use Rattle.std.proofs.Common.{eqb-true, eq-eqb}
-use Rattle.std.specs.Prelude.{◌==◌, not}
-use Rattle.std.specs.List.{list_any, find, filter_map}
-use Rattle.std.proofs.lemmas.Bool.{false≢true}
-use Rattle.ring_machine.specs.Document.{FeatureOf, ItemOf, DocumentOf, Open, Close, Leaf, Kept}
-use Rattle.ring_machine.specs.Parts.{feature_of, features, feature, has_feature, in_item, in_features}
-use Rattle.ring_machine.specs.Parts.{in_feature, in_rings}
-use Rattle.ring_machine.specs.WellFormed.{are_distinct, WellFormed}
+use Rattle.kit_words.proofs.Common.{◌≡◌, ℕ, Bool, true, false, refl, sym, ap, ap₂, ◌∙◌, subst, cond, List, [], arith}
+use Rattle.kit_words.proofs.Common.{◌∷◌, ◌++◌, map, ◌||◌, ◌&&◌, inl, inr, Some, None, option_map, is_some, eqb-true}
+use Rattle.kit_words.proofs.Common.{eq-eqb, ◌==◌, not, list_any, find, filter_map, false≢true, map-append}
+use Rattle.ring_machine.specs.Common.{FeatureOf, ItemOf, DocumentOf, Open, Close, Leaf, Kept, feature_of, features}
+use Rattle.ring_machine.specs.Common.{feature, has_feature, in_item, in_features, in_feature, in_rings, are_distinct}
+use Rattle.ring_machine.specs.Common.{WellFormed}
 use Rattle.ring_machine.proofs.Order.{and_both}
 use Rattle.ring_machine.proofs.Removal.{none_parts, not_true}
 use Rattle.ring_machine.proofs.First.{In, in-append, in_left, in_right}
 use Rattle.ring_machine.proofs.Neighbours.{in-map}
 use Rattle.ring_machine.proofs.Members.{in_any}
 use Rattle.ring_machine.proofs.InItems.{features-in_items}
-use Rattle.std.proofs.lemmas.List.{map-append}
 
 -- ---- what is found in a list
 

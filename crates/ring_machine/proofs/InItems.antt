@@ -1,11 +1,8 @@
 -- A document whose items are changed layer by layer.
-use Rattle.std.proofs.Common.{◌≡◌, Bool, true, false, refl, sym, ap, ap₂, ◌∙◌, ◌&&◌, List, [], ◌∷◌, ◌++◌}
-use Rattle.std.proofs.Common.{map}
-use Rattle.std.specs.List.{filter_map, flat_map, list_all, list_any}
-use Rattle.std.proofs.lemmas.List.Folds.{list_any-append}
-use Rattle.ring_machine.specs.Document.{FeatureOf, ItemOf, LayerOf, DocumentOf}
-use Rattle.ring_machine.specs.Parts.{feature_of, features, in_layer, in_items}
-use Rattle.ring_machine.specs.WellFormed.{is_geometry}
+use Rattle.kit_words.proofs.Common.{◌≡◌, Bool, true, false, refl, sym, ap, ap₂, ◌∙◌, ◌&&◌, List, [], ◌∷◌, ◌++◌, map}
+use Rattle.kit_words.proofs.Common.{filter_map, flat_map, list_all, list_any, list_any-append}
+use Rattle.ring_machine.specs.Common.{FeatureOf, ItemOf, LayerOf, DocumentOf, feature_of, features, in_layer, in_items}
+use Rattle.ring_machine.specs.Common.{is_geometry}
 use Rattle.ring_machine.proofs.Order.{and_both}
 use Rattle.ring_machine.proofs.Removal.{none_parts}
 

@@ -1,10 +1,8 @@
 -- What holds of each ring of a document holds of the document.
-use Rattle.std.proofs.Common.{◌≡◌, refl, ap, ap₂, subst, List, [], ◌∷◌, ◌++◌, map}
-use Rattle.std.specs.List.{flat_map, filter_map, AllByRecursion}
-use Rattle.ring_machine.specs.Document.{ItemOf, LayerOf, DocumentOf, Open, Close, Leaf, Kept}
-use Rattle.ring_machine.specs.Parts.{feature_of, rings_of, rings, in_feature, in_item, in_layer}
-use Rattle.ring_machine.specs.Parts.{in_rings}
-use Rattle.std.proofs.lemmas.List.Concat.{flat_map-append}
+use Rattle.kit_words.proofs.Common.{◌≡◌, refl, ap, ap₂, subst, List, [], ◌∷◌, ◌++◌, map, flat_map, filter_map}
+use Rattle.kit_words.proofs.Common.{AllByRecursion, flat_map-append}
+use Rattle.ring_machine.specs.Common.{ItemOf, LayerOf, DocumentOf, Open, Close, Leaf, Kept, feature_of, rings_of, rings}
+use Rattle.ring_machine.specs.Common.{in_feature, in_item, in_layer, in_rings}
 
 all-append : {A : Type 0} (P : A → Type 0) (xs ys : List A) → AllByRecursion P (xs ++ ys)
     → AllByRecursion P xs × AllByRecursion P ys

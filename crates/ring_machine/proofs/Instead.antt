@@ -1,14 +1,10 @@
 -- A document with other features in the place of one.
-use Rattle.std.proofs.Common.{◌≡◌, ℕ, Bool, true, false, refl, ap, ap₂, ◌∙◌, subst, cond}
-use Rattle.std.proofs.Common.{List, [], ◌∷◌, ◌++◌, map, ◌⊎◌, inl, inr}
-use Rattle.std.specs.Prelude.{◌==◌}
-use Rattle.std.proofs.lemmas.Bool.{eqb-true, eqb-false}
-use Rattle.std.specs.List.{list_any, find, flat_map, filter_map}
-use Rattle.std.proofs.lemmas.List.Concat.{flat_map-append}
-use Rattle.std.proofs.lemmas.List.Elements.{filter_map-append}
-use Rattle.ring_machine.specs.Document.{FeatureOf, ItemOf, DocumentOf, Open, Close, Leaf, Kept}
-use Rattle.ring_machine.specs.Parts.{feature_of, features, feature, has_feature, rings_of, rings}
-use Rattle.ring_machine.specs.Cut.{becomes, instead}
+use Rattle.kit_words.proofs.Common.{◌≡◌, ℕ, Bool, true, false, refl, ap, ap₂, ◌∙◌, subst, cond, List, [], ◌∷◌, ◌++◌}
+use Rattle.kit_words.proofs.Common.{map, ◌⊎◌, inl, inr, ◌==◌, eqb-false, list_any, find, flat_map, filter_map}
+use Rattle.kit_words.proofs.Common.{flat_map-append, filter_map-append}
+use Rattle.std.proofs.lemmas.Bool.{eqb-true}
+use Rattle.ring_machine.specs.Common.{FeatureOf, ItemOf, DocumentOf, Open, Close, Leaf, Kept, feature_of, features}
+use Rattle.ring_machine.specs.Common.{feature, has_feature, rings_of, rings, becomes, instead}
 use Rattle.ring_machine.proofs.Removal.{none_parts}
 use Rattle.ring_machine.proofs.First.{In}
 use Rattle.ring_machine.proofs.Members.{in_flat}

@@ -1,16 +1,10 @@
 -- The area of the ring that joins two rings is the sum of their areas.
-use Rattle.std.proofs.Common.{◌≡◌, ◌≤◌, ℤ, pos, ◌+ℤ◌, neg_ℤ, Bool, true, false, refl, sym, ap}
-use Rattle.std.proofs.Common.{◌∙◌, subst, cond, List, ◌∷◌, ◌++◌, reverse, inl, arith, int_lt}
-use Rattle.std.specs.Prelude.{unsigned_abs}
-use Rattle.std.specs.List.{list_any}
-use Rattle.std.proofs.lemmas.Bool.{false≢true}
-use Rattle.std.proofs.lemmas.Int.{ints}
-use Rattle.grid_geometry.specs.Position.{Position}
-use Rattle.grid_geometry.specs.Ring.{Edge, edges, signed_area, total_area}
-use Rattle.ring_machine.specs.Ring.{is_ring}
-use Rattle.ring_machine.specs.Join.{is_common, passed_alike, positive, runs, same_side}
-use Rattle.ring_machine.specs.Join.{same_segments, joined}
-use Rattle.ring_machine.specs.Query.{absolute_area}
+use Rattle.kit_words.proofs.Common.{◌≡◌, ◌≤◌, ℤ, pos, ◌+ℤ◌, neg_ℤ, Bool, true, false, refl, sym, ap, ◌∙◌, subst, cond}
+use Rattle.kit_words.proofs.Common.{List, ◌∷◌, ◌++◌, reverse, inl, arith, int_lt, unsigned_abs, list_any, false≢true}
+use Rattle.kit_words.proofs.Common.{ints}
+use Rattle.grid_geometry.specs.Common.{Position, Edge, edges, signed_area, total_area}
+use Rattle.ring_machine.specs.Common.{is_ring, is_common, passed_alike, positive, runs, same_side, same_segments}
+use Rattle.ring_machine.specs.Common.{joined, absolute_area}
 use Rattle.ring_machine.proofs.Arcs.{flip, flipped}
 use Rattle.ring_machine.proofs.Areas.{total_area-append, total_area-flipped, total_area_swap}
 use Rattle.ring_machine.proofs.Removal.{none_parts}

@@ -1,14 +1,8 @@
 -- Two rings with one common run: the edges of the joined ring are those that only one of them has.
-use Rattle.std.proofs.Common.{◌≡◌, true, false, refl, sym, ap, ap₂, ◌∙◌, subst}
-use Rattle.std.proofs.Common.{List, [], ◌∷◌, ◌++◌, ◌&&◌, inl, inr}
-use Rattle.std.specs.List.{list_all}
-use Rattle.std.proofs.lemmas.Bool.{false≢true}
-use Rattle.std.proofs.lemmas.List.{append-nil}
-use Rattle.grid_geometry.specs.Position.{Position}
-use Rattle.grid_geometry.specs.Ring.{Edge, edges}
-use Rattle.ring_machine.specs.Ring.{is_ring, canonical}
-use Rattle.ring_machine.specs.Arcs.{Chain}
-use Rattle.ring_machine.specs.Join.{is_common, same_segments, joined}
+use Rattle.kit_words.proofs.Common.{◌≡◌, true, false, refl, sym, ap, ap₂, ◌∙◌, subst, List, [], ◌∷◌, ◌++◌, ◌&&◌, inl}
+use Rattle.kit_words.proofs.Common.{inr, list_all, false≢true, append-nil}
+use Rattle.grid_geometry.specs.Common.{Position, Edge, edges}
+use Rattle.ring_machine.specs.Common.{is_ring, canonical, Chain, is_common, same_segments, joined}
 use Rattle.ring_machine.proofs.Edges.{starts, chain_append, closed}
 use Rattle.ring_machine.proofs.Arcs.{flip, flipped}
 use Rattle.ring_machine.proofs.Spots.{Rotated}

@@ -1,19 +1,10 @@
 -- The ring that joins two rings is a ring, with the segments that only one of them has.
-use Rattle.std.proofs.Common.{◌≡◌, ◌≤◌, Bool, true, false, refl, sym, ap, ap₂, ◌∙◌, subst, cond, List}
-use Rattle.std.proofs.Common.{[], ◌∷◌, ◌++◌, reverse, length, ◌&&◌, ◌⊎◌, inl, inr}
-use Rattle.std.proofs.Common.{None, arith}
-use Rattle.std.specs.Prelude.{not}
-use Rattle.std.specs.Ordering.{is_gt}
-use Rattle.std.specs.List.{list_any, filter, reduce}
-use Rattle.std.proofs.lemmas.Bool.{false≢true}
-use Rattle.std.proofs.lemmas.List.{map-append, length-append, length-map, reverse-append}
-use Rattle.grid_geometry.specs.Position.{Position, position_eq, position_cmp, position_lt}
-use Rattle.grid_geometry.specs.Segment.{is_end}
-use Rattle.grid_geometry.specs.Ring.{Edge, edges}
-use Rattle.ring_machine.specs.Ring.{has, is_distinct, is_ring, segment_of}
-use Rattle.ring_machine.specs.Arcs.{Chain}
-use Rattle.ring_machine.specs.Join.{is_common, passed_alike, same_segments, same_side, common_else}
-use Rattle.ring_machine.specs.Join.{joined, positive}
+use Rattle.kit_words.proofs.Common.{◌≡◌, ◌≤◌, Bool, true, false, refl, sym, ap, ap₂, ◌∙◌, subst, cond, List, [], ◌∷◌}
+use Rattle.kit_words.proofs.Common.{◌++◌, reverse, length, ◌&&◌, ◌⊎◌, inl, inr, None, arith, not, is_gt, list_any}
+use Rattle.kit_words.proofs.Common.{filter, reduce, false≢true, map-append, length-append, length-map, reverse-append}
+use Rattle.grid_geometry.specs.Common.{Position, position_eq, position_cmp, position_lt, is_end, Edge, edges}
+use Rattle.ring_machine.specs.Common.{has, is_distinct, is_ring, segment_of, Chain, is_common, passed_alike}
+use Rattle.ring_machine.specs.Common.{same_segments, same_side, common_else, joined, positive}
 use Rattle.ring_machine.proofs.Order.{and_both, or_true, position_eq-true}
 use Rattle.ring_machine.proofs.Edges.{starts}
 use Rattle.ring_machine.proofs.Arcs.{flip, flipped}

@@ -1,16 +1,10 @@
 -- Two rings with one common run: the one passes it, and the other passes it in reverse.
-use Rattle.std.proofs.Common.{◌≡◌, ◌≤◌, Bool, true, false, refl, sym, ap, ap₂, ◌∙◌, subst, cond}
-use Rattle.std.proofs.Common.{List, [], ◌∷◌, ◌++◌, reverse, ◌&&◌, ◌⊎◌, inl, inr, arith}
-use Rattle.std.specs.List.{list_any, list_all}
-use Rattle.std.proofs.lemmas.Bool.{false≢true}
-use Rattle.std.proofs.lemmas.List.{map-append}
-use Rattle.grid_geometry.specs.Position.{Position, position_eq}
-use Rattle.grid_geometry.specs.Segment.{Segment}
-use Rattle.grid_geometry.specs.Ring.{Edge, edges}
-use Rattle.grid_geometry.proofs.Conflicts.{segment-comm}
-use Rattle.ring_machine.specs.Ring.{edge_eq, is_distinct, is_ring, segment_of}
-use Rattle.ring_machine.specs.Arcs.{Chain}
-use Rattle.ring_machine.specs.Join.{is_common, passed_alike, runs}
+use Rattle.kit_words.proofs.Common.{◌≡◌, ◌≤◌, Bool, true, false, refl, sym, ap, ap₂, ◌∙◌, subst, cond, List, [], ◌∷◌}
+use Rattle.kit_words.proofs.Common.{◌++◌, reverse, ◌&&◌, ◌⊎◌, inl, inr, arith, list_any, list_all, false≢true}
+use Rattle.kit_words.proofs.Common.{map-append}
+use Rattle.grid_geometry.specs.Common.{Position, position_eq, Segment, Edge, edges}
+use Rattle.grid_geometry.proofs.Common.{segment-comm}
+use Rattle.ring_machine.specs.Common.{edge_eq, is_distinct, is_ring, segment_of, Chain, is_common, passed_alike, runs}
 use Rattle.ring_machine.proofs.Order.{and_both, position_eq-true, position_eq-refl, refuted}
 use Rattle.ring_machine.proofs.Edges.{starts}
 use Rattle.ring_machine.proofs.Arcs.{flip, flipped}

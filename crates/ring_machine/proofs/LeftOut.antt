@@ -1,13 +1,9 @@
 -- Lists with some elements left out.
-use Rattle.std.proofs.Common.{◌≡◌, ℕ, Bool, true, false, refl, sym, ap, ap₂, ◌∙◌, subst, cond}
-use Rattle.std.proofs.Common.{List, [], ◌∷◌, ◌++◌, map, ◌&&◌, inl, inr, None}
-use Rattle.std.specs.Prelude.{◌==◌, not}
-use Rattle.std.specs.List.{list_any, list_all, filter, flat_map, reduce}
-use Rattle.std.proofs.lemmas.Bool.{false≢true}
-use Rattle.grid_geometry.specs.Segment.{Segment, segment_lt}
-use Rattle.grid_geometry.specs.Conflict.{conflict}
-use Rattle.ring_machine.specs.Planar.{pair_lt, conflicts, least_conflict}
-use Rattle.ring_machine.specs.WellFormed.{are_distinct}
+use Rattle.kit_words.proofs.Common.{◌≡◌, ℕ, Bool, true, false, refl, sym, ap, ap₂, ◌∙◌, subst, cond, List, [], ◌∷◌}
+use Rattle.kit_words.proofs.Common.{◌++◌, map, ◌&&◌, inl, inr, None, ◌==◌, not, list_any, list_all, filter, flat_map}
+use Rattle.kit_words.proofs.Common.{reduce, false≢true}
+use Rattle.grid_geometry.specs.Common.{Segment, segment_lt, conflict}
+use Rattle.ring_machine.specs.Common.{pair_lt, conflicts, least_conflict, are_distinct}
 use Rattle.ring_machine.proofs.Order.{and_both}
 use Rattle.ring_machine.proofs.Removal.{not_true}
 use Rattle.ring_machine.proofs.First.{In}

@@ -1,10 +1,7 @@
 -- What is among the elements of a list, and what a test of a whole list answers.
-use Rattle.std.proofs.Common.{◌≡◌, ◌<◌, ℕ, zero, suc, Bool, true, refl, ap, ap₂, ◌∙◌}
-use Rattle.std.proofs.Common.{List, [], ◌∷◌, ◌++◌, map, length, ◌||◌, inl, inr, arith}
-use Rattle.std.proofs.Common.{Option, Some, None, is_some, Contains}
-use Rattle.std.specs.Prelude.{slice_index_or, option_map}
-use Rattle.std.specs.List.{list_any, filter, flat_map}
-use Rattle.std.proofs.lemmas.Bool.{false≢true}
+use Rattle.kit_words.proofs.Common.{◌≡◌, ◌<◌, ℕ, zero, suc, Bool, true, refl, ap, ap₂, ◌∙◌, List, [], ◌∷◌, ◌++◌, map}
+use Rattle.kit_words.proofs.Common.{length, ◌||◌, inl, inr, arith, Option, Some, None, is_some, Contains}
+use Rattle.kit_words.proofs.Common.{slice_index_or, option_map, list_any, filter, flat_map, false≢true}
 use Rattle.ring_machine.proofs.Order.{or_true, or_right}
 use Rattle.ring_machine.proofs.First.{In, in-append, in_left, in_right, in-filter}
 

@@ -1,16 +1,10 @@
 -- What a merge without a refusal gives: two features of one polygon each, whose outer rings can be joined.
-use Rattle.std.proofs.Common.{◌≡◌, ◌≤◌, ℕ, Bool, true, false, refl, sym, ap₂, ◌∙◌, List, [], ◌∷◌}
-use Rattle.std.proofs.Common.{◌&&◌, Option, None, Some, eqb-true, arith}
-use Rattle.std.specs.Prelude.{◌==◌, not, nat_le}
-use Rattle.std.specs.List.{list_any, find}
-use Rattle.grid_geometry.specs.Position.{Position}
-use Rattle.grid_geometry.specs.Ring.{edges}
-use Rattle.ring_machine.specs.Document.{Document, Feature}
-use Rattle.ring_machine.specs.Parts.{features, feature, has_feature}
-use Rattle.ring_machine.specs.Join.{is_common, runs, common_else, same_side}
-use Rattle.ring_machine.specs.Command.{Refusal, CommonElse}
-use Rattle.ring_machine.specs.Refusals.{◌unless◌, first_of, outer_of, ring_refusals, merge_refusals}
-use Rattle.ring_machine.specs.Refusals.{or_else, no_feature}
+use Rattle.kit_words.proofs.Common.{◌≡◌, ◌≤◌, ℕ, Bool, true, false, refl, sym, ap₂, ◌∙◌, List, [], ◌∷◌, ◌&&◌, Option}
+use Rattle.kit_words.proofs.Common.{None, Some, eqb-true, arith, ◌==◌, not, nat_le, list_any, find}
+use Rattle.grid_geometry.specs.Common.{Position, edges}
+use Rattle.ring_machine.specs.Common.{Document, Feature, features, feature, has_feature, is_common, runs, common_else}
+use Rattle.ring_machine.specs.Common.{same_side, Refusal, CommonElse, ◌unless◌, first_of, outer_of, ring_refusals}
+use Rattle.ring_machine.specs.Common.{merge_refusals, or_else, no_feature}
 use Rattle.ring_machine.proofs.Order.{and_both}
 use Rattle.ring_machine.proofs.Removal.{not_true}
 use Rattle.ring_machine.proofs.First.{In}

@@ -1,17 +1,10 @@
 -- The area of a feature that two are merged to is the sum of their areas.
-use Rattle.std.proofs.Common.{◌≡◌, ℕ, ℤ, pos, ◌+ℤ◌, ◌-ℤ◌, true, refl, sym, ap, ap₂, ◌∙◌, subst, List, []}
-use Rattle.std.proofs.Common.{◌∷◌, ◌++◌, None, inl, arith}
-use Rattle.std.specs.Prelude.{◌==◌}
-use Rattle.std.specs.List.{fold, flat_map}
-use Rattle.std.proofs.lemmas.Int.{ints}
-use Rattle.grid_geometry.specs.Position.{Position}
-use Rattle.ring_machine.specs.Ring.{is_ring}
-use Rattle.ring_machine.specs.Document.{Document, Feature}
-use Rattle.ring_machine.specs.Parts.{features, rings_of, rings}
-use Rattle.ring_machine.specs.Planar.{Proper}
-use Rattle.ring_machine.specs.Join.{joined, joined_polygons, join}
-use Rattle.ring_machine.specs.Query.{absolute_area, polygon_area, area_of}
-use Rattle.ring_machine.specs.Refusals.{first_of, merge_refusals, feature_at, or_else, no_feature}
+use Rattle.kit_words.proofs.Common.{◌≡◌, ℕ, ℤ, pos, ◌+ℤ◌, ◌-ℤ◌, true, refl, sym, ap, ap₂, ◌∙◌, subst, List, [], ◌∷◌}
+use Rattle.kit_words.proofs.Common.{◌++◌, None, inl, arith, ◌==◌, fold, flat_map, ints}
+use Rattle.grid_geometry.specs.Common.{Position}
+use Rattle.ring_machine.specs.Common.{is_ring, Document, Feature, features, rings_of, rings, Proper, joined}
+use Rattle.ring_machine.specs.Common.{joined_polygons, join, absolute_area, polygon_area, area_of, first_of}
+use Rattle.ring_machine.specs.Common.{merge_refusals, feature_at, or_else, no_feature}
 use Rattle.ring_machine.proofs.First.{In, in_left}
 use Rattle.ring_machine.proofs.Neighbours.{in-flat_map, all_in}
 use Rattle.ring_machine.proofs.JoinedAreas.{joined_area}

@@ -1,18 +1,11 @@
 -- A document in which two features are merged stays proper.
-use Rattle.std.proofs.Common.{◌≡◌, ℕ, true, sym, ap, ap₂, ◌∙◌, subst, List, []}
-use Rattle.std.proofs.Common.{◌∷◌, ◌++◌, ◌⊎◌, inl, inr, None}
-use Rattle.std.specs.List.{flat_map}
-use Rattle.grid_geometry.specs.Position.{Position}
-use Rattle.grid_geometry.specs.Segment.{Segment, segment_eq}
-use Rattle.grid_geometry.specs.Ring.{Edge, edges}
-use Rattle.ring_machine.specs.Ring.{is_ring, segment_of, segments}
-use Rattle.ring_machine.specs.Document.{Document, Feature}
-use Rattle.ring_machine.specs.Parts.{features, rings_of, rings, all_segments}
-use Rattle.ring_machine.specs.WellFormed.{WellFormed}
-use Rattle.ring_machine.specs.Planar.{Proper}
-use Rattle.ring_machine.specs.Join.{is_common, joined, joined_polygons, joined_feature, join}
-use Rattle.ring_machine.specs.Cut.{instead}
-use Rattle.ring_machine.specs.Refusals.{first_of, merge_refusals, feature_at, or_else, no_feature}
+use Rattle.kit_words.proofs.Common.{◌≡◌, ℕ, true, sym, ap, ap₂, ◌∙◌, subst, List, [], ◌∷◌, ◌++◌, ◌⊎◌, inl, inr, None}
+use Rattle.kit_words.proofs.Common.{flat_map}
+use Rattle.grid_geometry.specs.Common.{Position, Segment, segment_eq, Edge, edges}
+use Rattle.ring_machine.specs.Common.{is_ring, segment_of, segments, Document, Feature, features, rings_of, rings}
+use Rattle.ring_machine.specs.Common.{all_segments, WellFormed, Proper, is_common, joined, joined_polygons}
+use Rattle.ring_machine.specs.Common.{joined_feature, join, instead, first_of, merge_refusals, feature_at, or_else}
+use Rattle.ring_machine.specs.Common.{no_feature}
 use Rattle.ring_machine.proofs.RingSegments.{segment_eq-true}
 use Rattle.ring_machine.proofs.Steps.{first_pair-is}
 use Rattle.ring_machine.proofs.First.{In, in-append, in_left}

@@ -1,13 +1,7 @@
 -- What stands under the first number once two features are joined.
-use Rattle.std.proofs.Common.{◌≡◌, ℕ, false, refl, ap, ◌∙◌, Some, arith}
-use Rattle.std.specs.Prelude.{◌==◌, option_map}
-use Rattle.std.specs.List.{find}
-use Rattle.std.proofs.lemmas.Bool.Decides.{nat_tests}
-use Rattle.ring_machine.specs.Document.{Document, Feature}
-use Rattle.ring_machine.specs.Parts.{features, feature}
-use Rattle.ring_machine.specs.Cut.{instead}
-use Rattle.ring_machine.specs.Join.{joined_polygons, joined_feature, join}
-use Rattle.ring_machine.specs.Refusals.{feature_at, or_else, no_feature}
+use Rattle.kit_words.proofs.Common.{◌≡◌, ℕ, false, refl, ap, ◌∙◌, Some, arith, ◌==◌, option_map, find, nat_tests}
+use Rattle.ring_machine.specs.Common.{Document, Feature, features, feature, instead, joined_polygons, joined_feature}
+use Rattle.ring_machine.specs.Common.{join, feature_at, or_else, no_feature}
 use Rattle.ring_machine.proofs.Swapped.{find_one}
 use Rattle.ring_machine.proofs.Instead.{features-instead}
 use Rattle.ring_machine.proofs.Without.{feature-take_out_other}

@@ -1,15 +1,9 @@
 -- The neighbours of a position: by the edges of a ring, and by its places in the document.
-use Rattle.std.proofs.Common.{◌≡◌, Bool, true, false, refl, sym, ap, ◌∙◌, subst, List, [], arith}
-use Rattle.std.proofs.Common.{◌∷◌, ◌++◌, map, append_assoc, ◌||◌, ◌⊎◌, inl, inr}
-use Rattle.std.specs.List.{list_any, list_all, flat_map, filter, AllByRecursion}
-use Rattle.std.proofs.lemmas.Bool.{false≢true}
-use Rattle.grid_geometry.specs.Position.{Position, position_eq}
-use Rattle.grid_geometry.specs.Segment.{Segment, segment}
-use Rattle.grid_geometry.specs.Ring.{Edge, links, edges}
-use Rattle.ring_machine.specs.Ring.{has, between_each, spots}
-use Rattle.ring_machine.specs.Document.{Document}
-use Rattle.ring_machine.specs.Parts.{rings, positions, is_vertex}
-use Rattle.ring_machine.specs.Vertices.{around}
+use Rattle.kit_words.proofs.Common.{◌≡◌, Bool, true, false, refl, sym, ap, ◌∙◌, subst, List, [], arith, ◌∷◌, ◌++◌, map}
+use Rattle.kit_words.proofs.Common.{append_assoc, ◌||◌, ◌⊎◌, inl, inr, list_any, list_all, flat_map, filter}
+use Rattle.kit_words.proofs.Common.{AllByRecursion, false≢true}
+use Rattle.grid_geometry.specs.Common.{Position, position_eq, Segment, segment, Edge, links, edges}
+use Rattle.ring_machine.specs.Common.{has, between_each, spots, Document, rings, positions, is_vertex, around}
 use Rattle.ring_machine.proofs.Order.{position_eq-true, position_eq-refl, or_true, and_both}
 use Rattle.ring_machine.proofs.Removal.{none_parts}
 use Rattle.ring_machine.proofs.Arcs.{links-append}

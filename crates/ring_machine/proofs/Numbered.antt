@@ -1,11 +1,7 @@
 -- Features that are numbered in order.
-use Rattle.std.proofs.Common.{◌≡◌, ℕ, ◌+◌, ◌<◌, Bool, true, false, arith, refl, sym, ap, ap₂, ◌∙◌}
-use Rattle.std.proofs.Common.{subst, List, [], ◌∷◌, ◌++◌, length, map, ◌&&◌, ◌||◌}
-use Rattle.std.specs.Prelude.{◌==◌, not}
-use Rattle.std.specs.List.{list_any}
-use Rattle.std.proofs.lemmas.Bool.Decides.{nat_tests}
-use Rattle.ring_machine.specs.Document.{FeatureOf}
-use Rattle.ring_machine.specs.WellFormed.{are_distinct}
+use Rattle.kit_words.proofs.Common.{◌≡◌, ℕ, ◌+◌, ◌<◌, Bool, true, false, arith, refl, sym, ap, ap₂, ◌∙◌, subst, List}
+use Rattle.kit_words.proofs.Common.{[], ◌∷◌, ◌++◌, length, map, ◌&&◌, ◌||◌, ◌==◌, not, list_any, nat_tests}
+use Rattle.ring_machine.specs.Common.{FeatureOf, are_distinct}
 
 module _ {R : Type 0} where
   -- the features are numbered on from n

@@ -1,14 +1,9 @@
 -- Where at most one run of a ring's elements passes a test, the ring is that run and the rest.
-use Rattle.std.proofs.Common.{◌≡◌, ◌≤◌, ◌+◌, ℕ, Bool, true, false, refl, sym, ap, ap₂, ◌∙◌, cond}
-use Rattle.std.proofs.Common.{List, [], ◌∷◌, ◌++◌, append_assoc, ◌||◌, ◌&&◌, arith}
-use Rattle.std.specs.Prelude.{not}
-use Rattle.std.specs.List.{list_any, list_all, zip, count_by}
-use Rattle.std.proofs.lemmas.Bool.{false≢true}
-use Rattle.std.proofs.lemmas.List.{append-nil}
-use Rattle.std.proofs.lemmas.List.Sums.{sum_by-cons}
-use Rattle.std.proofs.lemmas.List.Folds.{list_any-append}
-use Rattle.grid_geometry.specs.Ring.{Edge}
-use Rattle.ring_machine.specs.Join.{runs, neighbour_edges}
+use Rattle.kit_words.proofs.Common.{◌≡◌, ◌≤◌, ◌+◌, ℕ, Bool, true, false, refl, sym, ap, ap₂, ◌∙◌, cond, List, [], ◌∷◌}
+use Rattle.kit_words.proofs.Common.{◌++◌, append_assoc, ◌||◌, ◌&&◌, arith, not, list_any, list_all, zip, count_by}
+use Rattle.kit_words.proofs.Common.{false≢true, append-nil, sum_by-cons, list_any-append}
+use Rattle.grid_geometry.specs.Common.{Edge}
+use Rattle.ring_machine.specs.Common.{runs, neighbour_edges}
 use Rattle.ring_machine.proofs.Order.{and_both}
 
 -- the list, begun elsewhere, is a run of elements that pass the test, and others that do not

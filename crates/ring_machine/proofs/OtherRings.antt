@@ -1,24 +1,18 @@
 -- A feature replaced or taken out while the rings of the document are read anew: only the rings of
 -- the other features have to be what they were.
-use Rattle.std.proofs.Common.{◌≡◌, ℕ, Bool, true, false, refl, sym, ap, ap₂, ◌∙◌, cond, List}
-use Rattle.std.proofs.Common.{[], ◌∷◌, ◌++◌, map, ◌||◌, inl, inr}
-use Rattle.std.specs.Prelude.{◌==◌, not}
-use Rattle.std.specs.List.{filter, filter_map, flat_map, list_any, list_all}
-use Rattle.std.proofs.lemmas.Bool.{eqb-true, false≢true}
-use Rattle.std.proofs.lemmas.List.Elements.{filter-append}
-use Rattle.ring_machine.specs.Document.{FeatureOf, ItemOf, LayerOf, DocumentOf, Document, Feature}
-use Rattle.ring_machine.specs.Document.{Open, Close, Leaf, Kept}
-use Rattle.ring_machine.specs.Parts.{feature_of, features, rings_of, in_feature}
-use Rattle.ring_machine.specs.Parts.{in_layer}
-use Rattle.ring_machine.specs.Cut.{becomes, instead}
-use Rattle.ring_machine.specs.Join.{is_leaf, empty_collection, take_out, joined_feature, join}
-use Rattle.ring_machine.specs.WellFormed.{is_geometry, WellFormed}
+use Rattle.kit_words.proofs.Common.{◌≡◌, ℕ, Bool, true, false, refl, sym, ap, ap₂, ◌∙◌, cond, List, [], ◌∷◌, ◌++◌, map}
+use Rattle.kit_words.proofs.Common.{◌||◌, inl, inr, ◌==◌, not, filter, filter_map, flat_map, list_any, list_all}
+use Rattle.kit_words.proofs.Common.{false≢true, filter-append, append-nil}
+use Rattle.std.proofs.lemmas.Bool.{eqb-true}
+use Rattle.ring_machine.specs.Common.{FeatureOf, ItemOf, LayerOf, DocumentOf, Document, Feature, Open, Close, Leaf}
+use Rattle.ring_machine.specs.Common.{Kept, feature_of, features, rings_of, in_feature, in_layer, becomes, instead}
+use Rattle.ring_machine.specs.Common.{is_leaf, empty_collection, take_out, joined_feature, join, is_geometry}
+use Rattle.ring_machine.specs.Common.{WellFormed}
 use Rattle.ring_machine.proofs.First.{In, in_left, in_right}
 use Rattle.ring_machine.proofs.Order.{and_both}
 use Rattle.ring_machine.proofs.InItems.{of_layers}
 use Rattle.ring_machine.proofs.TakenOut.{taken, take_out_is, filtered_none, taken_none}
 use Rattle.ring_machine.proofs.Instead.{features_leaves}
-use Rattle.std.proofs.lemmas.List.{append-nil}
 use Rattle.ring_machine.proofs.CutJoined.{join_is}
 
 module _ {R S : Type 0} (h h' : R → S) where

@@ -1,16 +1,9 @@
 -- A document with another id for one feature.
-use Rattle.std.proofs.Common.{◌≡◌, ℕ, false, refl, ap, ap₂, ◌∙◌, cond, List, [], ◌∷◌}
-use Rattle.std.proofs.Common.{◌++◌, map, length, Option, Some, None, option_map, arith}
-use Rattle.std.specs.Prelude.{◌==◌}
-use Rattle.std.specs.List.{flat_map, list_all, sum_by}
-use Rattle.std.proofs.lemmas.Bool.Decides.{nat_tests}
-use Rattle.ring_machine.specs.Ring.{segments, is_ring}
-use Rattle.ring_machine.specs.Document.{FeatureOf, ItemOf, DocumentOf, Document, Open, Close, Leaf, Kept}
-use Rattle.ring_machine.specs.Document.{Text}
-use Rattle.ring_machine.specs.Parts.{features, feature, rings_of, rings, size, in_item}
-use Rattle.ring_machine.specs.Cut.{becomes, instead}
-use Rattle.ring_machine.specs.Machine.{renamed}
-use Rattle.ring_machine.specs.Planar.{Proper, first_pair, least_conflict}
+use Rattle.kit_words.proofs.Common.{◌≡◌, ℕ, false, refl, ap, ap₂, ◌∙◌, cond, List, [], ◌∷◌, ◌++◌, map, length, Option}
+use Rattle.kit_words.proofs.Common.{Some, None, option_map, arith, ◌==◌, flat_map, list_all, sum_by, nat_tests}
+use Rattle.ring_machine.specs.Common.{segments, is_ring, FeatureOf, ItemOf, DocumentOf, Document, Open, Close, Leaf}
+use Rattle.ring_machine.specs.Common.{Kept, Text, features, feature, rings_of, rings, size, in_item, becomes, instead}
+use Rattle.ring_machine.specs.Common.{renamed, Proper, first_pair, least_conflict}
 use Rattle.ring_machine.proofs.InItems.{in_items-agree}
 use Rattle.ring_machine.proofs.Found.{feature_in, features-in_features, feature-in_features}
 

@@ -1,11 +1,8 @@
 -- The rings of a document whose rings are changed in place.
-use Rattle.std.proofs.Common.{◌≡◌, refl, sym, ap, ap₂, ◌∙◌, List, [], ◌∷◌, ◌++◌, map}
-use Rattle.std.specs.List.{flat_map, filter_map}
-use Rattle.std.proofs.lemmas.List.{map-append}
-use Rattle.ring_machine.specs.Document.{FeatureOf, ItemOf, LayerOf, DocumentOf, Open, Close, Leaf}
-use Rattle.ring_machine.specs.Document.{Kept}
-use Rattle.ring_machine.specs.Parts.{feature_of, features, rings_of, rings, in_feature, in_item}
-use Rattle.ring_machine.specs.Parts.{in_layer, in_rings}
+use Rattle.kit_words.proofs.Common.{◌≡◌, refl, sym, ap, ap₂, ◌∙◌, List, [], ◌∷◌, ◌++◌, map, flat_map, filter_map}
+use Rattle.kit_words.proofs.Common.{map-append}
+use Rattle.ring_machine.specs.Common.{FeatureOf, ItemOf, LayerOf, DocumentOf, Open, Close, Leaf, Kept, feature_of}
+use Rattle.ring_machine.specs.Common.{features, rings_of, rings, in_feature, in_item, in_layer, in_rings}
 
 module _ {R S : Type 0} (g : R → S) where
   features-items : (is : List (ItemOf R))

@@ -1,28 +1,16 @@
 -- After an edit that sweeps over nothing, every position is on its side of every ring.
-use Rattle.std.proofs.Common.{◌≡◌, ◌≤◌, ℕ, zero, suc, Bool, true, false, refl, sym, ap, ap₂, ◌∙◌}
-use Rattle.std.proofs.Common.{subst, cond, List, [], ◌∷◌, ◌++◌, map, length, ◌||◌, ◌&&◌, arith}
-use Rattle.std.proofs.Common.{Option, None, Some, ◌⊎◌, inl, inr}
-use Rattle.std.specs.Prelude.{not, nat_lt, ◌==◌, slice_get}
-use Rattle.std.specs.List.{list_all, find}
-use Rattle.std.specs.Option.{option_and_then}
-use Rattle.std.specs.Ordering.{is_gt}
-use Rattle.std.proofs.lemmas.Bool.{false≢true}
-use Rattle.grid_geometry.specs.Position.{Position, position_eq, position_cmp}
-use Rattle.grid_geometry.specs.Segment.{Segment, segment, segment_eq}
-use Rattle.grid_geometry.specs.Ring.{Edge, edges, xor, is_counted, is_inside}
-use Rattle.grid_geometry.specs.Held.{is_held}
-use Rattle.grid_geometry.proofs.Conflicts.{segment-comm}
-use Rattle.ring_machine.specs.Ring.{segment_of, has, is_distinct, is_ring, spots}
-use Rattle.ring_machine.specs.Document.{Document, Feature}
-use Rattle.ring_machine.specs.Parts.{feature, features, rings, rings_of, positions, in_feature}
-use Rattle.ring_machine.specs.Parts.{in_rings}
-use Rattle.ring_machine.specs.Vertices.{put, ins, del, put_ring, ins_ring, del_ring, around}
-use Rattle.ring_machine.specs.Vertices.{all_equal, is_junction}
-use Rattle.ring_machine.specs.Planar.{Proper}
-use Rattle.ring_machine.specs.Refusals.{are_long}
-use Rattle.ring_machine.specs.Sweep.{holds_other, edge_sweeps, crosses_on_way, move_sweeps}
-use Rattle.ring_machine.specs.Sweep.{insert_sweeps, remove_sweeps}
-use Rattle.ring_machine.specs.Sides.{ring_of_feature, ring_at, KeepsSides}
+use Rattle.kit_words.proofs.Common.{◌≡◌, ◌≤◌, ℕ, zero, suc, Bool, true, false, refl, sym, ap, ap₂, ◌∙◌, subst, cond}
+use Rattle.kit_words.proofs.Common.{List, [], ◌∷◌, ◌++◌, map, length, ◌||◌, ◌&&◌, arith, Option, None, Some, ◌⊎◌, inl}
+use Rattle.kit_words.proofs.Common.{inr, not, nat_lt, ◌==◌, slice_get, list_all, find, option_and_then, is_gt}
+use Rattle.kit_words.proofs.Common.{false≢true}
+use Rattle.grid_geometry.specs.Common.{Position, position_eq, position_cmp, Segment, segment, segment_eq, Edge, edges}
+use Rattle.grid_geometry.specs.Common.{xor, is_counted, is_inside, is_held}
+use Rattle.grid_geometry.proofs.Common.{segment-comm}
+use Rattle.ring_machine.specs.Common.{segment_of, has, is_distinct, is_ring, spots, Document, Feature, feature}
+use Rattle.ring_machine.specs.Common.{features, rings, rings_of, positions, in_feature, in_rings, put, ins, del}
+use Rattle.ring_machine.specs.Common.{put_ring, ins_ring, del_ring, around, all_equal, is_junction, Proper, are_long}
+use Rattle.ring_machine.specs.Common.{holds_other, edge_sweeps, crosses_on_way, move_sweeps, insert_sweeps}
+use Rattle.ring_machine.specs.Common.{remove_sweeps, ring_of_feature, ring_at, KeepsSides}
 use Rattle.ring_machine.proofs.Canonical.{Pivot, pivot_of}
 use Rattle.ring_machine.proofs.Arcs.{is_of}
 use Rattle.ring_machine.proofs.Removal.{none_parts, others, filter_lacks}

@@ -1,18 +1,12 @@
 -- Positions sorted, with each of equal neighbours once, are the vertices.
-use Rattle.std.proofs.Common.{◌≡◌, ℕ, zero, suc, ◌<◌, Bool, true, false, refl, sym, ap, ap₂, ◌∙◌, subst, cond}
-use Rattle.std.proofs.Common.{List, [], ◌∷◌, length, get_or, ◌⊎◌, inl, inr, arith}
-use Rattle.std.specs.List.{All, AllByRecursion, fold, dedup, dedup_from}
-use Rattle.std.specs.List.Sorted.{IsPermutation, IsSorted, IsStrictlySortedBy}
-use Rattle.std.specs.List.Retain.{IsFiltered, DiffersFromLast}
-use Rattle.std.specs.Ordering.{int_cmp, eq_by_cmp, is_lt}
-use Rattle.std.specs.declared.cmp.Ordering.TheVariants.{Less}
-use Rattle.std.specs.Cmp.{IsTotalOrder, int_cmp_total, on_total, then_total, tied_then}
-use Rattle.std.proofs.lemmas.Bool.{false≢true}
-use Rattle.std.proofs.lemmas.List.Filters.{dedup_is}
-use Rattle.std.proofs.lemmas.List.Kept.{IsStrictlySortedBy-dedup}
-use Rattle.std.proofs.lemmas.List.Sorted.{All-permutation, IsPermutation-sym}
-use Rattle.grid_geometry.specs.Position.{Position, position_cmp, position_eq, position_lt}
-use Rattle.ring_machine.specs.Query.{add_position}
+use Rattle.kit_words.proofs.Common.{◌≡◌, ℕ, zero, suc, ◌<◌, Bool, true, false, refl, sym, ap, ap₂, ◌∙◌, subst, cond}
+use Rattle.kit_words.proofs.Common.{List, [], ◌∷◌, length, get_or, ◌⊎◌, inl, inr, arith, All, AllByRecursion, fold}
+use Rattle.kit_words.proofs.Common.{dedup, dedup_from, IsPermutation, IsSorted, IsStrictlySortedBy, IsFiltered}
+use Rattle.kit_words.proofs.Common.{DiffersFromLast, int_cmp, eq_by_cmp, is_lt, Less, IsTotalOrder, int_cmp_total}
+use Rattle.kit_words.proofs.Common.{on_total, then_total, tied_then, false≢true, dedup_is, IsStrictlySortedBy-dedup}
+use Rattle.kit_words.proofs.Common.{All-permutation, IsPermutation-sym}
+use Rattle.grid_geometry.specs.Common.{Position, position_cmp, position_eq, position_lt}
+use Rattle.ring_machine.specs.Common.{add_position}
 use Rattle.ring_machine.proofs.Order.{position_eq-true, position_lt-trans, position_lt-irrefl, position_lt-asym}
 use Rattle.ring_machine.proofs.First.{In}
 

@@ -1,16 +1,9 @@
 -- The areas of the two parts of a ring, of a polygon and of a feature add up.
-use Rattle.std.proofs.Common.{◌≡◌, ℤ, ◌+ℤ◌, ◌-ℤ◌, Bool, true, false, refl, sym, ap, ap₂, ◌∙◌, List, []}
-use Rattle.std.proofs.Common.{◌∷◌, ◌++◌, cond, arith}
-use Rattle.std.specs.Prelude.{pos, not, unsigned_abs}
-use Rattle.std.specs.List.{filter, fold}
-use Rattle.std.proofs.lemmas.Int.{ints}
-use Rattle.std.proofs.lemmas.List.Sums.{fold-append}
-use Rattle.grid_geometry.specs.Position.{Position}
-use Rattle.grid_geometry.specs.Ring.{total_area, signed_area}
-use Rattle.ring_machine.specs.Ring.{canonical}
-use Rattle.ring_machine.specs.Cut.{Path, first_part, second_part, same_sign, goes_first}
-use Rattle.ring_machine.specs.Cut.{is_wrong_side, first_polygon, second_polygon}
-use Rattle.ring_machine.specs.Query.{absolute_area, polygon_area}
+use Rattle.kit_words.proofs.Common.{◌≡◌, ℤ, ◌+ℤ◌, ◌-ℤ◌, Bool, true, false, refl, sym, ap, ap₂, ◌∙◌, List, [], ◌∷◌, ◌++◌}
+use Rattle.kit_words.proofs.Common.{cond, arith, pos, not, unsigned_abs, filter, fold, ints, fold-append}
+use Rattle.grid_geometry.specs.Common.{Position, total_area, signed_area}
+use Rattle.ring_machine.specs.Common.{canonical, Path, first_part, second_part, same_sign, goes_first, is_wrong_side}
+use Rattle.ring_machine.specs.Common.{first_polygon, second_polygon, absolute_area, polygon_area}
 use Rattle.ring_machine.proofs.Areas.{total_area_swap}
 use Rattle.ring_machine.proofs.CutRings.{CutRing, first_is, second_is, rotated_edges}
 use Rattle.ring_machine.proofs.CutRings.{canonical_turns}

@@ -1,14 +1,9 @@
 -- The rings of a document that is split.
-use Rattle.std.proofs.Common.{◌≡◌, ℕ, Bool, true, false, refl, sym, ap, ◌∙◌, subst}
-use Rattle.std.proofs.Common.{List, [], ◌∷◌, ◌++◌, ◌||◌, ◌⊎◌, inl, inr}
-use Rattle.std.specs.Prelude.{not}
-use Rattle.std.specs.List.{list_any}
-use Rattle.grid_geometry.specs.Position.{Position}
-use Rattle.ring_machine.specs.Ring.{canonical}
-use Rattle.ring_machine.specs.Document.{Document, Feature, Text}
-use Rattle.ring_machine.specs.Parts.{features, rings_of, rings}
-use Rattle.ring_machine.specs.Cut.{Path, cut, stays, first_part, second_part, first_polygon}
-use Rattle.ring_machine.specs.Cut.{second_polygon, goes_first}
+use Rattle.kit_words.proofs.Common.{◌≡◌, ℕ, Bool, true, false, refl, sym, ap, ◌∙◌, subst, List, [], ◌∷◌, ◌++◌, ◌||◌}
+use Rattle.kit_words.proofs.Common.{◌⊎◌, inl, inr, not, list_any}
+use Rattle.grid_geometry.specs.Common.{Position}
+use Rattle.ring_machine.specs.Common.{canonical, Document, Feature, Text, features, rings_of, rings, Path, cut, stays}
+use Rattle.ring_machine.specs.Common.{first_part, second_part, first_polygon, second_polygon, goes_first}
 use Rattle.ring_machine.proofs.First.{In, in-append, in_left, in_right, filter-in}
 use Rattle.ring_machine.proofs.Members.{in_flat, any_in, in_any, same_answer}
 use Rattle.ring_machine.proofs.Neighbours.{in-flat_map}

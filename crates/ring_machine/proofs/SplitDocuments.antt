@@ -1,19 +1,10 @@
 -- A document whose feature n is cut: its features, and the accepted conditions.
-use Rattle.std.proofs.Common.{◌≡◌, ℕ, Bool, true, false, refl, sym, ap, ◌∙◌, List, [], ◌∷◌, ◌++◌}
-use Rattle.std.proofs.Common.{Option, None, Some}
-use Rattle.std.specs.Prelude.{not, ◌==◌, nat_lt}
-use Rattle.std.specs.List.{list_any, AllByRecursion}
-use Rattle.ring_machine.specs.Ring.{is_distinct}
-use Rattle.ring_machine.specs.Document.{Document, Feature, Text}
-use Rattle.ring_machine.specs.Parts.{features, feature, has_feature, is_vertex}
-use Rattle.ring_machine.specs.WellFormed.{WellFormed}
-use Rattle.ring_machine.specs.Planar.{first_pair}
-use Rattle.ring_machine.specs.Cut.{Path, cut, stays, parted, is_cut_by}
-use Rattle.ring_machine.specs.Cut.{is_wrong_side, first_that}
-use Rattle.ring_machine.specs.Command.{Refusal}
-use Rattle.ring_machine.specs.Refusals.{◌unless◌, first_of, planar, conflict_of, is_small, is_layer}
-use Rattle.ring_machine.specs.Refusals.{feature_at, or_else, no_feature, positions_of}
-use Rattle.ring_machine.specs.Refusals.{is_path_segment, split_refusals}
+use Rattle.kit_words.proofs.Common.{◌≡◌, ℕ, Bool, true, false, refl, sym, ap, ◌∙◌, List, [], ◌∷◌, ◌++◌, Option, None}
+use Rattle.kit_words.proofs.Common.{Some, not, ◌==◌, nat_lt, list_any, AllByRecursion}
+use Rattle.ring_machine.specs.Common.{is_distinct, Document, Feature, Text, features, feature, has_feature, is_vertex}
+use Rattle.ring_machine.specs.Common.{WellFormed, first_pair, Path, cut, stays, parted, is_cut_by, is_wrong_side}
+use Rattle.ring_machine.specs.Common.{first_that, Refusal, ◌unless◌, first_of, planar, conflict_of, is_small, is_layer}
+use Rattle.ring_machine.specs.Common.{feature_at, or_else, no_feature, positions_of, is_path_segment, split_refusals}
 use Rattle.ring_machine.proofs.Members.{there}
 use Rattle.ring_machine.proofs.Found.{has_feature-found, feature_stands}
 use Rattle.ring_machine.proofs.Instead.{features-instead_at}

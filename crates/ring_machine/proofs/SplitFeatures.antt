@@ -1,17 +1,10 @@
 -- A feature that a path cuts: which of its polygons is cut, what stays and what becomes new.
-use Rattle.std.proofs.Common.{◌≡◌, ℕ, ℤ, ◌+ℤ◌, true, false, refl, sym, ap, ap₂, ◌∙◌, subst, List}
-use Rattle.std.proofs.Common.{[], ◌∷◌, ◌++◌, map, inl, ◌&&◌, ◌||◌, Some, arith}
-use Rattle.std.specs.Prelude.{pos, not}
-use Rattle.std.specs.List.{list_any, list_all, fold}
-use Rattle.std.proofs.lemmas.Bool.{false≢true}
-use Rattle.std.proofs.lemmas.Int.{ints}
-use Rattle.grid_geometry.specs.Position.{Position, position_eq}
-use Rattle.ring_machine.specs.Ring.{has, is_ring}
-use Rattle.ring_machine.specs.Document.{Feature, Text, Polygon}
-use Rattle.ring_machine.specs.Parts.{rings_of}
-use Rattle.ring_machine.specs.Cut.{Path, is_cut_by, is_wrong_side, first_that, first_polygon}
-use Rattle.ring_machine.specs.Cut.{second_polygon, stays, parted}
-use Rattle.ring_machine.specs.Query.{area_of, polygon_area}
+use Rattle.kit_words.proofs.Common.{◌≡◌, ℕ, ℤ, ◌+ℤ◌, true, false, refl, sym, ap, ap₂, ◌∙◌, subst, List, [], ◌∷◌, ◌++◌}
+use Rattle.kit_words.proofs.Common.{map, inl, ◌&&◌, ◌||◌, Some, arith, pos, not, list_any, list_all, fold, false≢true}
+use Rattle.kit_words.proofs.Common.{ints}
+use Rattle.grid_geometry.specs.Common.{Position, position_eq}
+use Rattle.ring_machine.specs.Common.{has, is_ring, Feature, Text, Polygon, rings_of, Path, is_cut_by, is_wrong_side}
+use Rattle.ring_machine.specs.Common.{first_that, first_polygon, second_polygon, stays, parted, area_of, polygon_area}
 use Rattle.ring_machine.proofs.CutRings.{cut_ring}
 use Rattle.ring_machine.proofs.First.{In, in_right}
 use Rattle.ring_machine.proofs.FirstThat.{FirstThat, first_passing, first_that-is, change_first-is}

@@ -1,18 +1,10 @@
 -- What an accepted split gives: areas that add up.
-use Rattle.std.proofs.Common.{◌≡◌, ℕ, ◌+ℤ◌, Bool, true, false, refl, sym, ap, ap₂, ◌∙◌, List, [], ◌∷◌}
-use Rattle.std.proofs.Common.{◌++◌, append_assoc, ◌||◌, None, arith}
-use Rattle.std.specs.Prelude.{◌==◌, nat_lt}
-use Rattle.std.specs.List.{list_any, list_all, flat_map, find}
-use Rattle.std.proofs.lemmas.Bool.Decides.{Decides-eqb, nat_tests}
-use Rattle.std.proofs.lemmas.List.Folds.{list_any-append, list_all-append}
-use Rattle.ring_machine.specs.Ring.{is_ring}
-use Rattle.ring_machine.specs.Document.{Document, Feature, Text}
-use Rattle.ring_machine.specs.Parts.{features, rings_of}
-use Rattle.ring_machine.specs.WellFormed.{WellFormed}
-use Rattle.ring_machine.specs.Planar.{Proper}
-use Rattle.ring_machine.specs.Cut.{Path, cut, stays, is_wrong_side, is_cut_by, first_that}
-use Rattle.ring_machine.specs.Query.{area_of}
-use Rattle.ring_machine.specs.Refusals.{first_of, feature_at, or_else, no_feature, split_refusals}
+use Rattle.kit_words.proofs.Common.{◌≡◌, ℕ, ◌+ℤ◌, Bool, true, false, refl, sym, ap, ap₂, ◌∙◌, List, [], ◌∷◌, ◌++◌}
+use Rattle.kit_words.proofs.Common.{append_assoc, ◌||◌, None, arith, ◌==◌, nat_lt, list_any, list_all, flat_map, find}
+use Rattle.kit_words.proofs.Common.{Decides-eqb, nat_tests, list_any-append, list_all-append}
+use Rattle.ring_machine.specs.Common.{is_ring, Document, Feature, Text, features, rings_of, WellFormed, Proper, Path}
+use Rattle.ring_machine.specs.Common.{cut, stays, is_wrong_side, is_cut_by, first_that, area_of, first_of, feature_at}
+use Rattle.ring_machine.specs.Common.{or_else, no_feature, split_refusals}
 use Rattle.ring_machine.proofs.FirstThat.{find_it}
 use Rattle.ring_machine.proofs.Order.{and_both}
 use Rattle.ring_machine.proofs.SplitFeatures.{features_area}

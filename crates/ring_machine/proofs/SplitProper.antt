@@ -1,20 +1,11 @@
 -- An accepted split of a proper document gives a proper document.
-use Rattle.std.proofs.Common.{◌≡◌, ℕ, Bool, true, false, refl, sym, ap, ap₂, ◌∙◌, subst, List, []}
-use Rattle.std.proofs.Common.{◌∷◌, ◌++◌, ◌||◌, ◌⊎◌, inl, inr, None}
-use Rattle.std.specs.Prelude.{not}
-use Rattle.std.specs.List.{list_any}
-use Rattle.std.proofs.lemmas.Bool.{false≢true}
-use Rattle.grid_geometry.specs.Position.{Position}
-use Rattle.grid_geometry.specs.Segment.{Segment, segment_eq}
-use Rattle.grid_geometry.specs.Ring.{Edge, links}
-use Rattle.ring_machine.specs.Ring.{canonical, has, is_ring, segments, segment_of}
-use Rattle.ring_machine.specs.Document.{Document, Feature, Text}
-use Rattle.ring_machine.specs.Parts.{features, rings_of, rings, is_vertex, is_segment, all_segments}
-use Rattle.ring_machine.specs.WellFormed.{WellFormed}
-use Rattle.ring_machine.specs.Planar.{Proper}
-use Rattle.ring_machine.specs.Cut.{Path, cut, stays, first_part, second_part, first_polygon}
-use Rattle.ring_machine.specs.Cut.{second_polygon, goes_first}
-use Rattle.ring_machine.specs.Refusals.{first_of, positions_of, split_refusals}
+use Rattle.kit_words.proofs.Common.{◌≡◌, ℕ, Bool, true, false, refl, sym, ap, ap₂, ◌∙◌, subst, List, [], ◌∷◌, ◌++◌}
+use Rattle.kit_words.proofs.Common.{◌||◌, ◌⊎◌, inl, inr, None, not, list_any, false≢true}
+use Rattle.grid_geometry.specs.Common.{Position, Segment, segment_eq, Edge, links}
+use Rattle.ring_machine.specs.Common.{canonical, has, is_ring, segments, segment_of, Document, Feature, Text, features}
+use Rattle.ring_machine.specs.Common.{rings_of, rings, is_vertex, is_segment, all_segments, WellFormed, Proper, Path}
+use Rattle.ring_machine.specs.Common.{cut, stays, first_part, second_part, first_polygon, second_polygon, goes_first}
+use Rattle.ring_machine.specs.Common.{first_of, positions_of, split_refusals}
 use Rattle.ring_machine.proofs.First.{In, in-append, in_left, in_right}
 use Rattle.ring_machine.proofs.Members.{in_flat, in_filter, any_in}
 use Rattle.ring_machine.proofs.Neighbours.{in-flat_map, none_in, all_in}

@@ -1,19 +1,12 @@
 -- The two parts of a ring that a path cuts are rings.
-use Rattle.std.proofs.Common.{◌≡◌, ◌≤◌, ◌+◌, Bool, true, false, refl, sym, ap, ap₂, ◌∙◌, subst, List}
-use Rattle.std.proofs.Common.{[], ◌∷◌, ◌++◌, length, reverse, append_assoc, ◌||◌, ◌&&◌, inl, arith}
-use Rattle.std.specs.Prelude.{not}
-use Rattle.std.specs.List.{list_any}
-use Rattle.std.proofs.lemmas.Bool.{false≢true}
-use Rattle.std.proofs.lemmas.List.{length-append, reverse-append, length-reverse}
-use Rattle.std.proofs.lemmas.List.Folds.{list_any-append}
-use Rattle.std.proofs.lemmas.List.Sorted.{list_any-IsPermutation, IsPermutation-reverse}
-use Rattle.grid_geometry.specs.Position.{Position, position_eq}
-use Rattle.grid_geometry.specs.Segment.{segment_eq}
-use Rattle.grid_geometry.specs.Ring.{Edge, edges, links}
-use Rattle.grid_geometry.proofs.Conflicts.{segment-comm}
-use Rattle.ring_machine.specs.Ring.{canonical, has, is_distinct, is_ring, segments, segment_of}
-use Rattle.ring_machine.specs.Cut.{Path, first_part, second_part}
-use Rattle.ring_machine.specs.Refusals.{positions_of}
+use Rattle.kit_words.proofs.Common.{◌≡◌, ◌≤◌, ◌+◌, Bool, true, false, refl, sym, ap, ap₂, ◌∙◌, subst, List, [], ◌∷◌}
+use Rattle.kit_words.proofs.Common.{◌++◌, length, reverse, append_assoc, ◌||◌, ◌&&◌, inl, arith, not, list_any}
+use Rattle.kit_words.proofs.Common.{false≢true, length-append, reverse-append, length-reverse, list_any-append}
+use Rattle.kit_words.proofs.Common.{list_any-IsPermutation, IsPermutation-reverse}
+use Rattle.grid_geometry.specs.Common.{Position, position_eq, segment_eq, Edge, edges, links}
+use Rattle.grid_geometry.proofs.Common.{segment-comm}
+use Rattle.ring_machine.specs.Common.{canonical, has, is_distinct, is_ring, segments, segment_of, Path, first_part}
+use Rattle.ring_machine.specs.Common.{second_part, positions_of}
 use Rattle.ring_machine.proofs.CutRings.{CutRing, cut_ring, first_is, second_is, rotated_edges}
 use Rattle.ring_machine.proofs.First.{In}
 use Rattle.ring_machine.proofs.Members.{in_swap, in_any}

@@ -1,16 +1,10 @@
 -- The segments and the positions of the two parts are those of the ring and of the path.
-use Rattle.std.proofs.Common.{◌≡◌, ◌+◌, ◌*◌, Bool, refl, sym, ap, ap₂, ◌∙◌, List, [], ◌∷◌}
-use Rattle.std.proofs.Common.{◌++◌, map, length, reverse, ◌||◌, arith}
-use Rattle.std.specs.List.{list_any}
-use Rattle.std.proofs.lemmas.List.{length-append, length-reverse, map-append, reverse-append}
-use Rattle.std.proofs.lemmas.List.Folds.{list_any-append}
-use Rattle.grid_geometry.specs.Position.{Position}
-use Rattle.grid_geometry.specs.Segment.{Segment}
-use Rattle.grid_geometry.specs.Ring.{Edge, edges, links}
-use Rattle.grid_geometry.proofs.Conflicts.{segment-comm}
-use Rattle.ring_machine.specs.Ring.{canonical, segments, segment_of}
-use Rattle.ring_machine.specs.Cut.{Path, first_part, second_part}
-use Rattle.ring_machine.specs.Refusals.{positions_of}
+use Rattle.kit_words.proofs.Common.{◌≡◌, ◌+◌, ◌*◌, Bool, refl, sym, ap, ap₂, ◌∙◌, List, [], ◌∷◌, ◌++◌, map, length}
+use Rattle.kit_words.proofs.Common.{reverse, ◌||◌, arith, list_any, length-append, length-reverse, map-append}
+use Rattle.kit_words.proofs.Common.{reverse-append, list_any-append}
+use Rattle.grid_geometry.specs.Common.{Position, Segment, Edge, edges, links}
+use Rattle.grid_geometry.proofs.Common.{segment-comm}
+use Rattle.ring_machine.specs.Common.{canonical, segments, segment_of, Path, first_part, second_part, positions_of}
 use Rattle.ring_machine.proofs.Arcs.{flip, flipped, links-reverse}
 use Rattle.ring_machine.proofs.CutRings.{CutRing, first_is, second_is, rotated_edges, canonical_turns}
 use Rattle.ring_machine.proofs.SplitRings.{any_turned, any_reversed}

@@ -1,21 +1,12 @@
 -- A document in which others stand in the place of a feature, or none, is well formed.
-use Rattle.std.proofs.Common.{◌≡◌, ℕ, zero, suc, Bool, true, false, refl, sym, ap, ap₂, ◌∙◌, subst, cond}
-use Rattle.std.proofs.Common.{List, [], ◌∷◌, ◌++◌, map, length, ◌||◌, ◌&&◌, ◌⊎◌, inl, inr, Option, Some, None, is_some}
-use Rattle.std.proofs.Common.{eqb-true, eq-eqb, arith}
-use Rattle.std.specs.Prelude.{◌==◌, not}
-use Rattle.std.specs.List.{list_any, list_all, flat_map, filter_map}
-use Rattle.std.proofs.lemmas.Bool.{false≢true}
-use Rattle.std.proofs.lemmas.List.{map-append}
-use Rattle.std.proofs.lemmas.List.Folds.{list_all-append}
-use Rattle.ring_machine.specs.Document.{FeatureOf, ItemOf, LayerOf, DocumentOf, Open, Close, Leaf, Kept}
-use Rattle.ring_machine.specs.Document.{Text, Member}
-use Rattle.ring_machine.specs.Parts.{feature_of, features, feature, has_feature, in_feature, in_item}
-use Rattle.ring_machine.specs.Parts.{in_layer, in_rings}
-use Rattle.ring_machine.specs.Cut.{becomes, instead}
-use Rattle.ring_machine.specs.Join.{take_out}
-use Rattle.ring_machine.specs.Refusals.{is_layer}
-use Rattle.ring_machine.specs.Machine.{renamed}
-use Rattle.ring_machine.specs.WellFormed.{is_inner, is_geometry, fits_form, are_distinct, WellFormed}
+use Rattle.kit_words.proofs.Common.{◌≡◌, ℕ, zero, suc, Bool, true, false, refl, sym, ap, ap₂, ◌∙◌, subst, cond, List}
+use Rattle.kit_words.proofs.Common.{[], ◌∷◌, ◌++◌, map, length, ◌||◌, ◌&&◌, ◌⊎◌, inl, inr, Option, Some, None, is_some}
+use Rattle.kit_words.proofs.Common.{eqb-true, eq-eqb, arith, ◌==◌, not, list_any, list_all, flat_map, filter_map}
+use Rattle.kit_words.proofs.Common.{false≢true, map-append, list_all-append}
+use Rattle.ring_machine.specs.Common.{FeatureOf, ItemOf, LayerOf, DocumentOf, Open, Close, Leaf, Kept, Text, Member}
+use Rattle.ring_machine.specs.Common.{feature_of, features, feature, has_feature, in_feature, in_item, in_layer}
+use Rattle.ring_machine.specs.Common.{in_rings, becomes, instead, take_out, is_layer, renamed, is_inner, is_geometry}
+use Rattle.ring_machine.specs.Common.{fits_form, are_distinct, WellFormed}
 use Rattle.ring_machine.proofs.Order.{and_both}
 use Rattle.ring_machine.proofs.First.{In, in-append, in_left, in_right}
 use Rattle.ring_machine.proofs.Members.{in_mapped, in_any}

@@ -1,19 +1,10 @@
 -- An accepted edit of a vertex gives a proper document.
-use Rattle.std.proofs.Common.{◌≡◌, ◌≤◌, ◌+◌, ℕ, Bool, true, false, refl, ap, ap₂, ◌∙◌, subst, cond}
-use Rattle.std.proofs.Common.{List, [], ◌∷◌, map, length, ◌||◌, ◌&&◌, arith, None}
-use Rattle.std.specs.Prelude.{not, nat_le, nat_lt}
-use Rattle.std.specs.List.{list_any, list_all, flat_map}
-use Rattle.std.proofs.lemmas.Bool.{false≢true}
-use Rattle.std.proofs.lemmas.List.{length-map}
-use Rattle.grid_geometry.specs.Position.{Position, position_eq}
-use Rattle.grid_geometry.specs.Segment.{Segment, segment}
-use Rattle.grid_geometry.specs.Ring.{Edge, edges}
-use Rattle.ring_machine.specs.Ring.{has, is_distinct, is_ring, begins_least}
-use Rattle.ring_machine.specs.Document.{Document}
-use Rattle.ring_machine.specs.Parts.{rings, is_vertex}
-use Rattle.ring_machine.specs.Vertices.{put, ins, del, put_ring, ins_ring, del_ring}
-use Rattle.ring_machine.specs.Planar.{Proper, first_pair}
-use Rattle.ring_machine.specs.Refusals.{are_long}
+use Rattle.kit_words.proofs.Common.{◌≡◌, ◌≤◌, ◌+◌, ℕ, Bool, true, false, refl, ap, ap₂, ◌∙◌, subst, cond, List, [], ◌∷◌}
+use Rattle.kit_words.proofs.Common.{map, length, ◌||◌, ◌&&◌, arith, None, not, nat_le, nat_lt, list_any, list_all}
+use Rattle.kit_words.proofs.Common.{flat_map, false≢true, length-map}
+use Rattle.grid_geometry.specs.Common.{Position, position_eq, Segment, segment, Edge, edges}
+use Rattle.ring_machine.specs.Common.{has, is_distinct, is_ring, begins_least, Document, rings, is_vertex, put, ins}
+use Rattle.ring_machine.specs.Common.{del, put_ring, ins_ring, del_ring, Proper, first_pair, are_long}
 use Rattle.ring_machine.proofs.Order.{and_both, position_eq-true}
 use Rattle.ring_machine.proofs.Arcs.{is_of}
 use Rattle.ring_machine.proofs.Edges.{edges_is, edges_to}

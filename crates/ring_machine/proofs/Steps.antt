@@ -1,19 +1,12 @@
 -- What a step is, for each command: the one place that opens the machine.
-use Rattle.std.proofs.Common.{◌≡◌, ℕ, ℤ, List, ◌∷◌, refl}
-use Rattle.grid_geometry.specs.Position.{Position}
-use Rattle.ring_machine.specs.Document.{Document, Text}
-use Rattle.ring_machine.specs.Parts.{all_segments}
-use Rattle.ring_machine.specs.Planar.{first_pair, least_conflict}
-use Rattle.ring_machine.specs.Vertices.{put, ins, del}
-use Rattle.ring_machine.specs.Cut.{Path, path_of, cut, stays, parted, instead}
-use Rattle.ring_machine.specs.Join.{join, take_out}
-use Rattle.ring_machine.specs.Refusals.{move_refusals, insert_refusals, remove_refusals}
-use Rattle.ring_machine.specs.Refusals.{split_refusals, merge_refusals, feature_refusals}
-use Rattle.ring_machine.specs.Refusals.{feature_at}
-use Rattle.ring_machine.specs.Command.{Move, Insert, Remove, Thin, Split, Merge, Rename, Delete}
-use Rattle.ring_machine.specs.Command.{Undo, Done, Made}
-use Rattle.ring_machine.specs.Machine.{State, step, edit, changed, undone, thin_step, split_state}
-use Rattle.ring_machine.specs.Machine.{renamed}
+use Rattle.kit_words.proofs.Common.{◌≡◌, ℕ, ℤ, List, ◌∷◌, refl}
+use Rattle.grid_geometry.specs.Common.{Position}
+use Rattle.ring_machine.specs.Common.{Document, Text, all_segments, first_pair, least_conflict, put, ins, del, Path}
+use Rattle.ring_machine.specs.Common.{path_of, cut, stays, parted, instead, join, take_out, move_refusals}
+use Rattle.ring_machine.specs.Common.{insert_refusals, remove_refusals, split_refusals, merge_refusals}
+use Rattle.ring_machine.specs.Common.{feature_refusals, feature_at, Move, Insert, Remove, Thin, Split, Merge, Rename}
+use Rattle.ring_machine.specs.Common.{Delete, Undo, Done, Made, State, step, edit, changed, undone, thin_step}
+use Rattle.ring_machine.specs.Common.{split_state, renamed}
 
 pub step-move : (depth : ℕ) (st : State) (p q : Position)
     → step depth st (Move p q)

@@ -1,13 +1,8 @@
 -- Lists of features in which those of one number become others, or none.
-use Rattle.std.proofs.Common.{◌≡◌, ℕ, Bool, true, false, refl, sym, ap, ap₂, ◌∙◌, cond, List, [], arith}
-use Rattle.std.proofs.Common.{◌∷◌, ◌++◌, inl, inr, Some, None, option_map}
-use Rattle.std.proofs.Common.{eqb-true, eq-eqb}
-use Rattle.std.specs.Prelude.{◌==◌, not}
-use Rattle.std.specs.List.{list_any, filter, find, flat_map}
-use Rattle.std.specs.Option.{option_or}
-use Rattle.std.proofs.lemmas.List.Concat.{flat_map-append}
-use Rattle.std.proofs.lemmas.List.Folds.{find-append}
-use Rattle.ring_machine.specs.Document.{FeatureOf}
+use Rattle.kit_words.proofs.Common.{◌≡◌, ℕ, Bool, true, false, refl, sym, ap, ap₂, ◌∙◌, cond, List, [], arith, ◌∷◌}
+use Rattle.kit_words.proofs.Common.{◌++◌, inl, inr, Some, None, option_map, eqb-true, eq-eqb, ◌==◌, not, list_any}
+use Rattle.kit_words.proofs.Common.{filter, find, flat_map, option_or, flat_map-append, find-append}
+use Rattle.ring_machine.specs.Common.{FeatureOf}
 use Rattle.ring_machine.proofs.Removal.{none_parts}
 use Rattle.ring_machine.proofs.First.{In}
 use Rattle.ring_machine.proofs.Found.{Stands}

@@ -1,15 +1,9 @@
 -- What a document is without one of its features.
-use Rattle.std.proofs.Common.{◌≡◌, ℕ, false, refl, ap, ◌∙◌, cond, List, arith}
-use Rattle.std.proofs.Common.{[], ◌∷◌, map, Option, sym}
-use Rattle.std.specs.Prelude.{◌==◌, not}
-use Rattle.std.specs.List.{filter, filter_map, flat_map, list_any}
-use Rattle.std.proofs.lemmas.List.Elements.{filter-append}
-use Rattle.ring_machine.specs.Document.{ItemOf, LayerOf, DocumentOf, Open, Close, Leaf, Kept}
-use Rattle.ring_machine.specs.Document.{Text, Member}
-use Rattle.ring_machine.specs.Parts.{feature_of, features, in_layer, in_items}
-use Rattle.ring_machine.specs.Parts.{has_feature}
-use Rattle.ring_machine.specs.Cut.{becomes}
-use Rattle.ring_machine.specs.Join.{is_leaf, empty_collection, take_out}
+use Rattle.kit_words.proofs.Common.{◌≡◌, ℕ, false, refl, ap, ◌∙◌, cond, List, arith, [], ◌∷◌, map, Option, sym, ◌==◌}
+use Rattle.kit_words.proofs.Common.{not, filter, filter_map, flat_map, list_any, filter-append}
+use Rattle.ring_machine.specs.Common.{ItemOf, LayerOf, DocumentOf, Open, Close, Leaf, Kept, Text, Member, feature_of}
+use Rattle.ring_machine.specs.Common.{features, in_layer, in_items, has_feature, becomes, is_leaf, empty_collection}
+use Rattle.ring_machine.specs.Common.{take_out}
 use Rattle.ring_machine.proofs.Removal.{none_parts}
 use Rattle.ring_machine.proofs.InItems.{features-in_items, in_items-left}
 use Rattle.ring_machine.proofs.Swapped.{without, without_swapped}

@@ -1,19 +1,11 @@
 -- What is found in a document without one of its features, and its rings.
-use Rattle.std.proofs.Common.{◌≡◌, ℕ, ◌+◌, false, refl, sym, ap, ◌∙◌, subst, List, []}
-use Rattle.std.proofs.Common.{◌++◌, length, None, arith}
-use Rattle.std.specs.Prelude.{◌==◌, not}
-use Rattle.std.specs.List.{find, flat_map, sum_by}
-use Rattle.std.proofs.lemmas.List.Concat.{flat_map-append}
-use Rattle.std.proofs.lemmas.List.Sums.{sum_by-append}
-use Rattle.ring_machine.specs.Ring.{segments, is_ring}
-use Rattle.ring_machine.specs.Document.{FeatureOf, Feature, DocumentOf, Document}
-use Rattle.ring_machine.specs.Parts.{features, feature, rings_of, rings, all_segments, size}
-use Rattle.ring_machine.specs.Planar.{Proper, first_pair}
-use Rattle.ring_machine.specs.Cut.{instead}
-use Rattle.ring_machine.specs.Join.{take_out}
+use Rattle.kit_words.proofs.Common.{◌≡◌, ℕ, ◌+◌, false, refl, sym, ap, ◌∙◌, subst, List, [], ◌++◌, length, None, arith}
+use Rattle.kit_words.proofs.Common.{◌==◌, not, find, flat_map, sum_by, flat_map-append, sum_by-append, false≢true}
+use Rattle.ring_machine.specs.Common.{segments, is_ring, FeatureOf, Feature, DocumentOf, Document, features, feature}
+use Rattle.ring_machine.specs.Common.{rings_of, rings, all_segments, size, Proper, first_pair, instead, take_out}
 use Rattle.ring_machine.proofs.First.{In}
 use Rattle.ring_machine.proofs.Members.{in_filter}
-use Rattle.std.proofs.lemmas.Bool.{eq-eqb, false≢true}
+use Rattle.std.proofs.lemmas.Bool.{eq-eqb}
 use Rattle.ring_machine.proofs.LeftOut.{IsPart, part_filter, part_flat_map, part_all}
 use Rattle.ring_machine.proofs.LeftOut.{part_apart}
 use Rattle.ring_machine.proofs.Found.{Stands}

@@ -1,19 +1,10 @@
 -- The maps of the worked examples, and runs of commands that compute.
-use Rattle.std.specs.Prelude.{ℕ, pos, neg_ℤ, List, [], ◌∷◌, None, Some, Option, codes}
-use Rattle.grid_geometry.specs.Position.{Position, position}
-use Rattle.grid_geometry.specs.Orientation.{orientation, is_on, are_split}
-use Rattle.grid_geometry.specs.Conflict.{cross, is_within, conflict}
-use Rattle.ring_machine.specs.Document.{Document, Layer, Head, Item, Open, Close, Leaf, Kept}
-use Rattle.ring_machine.specs.Document.{Feature, Polygon, Null, Text}
-use Rattle.ring_machine.specs.Planar.{first_pair}
-use Rattle.ring_machine.specs.Sweep.{move_sweeps, insert_sweeps, remove_sweeps}
-use Rattle.ring_machine.specs.Cut.{cut}
-use Rattle.ring_machine.specs.Join.{join, take_out}
-use Rattle.ring_machine.specs.Refusals.{move_refusals, insert_refusals, remove_refusals}
-use Rattle.ring_machine.specs.Refusals.{split_refusals, merge_refusals}
-use Rattle.ring_machine.specs.Thin.{thinned}
-use Rattle.ring_machine.specs.Command.{Command, Answer}
-use Rattle.ring_machine.specs.Machine.{State, step, answers}
+use Rattle.kit_words.proofs.Common.{ℕ, pos, neg_ℤ, List, [], ◌∷◌, None, Some, Option, codes}
+use Rattle.grid_geometry.specs.Common.{Position, position, orientation, is_on, are_split, cross, is_within, conflict}
+use Rattle.ring_machine.specs.Common.{Document, Layer, Head, Item, Open, Close, Leaf, Kept, Feature, Polygon, Null}
+use Rattle.ring_machine.specs.Common.{Text, first_pair, move_sweeps, insert_sweeps, remove_sweeps, cut, join, take_out}
+use Rattle.ring_machine.specs.Common.{move_refusals, insert_refusals, remove_refusals, split_refusals, merge_refusals}
+use Rattle.ring_machine.specs.Common.{thinned, Command, Answer, State, step, answers}
 
 -- the position (x, y), neither being below 0
 abbrev pub at : ℕ → ℕ → Position

@@ -3,8 +3,7 @@ use Rattle.std.specs.Prelude.{ℕ, ℤ, pos, negsuc, int_lt, Bool, true, false, 
 use Rattle.std.specs.Prelude.{if◌then◌else◌, List, [], ◌∷◌, ◌++◌, map, reverse, Option, None, Some}
 use Rattle.std.specs.List.{list_any, flat_map, filter, reduce}
 use Rattle.std.specs.Ordering.{int_eq}
-use Rattle.grid_geometry.specs.Position.{Position, position, position_lt}
-use Rattle.grid_geometry.specs.Ring.{signed_area, is_inside}
+use Rattle.grid_geometry.specs.Common.{Position, position, position_lt, signed_area, is_inside}
 use Rattle.ring_machine.specs.Ring.{has, canonical, stretch}
 use Rattle.ring_machine.specs.Document.{DocumentOf, Document, ItemOf, Open, Close, Leaf, Kept}
 use Rattle.ring_machine.specs.Document.{FeatureOf, Feature, Polygon, Text}

@@ -1,7 +1,7 @@
 -- A document: layers of collections, features and kept texts.
 -- A tree of geometries is the list of its items in the order of the text, between brackets.
 use Rattle.std.specs.Prelude.{ℕ, List, Option}
-use Rattle.grid_geometry.specs.Position.{Position}
+use Rattle.grid_geometry.specs.Common.{Position}
 
 -- the bytes of a piece of JSON that is kept as it stands
 abbrev pub Text : Type 0

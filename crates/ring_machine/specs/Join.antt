@@ -2,9 +2,7 @@
 use Rattle.std.specs.Prelude.{ℕ, pos, int_lt, Bool, false, not, ◌&&◌, ◌||◌, ◌==◌, if◌then◌else◌}
 use Rattle.std.specs.Prelude.{List, [], ◌∷◌, ◌++◌, map, reverse, take, drop, Option, None}
 use Rattle.std.specs.List.{list_any, list_all, filter, zip, count_by, reduce, prefix_len}
-use Rattle.grid_geometry.specs.Position.{Position, position_lt}
-use Rattle.grid_geometry.specs.Segment.{segment_eq, is_end}
-use Rattle.grid_geometry.specs.Ring.{Edge, edges, signed_area}
+use Rattle.grid_geometry.specs.Common.{Position, position_lt, segment_eq, is_end, Edge, edges, signed_area}
 use Rattle.ring_machine.specs.Ring.{edge_eq, segment_of, segments, has, canonical}
 use Rattle.ring_machine.specs.Document.{DocumentOf, Document, ItemOf, Open, Close, Leaf, Kept}
 use Rattle.ring_machine.specs.Document.{Feature}

@@ -14,3 +14,4 @@ pub mod Refusals
 pub mod Thin
 pub mod Machine
 pub mod Arcs
+pub mod Common

@@ -1,7 +1,7 @@
 -- The machine: a command, its answer, and the state after it.
 use Rattle.std.specs.Prelude.{ℕ, ◌+◌, ℤ, ◌==◌, if◌then◌else◌, List, [], ◌∷◌, take, Option, None}
 use Rattle.std.specs.Prelude.{Some}
-use Rattle.grid_geometry.specs.Position.{Position}
+use Rattle.grid_geometry.specs.Common.{Position}
 use Rattle.ring_machine.specs.Document.{DocumentOf, Document, Text}
 use Rattle.ring_machine.specs.Parts.{in_features}
 use Rattle.ring_machine.specs.Vertices.{put, ins, del}

@@ -1,8 +1,7 @@
 -- The parts of a document, and changes in every place of it.
 use Rattle.std.specs.Prelude.{ℕ, Bool, ◌==◌, List, map, length, Option, None, Some}
 use Rattle.std.specs.List.{list_any, flat_map, filter_map, sum_by, find}
-use Rattle.grid_geometry.specs.Position.{Position}
-use Rattle.grid_geometry.specs.Segment.{Segment, segment_eq}
+use Rattle.grid_geometry.specs.Common.{Position, Segment, segment_eq}
 use Rattle.ring_machine.specs.Ring.{segments, has}
 use Rattle.ring_machine.specs.Document.{FeatureOf, ItemOf, Open, Close, Leaf, Kept, LayerOf}
 use Rattle.ring_machine.specs.Document.{DocumentOf, Document}

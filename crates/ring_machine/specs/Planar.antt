@@ -2,8 +2,7 @@
 use Rattle.std.specs.Prelude.{Bool, ◌&&◌, ◌||◌, List, Option, None, IsTrue, ◌≡◌, if◌then◌else◌}
 use Rattle.std.specs.Prelude.{map}
 use Rattle.std.specs.List.{list_all, flat_map, filter, reduce}
-use Rattle.grid_geometry.specs.Segment.{Segment, segment_eq, segment_lt}
-use Rattle.grid_geometry.specs.Conflict.{conflict}
+use Rattle.grid_geometry.specs.Common.{Segment, segment_eq, segment_lt, conflict}
 use Rattle.ring_machine.specs.Ring.{is_ring}
 use Rattle.ring_machine.specs.Document.{Document}
 use Rattle.ring_machine.specs.Parts.{rings, all_segments}

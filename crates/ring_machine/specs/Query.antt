@@ -2,10 +2,8 @@
 use Rattle.std.specs.Prelude.{ℕ, ℤ, pos, ◌+ℤ◌, ◌-ℤ◌, unsigned_abs, Bool, false, not, ◌&&◌, ◌==◌}
 use Rattle.std.specs.Prelude.{nat_le, if◌then◌else◌, List, [], ◌∷◌, length}
 use Rattle.std.specs.List.{list_any, filter, flat_map, fold}
-use Rattle.grid_geometry.specs.Position.{Position, position_eq, position_lt}
-use Rattle.grid_geometry.specs.Segment.{Segment, segment_eq}
-use Rattle.grid_geometry.specs.Orientation.{is_on}
-use Rattle.grid_geometry.specs.Ring.{signed_area, is_inside, xor}
+use Rattle.grid_geometry.specs.Common.{Position, position_eq, position_lt, Segment, segment_eq, is_on, signed_area}
+use Rattle.grid_geometry.specs.Common.{is_inside, xor}
 use Rattle.ring_machine.specs.Ring.{segments}
 use Rattle.ring_machine.specs.Document.{Document, Feature}
 use Rattle.ring_machine.specs.Parts.{features, rings_of, positions, all_segments}

@@ -2,9 +2,7 @@
 use Rattle.std.specs.Prelude.{ℕ, Bool, false, not, ◌&&◌, ◌||◌, ◌==◌, nat_le, nat_lt, if◌then◌else◌}
 use Rattle.std.specs.Prelude.{List, [], ◌∷◌, ◌++◌, length, Option, None, Some}
 use Rattle.std.specs.List.{list_any, list_all}
-use Rattle.grid_geometry.specs.Position.{Position}
-use Rattle.grid_geometry.specs.Segment.{Segment, segment}
-use Rattle.grid_geometry.specs.Ring.{links, edges}
+use Rattle.grid_geometry.specs.Common.{Position, Segment, segment, links, edges}
 use Rattle.ring_machine.specs.Ring.{has, is_distinct, segment_of}
 use Rattle.ring_machine.specs.Document.{DocumentOf, Document, ItemOf, Leaf, Feature, Text, Null}
 use Rattle.ring_machine.specs.Parts.{rings, size, is_vertex, is_segment, feature, has_feature}

@@ -1,8 +1,7 @@
 -- What it means that an edit leaves every position on its side of every ring.
 use Rattle.std.specs.Prelude.{ℕ, ◌≡◌, List, Option, Some, IsTrue, IsFalse, slice_get}
 use Rattle.std.specs.Option.{option_and_then}
-use Rattle.grid_geometry.specs.Position.{Position}
-use Rattle.grid_geometry.specs.Ring.{is_inside}
+use Rattle.grid_geometry.specs.Common.{Position, is_inside}
 use Rattle.ring_machine.specs.Ring.{has}
 use Rattle.ring_machine.specs.Document.{Document, Feature}
 use Rattle.ring_machine.specs.Parts.{feature, is_vertex}

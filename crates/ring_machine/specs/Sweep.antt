@@ -1,10 +1,7 @@
 -- Which edits sweep over a position that is to keep its side.
 use Rattle.std.specs.Prelude.{Bool, not, ◌&&◌, ◌||◌, List, [], ◌∷◌}
 use Rattle.std.specs.List.{list_any}
-use Rattle.grid_geometry.specs.Position.{Position}
-use Rattle.grid_geometry.specs.Segment.{segment, is_end}
-use Rattle.grid_geometry.specs.Conflict.{conflict}
-use Rattle.grid_geometry.specs.Held.{is_held}
+use Rattle.grid_geometry.specs.Common.{Position, segment, is_end, conflict, is_held}
 use Rattle.ring_machine.specs.Ring.{has}
 use Rattle.ring_machine.specs.Document.{Document}
 use Rattle.ring_machine.specs.Parts.{positions, all_segments}

@@ -1,9 +1,7 @@
 -- The edits of a vertex, in every ring at once, and which vertices are junctions.
 use Rattle.std.specs.Prelude.{Bool, true, not, if◌then◌else◌, List, [], ◌∷◌, map}
 use Rattle.std.specs.List.{flat_map, filter, list_all}
-use Rattle.grid_geometry.specs.Position.{Position, position_eq}
-use Rattle.grid_geometry.specs.Segment.{Segment, segment, segment_eq}
-use Rattle.grid_geometry.specs.Ring.{Edge, edges}
+use Rattle.grid_geometry.specs.Common.{Position, position_eq, Segment, segment, segment_eq, Edge, edges}
 use Rattle.ring_machine.specs.Ring.{segment_of, canonical, spots}
 use Rattle.ring_machine.specs.Document.{Document}
 use Rattle.ring_machine.specs.Parts.{in_rings, rings}

@@ -1,12 +1,10 @@
 -- How often common edges begin, a step at a time.
-use Rattle.std.proofs.Common.{◌≡◌, ℕ, ◌+◌, ◌<◌, ◌≤◌, Bool, true, false, refl, sym, ap, ◌∙◌, cond, List, [], ◌∷◌, ◌++◌, map, length, drop, get_or, drop_of_length-le, ◌&&◌, arith}
-use Rattle.std.specs.Prelude.{not}
-use Rattle.std.specs.List.{zip, count_by, list_all}
-use Rattle.std.proofs.lemmas.List.{at_drop_more, map-append}
-use Rattle.std.proofs.lemmas.List.Sums.{sum_by-cons}
-use Rattle.grid_geometry.specs.Ring.{Edge}
-use Rattle.ring_machine.specs.Join.{neighbour_edges, runs}
-use Rattle.ring_parts.specs.Borders.{begins}
+use Rattle.kit_words.proofs.Common.{◌≡◌, ℕ, ◌+◌, ◌<◌, ◌≤◌, Bool, true, false, refl, sym, ap, ◌∙◌, cond, List, [], ◌∷◌}
+use Rattle.kit_words.proofs.Common.{◌++◌, map, length, drop, get_or, drop_of_length-le, ◌&&◌, arith, not, zip, count_by}
+use Rattle.kit_words.proofs.Common.{list_all, at_drop_more, map-append, sum_by-cons}
+use Rattle.grid_geometry.specs.Common.{Edge}
+use Rattle.ring_machine.specs.Common.{neighbour_edges, runs}
+use Rattle.ring_parts.specs.Common.{begins}
 
 -- how often one begins, from a test over those that are left to the first
 abbrev pub left_begins : Bool → List Bool → Bool → ℕ

@@ -1,9 +1,7 @@
 -- Positions counted ring by ring, and polygon by polygon.
-use Rattle.std.proofs.Common.{◌≡◌, ◌≤◌, ◌<◌, ℕ, ◌+◌, refl, sym, ap, ◌∙◌, List, [], ◌∷◌, ◌++◌, map}
-use Rattle.std.proofs.Common.{length, take, get_or, arith}
-use Rattle.std.specs.List.{flat_map, sum_by}
-use Rattle.std.proofs.lemmas.List.{take-map}
-use Rattle.std.proofs.lemmas.List.Sums.{sum_by-append, sum_by-cons, sum_by_push, sum_by-take-le}
+use Rattle.kit_words.proofs.Common.{◌≡◌, ◌≤◌, ◌<◌, ℕ, ◌+◌, refl, sym, ap, ◌∙◌, List, [], ◌∷◌, ◌++◌, map, length, take}
+use Rattle.kit_words.proofs.Common.{get_or, arith, flat_map, sum_by, take-map, sum_by-append, sum_by-cons, sum_by_push}
+use Rattle.kit_words.proofs.Common.{sum_by-take-le}
 use Rattle.ring_parts.proofs.Lists.{one_more}
 
 module _ {A B : Type 0} (of : A → B) (f : B → ℕ) (xs : List A) (i : ℕ) (x : A) (l : i < length xs) (e : x ≡ get_or xs i x) where

@@ -1,10 +1,9 @@
 -- The least of a hole's positions that are not of a part, a position at a time.
-use Rattle.std.proofs.Common.{◌≡◌, ℕ, ◌+◌, ◌<◌, ◌≤◌, Bool, true, false, sym, ap, ◌∙◌, cond, List, ◌∷◌, length, drop, get_or, drop_of_length-le, Option, None, Some}
-use Rattle.std.specs.Prelude.{if◌then◌else◌}
-use Rattle.std.specs.List.{filter, reduce, fold}
-use Rattle.std.proofs.lemmas.List.{at_drop_more}
-use Rattle.grid_geometry.specs.Position.{Position, position_lt}
-use Rattle.ring_parts.specs.Seen.{lesser}
+use Rattle.kit_words.proofs.Common.{◌≡◌, ℕ, ◌+◌, ◌<◌, ◌≤◌, Bool, true, false, sym, ap, ◌∙◌, cond, List, ◌∷◌, length}
+use Rattle.kit_words.proofs.Common.{drop, get_or, drop_of_length-le, Option, None, Some, if◌then◌else◌, filter, reduce}
+use Rattle.kit_words.proofs.Common.{fold, at_drop_more}
+use Rattle.grid_geometry.specs.Common.{Position, position_lt}
+use Rattle.ring_parts.specs.Common.{lesser}
 
 abbrev lesser_of : Position → Position → Position
 lesser_of q r = if position_lt r q then r else q

@@ -1,12 +1,11 @@
 -- How long the parts of a ring are.
-use Rattle.std.proofs.Common.{◌≡◌, suc, ◌+◌, ◌≤◌, Bool, true, false, cond, List, [], ◌∷◌, length, get_or, map, reverse, refl, sym, ap, arith, length-append, ◌&&◌}
-use Rattle.std.specs.Prelude.{not}
-use Rattle.grid_geometry.specs.Ring.{signed_area}
-use Rattle.std.proofs.lemmas.List.{length-reverse}
-use Rattle.grid_geometry.specs.Position.{Position, position_eq}
-use Rattle.ring_machine.specs.Ring.{before, from, begin_at, stretch}
-use Rattle.ring_machine.specs.Cut.{Path, first_part, second_part, same_sign, is_wrong_side}
-use Rattle.ring_parts.specs.Seen.{outer_length}
+use Rattle.kit_words.proofs.Common.{◌≡◌, suc, ◌+◌, ◌≤◌, Bool, true, false, cond, List, [], ◌∷◌, length, get_or, map}
+use Rattle.kit_words.proofs.Common.{reverse, refl, sym, ap, arith, ◌&&◌, not, length-reverse}
+use Rattle.std.proofs.Common.{length-append}
+use Rattle.grid_geometry.specs.Common.{signed_area, Position, position_eq}
+use Rattle.ring_machine.specs.Common.{before, from, begin_at, stretch, Path, first_part, second_part, same_sign}
+use Rattle.ring_machine.specs.Common.{is_wrong_side}
+use Rattle.ring_parts.specs.Common.{outer_length}
 
 before_few : (p : Position) (ps : List Position) → length (before p ps) ≤ length ps
 before_few p [] = omega arith

@@ -10,3 +10,4 @@ pub mod Rests
 pub mod RunEnds
 pub mod WaySegments
 pub mod CountedFew
+pub mod Common

@@ -1,11 +1,9 @@
 -- Lists of rings and polygons, one at a time.
-use Rattle.std.proofs.Common.{◌≡◌, ℕ, zero, suc, ◌+◌, ◌<◌, ◌≤◌, ◌-◌, Bool, true, false, refl, sym, ap, ap₂, ◌∙◌, cond, List, [], ◌∷◌, ◌++◌, map, length, take, drop, get_or, arith, ◌||◌}
-use Rattle.std.specs.List.{list_any, filter}
-use Rattle.std.proofs.lemmas.List.{take_more, take_all, map-append, append-nil}
-use Rattle.std.proofs.lemmas.List.Elements.{filter-append}
-use Rattle.std.proofs.lemmas.List.Folds.{list_any-append}
-use Rattle.std.proofs.lemmas.Bool.{false≢true}
-use Rattle.ring_machine.specs.Cut.{first_that}
+use Rattle.kit_words.proofs.Common.{◌≡◌, ℕ, zero, suc, ◌+◌, ◌<◌, ◌≤◌, ◌-◌, Bool, true, false, refl, sym, ap, ap₂, ◌∙◌}
+use Rattle.kit_words.proofs.Common.{cond, List, [], ◌∷◌, ◌++◌, map, length, take, drop, get_or, arith, ◌||◌, list_any}
+use Rattle.kit_words.proofs.Common.{filter, take_more, take_all, map-append, append-nil, filter-append, list_any-append}
+use Rattle.kit_words.proofs.Common.{false≢true}
+use Rattle.ring_machine.specs.Common.{first_that}
 
 pub one_more : {A B : Type 0} (of : A → B) (xs : List A) (i : ℕ) (x : A) → i < length xs → x ≡ get_or xs i x → map of (take (i + 1) xs) ≡ map of (take i xs) ++ of x ∷ []
 one_more of xs i x l e = ap (map of) (take_more xs i x l ∙ ap (λ z. take i xs ++ z ∷ []) (sym e)) ∙ map-append of (take i xs) (x ∷ [])

@@ -1,10 +1,9 @@
 -- A list of positions as a path, and positions that stand in it twice.
-use Rattle.std.proofs.Common.{◌≡◌, ℕ, suc, ◌+◌, ◌-◌, ◌<◌, ◌≤◌, true, false, refl, sym, ap, ap₂, ◌∙◌, List, [], ◌∷◌, ◌++◌, length, take, drop, get_or, ◌&&◌, arith, drop_of_length-le}
-use Rattle.std.specs.Prelude.{not}
-use Rattle.std.proofs.lemmas.List.{at_drop_more}
-use Rattle.grid_geometry.specs.Position.{Position}
-use Rattle.ring_machine.specs.Ring.{has, is_distinct}
-use Rattle.ring_machine.specs.Cut.{Path, path_of}
+use Rattle.kit_words.proofs.Common.{◌≡◌, ℕ, suc, ◌+◌, ◌-◌, ◌<◌, ◌≤◌, true, false, refl, sym, ap, ap₂, ◌∙◌, List, []}
+use Rattle.kit_words.proofs.Common.{◌∷◌, ◌++◌, length, take, drop, get_or, ◌&&◌, arith, drop_of_length-le, not}
+use Rattle.kit_words.proofs.Common.{at_drop_more}
+use Rattle.grid_geometry.specs.Common.{Position}
+use Rattle.ring_machine.specs.Common.{has, is_distinct, Path, path_of}
 
 abbrev path_over : Position → List Position → Position → Path
 path_over p inner q = record { first = p; inner = inner; last = q }

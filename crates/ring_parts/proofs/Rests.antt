@@ -1,13 +1,12 @@
 -- The edges of a ring off its run, by the positions where they begin.
-use Rattle.std.proofs.Common.{◌≡◌, ℕ, zero, suc, ◌+◌, ◌<◌, ◌≤◌, Bool, true, false, refl, sym, ap, ap₂, ◌∙◌, cond, List, [], ◌∷◌, ◌++◌, map, length, take, drop, get_or, drop_of_length-le, append_assoc}
-use Rattle.std.specs.Prelude.{not}
-use Rattle.std.specs.List.{zip, filter, prefix_len}
-use Rattle.std.proofs.lemmas.List.{at_drop_more, drop_more, map-append, length-map}
-use Rattle.grid_geometry.specs.Position.{Position}
-use Rattle.grid_geometry.specs.Ring.{Edge, edges}
-use Rattle.ring_machine.specs.Join.{off_run}
-use Rattle.ring_machine.proofs.Edges.{edges_to, edges_is, starts}
-use Rattle.ring_parts.specs.Borders.{off_ones}
+use Rattle.kit_words.proofs.Common.{◌≡◌, ℕ, zero, suc, ◌+◌, ◌<◌, ◌≤◌, Bool, true, false, refl, sym, ap, ap₂, ◌∙◌, cond}
+use Rattle.kit_words.proofs.Common.{List, [], ◌∷◌, ◌++◌, map, length, take, drop, get_or, drop_of_length-le}
+use Rattle.kit_words.proofs.Common.{append_assoc, not, zip, filter, prefix_len, at_drop_more, drop_more, map-append}
+use Rattle.kit_words.proofs.Common.{length-map}
+use Rattle.grid_geometry.specs.Common.{Position, Edge, edges}
+use Rattle.ring_machine.specs.Common.{off_run}
+use Rattle.ring_machine.proofs.Common.{edges_to, edges_is, starts}
+use Rattle.ring_parts.specs.Common.{off_ones}
 use Rattle.ring_parts.proofs.Lists.{map-take}
 
 -- ---- the first that passes

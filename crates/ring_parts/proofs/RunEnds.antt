@@ -1,16 +1,10 @@
 -- The ends of common edges, an edge at a time, and what is among them.
-use Rattle.std.proofs.Common.{◌≡◌, ℕ, ◌+◌, ◌<◌, ◌≤◌, Bool, true, false, refl, sym, ap, ap₂, ◌∙◌, cond, List, [], ◌∷◌, ◌++◌, length, drop, get_or, append_assoc, drop_of_length-le, ◌&&◌, ◌||◌}
-use Rattle.std.specs.Prelude.{not}
-use Rattle.std.specs.Ordering.{is_gt}
-use Rattle.std.specs.List.{list_any, filter}
-use Rattle.std.proofs.lemmas.List.{at_drop_more, append-nil}
-use Rattle.grid_geometry.specs.Position.{Position, position_eq, position_cmp}
-use Rattle.grid_geometry.specs.Segment.{is_end}
-use Rattle.grid_geometry.specs.Ring.{Edge, edges}
-use Rattle.ring_machine.specs.Ring.{has, segment_of}
-use Rattle.ring_machine.specs.Join.{is_common, common_else}
-use Rattle.ring_parts.specs.Borders.{both_ends, run_ends}
-use Rattle.ring_parts.specs.Seen.{least_that}
+use Rattle.kit_words.proofs.Common.{◌≡◌, ℕ, ◌+◌, ◌<◌, ◌≤◌, Bool, true, false, refl, sym, ap, ap₂, ◌∙◌, cond, List, []}
+use Rattle.kit_words.proofs.Common.{◌∷◌, ◌++◌, length, drop, get_or, append_assoc, drop_of_length-le, ◌&&◌, ◌||◌, not}
+use Rattle.kit_words.proofs.Common.{is_gt, list_any, filter, at_drop_more, append-nil}
+use Rattle.grid_geometry.specs.Common.{Position, position_eq, position_cmp, is_end, Edge, edges}
+use Rattle.ring_machine.specs.Common.{has, segment_of, is_common, common_else}
+use Rattle.ring_parts.specs.Common.{both_ends, run_ends, least_that}
 
 -- ---- an edge at a time
 

@@ -1,19 +1,12 @@
 -- What a search of a sorted list finds.
-use Rattle.std.proofs.Common.{◌≡◌, ℕ, zero, suc, ◌<◌, ◌≤◌, Bool, true, false, refl, sym, ap, ap₂, ◌∙◌, List, [], ◌∷◌, length, get_or, ◌||◌, ◌⊎◌, inl, inr, arith}
-use Rattle.std.specs.Prelude.{Result, Ok, Err, is_ok}
-use Rattle.std.specs.Cmp.{IsTotalOrder}
-use Rattle.std.specs.List.{list_any}
-use Rattle.std.specs.List.Sorted.{IsPermutation, IsSorted, IsBinarySearchResult, IsSearchInRange, IsPartitionPoint}
-use Rattle.std.specs.declared.cmp.Ordering.{Ordering}
-use Rattle.std.specs.declared.cmp.Ordering.TheVariants.{Less, Greater}
-use Rattle.std.specs.Ordering.{is_eq}
-use Rattle.std.proofs.lemmas.List.Sorted.{searchable_from_sorted, IsPermutation-sym}
-use Rattle.grid_geometry.specs.Position.{Position, position_eq}
-use Rattle.ring_machine.specs.Ring.{has}
-use Rattle.ring_machine.proofs.Order.{or_right}
-use Rattle.ring_machine.proofs.Members.{any_in, in_any, same_answer}
-use Rattle.ring_machine.proofs.Removal.{position_eq-sym}
-use Rattle.ring_machine.proofs.SortedOnce.{in_permuted}
+use Rattle.kit_words.proofs.Common.{◌≡◌, ℕ, zero, suc, ◌<◌, ◌≤◌, Bool, true, false, refl, sym, ap, ap₂, ◌∙◌, List, []}
+use Rattle.kit_words.proofs.Common.{◌∷◌, length, get_or, ◌||◌, ◌⊎◌, inl, inr, arith, Result, Ok, Err, is_ok}
+use Rattle.kit_words.proofs.Common.{IsTotalOrder, list_any, IsPermutation, IsSorted, IsBinarySearchResult}
+use Rattle.kit_words.proofs.Common.{IsSearchInRange, IsPartitionPoint, Ordering, Less, Greater, is_eq}
+use Rattle.kit_words.proofs.Common.{searchable_from_sorted, IsPermutation-sym}
+use Rattle.grid_geometry.specs.Common.{Position, position_eq}
+use Rattle.ring_machine.specs.Common.{has}
+use Rattle.ring_machine.proofs.Common.{or_right, any_in, in_any, same_answer, position_eq-sym, in_permuted}
 
 any_here : {A : Type 0} (test : A → Bool) (xs : List A) (i : ℕ) → i < length xs → ((d : A) → test (get_or xs i d) ≡ true) → list_any test xs ≡ true
 any_here test [] i l h = absurd (omega arith)

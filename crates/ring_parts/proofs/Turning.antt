@@ -1,8 +1,8 @@
 -- A ring begun at a position, as the loops do it.
-use Rattle.std.proofs.Common.{◌≡◌, ℕ, suc, ◌+◌, ◌<◌, ◌≤◌, Bool, true, false, cond, List, [], ◌∷◌, ◌++◌, length, get_or, take, drop, refl, ap, ap₂, ◌∙◌, arith, drop-cons, add-one}
-use Rattle.std.proofs.lemmas.List.{drop_all}
-use Rattle.grid_geometry.specs.Position.{Position, position_eq, position_lt}
-use Rattle.ring_machine.specs.Ring.{before, from, begin_at, least, canonical}
+use Rattle.kit_words.proofs.Common.{◌≡◌, ℕ, suc, ◌+◌, ◌<◌, ◌≤◌, Bool, true, false, cond, List, [], ◌∷◌, ◌++◌, length}
+use Rattle.kit_words.proofs.Common.{get_or, take, drop, refl, ap, ap₂, ◌∙◌, arith, drop-cons, add-one, drop_all}
+use Rattle.grid_geometry.specs.Common.{Position, position_eq, position_lt}
+use Rattle.ring_machine.specs.Common.{before, from, begin_at, least, canonical}
 
 -- ---- the least position
 

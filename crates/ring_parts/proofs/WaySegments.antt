@@ -1,16 +1,9 @@
 -- The segments of a way that has no position twice, position by position.
-use Rattle.std.proofs.Common.{◌≡◌, ◌<◌, ◌+◌, ℕ, true, sym, ap, ◌∙◌, subst, List, [], ◌∷◌, ◌++◌, map, length, drop, get_or, append_assoc, inl}
-use Rattle.std.specs.Prelude.{not}
-use Rattle.std.proofs.lemmas.Bool.{false≢true}
-use Rattle.std.proofs.lemmas.List.{drop_more}
-use Rattle.grid_geometry.specs.Position.{Position}
-use Rattle.grid_geometry.specs.Segment.{Segment}
-use Rattle.grid_geometry.specs.Ring.{links}
-use Rattle.ring_machine.specs.Ring.{has, is_distinct, segment_of}
-use Rattle.ring_machine.proofs.First.{In}
-use Rattle.ring_machine.proofs.Neighbours.{in-has}
-use Rattle.ring_machine.proofs.Order.{and_both}
-use Rattle.ring_machine.proofs.Removal.{not_true}
+use Rattle.kit_words.proofs.Common.{◌≡◌, ◌<◌, ◌+◌, ℕ, true, sym, ap, ◌∙◌, subst, List, [], ◌∷◌, ◌++◌, map, length, drop}
+use Rattle.kit_words.proofs.Common.{get_or, append_assoc, inl, not, false≢true, drop_more}
+use Rattle.grid_geometry.specs.Common.{Position, Segment, links}
+use Rattle.ring_machine.specs.Common.{has, is_distinct, segment_of}
+use Rattle.ring_machine.proofs.Common.{In, in-has, and_both, not_true}
 
 -- the segments of a way, each from a position to the next one
 abbrev pub segments_along : List Position → List Segment

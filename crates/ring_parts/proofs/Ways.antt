@@ -1,13 +1,11 @@
 -- The edges round a ring, and how they are compared.
-use Rattle.std.proofs.Common.{◌≡◌, ℕ, ◌+◌, ◌<◌, ◌≤◌, refl, sym, ap, ◌∙◌, List, [], ◌∷◌, ◌++◌, length, drop, get_or, append_assoc, drop_of_length-le, map, Bool, ◌&&◌, ◌||◌}
-use Rattle.std.specs.List.{list_any}
-use Rattle.std.proofs.lemmas.List.{at_drop_more}
-use Rattle.grid_geometry.specs.Position.{Position, position_eq}
-use Rattle.grid_geometry.specs.Ring.{Edge, links, edges}
-use Rattle.ring_machine.specs.Ring.{edge_eq, segment_of}
-use Rattle.ring_machine.specs.Join.{is_common}
-use Rattle.ring_machine.proofs.Removal.{position_eq-sym}
-use Rattle.ring_parts.specs.Borders.{ends_of}
+use Rattle.kit_words.proofs.Common.{◌≡◌, ℕ, ◌+◌, ◌<◌, ◌≤◌, refl, sym, ap, ◌∙◌, List, [], ◌∷◌, ◌++◌, length, drop}
+use Rattle.kit_words.proofs.Common.{get_or, append_assoc, drop_of_length-le, map, Bool, ◌&&◌, ◌||◌, list_any}
+use Rattle.kit_words.proofs.Common.{at_drop_more}
+use Rattle.grid_geometry.specs.Common.{Position, position_eq, Edge, links, edges}
+use Rattle.ring_machine.specs.Common.{edge_eq, segment_of, is_common}
+use Rattle.ring_machine.proofs.Common.{position_eq-sym}
+use Rattle.ring_parts.specs.Common.{ends_of}
 
 -- the edges of the way from a over the positions to z
 abbrev pub walk : Position → List Position → Position → List Edge

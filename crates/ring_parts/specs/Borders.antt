@@ -3,9 +3,8 @@ use Rattle.std.specs.Prelude.{ℕ, Bool, not, ◌&&◌, List, [], ◌∷◌, ◌
 use Rattle.std.specs.List.{zip, count_by, filter}
 use Rattle.std.specs.Ordering.{ordering_then}
 use Rattle.std.specs.declared.cmp.Ordering.{Ordering}
-use Rattle.grid_geometry.specs.Position.{Position, position_cmp}
-use Rattle.grid_geometry.specs.Ring.{Edge}
-use Rattle.ring_machine.specs.Ring.{segment_of}
+use Rattle.grid_geometry.specs.Common.{Position, position_cmp, Edge}
+use Rattle.ring_machine.specs.Common.{segment_of}
 
 -- the ends of an edge, the lesser one first
 abbrev pub ends_of : Edge → Edge

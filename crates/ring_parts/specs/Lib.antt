@@ -1,3 +1,4 @@
 pub mod Seen
 pub mod Borders
 pub mod Merges
+pub mod Common

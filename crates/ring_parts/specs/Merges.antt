@@ -1,7 +1,7 @@
 -- Two polygons joined.
 use Rattle.std.specs.Prelude.{List, [], ◌∷◌, ◌++◌}
-use Rattle.grid_geometry.specs.Position.{Position}
-use Rattle.ring_machine.specs.Join.{joined}
+use Rattle.grid_geometry.specs.Common.{Position}
+use Rattle.ring_machine.specs.Common.{joined}
 
 -- the rings of two polygons that are joined: the joined outer ring, then the holes of both
 abbrev pub joined_rings : List (List Position) → List (List Position) → List (List Position)

@@ -1,9 +1,9 @@
 -- What the code holds, seen as the machine's paths and polygons.
 use Rattle.std.specs.Prelude.{ℕ, Bool, true, false, not, List, [], ◌∷◌, Vec, map, length, if◌then◌else◌, Option, None, Some}
 use Rattle.std.specs.List.{filter, reduce}
-use Rattle.grid_geometry.specs.Position.{Position, position_lt}
+use Rattle.grid_geometry.specs.Common.{Position, position_lt}
 use Rattle.ring_machine.specs.Cut as machine
-use Rattle.ring_machine.specs.Cut.{goes_first}
+use Rattle.ring_machine.specs.Common.{goes_first}
 use Rattle.ring_parts.specs.declared.paths.Path.{Path}
 
 -- a path

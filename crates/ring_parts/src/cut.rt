@@ -1,7 +1,7 @@
 // Which polygon a path cuts, and whether its parts lie on their sides.
 ghost use Rattle.std.specs.Prelude.{◌≡◌, ◌<◌, ◌≤◌, ◌+◌, ◌||◌, ◌&&◌, IfOk, IfSome, length, is_some, take, false, slice_index_or, [], ◌∷◌};
 ghost use Rattle.std.specs.List.{list_any};
-ghost use Rattle.grid_geometry.specs.Ring.{signed_area};
+ghost use Rattle.grid_geometry.specs.Common.{signed_area};
 ghost use Rattle.ring_machine.specs.Ring as machine;
 ghost use Rattle.ring_machine.specs.Cut as spec;
 ghost use Rattle.ring_parts.specs.Seen.{path_seen, rings_seen, polygons_seen, outer_length};

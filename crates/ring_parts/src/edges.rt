@@ -1,6 +1,6 @@
 // The edges of rings.
 ghost use Rattle.std.specs.Prelude.{◌≡◌, ◌≤◌, ◌+◌, ◌++◌, IfOk, length, map, vec_len, vec_capacity};
-ghost use Rattle.grid_geometry.specs.Ring.{edges};
+ghost use Rattle.grid_geometry.specs.Common.{edges};
 ghost use Rattle.ring_parts.specs.Borders.{ends_of};
 
 use grid_geometry::Pos;

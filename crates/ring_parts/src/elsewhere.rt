@@ -2,7 +2,7 @@
 ghost use Rattle.std.specs.Prelude.{◌≡◌, ◌&&◌, not, IfOk};
 ghost use Rattle.ring_machine.specs.Ring as machine;
 ghost use Rattle.ring_machine.specs.Join as spec;
-ghost use Rattle.ring_machine.specs.Join.{is_common};
+ghost use Rattle.ring_machine.specs.Common.{is_common};
 ghost use Rattle.ring_parts.specs.Borders.{run_ends};
 ghost use Rattle.ring_parts.specs.Seen.{least_that};
 

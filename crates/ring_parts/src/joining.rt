@@ -1,7 +1,7 @@
 // Two rings joined along their only common run, and two polygons.
 ghost use Rattle.std.specs.Prelude.{◌≡◌, ◌≤◌, ◌++◌, Bool, OnOk, IfOk, not, length, map};
 ghost use Rattle.std.specs.List.{prefix_len};
-ghost use Rattle.grid_geometry.specs.Ring.{edges};
+ghost use Rattle.grid_geometry.specs.Common.{edges};
 ghost use Rattle.ring_machine.specs.Join as spec;
 ghost use Rattle.ring_parts.specs.Borders.{off_ones};
 ghost use Rattle.ring_parts.specs.Merges.{joined_rings};

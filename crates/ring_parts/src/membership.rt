@@ -1,9 +1,9 @@
 // The positions of a ring, found by a search.
 ghost use Rattle.std.specs.Prelude.{◌≡◌, IfOk};
-ghost use Rattle.grid_geometry.specs.Position.{Position, position_cmp};
+ghost use Rattle.grid_geometry.specs.Common.{Position, position_cmp};
 ghost use Rattle.std.specs.List.Sorted.{IsSorted};
 ghost use Rattle.ring_machine.specs.Ring as machine;
-ghost use Rattle.ring_machine.specs.Cut.{least_off, goes_first};
+ghost use Rattle.ring_machine.specs.Common.{least_off, goes_first};
 ghost use Rattle.ring_parts.specs.Seen.{lesser};
 
 use crate::sorted::has_sorted;

@@ -1,9 +1,7 @@
 // Paths that cut a polygon.
 ghost use Rattle.std.specs.Prelude.{◌≡◌, ◌↔◌, ◌≤◌, IsSome, IsTrue, IfSome, IfOk, not, length, map};
-ghost use Rattle.grid_geometry.specs.Ring.{links};
-ghost use Rattle.ring_machine.specs.Ring.{is_distinct, segment_of};
-ghost use Rattle.ring_machine.specs.Cut.{path_of};
-ghost use Rattle.ring_machine.specs.Refusals.{positions_of};
+ghost use Rattle.grid_geometry.specs.Common.{links};
+ghost use Rattle.ring_machine.specs.Common.{is_distinct, segment_of, path_of, positions_of};
 
 use crate::membership::has;
 use grid_geometry::{Pos, Seg};

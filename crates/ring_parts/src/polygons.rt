@@ -1,7 +1,7 @@
 // The two polygons of one that a path cuts.
 ghost use Rattle.std.specs.Prelude.{◌≡◌, [], ◌∷◌, ◌++◌, IfOk, OnOk};
 ghost use Rattle.std.specs.List.{filter};
-ghost use Rattle.ring_machine.specs.Ring.{canonical};
+ghost use Rattle.ring_machine.specs.Common.{canonical};
 ghost use Rattle.ring_machine.specs.Cut as spec;
 ghost use Rattle.ring_parts.specs.Seen.{path_seen, rings_seen, goes_to};
 

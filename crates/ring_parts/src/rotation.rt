@@ -1,6 +1,6 @@
 // Rings in their canonical rotation.
 ghost use Rattle.std.specs.Prelude.{◌≡◌, IfOk};
-ghost use Rattle.ring_machine.specs.Ring.{canonical, least};
+ghost use Rattle.ring_machine.specs.Common.{canonical, least};
 
 use crate::stretch::turn_to;
 use grid_geometry::Pos;

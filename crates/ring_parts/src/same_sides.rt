@@ -2,9 +2,9 @@
 ghost use Rattle.std.specs.Prelude.{◌≡◌, ◌≤◌, IfOk, length, reverse, if◌then◌else◌};
 ghost use Rattle.std.specs.List.{list_any};
 ghost use Rattle.std.specs.List.Sorted.{IsSorted};
-ghost use Rattle.grid_geometry.specs.Ring.{Edge};
+ghost use Rattle.grid_geometry.specs.Common.{Edge};
 ghost use Rattle.grid_geometry.specs.Ring as geometry;
-ghost use Rattle.ring_machine.specs.Ring.{edge_eq};
+ghost use Rattle.ring_machine.specs.Common.{edge_eq};
 ghost use Rattle.ring_machine.specs.Join as spec;
 ghost use Rattle.ring_parts.specs.Borders.{edge_cmp};
 

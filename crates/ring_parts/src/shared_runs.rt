@@ -1,9 +1,9 @@
 // What two rings have in common.
 ghost use Rattle.std.specs.Prelude.{◌≡◌, Bool, IfOk, map, nat_le};
 ghost use Rattle.std.specs.List.{list_any, list_all};
-ghost use Rattle.grid_geometry.specs.Ring.{edges};
+ghost use Rattle.grid_geometry.specs.Common.{edges};
 ghost use Rattle.ring_machine.specs.Join as spec;
-ghost use Rattle.ring_machine.specs.Join.{is_common};
+ghost use Rattle.ring_machine.specs.Common.{is_common};
 ghost use Rattle.ring_parts.specs.Borders.{begins};
 
 use crate::edges::edges;

@@ -2,10 +2,9 @@
 ghost use Rattle.std.specs.Prelude.{◌≡◌, IfOk, map};
 ghost use Rattle.std.specs.List.{list_any, list_all};
 ghost use Rattle.std.specs.List.Sorted.{IsSorted};
-ghost use Rattle.grid_geometry.specs.Ring.{Edge};
+ghost use Rattle.grid_geometry.specs.Common.{Edge};
 ghost use Rattle.grid_geometry.specs.Ring as geometry;
-ghost use Rattle.ring_machine.specs.Ring.{edge_eq};
-ghost use Rattle.ring_machine.specs.Join.{is_common};
+ghost use Rattle.ring_machine.specs.Common.{edge_eq, is_common};
 ghost use Rattle.ring_parts.specs.Borders.{ends_of, edge_cmp};
 
 use crate::edges::{all_ends, edges, ends};

@@ -1,6 +1,6 @@
 // Stretches of a ring, and the parts that they form with a path.
 ghost use Rattle.std.specs.Prelude.{◌≡◌, ◌≤◌, ◌+◌, IfOk, OnOk, length};
-ghost use Rattle.ring_machine.specs.Ring.{before, begin_at, stretch};
+ghost use Rattle.ring_machine.specs.Common.{before, begin_at, stretch};
 ghost use Rattle.ring_machine.specs.Cut as machine;
 ghost use Rattle.ring_parts.specs.Seen.{path_seen};
 

@@ -1,18 +1,11 @@
 -- One ring more among those that are laid.
-use Rattle.std.proofs.Common.{◌≡◌, ◌≢◌, ℕ, Bool, true, false, refl, sym, ap, ap₂, ◌∙◌, cond}
-use Rattle.std.proofs.Common.{List, [], ◌∷◌, ◌++◌, map, ◌&&◌, ◌||◌, Some, inl}
-use Rattle.std.proofs.Common.{inr, arith}
-use Rattle.std.specs.Prelude.{◌==◌, not}
-use Rattle.std.specs.Ordering.{nat_cmp, eq_by_cmp}
+use Rattle.kit_words.proofs.Common.{◌≡◌, ◌≢◌, ℕ, Bool, true, false, refl, sym, ap, ap₂, ◌∙◌, cond, List, [], ◌∷◌, ◌++◌}
+use Rattle.kit_words.proofs.Common.{map, ◌&&◌, ◌||◌, Some, inl, inr, arith, ◌==◌, not, nat_cmp, eq_by_cmp}
+use Rattle.kit_words.proofs.Common.{nat_cmp_total, Decides-eqb, nat_tests}
 use Rattle.std.specs.FinMap as table
-use Rattle.std.proofs.lemmas.Cmp.{nat_cmp_total}
-use Rattle.std.proofs.lemmas.Bool.Decides.{Decides-eqb, nat_tests}
-use Rattle.ring_machine.specs.WellFormed.{are_distinct}
-use Rattle.ring_machine.proofs.First.{In}
-use Rattle.ring_machine.proofs.Order.{and_both}
-use Rattle.ring_machine.proofs.Removal.{none_parts, not_true}
-use Rattle.arc_tables.specs.Ways.{Edge}
-use Rattle.arc_tables.specs.Rings.{Rings}
+use Rattle.ring_machine.specs.Common.{are_distinct}
+use Rattle.ring_machine.proofs.Common.{In, and_both, none_parts, not_true}
+use Rattle.arc_tables.specs.Common.{Edge, Rings}
 use Rattle.ring_store.proofs.KeyRings.{has_key}
 
 -- ---- a number more

@@ -1,19 +1,16 @@
 -- The positions around a vertex, from the list of what is joined to it.
-use Rattle.std.proofs.Common.{◌≡◌, ◌<◌, ℕ, true, sym, ap, ◌∙◌, subst, List, [], ◌++◌, map, length}
-use Rattle.std.proofs.Common.{get_or, Contains, Bool, false, refl, ◌≢◌, ◌∷◌, inl, inr, Some}
+use Rattle.kit_words.proofs.Common.{◌≡◌, ◌<◌, ℕ, true, sym, ap, ◌∙◌, subst, List, [], ◌++◌, map, length, get_or}
+use Rattle.kit_words.proofs.Common.{Contains, Bool, false, refl, ◌≢◌, ◌∷◌, inl, inr, Some}
 use Rattle.std.specs.FinMap as table
-use Rattle.grid_geometry.specs.Position.{Position}
-use Rattle.vertex_index.specs.Placement.{Placement, place}
-use Rattle.arc_tables.specs.Rings.{Rings}
-use Rattle.shared_arcs.specs.Joined.{Joined, AreNeighbours}
+use Rattle.grid_geometry.specs.Common.{Position}
+use Rattle.vertex_index.specs.Common.{Placement, place}
+use Rattle.arc_tables.specs.Common.{Rings}
+use Rattle.shared_arcs.specs.Common.{Joined, AreNeighbours, ListsJoined}
 use Rattle.shared_arcs.specs.declared.around.Neighbours.TheVariants.{Two}
 use Rattle.ring_store.proofs.Places.{place_is}
-use Rattle.shared_arcs.specs.Listing.{ListsJoined}
-use Rattle.ring_machine.specs.Ring.{has}
-use Rattle.ring_machine.proofs.First.{In}
-use Rattle.ring_machine.proofs.Members.{in_mapped, in_contains}
-use Rattle.ring_machine.proofs.Neighbours.{has-in}
-use Rattle.ring_store.specs.Planned.{ArePlaced, AreAround}
+use Rattle.ring_machine.specs.Common.{has}
+use Rattle.ring_machine.proofs.Common.{In, in_mapped, in_contains, has-in}
+use Rattle.ring_store.specs.Common.{ArePlaced, AreAround}
 use Rattle.ring_store.proofs.Planned.{all_different}
 
 module _ (places : Placement) (m : Rings) (k : ℕ) (old new : List ℕ) (lists : ListsJoined m k old new) (none : old ≡ []) where

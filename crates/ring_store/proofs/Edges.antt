@@ -1,30 +1,19 @@
 -- The edges of a ring by their places, and that each segment stands there once.
-use Rattle.std.proofs.Common.{◌≡◌, ◌≢◌, ◌≤◌, ◌<◌, ◌+◌, ℕ, Bool, zero, suc, true, refl, sym, ap, ap₂, ◌∙◌, subst}
-use Rattle.std.proofs.Common.{List, [], ◌∷◌, ◌++◌, map, length, take, drop, get_or, inl, inr, arith}
-use Rattle.std.specs.Prelude.{Contains}
-use Rattle.std.proofs.lemmas.Bool.{false≢true}
-use Rattle.std.proofs.lemmas.List.{length-append, length-map, map-append, get_or_append_left}
-use Rattle.std.proofs.lemmas.List.{get_or-append-add, drop_more, take-append-drop}
-use Rattle.ring_machine.proofs.Neighbours.{in-map}
-use Rattle.grid_geometry.specs.Position.{Position}
-use Rattle.grid_geometry.specs.Segment.{Segment, segment, segment_eq}
+use Rattle.kit_words.proofs.Common.{◌≡◌, ◌≢◌, ◌≤◌, ◌<◌, ◌+◌, ℕ, Bool, zero, suc, true, refl, sym, ap, ap₂, ◌∙◌, subst}
+use Rattle.kit_words.proofs.Common.{List, [], ◌∷◌, ◌++◌, map, length, take, drop, get_or, inl, inr, arith, Contains}
+use Rattle.kit_words.proofs.Common.{false≢true, length-append, length-map, map-append, get_or_append_left}
+use Rattle.kit_words.proofs.Common.{get_or-append-add, drop_more, take-append-drop}
+use Rattle.ring_machine.proofs.Common.{in-map, is_of, In, in_right, contains_in, in_contains, in_mapped, in_any}
+use Rattle.ring_machine.proofs.Common.{segment_ordered, ring_once, AtMostOne}
+use Rattle.grid_geometry.specs.Common.{Position, Segment, segment, segment_eq}
 use Rattle.grid_geometry.specs.Ring as geometry
-use Rattle.ring_machine.specs.Ring.{is_distinct}
-use Rattle.ring_machine.specs.WellFormed.{are_distinct}
-use Rattle.ring_machine.proofs.Arcs.{is_of}
-use Rattle.ring_machine.proofs.First.{In, in_right}
-use Rattle.ring_machine.proofs.Members.{contains_in, in_contains, in_mapped, in_any}
-use Rattle.ring_machine.proofs.Orders.{segment_ordered}
-use Rattle.ring_machine.proofs.RingSegments.{ring_once}
-use Rattle.ring_machine.proofs.StaysRing.{AtMostOne}
-use Rattle.vertex_index.specs.Placement.{Placement, AreDistinct, place}
-use Rattle.arc_tables.specs.Ways.{Edge, links}
-use Rattle.arc_tables.specs.Rings.{edges, begins}
-use Rattle.ring_store.specs.Round.{GoesRound, IsRound}
+use Rattle.ring_machine.specs.Common.{is_distinct, are_distinct}
+use Rattle.vertex_index.specs.Common.{Placement, AreDistinct, place}
+use Rattle.arc_tables.specs.Common.{Edge, links, edges, begins}
+use Rattle.ring_store.specs.Common.{GoesRound, IsRound, sides}
 use Rattle.ring_store.proofs.KeyRings.{begins_edges, begins_round, edges_round, edge_apart, edge_ends, laid}
 use Rattle.ring_store.proofs.KeyRings.{goes_round}
 use Rattle.ring_store.proofs.Places.{IsKept, distinct_places}
-use Rattle.ring_store.specs.Steps.{sides}
 
 -- ---- the edge at a place
 

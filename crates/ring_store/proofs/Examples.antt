@@ -1,15 +1,11 @@
 -- Worked examples of vertices put back, the second between the first and a neighbour of it.
-use Rattle.std.proofs.Common.{◌≡◌, ◌≢◌, ℕ, pos, true, false, refl, sym, ap, ◌∙◌, List, [], ◌∷◌, None}
+use Rattle.kit_words.proofs.Common.{◌≡◌, ◌≢◌, ℕ, pos, true, false, refl, sym, ap, ◌∙◌, List, [], ◌∷◌, None, false≢true}
+use Rattle.kit_words.proofs.Common.{same_Some, none-some, ℕ_discrete}
 use Rattle.std.specs.FinMap as table
-use Rattle.std.proofs.lemmas.Bool.{false≢true}
-use Rattle.std.proofs.lemmas.Option.{same_Some, none-some}
-use native.Mathlib.Decide.{ℕ_discrete}
-use Rattle.grid_geometry.specs.Position.{Position, position, position_eq}
-use Rattle.grid_geometry.specs.Segment.{segment}
-use Rattle.vertex_index.specs.Placement.{Placement, IsOccupied}
+use Rattle.grid_geometry.specs.Common.{Position, position, position_eq, segment}
+use Rattle.vertex_index.specs.Common.{Placement, IsOccupied}
 use Rattle.ring_store.proofs.Places.{insert_other}
-use Rattle.ring_store.specs.declared.removal.Removal.{Removal}
-use Rattle.ring_store.specs.Many.{ArePlaceable, comings, goings}
+use Rattle.ring_store.specs.Common.{Removal, ArePlaceable, comings, goings}
 use Rattle.ring_store.proofs.PuttingBack.{insert_here}
 
 abbrev on_axis : ℕ → Position

@@ -1,30 +1,21 @@
 -- Tables that stand, before and after a ring goes or comes.
-use Rattle.std.proofs.Common.{◌≡◌, ℕ, refl, sym, ap, ◌∙◌, subst}
-use Rattle.std.proofs.Common.{List, [], ◌⊎◌, inl, inr, Some, None, is_some, Option, length, take, arith}
-use Rattle.std.specs.Prelude.{Contains, IsTrue}
+use Rattle.kit_words.proofs.Common.{◌≡◌, ℕ, refl, sym, ap, ◌∙◌, subst, List, [], ◌⊎◌, inl, inr, Some, None, is_some}
+use Rattle.kit_words.proofs.Common.{Option, length, take, arith, Contains, IsTrue, same_map, nat_cmp-IsAntisymmetric}
+use Rattle.kit_words.proofs.Common.{false≢true, nat_cmp_total, take_all}
 use Rattle.std.specs.FinMap as table
-use Rattle.std.specs.FinMap.{same_map, nat_cmp-IsAntisymmetric}
 use Rattle.std.specs.FinSet as set
-use Rattle.std.proofs.lemmas.Bool.{false≢true}
-use Rattle.std.proofs.lemmas.Cmp.{nat_cmp_total}
-use Rattle.std.proofs.lemmas.List.{take_all}
-use Rattle.grid_geometry.specs.Position.{Position}
-use Rattle.grid_geometry.specs.Segment.{Segment, segment}
-use Rattle.ring_machine.proofs.First.{In}
-use Rattle.ring_machine.proofs.Members.{contains_in, in_contains, in_mapped, there, same_answer}
-use Rattle.ring_machine.proofs.Neighbours.{in-map}
-use Rattle.vertex_index.specs.Placement.{Placement, AreDistinct, place}
-use Rattle.segment_index.specs.Candidates.{SegmentSet}
-use Rattle.segment_index.proofs.Singles.{same_sets}
-use Rattle.arc_tables.specs.Ways.{Edge}
-use Rattle.arc_tables.specs.Rings.{Rings, begins, edges}
-use Rattle.ring_store.specs.Keyed.{ArePut}
-use Rattle.ring_store.specs.Round.{IsRound, GoesRound}
+use Rattle.grid_geometry.specs.Common.{Position, Segment, segment}
+use Rattle.ring_machine.proofs.Common.{In, contains_in, in_contains, in_mapped, there, same_answer, in-map}
+use Rattle.vertex_index.specs.Common.{Placement, AreDistinct, place}
+use Rattle.segment_index.specs.Common.{SegmentSet}
+use Rattle.segment_index.proofs.Common.{same_sets}
+use Rattle.arc_tables.specs.Common.{Edge, Rings, begins, edges}
+use Rattle.ring_store.specs.Common.{ArePut, IsRound, GoesRound, IsVisited, IsSide, Stands, AllRound, HoldsWith}
+use Rattle.ring_store.specs.Common.{LeavesVisited, sides}
 use Rattle.ring_store.proofs.AddedRings.{ring_here}
 use Rattle.ring_store.proofs.KeyRings.{begins_edges, goes_round}
 use Rattle.ring_store.proofs.Places.{IsKept, kept_place}
-use Rattle.ring_store.specs.Standing.{IsVisited, IsSide, Stands}
-use Rattle.ring_store.specs.Steps.{AllRound, AreKeyed, HoldsWith, LeavesVisited, sides}
+use Rattle.ring_store.specs.Steps.{AreKeyed}
 use Rattle.ring_store.proofs.Edges.{length-edges, round_keys}
 use Rattle.ring_store.proofs.Visited.{visited_at, side_moved, left_there, left_visited, visited_or, side_or}
 use Rattle.ring_store.proofs.Visited.{ring_kept, ring_either}

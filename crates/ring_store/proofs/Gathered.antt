@@ -1,10 +1,9 @@
 -- Rings whose keys were gathered.
-use Rattle.std.proofs.Common.{◌≡◌, ℕ, sym, ap, ◌∙◌, subst, List, [], ◌++◌, Some, IfSome}
-use Rattle.std.specs.Prelude.{IsTrue}
+use Rattle.kit_words.proofs.Common.{◌≡◌, ℕ, sym, ap, ◌∙◌, subst, List, [], ◌++◌, Some, IfSome, IsTrue}
 use Rattle.std.specs.FinMap as table
-use Rattle.ring_machine.proofs.Members.{there}
-use Rattle.arc_tables.specs.Rings.{Rings, begins, edges}
-use Rattle.ring_store.specs.Steps.{AllRound}
+use Rattle.ring_machine.proofs.Common.{there}
+use Rattle.arc_tables.specs.Common.{Rings, begins, edges}
+use Rattle.ring_store.specs.Common.{AllRound}
 use Rattle.ring_store.proofs.Edges.{edges_again}
 
 -- the keys of a ring, appended to none, are those that it goes along

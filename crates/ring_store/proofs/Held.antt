@@ -1,21 +1,15 @@
 -- An index that holds the segments of the rings, and of some edges more.
-use Rattle.std.proofs.Common.{◌≡◌, ◌+◌, Bool, true, false, refl, sym, ap, ◌∙◌, subst, cond}
-use Rattle.std.proofs.Common.{List, [], ◌∷◌, ◌++◌, ◌||◌, ◌&&◌, ◌⊎◌, inl, inr}
-use Rattle.std.specs.Prelude.{not, Contains}
+use Rattle.kit_words.proofs.Common.{◌≡◌, ◌+◌, Bool, true, false, refl, sym, ap, ◌∙◌, subst, cond, List, [], ◌∷◌, ◌++◌}
+use Rattle.kit_words.proofs.Common.{◌||◌, ◌&&◌, ◌⊎◌, inl, inr, not, Contains, false≢true, map-append}
+use Rattle.kit_words.proofs.Common.{Contains-append_left, Contains-push, Contains-push_cases}
 use Rattle.std.specs.FinSet as set
-use Rattle.std.proofs.lemmas.Bool.{false≢true}
-use Rattle.std.proofs.lemmas.List.{map-append}
-use Rattle.std.proofs.lemmas.List.Elements.{Contains-append_left, Contains-push, Contains-push_cases}
-use Rattle.grid_geometry.specs.Segment.{Segment, segment}
-use Rattle.ring_machine.proofs.Order.{or_true, or_right, and_both}
-use Rattle.ring_machine.proofs.Removal.{not_true}
-use Rattle.vertex_index.specs.Placement.{Placement, place}
-use Rattle.segment_index.specs.Candidates.{SegmentSet, segment_is}
-use Rattle.segment_index.proofs.Singles.{segment_total, same_segment, same_sets, is-itself}
-use Rattle.arc_tables.specs.Ways.{Edge}
-use Rattle.arc_tables.specs.Rings.{Rings}
-use Rattle.ring_store.specs.Standing.{IsSide}
-use Rattle.ring_store.specs.Steps.{sides, HoldsWith}
+use Rattle.grid_geometry.specs.Common.{Segment, segment}
+use Rattle.ring_machine.proofs.Common.{or_true, or_right, and_both, not_true}
+use Rattle.vertex_index.specs.Common.{Placement, place}
+use Rattle.segment_index.specs.Common.{SegmentSet, segment_is}
+use Rattle.segment_index.proofs.Common.{segment_total, same_segment, same_sets, is-itself}
+use Rattle.arc_tables.specs.Common.{Edge, Rings}
+use Rattle.ring_store.specs.Common.{IsSide, sides, HoldsWith}
 
 -- ---- how many segments are held
 

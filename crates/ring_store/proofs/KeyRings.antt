@@ -1,28 +1,15 @@
 -- Rings that are begun elsewhere, and rings of positions that go along keys.
-use Rattle.std.proofs.Common.{◌≡◌, ◌≢◌, ◌≤◌, ℕ, Bool, true, false, refl, sym, ap, ap₂, ◌∙◌, subst}
-use Rattle.std.proofs.Common.{List, [], ◌∷◌, ◌++◌, ◌+◌, map, length, ◌||◌, ◌&&◌, ◌⊎◌, inl, inr}
-use Rattle.std.proofs.Common.{arith}
-use Rattle.std.specs.Prelude.{◌==◌, not}
-use Rattle.std.specs.List.{list_any}
-use Rattle.std.proofs.lemmas.Bool.{false≢true}
-use Rattle.std.proofs.lemmas.Bool.Decides.{Decides-eqb}
-use Rattle.std.proofs.lemmas.List.{append-nil, length-append, map-append}
-use Rattle.grid_geometry.specs.Position.{Position}
-use Rattle.grid_geometry.specs.Segment.{Segment, segment}
+use Rattle.kit_words.proofs.Common.{◌≡◌, ◌≢◌, ◌≤◌, ℕ, Bool, true, false, refl, sym, ap, ap₂, ◌∙◌, subst, List, [], ◌∷◌}
+use Rattle.kit_words.proofs.Common.{◌++◌, ◌+◌, map, length, ◌||◌, ◌&&◌, ◌⊎◌, inl, inr, arith, ◌==◌, not, list_any}
+use Rattle.kit_words.proofs.Common.{false≢true, Decides-eqb, append-nil, length-append, map-append}
+use Rattle.grid_geometry.specs.Common.{Position, Segment, segment}
 use Rattle.grid_geometry.specs.Ring as geometry
-use Rattle.ring_machine.specs.Ring.{canonical, between_each, spots}
-use Rattle.ring_machine.specs.WellFormed.{are_distinct}
-use Rattle.ring_machine.proofs.Order.{and_both, or_true}
-use Rattle.ring_machine.proofs.Canonical.{canonical_parts}
-use Rattle.ring_machine.proofs.Edges.{edges_to, edges_to-append, edges_is}
-use Rattle.ring_machine.proofs.First.{In, in-append}
-use Rattle.ring_machine.proofs.Removal.{none_parts, not_true}
-use Rattle.ring_machine.proofs.Arcs.{links-append}
-use Rattle.vertex_index.specs.Placement.{Placement}
-use Rattle.arc_tables.specs.Ways.{Edge, links, is_seg, one, times}
-use Rattle.arc_tables.specs.Rings.{edges, begins}
-use Rattle.ring_store.specs.Round.{GoesRound, IsRound}
-use Rattle.ring_machine.proofs.Members.{in_swap}
+use Rattle.ring_machine.specs.Common.{canonical, between_each, spots, are_distinct}
+use Rattle.ring_machine.proofs.Common.{and_both, or_true, canonical_parts, edges_to, edges_to-append, edges_is, In}
+use Rattle.ring_machine.proofs.Common.{in-append, none_parts, not_true, links-append, in_swap}
+use Rattle.vertex_index.specs.Common.{Placement}
+use Rattle.arc_tables.specs.Common.{Edge, links, is_seg, one, times, edges, begins}
+use Rattle.ring_store.specs.Common.{GoesRound, IsRound}
 
 -- ---- a ring begun elsewhere
 

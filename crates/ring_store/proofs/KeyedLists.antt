@@ -1,17 +1,13 @@
 -- What was put under keys part by part was put under the keys of all parts.
-use Rattle.std.proofs.Common.{◌≡◌, ◌⊎◌, ◌<◌, ℕ, zero, suc, refl, sym, subst, ap, ap₂, ◌∙◌, List, [], ◌∷◌, ◌++◌}
-use Rattle.std.proofs.Common.{map, inl, inr, Some, None, arith, Contains}
-use Rattle.std.specs.Prelude.{is_some, slice_index_or}
-use native.Mathlib.Decide.{ℕ_discrete}
+use Rattle.kit_words.proofs.Common.{◌≡◌, ◌⊎◌, ◌<◌, ℕ, zero, suc, refl, sym, subst, ap, ap₂, ◌∙◌, List, [], ◌∷◌, ◌++◌}
+use Rattle.kit_words.proofs.Common.{map, inl, inr, Some, None, arith, Contains, is_some, slice_index_or, ℕ_discrete}
+use Rattle.kit_words.proofs.Common.{flat_map, append-nil, map-append, map-id, flat_map-append, flat_map_single}
+use Rattle.kit_words.proofs.Common.{Contains-append_left, Contains-append_right, Contains-append_cases}
 use Rattle.std.specs.FinMap as table
-use Rattle.std.specs.List.{flat_map}
-use Rattle.std.proofs.lemmas.List.{append-nil, map-append, map-id}
-use Rattle.std.proofs.lemmas.List.Concat.{flat_map-append, flat_map_single}
-use Rattle.std.proofs.lemmas.List.Elements.{Contains-append_left, Contains-append_right, Contains-append_cases}
-use Rattle.grid_geometry.specs.Position.{Position}
-use Rattle.vertex_index.specs.Placement.{Placement, place}
-use Rattle.vertex_index.proofs.PlacementLemmas.{get-inserted}
-use Rattle.ring_store.specs.Keyed.{ArePut}
+use Rattle.grid_geometry.specs.Common.{Position}
+use Rattle.vertex_index.specs.Common.{Placement, place}
+use Rattle.vertex_index.proofs.Common.{get-inserted}
+use Rattle.ring_store.specs.Common.{ArePut}
 use Rattle.ring_store.proofs.Places.{IsKept, place_is, kept_place, place_kept, insert_other}
 
 abbrev Keeps : Placement → Placement → Type 0

@@ -1,18 +1,12 @@
 -- Keys of the positions of a ring, and that they differ as the positions do.
-use Rattle.std.proofs.Common.{◌≡◌, ℕ, zero, suc, true, false, refl, sym, ap, ap₂, ◌∙◌, subst}
-use Rattle.std.proofs.Common.{List, [], ◌∷◌, map, take, length, ◌||◌, ◌&&◌, inl, arith}
-use Rattle.std.specs.Prelude.{not}
+use Rattle.kit_words.proofs.Common.{◌≡◌, ℕ, zero, suc, true, false, refl, sym, ap, ap₂, ◌∙◌, subst, List, [], ◌∷◌, map}
+use Rattle.kit_words.proofs.Common.{take, length, ◌||◌, ◌&&◌, inl, arith, not, length-map}
 use Rattle.std.specs.FinMap as table
-use Rattle.std.proofs.lemmas.List.{length-map}
-use Rattle.grid_geometry.specs.Position.{Position, position_eq}
-use Rattle.ring_machine.specs.Ring.{has, is_distinct, is_ring}
-use Rattle.ring_machine.specs.WellFormed.{are_distinct}
-use Rattle.ring_machine.proofs.Order.{and_both}
-use Rattle.ring_machine.proofs.Removal.{none_parts, not_true}
-use Rattle.ring_machine.proofs.StaysProper.{ring_long}
-use Rattle.vertex_index.specs.Placement.{Placement, place}
-use Rattle.ring_store.specs.Keyed.{ArePut}
-use Rattle.ring_store.specs.Round.{IsRound}
+use Rattle.grid_geometry.specs.Common.{Position, position_eq}
+use Rattle.ring_machine.specs.Common.{has, is_distinct, is_ring, are_distinct}
+use Rattle.ring_machine.proofs.Common.{and_both, none_parts, not_true, ring_long}
+use Rattle.vertex_index.specs.Common.{Placement, place}
+use Rattle.ring_store.specs.Common.{ArePut, IsRound}
 use Rattle.ring_store.proofs.Places.{keys_distinct}
 use Rattle.ring_store.proofs.KeyedLists.{AreRead, singles}
 

@@ -23,3 +23,4 @@ pub mod AroundPlan
 pub mod TableLemmas
 pub mod PuttingBack
 mod Examples
+pub mod Common

@@ -1,24 +1,15 @@
 -- Lists of laid rings, and the rings that come or go with them.
-use Rattle.std.proofs.Common.{◌≡◌, ◌<◌, ◌+◌, ℕ, Bool, true, false, refl, sym, ap, ap₂, ◌∙◌, subst}
-use Rattle.std.proofs.Common.{List, [], ◌∷◌, ◌++◌, map, ◌⊎◌, inl, inr, Some, None, take, get_or, length, arith}
-use Rattle.std.specs.Prelude.{Contains, Option, ◌==◌}
-use Rattle.std.specs.List.{list_any}
+use Rattle.kit_words.proofs.Common.{◌≡◌, ◌<◌, ◌+◌, ℕ, Bool, true, false, refl, sym, ap, ap₂, ◌∙◌, subst, List, [], ◌∷◌}
+use Rattle.kit_words.proofs.Common.{◌++◌, map, ◌⊎◌, inl, inr, Some, None, take, get_or, length, arith, Contains, Option}
+use Rattle.kit_words.proofs.Common.{◌==◌, list_any, same_map, nat_cmp-IsAntisymmetric, nat_cmp_total, length-map}
+use Rattle.kit_words.proofs.Common.{get_or-map, map_push, take-map, Contains-append_left, Contains-push}
+use Rattle.kit_words.proofs.Common.{Contains-push_cases, ℕ_discrete, false≢true, Decides-eqb}
 use Rattle.std.specs.FinMap as table
-use Rattle.std.specs.FinMap.{same_map, nat_cmp-IsAntisymmetric}
-use Rattle.std.proofs.lemmas.Cmp.{nat_cmp_total}
-use Rattle.std.proofs.lemmas.List.{length-map, get_or-map, map_push, take-map}
-use Rattle.std.proofs.lemmas.List.Elements.{Contains-append_left, Contains-push, Contains-push_cases}
-use native.Mathlib.Decide.{ℕ_discrete}
-use Rattle.std.proofs.lemmas.Bool.{false≢true}
-use Rattle.std.proofs.lemmas.Bool.Decides.{Decides-eqb}
-use Rattle.ring_machine.proofs.First.{In}
-use Rattle.ring_machine.proofs.Members.{contains_in, in_contains, any_in, in_any}
-use Rattle.ring_machine.specs.WellFormed.{are_distinct}
-use Rattle.arc_tables.specs.Ways.{Edge}
-use Rattle.arc_tables.specs.Rings.{Rings, edges}
+use Rattle.ring_machine.proofs.Common.{In, contains_in, in_contains, any_in, in_any}
+use Rattle.ring_machine.specs.Common.{are_distinct}
+use Rattle.arc_tables.specs.Common.{Edge, Rings, edges}
 use Rattle.ring_store.proofs.Pushed.{map_more}
-use Rattle.ring_store.specs.Laid.{numbers_of, AreThere, AreGone, AreAdded}
-use Rattle.ring_store.specs.declared.laid.LaidRing.{LaidRing}
+use Rattle.ring_store.specs.Common.{numbers_of, AreThere, AreGone, AreAdded, LaidRing}
 use Rattle.ring_store.proofs.Unvisited.{distinct_before}
 use Rattle.ring_store.proofs.Visited.{ring_gone, ring_stays}
 

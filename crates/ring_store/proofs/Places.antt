@@ -1,22 +1,13 @@
 -- Positions under keys: those that are kept, and what stays where one comes in or goes.
-use Rattle.std.proofs.Common.{◌≡◌, ◌≢◌, ℕ, Bool, true, false, refl, sym, ap, ap₂, ◌∙◌, cond, List, []}
-use Rattle.std.proofs.Common.{◌∷◌, map, ◌||◌, ◌&&◌, inl, inr, Some, None, arith}
-use Rattle.std.specs.Prelude.{◌==◌, IsTrue, not, pos, unwrap_or, is_some}
-use Rattle.std.specs.List.{list_any}
-use Rattle.std.specs.Ordering.{nat_cmp, eq_by_cmp}
+use Rattle.kit_words.proofs.Common.{◌≡◌, ◌≢◌, ℕ, Bool, true, false, refl, sym, ap, ap₂, ◌∙◌, cond, List, [], ◌∷◌, map}
+use Rattle.kit_words.proofs.Common.{◌||◌, ◌&&◌, inl, inr, Some, None, arith, ◌==◌, IsTrue, not, pos, unwrap_or, is_some}
+use Rattle.kit_words.proofs.Common.{list_any, nat_cmp, eq_by_cmp, false≢true, Decides-eqb, nat_tests, nat_cmp_total}
 use Rattle.std.specs.FinMap as table
-use Rattle.std.proofs.lemmas.Bool.{false≢true}
-use Rattle.std.proofs.lemmas.Bool.Decides.{Decides-eqb, nat_tests}
-use Rattle.std.proofs.lemmas.Cmp.{nat_cmp_total}
-use Rattle.grid_geometry.specs.Position.{Position, position, position_eq}
-use Rattle.ring_machine.specs.Ring.{has, is_distinct}
-use Rattle.ring_machine.specs.WellFormed.{are_distinct}
-use Rattle.ring_machine.proofs.First.{In}
-use Rattle.ring_machine.proofs.Order.{and_both, position_eq-refl, position_eq-true}
-use Rattle.ring_machine.proofs.Removal.{none_parts, not_true}
-use Rattle.vertex_index.specs.Placement.{Placement, AreDistinct, place}
+use Rattle.grid_geometry.specs.Common.{Position, position, position_eq}
+use Rattle.ring_machine.specs.Common.{has, is_distinct, are_distinct}
+use Rattle.ring_machine.proofs.Common.{In, and_both, position_eq-refl, position_eq-true, none_parts, not_true, there}
+use Rattle.vertex_index.specs.Common.{Placement, AreDistinct, place}
 use Rattle.ring_store.proofs.KeyRings.{has_key}
-use Rattle.ring_machine.proofs.Members.{there}
 
 -- keys with the same answer have the same position
 pub place_alike : (places places' : Placement) (x y : ℕ)

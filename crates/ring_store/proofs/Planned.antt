@@ -1,21 +1,15 @@
 -- Steps of loops over a list, and what an index comes to hold where segments come and go.
-use Rattle.std.proofs.Common.{◌≡◌, ◌≤◌, ◌<◌, ◌+◌, ℕ, Bool, true, false, refl, sym, ap, ap₂, ◌∙◌}
-use Rattle.std.proofs.Common.{cond, List, [], ◌∷◌, length, take, get_or, ◌||◌, ◌&&◌}
-use Rattle.std.proofs.Common.{arith, leb, zero, suc}
-use Rattle.std.specs.Prelude.{not, ◌==◌, ◌≢◌}
-use Rattle.std.specs.List.{list_any, AllByRecursion}
+use Rattle.kit_words.proofs.Common.{◌≡◌, ◌≤◌, ◌<◌, ◌+◌, ℕ, Bool, true, false, refl, sym, ap, ap₂, ◌∙◌, cond, List, []}
+use Rattle.kit_words.proofs.Common.{◌∷◌, length, take, get_or, ◌||◌, ◌&&◌, arith, leb, zero, suc, not, ◌==◌, ◌≢◌}
+use Rattle.kit_words.proofs.Common.{list_any, AllByRecursion, false≢true, Decides-eqb, take_more, list_any_more}
 use Rattle.std.specs.FinSet as set
-use Rattle.std.proofs.lemmas.Bool.{false≢true}
-use Rattle.std.proofs.lemmas.Bool.Decides.{Decides-eqb}
-use Rattle.std.proofs.lemmas.List.{take_more}
-use Rattle.std.proofs.lemmas.List.Folds.{list_any_more}
-use Rattle.grid_geometry.specs.Segment.{Segment}
-use Rattle.ring_machine.specs.WellFormed.{are_distinct}
-use Rattle.segment_index.specs.Candidates.{SegmentSet, AreAmong, AreSingle, segment_is, has, times_in}
-use Rattle.segment_index.proofs.Singles.{segment_total, same_sets, is-itself, has-is, has-some}
-use Rattle.segment_index.proofs.Singles.{times-some, times-push, times-take}
-use Rattle.arc_tables.specs.Stores.{AllDifferent}
-use Rattle.ring_store.specs.Planned.{AreNew, Gains, Drops, Exchanges}
+use Rattle.grid_geometry.specs.Common.{Segment}
+use Rattle.ring_machine.specs.Common.{are_distinct}
+use Rattle.segment_index.specs.Common.{SegmentSet, AreAmong, AreSingle, segment_is, has, times_in}
+use Rattle.segment_index.proofs.Common.{segment_total, same_sets, is-itself, has-is, has-some, times-some, times-push}
+use Rattle.segment_index.proofs.Common.{times-take}
+use Rattle.arc_tables.specs.Common.{AllDifferent}
+use Rattle.ring_store.specs.Common.{AreNew, Gains, Drops, Exchanges}
 use Rattle.ring_store.proofs.KeyRings.{has_key}
 
 -- ---- lists

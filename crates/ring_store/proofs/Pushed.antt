@@ -1,7 +1,6 @@
 -- Lists with one element more.
-use Rattle.std.proofs.Common.{◌≡◌, ◌<◌, ℕ, ◌+◌, sym, ap, ◌∙◌, List, [], ◌∷◌, ◌++◌}
-use Rattle.std.proofs.Common.{map, length, take, get_or, Contains, arith}
-use Rattle.std.proofs.lemmas.List.{length-map, map_push, map-append, get_or-map, take_more}
+use Rattle.kit_words.proofs.Common.{◌≡◌, ◌<◌, ℕ, ◌+◌, sym, ap, ◌∙◌, List, [], ◌∷◌, ◌++◌, map, length, take, get_or}
+use Rattle.kit_words.proofs.Common.{Contains, arith, length-map, map_push, map-append, get_or-map, take_more}
 
 -- ---- one more that is taken
 

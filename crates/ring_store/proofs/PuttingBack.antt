@@ -1,24 +1,17 @@
 -- Vertices put back one after the other: what they are placed under, and what that gives.
-use Rattle.std.proofs.Common.{◌≡◌, ◌≢◌, ◌≤◌, ◌<◌, ◌+◌, ◌-◌, ℕ, zero, suc, true, false, cond, refl, sym, ap, ◌∙◌, subst, arith}
-use Rattle.std.proofs.Common.{List, [], ◌∷◌, ◌++◌, length, take, drop, get_or, Some, None, is_some}
-use Rattle.std.specs.List.{AllByRecursion}
-use Rattle.std.specs.Ordering.{nat_cmp, eq_by_cmp}
+use Rattle.kit_words.proofs.Common.{◌≡◌, ◌≢◌, ◌≤◌, ◌<◌, ◌+◌, ◌-◌, ℕ, zero, suc, true, false, cond, refl, sym, ap, ◌∙◌}
+use Rattle.kit_words.proofs.Common.{subst, arith, List, [], ◌∷◌, ◌++◌, length, take, drop, get_or, Some, None, is_some}
+use Rattle.kit_words.proofs.Common.{AllByRecursion, nat_cmp, eq_by_cmp, false≢true, nat_tests, nat_cmp_total, drop_more}
+use Rattle.kit_words.proofs.Common.{same_Some, none-some, ℕ_discrete}
 use Rattle.std.specs.FinMap as table
-use Rattle.std.proofs.lemmas.Bool.{false≢true}
-use Rattle.std.proofs.lemmas.Bool.Decides.{nat_tests}
-use Rattle.std.proofs.lemmas.Cmp.{nat_cmp_total}
-use Rattle.std.proofs.lemmas.List.{drop_more}
-use Rattle.std.proofs.lemmas.Option.{same_Some, none-some}
-use native.Mathlib.Decide.{ℕ_discrete}
-use Rattle.grid_geometry.specs.Position.{Position}
-use Rattle.vertex_index.specs.Placement.{Placement, IsOccupied}
+use Rattle.grid_geometry.specs.Common.{Position}
+use Rattle.vertex_index.specs.Common.{Placement, IsOccupied}
 use Rattle.arc_tables.specs.declared.batch.Put.{Put}
-use Rattle.arc_tables.specs.Edited.{ArePuts}
-use Rattle.arc_tables.proofs.Putting.{taken_last}
+use Rattle.arc_tables.specs.Common.{ArePuts}
+use Rattle.arc_tables.proofs.Common.{taken_last}
 use Rattle.ring_store.proofs.Places.{insert_other}
 use Rattle.ring_store.proofs.Pushed.{taken}
-use Rattle.ring_store.specs.declared.removal.Removal.{Removal}
-use Rattle.ring_store.specs.Many.{ArePlaceable, AreKeyed}
+use Rattle.ring_store.specs.Common.{Removal, ArePlaceable, AreKeyed}
 use Rattle.ring_store.proofs.TableLemmas.{place_back}
 
 -- ---- different positions

@@ -1,13 +1,11 @@
 -- Which segments a list has, and a list that has each once.
-use Rattle.std.proofs.Common.{◌≡◌, ◌≤◌, ◌+◌, Bool, true, false, refl, sym, ap, ap₂, ◌∙◌, cond}
-use Rattle.std.proofs.Common.{List, [], ◌∷◌, ◌||◌, ◌&&◌, arith}
-use Rattle.std.specs.List.{list_any, fold}
-use Rattle.grid_geometry.specs.Segment.{Segment, segment_eq}
-use Rattle.ring_machine.specs.Query.{add_segment}
-use Rattle.ring_machine.proofs.Removal.{position_eq-sym}
-use Rattle.segment_index.specs.Candidates.{AreSingle, segment_is, has, times_in}
-use Rattle.segment_index.proofs.Singles.{segment_eq-is, same_segment, times-none}
-use Rattle.ring_machine.proofs.Members.{any_alike}
+use Rattle.kit_words.proofs.Common.{◌≡◌, ◌≤◌, ◌+◌, Bool, true, false, refl, sym, ap, ap₂, ◌∙◌, cond, List, [], ◌∷◌}
+use Rattle.kit_words.proofs.Common.{◌||◌, ◌&&◌, arith, list_any, fold}
+use Rattle.grid_geometry.specs.Common.{Segment, segment_eq}
+use Rattle.ring_machine.specs.Common.{add_segment}
+use Rattle.ring_machine.proofs.Common.{position_eq-sym, any_alike}
+use Rattle.segment_index.specs.Common.{AreSingle, segment_is, has, times_in}
+use Rattle.segment_index.proofs.Common.{segment_eq-is, same_segment, times-none}
 
 -- ---- the two tests of equality
 

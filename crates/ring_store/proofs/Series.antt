@@ -1,24 +1,18 @@
 -- Rings that are laid one after the other.
-use Rattle.std.proofs.Common.{◌≡◌, ◌≢◌, ℕ, true, refl, sym, ap, ap₂, ◌∙◌, subst}
-use Rattle.std.proofs.Common.{List, [], ◌∷◌, ◌++◌, map, ◌⊎◌, inl, inr, Some, None, is_some, drop, get_or, arith}
-use Rattle.std.specs.Prelude.{Contains, IsTrue, Option, unwrap_or}
+use Rattle.kit_words.proofs.Common.{◌≡◌, ◌≢◌, ℕ, true, refl, sym, ap, ap₂, ◌∙◌, subst, List, [], ◌∷◌, ◌++◌, map, ◌⊎◌}
+use Rattle.kit_words.proofs.Common.{inl, inr, Some, None, is_some, drop, get_or, arith, Contains, IsTrue, Option}
+use Rattle.kit_words.proofs.Common.{unwrap_or, map_push, Contains-append_left, Contains-push, Contains-push_cases}
 use Rattle.std.specs.FinMap as table
-use Rattle.std.proofs.lemmas.List.{map_push}
-use Rattle.std.proofs.lemmas.List.Elements.{Contains-append_left, Contains-push, Contains-push_cases}
-use Rattle.grid_geometry.specs.Position.{Position}
-use Rattle.ring_machine.specs.WellFormed.{are_distinct}
-use Rattle.ring_machine.proofs.First.{In}
-use Rattle.ring_machine.proofs.Members.{in_mapped}
-use Rattle.vertex_index.specs.Placement.{Placement, place}
-use Rattle.segment_index.specs.Candidates.{SegmentSet}
-use Rattle.arc_tables.specs.Ways.{Edge}
-use Rattle.arc_tables.specs.Rings.{Rings, edges, begins}
+use Rattle.grid_geometry.specs.Common.{Position}
+use Rattle.ring_machine.specs.Common.{are_distinct}
+use Rattle.ring_machine.proofs.Common.{In, in_mapped}
+use Rattle.vertex_index.specs.Common.{Placement, place}
+use Rattle.segment_index.specs.Common.{SegmentSet}
+use Rattle.arc_tables.specs.Common.{Edge, Rings, edges, begins}
 use Rattle.ring_store.proofs.AddedRings.{distinct_more, same_map, ring_here, ring_other}
 use Rattle.ring_store.proofs.KeyRings.{begins_edges}
 use Rattle.ring_store.proofs.Places.{place_is, kept_place, IsKept}
-use Rattle.ring_store.specs.Laid.{numbers_of, AreThere, AreAdded, AreGone, KeepsPlaces, ring_at}
-use Rattle.ring_store.specs.Standing.{Stands}
-use Rattle.ring_store.specs.declared.laid.LaidRing.{LaidRing}
+use Rattle.ring_store.specs.Common.{numbers_of, AreThere, AreAdded, AreGone, KeepsPlaces, ring_at, Stands, LaidRing}
 use Rattle.ring_store.proofs.Exchanged.{same_places, same_segments}
 use Rattle.ring_store.proofs.Numbered.{contained_or, came_and_went}
 use Rattle.ring_store.proofs.Visited.{visited_at, none_some, ring_kept}

@@ -1,18 +1,14 @@
 -- The segment of one edge of a ring put into an index, or taken out.
-use Rattle.std.proofs.Common.{◌≡◌, ◌≢◌, ◌<◌, ◌+◌, ℕ, true, false, sym, ap, ◌∙◌, subst}
-use Rattle.std.proofs.Common.{List, [], ◌∷◌, ◌++◌, take, get_or, length, arith}
-use Rattle.std.specs.Prelude.{Contains}
+use Rattle.kit_words.proofs.Common.{◌≡◌, ◌≢◌, ◌<◌, ◌+◌, ℕ, true, false, sym, ap, ◌∙◌, subst, List, [], ◌∷◌, ◌++◌, take}
+use Rattle.kit_words.proofs.Common.{get_or, length, arith, Contains, take_more}
 use Rattle.std.specs.FinSet as set
-use Rattle.std.proofs.lemmas.List.{take_more}
-use Rattle.grid_geometry.specs.Segment.{Segment, segment}
-use Rattle.vertex_index.specs.Placement.{Placement, place}
-use Rattle.segment_index.specs.Candidates.{SegmentSet}
-use Rattle.arc_tables.specs.Ways.{Edge}
-use Rattle.arc_tables.specs.Rings.{Rings, edges, users_of}
-use Rattle.ring_store.specs.Round.{IsRound}
+use Rattle.grid_geometry.specs.Common.{Segment, segment}
+use Rattle.vertex_index.specs.Common.{Placement, place}
+use Rattle.segment_index.specs.Common.{SegmentSet}
+use Rattle.arc_tables.specs.Common.{Edge, Rings, edges, users_of}
+use Rattle.ring_store.specs.Common.{IsRound, IsSide, HoldsWith, sides}
 use Rattle.ring_store.proofs.Places.{IsKept}
-use Rattle.ring_store.specs.Standing.{IsSide}
-use Rattle.ring_store.specs.Steps.{AreKeyed, HoldsWith, sides}
+use Rattle.ring_store.specs.Steps.{AreKeyed}
 use Rattle.ring_store.proofs.Edges.{length-edges, side_once, edge_joins}
 use Rattle.ring_store.proofs.Held.{holds_same, holds_back, holds_not, holds_more, holds_less, holds_last}
 use Rattle.ring_store.proofs.Used.{used_side, unused_side}

@@ -1,20 +1,14 @@
 -- Rings that were laid in two steps, and rings that stay while others come and go.
-use Rattle.std.proofs.Common.{◌≡◌, ℕ, sym, ap, ◌∙◌, List, [], ◌++◌, map, inl, inr, Some, None, is_some}
-use Rattle.std.specs.Prelude.{IsTrue, unwrap_or}
+use Rattle.kit_words.proofs.Common.{◌≡◌, ℕ, sym, ap, ◌∙◌, List, [], ◌++◌, map, inl, inr, Some, None, is_some, IsTrue}
+use Rattle.kit_words.proofs.Common.{unwrap_or, false≢true, Contains-append_left, Contains-append_right}
 use Rattle.std.specs.FinMap as table
-use Rattle.std.proofs.lemmas.Bool.{false≢true}
-use Rattle.std.proofs.lemmas.List.Elements.{Contains-append_left, Contains-append_right}
-use Rattle.ring_machine.proofs.First.{In, in-append}
-use Rattle.ring_machine.proofs.Found.{distinct-append}
-use Rattle.ring_machine.proofs.Members.{contains_in, in_contains, there}
-use Rattle.vertex_index.specs.Placement.{Placement, place}
-use Rattle.segment_index.specs.Candidates.{SegmentSet}
-use Rattle.arc_tables.specs.Ways.{Edge}
-use Rattle.arc_tables.specs.Rings.{Rings, begins}
+use Rattle.ring_machine.proofs.Common.{In, in-append, distinct-append, contains_in, in_contains, there}
+use Rattle.vertex_index.specs.Common.{Placement, place}
+use Rattle.segment_index.specs.Common.{SegmentSet}
+use Rattle.arc_tables.specs.Common.{Edge, Rings, begins}
 use Rattle.ring_store.proofs.AddedRings.{same_map}
 use Rattle.ring_store.proofs.Places.{place_is, kept_place}
-use Rattle.ring_store.specs.Laid.{AreAdded, KeepsPlaces, ring_at}
-use Rattle.ring_store.specs.Standing.{Stands}
+use Rattle.ring_store.specs.Common.{AreAdded, KeepsPlaces, ring_at, Stands}
 use Rattle.ring_store.proofs.Numbered.{contained_or}
 use Rattle.ring_store.proofs.Visited.{visited_at}
 

@@ -1,10 +1,8 @@
 -- Sums over lists that grow by one at each element that a test finds.
-use Rattle.std.proofs.Common.{◌≡◌, ◌+◌, ℕ, Bool, true, false, refl, sym, ap, ◌∙◌, cond, List, []}
-use Rattle.std.proofs.Common.{◌∷◌, map, length, arith, inl, inr}
-use Rattle.std.specs.List.{filter, sum_by}
-use Rattle.std.proofs.lemmas.List.Sums.{sum_by-cons}
-use Rattle.ring_machine.proofs.First.{In}
-use Rattle.arc_tables.specs.Ways.{one}
+use Rattle.kit_words.proofs.Common.{◌≡◌, ◌+◌, ℕ, Bool, true, false, refl, sym, ap, ◌∙◌, cond, List, [], ◌∷◌, map}
+use Rattle.kit_words.proofs.Common.{length, arith, inl, inr, filter, sum_by, sum_by-cons}
+use Rattle.ring_machine.proofs.Common.{In}
+use Rattle.arc_tables.specs.Common.{one}
 
 pub sum_by-map : {A B : Type 0} (f : B → ℕ) (g : A → B) (xs : List A)
     → sum_by f (map g xs) ≡ sum_by (λ x. f (g x)) xs

@@ -1,18 +1,13 @@
 -- Tables after what came in went again, and sets of segments after an edit.
-use Rattle.std.proofs.Common.{ℕ, ◌≡◌, Bool, true, false, refl, sym, ap, ◌∙◌, List, [], ◌∷◌}
-use Rattle.std.proofs.Common.{◌||◌, ◌&&◌, None}
-use Rattle.std.specs.Prelude.{not}
+use Rattle.kit_words.proofs.Common.{ℕ, ◌≡◌, Bool, true, false, refl, sym, ap, ◌∙◌, List, [], ◌∷◌, ◌||◌, ◌&&◌, None, not}
+use Rattle.kit_words.proofs.Common.{same_map, nat_cmp-IsAntisymmetric, nat_cmp_total, ℕ_discrete}
 use Rattle.std.specs.FinMap as table
-use Rattle.std.specs.FinMap.{same_map, nat_cmp-IsAntisymmetric}
 use Rattle.std.specs.FinSet as set
-use Rattle.std.proofs.lemmas.Cmp.{nat_cmp_total}
-use native.Mathlib.Decide.{ℕ_discrete}
-use Rattle.grid_geometry.specs.Position.{Position}
-use Rattle.grid_geometry.specs.Segment.{Segment}
-use Rattle.vertex_index.specs.Placement.{Placement}
-use Rattle.segment_index.specs.Candidates.{SegmentSet, AreAmong, segment_is, has}
-use Rattle.segment_index.proofs.Singles.{segment_total, remove_inserted}
-use Rattle.ring_store.specs.Planned.{Exchanges, Gains, Drops}
+use Rattle.grid_geometry.specs.Common.{Position, Segment}
+use Rattle.vertex_index.specs.Common.{Placement}
+use Rattle.segment_index.specs.Common.{SegmentSet, AreAmong, segment_is, has}
+use Rattle.segment_index.proofs.Common.{segment_total, remove_inserted}
+use Rattle.ring_store.specs.Common.{Exchanges, Gains, Drops}
 use Rattle.ring_store.proofs.Places.{insert_other, remove_here, remove_other}
 
 -- a vertex that came in and went again

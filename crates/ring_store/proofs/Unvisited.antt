@@ -1,23 +1,16 @@
 -- Vertices that are taken out one after the other, unless a ring visits them.
-use Rattle.std.proofs.Common.{◌≡◌, ◌≢◌, ◌<◌, ◌+◌, ℕ, zero, suc, true, refl, sym, ap, ◌∙◌, subst}
-use Rattle.std.proofs.Common.{List, [], ◌∷◌, ◌++◌, ◌⊎◌, inl, inr, is_some, take, get_or, length, arith}
-use Rattle.std.specs.Prelude.{Contains, IsTrue, not, ◌==◌}
+use Rattle.kit_words.proofs.Common.{◌≡◌, ◌≢◌, ◌<◌, ◌+◌, ℕ, zero, suc, true, refl, sym, ap, ◌∙◌, subst, List, [], ◌∷◌}
+use Rattle.kit_words.proofs.Common.{◌++◌, ◌⊎◌, inl, inr, is_some, take, get_or, length, arith, Contains, IsTrue, not}
+use Rattle.kit_words.proofs.Common.{◌==◌, false≢true, Decides-eqb, take_more, Contains-append_left, Contains-push}
+use Rattle.kit_words.proofs.Common.{Contains-push_cases}
 use Rattle.std.specs.FinMap as table
-use Rattle.std.proofs.lemmas.Bool.{false≢true}
-use Rattle.std.proofs.lemmas.Bool.Decides.{Decides-eqb}
-use Rattle.std.proofs.lemmas.List.{take_more}
-use Rattle.std.proofs.lemmas.List.Elements.{Contains-append_left, Contains-push, Contains-push_cases}
-use Rattle.ring_machine.specs.WellFormed.{are_distinct}
-use Rattle.ring_machine.proofs.First.{In}
-use Rattle.ring_machine.proofs.Members.{contains_in, in_any}
-use Rattle.ring_machine.proofs.Order.{and_both}
-use Rattle.ring_machine.proofs.Removal.{not_true}
-use Rattle.vertex_index.specs.Placement.{Placement}
-use Rattle.arc_tables.specs.Rings.{Rings}
+use Rattle.ring_machine.specs.Common.{are_distinct}
+use Rattle.ring_machine.proofs.Common.{In, contains_in, in_any, and_both, not_true}
+use Rattle.vertex_index.specs.Common.{Placement}
+use Rattle.arc_tables.specs.Common.{Rings}
 use Rattle.ring_store.proofs.KeyRings.{has_key}
 use Rattle.ring_store.proofs.Places.{remove_here, remove_other}
-use Rattle.ring_store.specs.Standing.{IsVisited}
-use Rattle.ring_store.specs.Steps.{LeavesVisited}
+use Rattle.ring_store.specs.Common.{IsVisited, LeavesVisited}
 use Rattle.ring_store.proofs.Visited.{none_some}
 
 -- ---- different numbers

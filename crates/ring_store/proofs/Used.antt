@@ -1,26 +1,18 @@
 -- How many rings have the segment of two vertices, and whether some ring has it.
-use Rattle.std.proofs.Common.{◌≡◌, ◌≢◌, ◌≤◌, ℕ, Bool, true, false, refl, sym, ap, ap₂, ◌∙◌, cond}
-use Rattle.std.proofs.Common.{List, [], ◌∷◌, map, ◌&&◌, inl, inr, Some, arith}
-use Rattle.std.specs.Prelude.{count_by, T}
-use Rattle.std.specs.Ordering.{nat_cmp, eq_by_cmp, is_lt}
-use Rattle.std.specs.declared.cmp.Ordering.{Ordering}
-use Rattle.std.specs.declared.cmp.Ordering.TheVariants.{Less, Equal, Greater}
+use Rattle.kit_words.proofs.Common.{◌≡◌, ◌≢◌, ◌≤◌, ℕ, Bool, true, false, refl, sym, ap, ap₂, ◌∙◌, cond, List, [], ◌∷◌}
+use Rattle.kit_words.proofs.Common.{map, ◌&&◌, inl, inr, Some, arith, T, nat_cmp, eq_by_cmp, is_lt, Ordering, Less}
+use Rattle.kit_words.proofs.Common.{Equal, Greater, below_all, is_sorted, nat_tests, sum_by-cons}
+use Rattle.std.specs.Prelude.{count_by}
 use Rattle.std.specs.FinMap as table
-use Rattle.std.specs.FinMap.Entries.{below_all, is_sorted}
-use Rattle.std.proofs.lemmas.Bool.Decides.{nat_tests}
-use Rattle.std.proofs.lemmas.List.Sums.{sum_by-cons}
-use Rattle.grid_geometry.specs.Segment.{segment}
-use Rattle.grid_geometry.proofs.Conflicts.{segment-comm}
-use Rattle.ring_machine.proofs.First.{In}
-use Rattle.ring_machine.proofs.Members.{contains_in, in_contains, any_in}
-use Rattle.ring_machine.proofs.RingSegments.{same_ends}
-use Rattle.vertex_index.specs.Placement.{Placement, place}
-use Rattle.arc_tables.specs.Ways.{Edge, is_seg}
-use Rattle.arc_tables.specs.Rings.{Rings, has_segment, users_of, begins}
+use Rattle.grid_geometry.specs.Common.{segment}
+use Rattle.grid_geometry.proofs.Common.{segment-comm}
+use Rattle.ring_machine.proofs.Common.{In, contains_in, in_contains, any_in, same_ends}
+use Rattle.vertex_index.specs.Common.{Placement, place}
+use Rattle.arc_tables.specs.Common.{Edge, is_seg, Rings, has_segment, users_of, begins}
 use Rattle.shared_arcs.proofs.CallerLemmas.{unused_apart}
 use Rattle.ring_store.proofs.KeyRings.{is_seg_ends, edge_times, edge_ends}
 use Rattle.ring_store.proofs.Places.{IsKept, one_key}
-use Rattle.ring_store.specs.Standing.{IsSide}
+use Rattle.ring_store.specs.Common.{IsSide}
 use Rattle.ring_store.specs.Steps.{AreKeyed}
 
 -- ---- an entry of a map

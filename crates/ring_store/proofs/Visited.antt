@@ -1,27 +1,19 @@
 -- Vertices that rings visit, and rings that come and go.
-use Rattle.std.proofs.Common.{◌≡◌, ◌≢◌, ℕ, true, false, refl, sym, ap, ap₂, ◌∙◌, subst, cond}
-use Rattle.std.proofs.Common.{List, ◌⊎◌, inl, inr, Some, None, is_some, Option, arith}
-use Rattle.std.specs.Prelude.{Contains, unwrap_or}
-use Rattle.std.specs.Ordering.{nat_cmp, eq_by_cmp}
+use Rattle.kit_words.proofs.Common.{◌≡◌, ◌≢◌, ℕ, true, false, refl, sym, ap, ap₂, ◌∙◌, subst, cond, List, ◌⊎◌, inl, inr}
+use Rattle.kit_words.proofs.Common.{Some, None, is_some, Option, arith, Contains, unwrap_or, nat_cmp, eq_by_cmp}
+use Rattle.kit_words.proofs.Common.{false≢true, nat_tests, nat_cmp_total, ℕ_discrete}
 use Rattle.std.specs.FinMap as table
-use Rattle.std.proofs.lemmas.Bool.{false≢true}
-use Rattle.std.proofs.lemmas.Bool.Decides.{nat_tests}
-use Rattle.std.proofs.lemmas.Cmp.{nat_cmp_total}
-use native.Mathlib.Decide.{ℕ_discrete}
-use Rattle.grid_geometry.specs.Segment.{Segment, segment}
-use Rattle.ring_machine.proofs.First.{In}
-use Rattle.ring_machine.proofs.Members.{contains_in, in_contains, in_mapped, any_in}
-use Rattle.vertex_index.specs.Placement.{Placement, place}
-use Rattle.arc_tables.specs.Ways.{Edge, is_seg}
-use Rattle.arc_tables.specs.Rings.{Rings, begins, users_of}
-use Rattle.shared_arcs.specs.Joined.{Joined, AreNeighbours}
+use Rattle.grid_geometry.specs.Common.{Segment, segment}
+use Rattle.ring_machine.proofs.Common.{In, contains_in, in_contains, in_mapped, any_in}
+use Rattle.vertex_index.specs.Common.{Placement, place}
+use Rattle.arc_tables.specs.Common.{Edge, is_seg, Rings, begins, users_of}
+use Rattle.shared_arcs.specs.Common.{Joined, AreNeighbours}
 use Rattle.shared_arcs.specs.declared.around.Neighbours.{Neighbours}
 use Rattle.shared_arcs.specs.declared.around.Neighbours.TheVariants as neighbours
 use Rattle.ring_store.proofs.AddedRings.{ring_other, ring_here}
 use Rattle.ring_store.proofs.KeyRings.{times_edge, edge_times, edge_ends, is_seg_ends}
 use Rattle.ring_store.proofs.Places.{place_alike}
-use Rattle.ring_store.specs.Standing.{IsVisited, IsSide}
-use Rattle.ring_store.specs.Steps.{AllRound}
+use Rattle.ring_store.specs.Common.{IsVisited, IsSide, AllRound}
 use Rattle.ring_store.proofs.Used.{some_user}
 
 -- ---- visited vertices are those that are joined to some other

@@ -1,12 +1,10 @@
 -- What is read for an edit of one vertex, and what the edit does to the tables.
 use Rattle.std.specs.Prelude.{ℕ, ◌≡◌, ◌≢◌, List, [], ◌∷◌, Some, None, option_map}
 use Rattle.std.specs.FinMap as table
-use Rattle.grid_geometry.specs.Position.{Position}
-use Rattle.grid_geometry.specs.Segment.{Segment, segment}
-use Rattle.vertex_index.specs.Placement.{Placement, place, IsOccupied}
-use Rattle.arc_tables.specs.Edited.{through, collapsed}
-use Rattle.arc_tables.specs.Rings.{Rings}
-use Rattle.shared_arcs.specs.Joined.{Joined, AreNeighbours}
+use Rattle.grid_geometry.specs.Common.{Position, Segment, segment}
+use Rattle.vertex_index.specs.Common.{Placement, place, IsOccupied}
+use Rattle.arc_tables.specs.Common.{through, collapsed, Rings}
+use Rattle.shared_arcs.specs.Common.{Joined, AreNeighbours}
 use Rattle.shared_arcs.specs.declared.around.Neighbours.{Neighbours}
 use Rattle.shared_arcs.specs.declared.around.Neighbours.TheVariants.{Two}
 use Rattle.ring_store.specs.Planned.{ArePlaced, AreAround, spokes}

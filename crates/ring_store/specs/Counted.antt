@@ -2,8 +2,7 @@
 use Rattle.std.specs.Prelude.{ℕ, ℤ, Option, refl}
 use Rattle.std.specs.Coded.{Coded, code_by, coded×, coded_ℕ, coded_ℤ, coded_option}
 use Rattle.std.specs.FinSet as set
-use Rattle.segment_index.specs.Candidates.{SegmentSet, segment_code}
-use Rattle.segment_index.specs.Frames.{Frame}
+use Rattle.segment_index.specs.Common.{SegmentSet, segment_code, Frame}
 
 -- the segments that an index holds, and the frame of its cells
 pub record Indexed : Type 0 where

@@ -1,8 +1,8 @@
 -- Positions put under keys.
 use Rattle.std.specs.Prelude.{ℕ, ◌≡◌, ◌⊎◌, List, Some, IsTrue, Contains}
 use Rattle.std.specs.FinMap as table
-use Rattle.grid_geometry.specs.Position.{Position}
-use Rattle.vertex_index.specs.Placement.{Placement}
+use Rattle.grid_geometry.specs.Common.{Position}
+use Rattle.vertex_index.specs.Common.{Placement}
 
 -- what had a key has kept it, each of these keys has a position, and no other key came
 pub record ArePut (old new : Placement) (keys : List ℕ) : Type 0 where

@@ -1,11 +1,10 @@
 -- Rings that were laid, or are to be taken out.
 use Rattle.std.specs.Prelude.{ℕ, ◌≡◌, List, [], map, Some, None, Contains, unwrap_or, IsTrue}
 use Rattle.std.specs.FinMap as table
-use Rattle.grid_geometry.specs.Position.{Position}
-use Rattle.ring_machine.specs.WellFormed.{are_distinct}
-use Rattle.vertex_index.specs.Placement.{Placement, place}
-use Rattle.arc_tables.specs.Ways.{Edge}
-use Rattle.arc_tables.specs.Rings.{Rings, begins, edges}
+use Rattle.grid_geometry.specs.Common.{Position}
+use Rattle.ring_machine.specs.Common.{are_distinct}
+use Rattle.vertex_index.specs.Common.{Placement, place}
+use Rattle.arc_tables.specs.Common.{Edge, Rings, begins, edges}
 use Rattle.ring_store.specs.declared.laid.LaidRing.{LaidRing}
 
 -- the positions of the ring with this number, from its first key on

@@ -8,3 +8,4 @@ pub mod Round
 pub mod Standing
 pub mod Steps
 pub mod Tables
+pub mod Common

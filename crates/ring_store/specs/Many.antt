@@ -2,11 +2,10 @@
 use Rattle.std.specs.Prelude.{ℕ, ◌≡◌, ◌≢◌, List, [], ◌∷◌, map, Some, None, option_map}
 use Rattle.std.specs.List.{flat_map}
 use Rattle.std.specs.FinMap as table
-use Rattle.grid_geometry.specs.Segment.{Segment, segment}
-use Rattle.vertex_index.specs.Placement.{Placement, IsOccupied}
+use Rattle.grid_geometry.specs.Common.{Segment, segment}
+use Rattle.vertex_index.specs.Common.{Placement, IsOccupied}
 use Rattle.arc_tables.specs.declared.batch.Put.{Put}
-use Rattle.arc_tables.specs.Edited.{throughs, gained}
-use Rattle.arc_tables.specs.Rings.{Rings}
+use Rattle.arc_tables.specs.Common.{throughs, gained, Rings}
 use Rattle.ring_store.specs.Planned.{spokes}
 use Rattle.ring_store.specs.declared.removal.Removal.{Removal}
 

@@ -3,13 +3,12 @@
 use Rattle.std.specs.Prelude.{◌≡◌, ℕ, true, false, not, ◌&&◌, ◌||◌, ◌↔◌, List, map, Contains}
 use Rattle.std.specs.FinMap as table
 use Rattle.std.specs.FinSet as set
-use Rattle.grid_geometry.specs.Position.{Position}
-use Rattle.grid_geometry.specs.Segment.{Segment, segment}
-use Rattle.ring_machine.specs.WellFormed.{are_distinct}
-use Rattle.vertex_index.specs.Placement.{Placement, place}
-use Rattle.segment_index.specs.Candidates.{SegmentSet, has}
-use Rattle.arc_tables.specs.Rings.{Rings}
-use Rattle.shared_arcs.specs.Joined.{Joined}
+use Rattle.grid_geometry.specs.Common.{Position, Segment, segment}
+use Rattle.ring_machine.specs.Common.{are_distinct}
+use Rattle.vertex_index.specs.Common.{Placement, place}
+use Rattle.segment_index.specs.Common.{SegmentSet, has}
+use Rattle.arc_tables.specs.Common.{Rings}
+use Rattle.shared_arcs.specs.Common.{Joined}
 
 -- each vertex that is joined to k is kept
 abbrev pub ArePlaced : Placement → Rings → ℕ → Type 0

@@ -1,10 +1,9 @@
 -- Rings along keys of vertices.
 use Rattle.std.specs.Prelude.{ℕ, ◌≡◌, ◌≤◌, List, length, IsTrue, Contains}
 use Rattle.std.specs.FinMap as table
-use Rattle.ring_machine.specs.WellFormed.{are_distinct}
-use Rattle.vertex_index.specs.Placement.{Placement}
-use Rattle.arc_tables.specs.Ways.{Edge}
-use Rattle.arc_tables.specs.Rings.{edges}
+use Rattle.ring_machine.specs.Common.{are_distinct}
+use Rattle.vertex_index.specs.Common.{Placement}
+use Rattle.arc_tables.specs.Common.{Edge, edges}
 
 -- a ring can be laid along these keys: at least three different ones, each of a vertex
 pub record IsRound (places : Placement) (keys : List ℕ) : Type 0 where

@@ -2,11 +2,10 @@
 use Rattle.std.specs.Prelude.{ℕ, ◌≡◌, ◌↔◌, List, Some, IsTrue, Contains}
 use Rattle.std.specs.FinMap as table
 use Rattle.std.specs.FinSet as set
-use Rattle.grid_geometry.specs.Segment.{Segment, segment}
-use Rattle.vertex_index.specs.Placement.{Placement, AreDistinct, place}
-use Rattle.segment_index.specs.Candidates.{SegmentSet}
-use Rattle.arc_tables.specs.Ways.{Edge}
-use Rattle.arc_tables.specs.Rings.{Rings, begins}
+use Rattle.grid_geometry.specs.Common.{Segment, segment}
+use Rattle.vertex_index.specs.Common.{Placement, AreDistinct, place}
+use Rattle.segment_index.specs.Common.{SegmentSet}
+use Rattle.arc_tables.specs.Common.{Edge, Rings, begins}
 use Rattle.ring_store.specs.Round.{GoesRound}
 
 -- some ring has an edge that begins at the vertex with this key

@@ -2,12 +2,10 @@
 use Rattle.std.specs.Prelude.{ℕ, ◌≡◌, ◌↔◌, ◌⊎◌, List, map, Some, IsTrue, Contains}
 use Rattle.std.specs.FinMap as table
 use Rattle.std.specs.FinSet as set
-use Rattle.grid_geometry.specs.Position.{Position}
-use Rattle.grid_geometry.specs.Segment.{Segment, segment}
-use Rattle.vertex_index.specs.Placement.{Placement, AreDistinct, place}
-use Rattle.segment_index.specs.Candidates.{SegmentSet}
-use Rattle.arc_tables.specs.Ways.{Edge}
-use Rattle.arc_tables.specs.Rings.{Rings}
+use Rattle.grid_geometry.specs.Common.{Position, Segment, segment}
+use Rattle.vertex_index.specs.Common.{Placement, AreDistinct, place}
+use Rattle.segment_index.specs.Common.{SegmentSet}
+use Rattle.arc_tables.specs.Common.{Edge, Rings}
 use Rattle.ring_store.specs.Round.{GoesRound}
 use Rattle.ring_store.specs.Standing.{IsVisited, IsSide}
 

@@ -1,6 +1,6 @@
 -- The tables of the rings of a map.
 use Rattle.std.specs.Prelude.{ℕ, List}
-use Rattle.grid_geometry.specs.Position.{Position}
+use Rattle.grid_geometry.specs.Common.{Position}
 use Rattle.ring_store.specs.Laid.{ring_at}
 use Rattle.ring_store.specs.Standing.{Stands}
 use Rattle.ring_store.specs.declared.tables.RingTables.{RingTables}

@@ -1,10 +1,9 @@
 ghost use Rattle.std.specs.Prelude.{◌≡◌, ◌⊎◌, ℕ, true, false, [], ◌∷◌, OnOk, OnErr, IfOk};
 ghost use Rattle.std.specs.FinMap as table;
 ghost use Rattle.std.specs.FinSet as set;
-ghost use Rattle.segment_index.specs.Candidates.{AreAmong, AreSingle};
-ghost use Rattle.arc_tables.specs.Edited.{AreApart};
-ghost use Rattle.arc_tables.specs.Rings.{users_of};
-ghost use Rattle.shared_arcs.specs.Joined.{Joined};
+ghost use Rattle.segment_index.specs.Common.{AreAmong, AreSingle};
+ghost use Rattle.arc_tables.specs.Common.{AreApart, users_of};
+ghost use Rattle.shared_arcs.specs.Common.{Joined};
 ghost use Rattle.ring_store.specs.Changes.{HasBridging, IsBridging, TakenOut};
 ghost use Rattle.ring_store.specs.Planned.{Exchanges};
 

@@ -1,8 +1,7 @@
 //! An index that knows how many segments it holds.
 ghost use Rattle.std.specs.Prelude.{◌≡◌, IfOk};
 ghost use Rattle.std.specs.FinSet as set;
-ghost use Rattle.segment_index.specs.Frames.{Frame};
-ghost use Rattle.segment_index.specs.Candidates.{SegmentSet};
+ghost use Rattle.segment_index.specs.Common.{Frame, SegmentSet};
 
 use grid_geometry::{Rect, Seg};
 use segment_index::SegIndex;

@@ -1,8 +1,8 @@
 //! Rings that stand in the tables, by their numbers and keys.
 ghost use Rattle.std.specs.Prelude.{◌≡◌, ℕ, IfOk, IsTrue, Some, Contains};
 ghost use Rattle.std.specs.FinMap as table;
-ghost use Rattle.arc_tables.specs.Rings.{edges};
-ghost use Rattle.ring_machine.specs.WellFormed.{are_distinct};
+ghost use Rattle.arc_tables.specs.Common.{edges};
+ghost use Rattle.ring_machine.specs.Common.{are_distinct};
 ghost use Rattle.ring_store.specs.Laid.{numbers_of, AreThere};
 ghost use Rattle.ring_store.specs.Steps.{AllRound};
 

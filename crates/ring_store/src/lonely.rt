@@ -1,7 +1,7 @@
 // Vertices that no ring visits.
 ghost use Rattle.std.specs.Prelude.{◌≡◌, ◌⊎◌, ℕ, IsTrue, Contains};
 ghost use Rattle.std.specs.FinMap as table;
-ghost use Rattle.ring_machine.specs.WellFormed.{are_distinct};
+ghost use Rattle.ring_machine.specs.Common.{are_distinct};
 ghost use Rattle.ring_store.specs.Standing.{IsVisited};
 ghost use Rattle.ring_store.specs.Steps.{AllRound, LeavesVisited};
 

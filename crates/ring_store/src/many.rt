@@ -2,12 +2,12 @@
 ghost use Rattle.std.specs.Prelude.{◌≡◌, ◌≢◌, ◌<◌, ◌^◌, ◌||◌, ℕ, List, [], ◌∷◌, ◌++◌, true, None, option_map, OnOk, OnErr, IfOk};
 ghost use Rattle.std.specs.FinMap as table;
 ghost use Rattle.std.specs.FinSet as set;
-ghost use Rattle.grid_geometry.specs.Segment.{Segment, segment};
-ghost use Rattle.vertex_index.specs.Placement.{Placement, IsOccupied};
-ghost use Rattle.segment_index.specs.Candidates.{AreSingle, has};
-ghost use Rattle.arc_tables.specs.Edited.{gained, throughs, ArePuts};
+ghost use Rattle.grid_geometry.specs.Common.{Segment, segment};
+ghost use Rattle.vertex_index.specs.Common.{Placement, IsOccupied};
+ghost use Rattle.segment_index.specs.Common.{AreSingle, has};
+ghost use Rattle.arc_tables.specs.Common.{gained, throughs, ArePuts};
 ghost use Rattle.arc_tables.specs.declared.batch.Put.{Put};
-ghost use Rattle.shared_arcs.specs.Joined.{Joined};
+ghost use Rattle.shared_arcs.specs.Common.{Joined};
 ghost use Rattle.ring_store.specs.Many.{ArePlaceable, comings, goings, AreKeyed, ArePutBack};
 ghost use Rattle.ring_store.specs.Planned.{AreNew, Gains, Exchanges};
 ghost use Rattle.ring_store.specs.declared.removal.Removal.{Removal};

@@ -1,6 +1,6 @@
 ghost use Rattle.std.specs.Prelude.{◌≡◌, true, OnOk, OnErr, IfOk};
 ghost use Rattle.std.specs.FinMap as table;
-ghost use Rattle.segment_index.specs.Candidates.{AreAmong, AreSingle};
+ghost use Rattle.segment_index.specs.Common.{AreAmong, AreSingle};
 ghost use Rattle.ring_store.specs.Changes.{HasMoving, IsMoving};
 ghost use Rattle.ring_store.specs.Planned.{AreNew, Exchanges};
 

@@ -2,10 +2,9 @@ ghost use Rattle.std.specs.Prelude.{◌≡◌, ◌≢◌, ℕ, true, false, Some
 ghost use Rattle.std.specs.FinMap as table;
 ghost use Rattle.std.specs.FinSet as set;
 ghost use Rattle.ring_machine.specs.Ring as machine;
-ghost use Rattle.segment_index.specs.Candidates.{AreSingle};
-ghost use Rattle.arc_tables.specs.Edited.{AreApart};
-ghost use Rattle.arc_tables.specs.Rings.{users_of};
-ghost use Rattle.shared_arcs.specs.Joined.{Joined};
+ghost use Rattle.segment_index.specs.Common.{AreSingle};
+ghost use Rattle.arc_tables.specs.Common.{AreApart, users_of};
+ghost use Rattle.shared_arcs.specs.Common.{Joined};
 ghost use Rattle.ring_store.specs.Changes.{IsParting, PutBetween};
 ghost use Rattle.ring_store.specs.Planned.{AreNew, Exchanges};
 

@@ -1,6 +1,6 @@
 // What an index gains and loses.
 ghost use Rattle.std.specs.Prelude.{◌≡◌, OnOk, OnErr};
-ghost use Rattle.segment_index.specs.Candidates.{AreAmong, AreSingle};
+ghost use Rattle.segment_index.specs.Common.{AreAmong, AreSingle};
 ghost use Rattle.ring_store.specs.Planned.{AreNew, Gains, Drops};
 
 use grid_geometry::Seg;

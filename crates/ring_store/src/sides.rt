@@ -2,9 +2,9 @@
 ghost use Rattle.std.specs.Prelude.{◌≡◌, ◌≢◌, ◌≤◌, ◌<◌, ◌+◌, IsTrue, [], length, take};
 ghost use Rattle.std.specs.Prelude.{OnOk, OnErr, slice_index_or};
 ghost use Rattle.std.specs.FinMap as table;
-ghost use Rattle.grid_geometry.specs.Segment.{segment};
-ghost use Rattle.vertex_index.specs.Placement.{place};
-ghost use Rattle.arc_tables.specs.Rings.{edges};
+ghost use Rattle.grid_geometry.specs.Common.{segment};
+ghost use Rattle.vertex_index.specs.Common.{place};
+ghost use Rattle.arc_tables.specs.Common.{edges};
 ghost use Rattle.ring_store.specs.Round.{IsRound};
 ghost use Rattle.ring_store.specs.Steps.{AreKeyed, HoldsWith};
 

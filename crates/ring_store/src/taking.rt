@@ -1,7 +1,7 @@
 //! Rings taken out of the tables.
 ghost use Rattle.std.specs.Prelude.{◌≡◌, ℕ, Some, IsTrue};
 ghost use Rattle.std.specs.FinMap as table;
-ghost use Rattle.arc_tables.specs.Rings.{edges};
+ghost use Rattle.arc_tables.specs.Common.{edges};
 ghost use Rattle.ring_store.specs.Laid.{numbers_of, AreThere, AreGone, KeepsPlaces};
 ghost use Rattle.ring_store.specs.Standing.{Stands};
 ghost use Rattle.ring_store.specs.Tables.{AreStanding};

@@ -1,21 +1,21 @@
 -- Which command a line asks for, by its word.
-use Rattle.std.proofs.Common.{◌≡◌, ℕ, ℤ, pos, ◌<◌, ◌^◌, ◌++◌, refl, sym, ap, ap₂, ◌∙◌, subst, rules, ◌≤◌, List, [], ◌∷◌, length, ◌==◌, false, arith, FitsSigned, w64, Option, None, Some, MatchOption, MatchBool, IsSomeAnd, codes, Bool, true}
-use Rattle.std.specs.Str.{IsUtf8, IsAscii, bytes_eq}
-use Rattle.std.proofs.lemmas.Bool.{false≢true}
-use Rattle.std.proofs.lemmas.Slice.Eq.{bytes_eq-Decides}
-use Rattle.std.specs.Fmt.{decimal, signed_decimal}
-use Rattle.std.specs.List.{take_while, flat_map, AllByRecursion}
-use Rattle.std.proofs.lemmas.Str.{IsUtf8-from_ascii, IsUtf8-append, IsAscii-append}
+use Rattle.kit_words.proofs.Common.{◌≡◌, ℕ, ℤ, pos, ◌<◌, ◌^◌, ◌++◌, refl, sym, ap, ap₂, ◌∙◌, subst, rules, ◌≤◌, List}
+use Rattle.kit_words.proofs.Common.{[], ◌∷◌, length, ◌==◌, false, arith, FitsSigned, w64, Option, None, Some}
+use Rattle.kit_words.proofs.Common.{MatchOption, MatchBool, IsSomeAnd, codes, Bool, true, IsAscii, bytes_eq, false≢true}
+use Rattle.kit_words.proofs.Common.{bytes_eq-Decides, signed_decimal, take_while, flat_map, AllByRecursion}
+use Rattle.kit_words.proofs.Common.{IsUtf8-from_ascii, IsUtf8-append, IsAscii-append}
+use Rattle.std.specs.Str.{IsUtf8}
+use Rattle.std.specs.Fmt.{decimal}
 use Rattle.std.proofs.lemmas.Str.Ascii.{IsAscii-cons}
-use Rattle.grid_geometry.specs.Position.{Position, InRange}
-use Rattle.ring_machine.specs.Document.{Text}
-use Rattle.ring_machine.specs.Command.{Command, Move, Insert, Remove, Thin, Split, Merge, Rename, Delete, Undo, Area, At, Neighbours, Rings, Count, Show}
-use Rattle.topo_outline.specs.Kept.{IsName}
-use Rattle.map_text.specs.Strings.{string_text}
-use Rattle.script_lines.specs.Lines.{spaced, spaced_position, spaced_token, spaced_path, most_bound, Gives, ArePositions, AreFeatures, AreNaming, word_of, AskedWith, Asks, Says}
-use Rattle.script_lines.specs.Words.{is_letter, EndsWord, NoMark, IsFeature, IsPlace, IsToken, IsPathTail}
-use Rattle.script_lines.specs.Commands.{says_of, IsRefused, Finds, FindsCommand, AskedBy}
-use Rattle.script_lines.specs.declared.lines.Line.{Line}
+use Rattle.grid_geometry.specs.Common.{Position, InRange}
+use Rattle.ring_machine.specs.Common.{Text, Command, Move, Insert, Remove, Thin, Split, Merge, Rename, Delete, Undo}
+use Rattle.ring_machine.specs.Common.{Area, At, Neighbours, Rings, Count, Show}
+use Rattle.topo_outline.specs.Common.{IsName}
+use Rattle.map_text.specs.Common.{string_text}
+use Rattle.script_lines.specs.Common.{spaced, spaced_position, spaced_token, spaced_path, most_bound, Gives}
+use Rattle.script_lines.specs.Common.{ArePositions, AreFeatures, AreNaming, word_of, AskedWith, Asks, Says, is_letter}
+use Rattle.script_lines.specs.Common.{EndsWord, NoMark, IsFeature, IsPlace, IsToken, IsPathTail, says_of, IsRefused}
+use Rattle.script_lines.specs.Common.{Finds, FindsCommand, AskedBy, Line}
 use Rattle.script_lines.specs.declared.lines.LineFault.{LineFault}
 use Rattle.script_lines.specs.declared.lines.LineFault.TheVariants as fault
 use Rattle.script_lines.proofs.WordLemmas.{IsWord, rest_of, word-taken, word-rest, taken-rest, feature_once, place_once, same_behind, number_ascii, fits_in_range, wide_once, wide_ascii}

@@ -1,23 +1,17 @@
 -- The text that a JSON string stands for.
-use Rattle.std.proofs.Common.{◌≡◌, ℕ, ◌-◌, Bool, true, false, cond, refl, ap, ◌∙◌, subst, List, [], ◌∷◌, ◌++◌, length, take, drop, arith}
-use Rattle.std.specs.Prelude.{reverse, IsUtf8, Option, Some, None}
-use Rattle.std.specs.Str.{is_utf8}
-use Rattle.std.specs.List.{take_while}
-use Rattle.std.proofs.lemmas.Bool.{false≢true}
-use Rattle.std.proofs.lemmas.Str.{IsUtf8-from_is_utf8}
-use Rattle.std.proofs.lemmas.List.{reverse-append, take_all}
-use Rattle.std.proofs.lemmas.List.Sums.{take_while-cons}
-use Rattle.ring_machine.specs.Document.{Text}
-use Rattle.json_spans.specs.Bytes.{is_space, is_nonzero}
-use Rattle.json_spans.specs.Grammar.{Chars, quote, ascii, two, three, three_e0, three_ed, four, four_f0, four_f4, escape, code, Number, minus, plain_number, zero_first, digit_first, Value, null, yes, no, number, text, list, object, no_space, Json, json}
-use Rattle.json_spans.specs.Inside.{IsValue, IsText, quoted}
-use Rattle.json_spans.specs.Decoded.{decoded}
+use Rattle.kit_words.proofs.Common.{◌≡◌, ℕ, ◌-◌, Bool, true, false, cond, refl, ap, ◌∙◌, subst, List, [], ◌∷◌, ◌++◌}
+use Rattle.kit_words.proofs.Common.{length, take, drop, arith, reverse, IsUtf8, Option, Some, None, is_utf8, take_while}
+use Rattle.kit_words.proofs.Common.{false≢true, IsUtf8-from_is_utf8, reverse-append, take_all, take_while-cons}
+use Rattle.ring_machine.specs.Common.{Text}
+use Rattle.json_spans.specs.Common.{is_space, is_nonzero, Chars, quote, ascii, two, three, three_e0, three_ed, four}
+use Rattle.json_spans.specs.Common.{four_f0, four_f4, escape, code, Number, minus, plain_number, zero_first}
+use Rattle.json_spans.specs.Common.{digit_first, Value, null, yes, no, number, text, list, object, no_space, Json, json}
+use Rattle.json_spans.specs.Common.{IsValue, IsText, quoted, decoded, spaces_before, spaces_behind, before_spaces}
+use Rattle.json_spans.specs.Common.{trimmed}
 use Rattle.json_spans.specs.Parts.{Node}
-use Rattle.json_spans.specs.Trimmed.{spaces_before, spaces_behind, before_spaces, trimmed}
-use Rattle.topo_outline.specs.Kept.{IsName}
-use Rattle.map_text.specs.Strings.{string_text}
-use Rattle.script_lines.specs.Lines.{Gives}
-use Rattle.script_lines.specs.Words.{IsMarked}
+use Rattle.topo_outline.specs.Common.{IsName}
+use Rattle.map_text.specs.Common.{string_text}
+use Rattle.script_lines.specs.Common.{Gives, IsMarked}
 
 -- ---- a JSON string ends in a quotation mark
 

@@ -5,3 +5,4 @@ pub mod PathLemmas
 pub mod IdLemmas
 pub mod CommandLemmas
 pub mod SoundLemmas
+pub mod Common

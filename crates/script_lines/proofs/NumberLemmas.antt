@@ -1,15 +1,11 @@
 -- Digits in front, of which the first is no needless 0, are the text of the number that they are.
-use Rattle.std.proofs.Common.{◌≡◌, ℕ, pos, ◌+◌, ◌*◌, ◌-◌, ◌<◌, ◌≤◌, ◌^◌, ◌++◌, List, [], ◌∷◌, length, take, drop, get_or, refl, sym, ap, ◌∙◌, subst, arith}
+use Rattle.kit_words.proofs.Common.{◌≡◌, ℕ, pos, ◌+◌, ◌*◌, ◌-◌, ◌<◌, ◌≤◌, ◌^◌, ◌++◌, List, [], ◌∷◌, length, take, drop}
+use Rattle.kit_words.proofs.Common.{get_or, refl, sym, ap, ◌∙◌, subst, arith, IsInRange, digit_value, AllDigits}
+use Rattle.kit_words.proofs.Common.{digits_value, decimal-digits_value, digit_value_digit, digits_value_more}
+use Rattle.kit_words.proofs.Common.{take-append-drop, length-take-le}
 use Rattle.std.specs.Fmt.{decimal}
-use Rattle.std.specs.Int.{IsInRange}
-use Rattle.std.specs.Char.{digit_value}
-use Rattle.std.specs.Str.Parse.{AllDigits, digits_value}
-use Rattle.std.proofs.lemmas.Fmt.{decimal-digits_value}
-use Rattle.std.proofs.lemmas.Str.{digit_value_digit}
 use Rattle.std.proofs.lemmas.Str.Parse.{IsNumeralModel, numerals_by_value, tells_digits, digits_value_short}
-use Rattle.std.proofs.lemmas.Int.Digits.{digits_value_more}
-use Rattle.std.proofs.lemmas.List.{take-append-drop, length-take-le}
-use Rattle.script_lines.specs.Words.{EndsWord, WithoutNeedlessZero, IsSpaced}
+use Rattle.script_lines.specs.Common.{EndsWord, WithoutNeedlessZero, IsSpaced}
 
 own : IsNumeralModel (AllDigits 10) (digits_value 10)
 own = numerals_by_value (AllDigits 10) tells_digits

@@ -1,11 +1,11 @@
 -- A path is read position by position.
-use Rattle.std.proofs.Common.{◌≡◌, ◌≢◌, ℕ, ◌+◌, ◌≤◌, ◌<◌, refl, sym, ap, ◌∙◌, subst, List, [], ◌∷◌, ◌++◌, length, arith, append_assoc, append-nil, length-append}
-use Rattle.std.specs.List.{AllByRecursion}
+use Rattle.kit_words.proofs.Common.{◌≡◌, ◌≢◌, ℕ, ◌+◌, ◌≤◌, ◌<◌, refl, sym, ap, ◌∙◌, subst, List, [], ◌∷◌, ◌++◌, length}
+use Rattle.kit_words.proofs.Common.{arith, append_assoc, AllByRecursion}
+use Rattle.std.proofs.Common.{append-nil, length-append}
 use Rattle.std.proofs.lemmas.Grind.{flat_map-append}
-use Rattle.grid_geometry.specs.Position.{Position, InRange}
-use Rattle.map_text.proofs.Lists.{each-append}
-use Rattle.script_lines.specs.Lines.{spaced_position, spaced_path}
-use Rattle.script_lines.specs.Words.{EndsWord, IsPlace, IsPathTail}
+use Rattle.grid_geometry.specs.Common.{Position, InRange}
+use Rattle.map_text.proofs.Common.{each-append}
+use Rattle.script_lines.specs.Common.{spaced_position, spaced_path, EndsWord, IsPlace, IsPathTail}
 use Rattle.script_lines.proofs.WordLemmas.{place_once}
 
 -- ---- the first position of what is left

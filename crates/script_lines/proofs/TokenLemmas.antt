@@ -1,15 +1,12 @@
 -- A token ends in the last quotation mark of a line, and stands behind its space in one way.
-use Rattle.std.proofs.Common.{◌≡◌, ◌≢◌, ℕ, ◌+◌, ◌-◌, ◌%◌, ◌<◌, ◌≤◌, ◌^◌, Bool, true, false, refl, sym, ap, ap₂, ◌∙◌, subst, List, [], ◌∷◌, ◌++◌, length, take, drop, ℤ, pos, negsuc, suc, arith, FitsSigned, w64, length-append}
-use Rattle.std.specs.Prelude.{reverse}
-use Rattle.std.specs.List.{take_while, AllByRecursion}
-use Rattle.std.specs.Fmt.{decimal, signed_decimal}
-use Rattle.std.proofs.lemmas.Bool.Decides.{nat_tests}
-use Rattle.std.proofs.lemmas.Fmt.{decimal_by_steps}
-use Rattle.std.proofs.lemmas.List.{reverse-append, reverse-reverse, length-reverse}
-use Rattle.std.proofs.lemmas.List.Sums.{take_while-cons}
-use Rattle.grid_geometry.specs.Position.{Position, InRange}
-use Rattle.script_lines.specs.Lines.{spaced, spaced_position, spaced_path}
-use Rattle.script_lines.specs.Words.{is_unmarked, NoMark, IsToken}
+use Rattle.kit_words.proofs.Common.{◌≡◌, ◌≢◌, ℕ, ◌+◌, ◌-◌, ◌%◌, ◌<◌, ◌≤◌, ◌^◌, Bool, true, false, refl, sym, ap, ap₂}
+use Rattle.kit_words.proofs.Common.{◌∙◌, subst, List, [], ◌∷◌, ◌++◌, length, take, drop, ℤ, pos, negsuc, suc, arith}
+use Rattle.kit_words.proofs.Common.{FitsSigned, w64, reverse, take_while, AllByRecursion, signed_decimal, nat_tests}
+use Rattle.kit_words.proofs.Common.{decimal_by_steps, reverse-append, reverse-reverse, length-reverse, take_while-cons}
+use Rattle.std.proofs.Common.{length-append}
+use Rattle.std.specs.Fmt.{decimal}
+use Rattle.grid_geometry.specs.Common.{Position, InRange}
+use Rattle.script_lines.specs.Common.{spaced, spaced_position, spaced_path, is_unmarked, NoMark, IsToken}
 use Rattle.script_lines.proofs.WordLemmas.{taken-rest, take_length, drop_length, fits_in_range}
 
 -- ---- bytes with no quotation mark

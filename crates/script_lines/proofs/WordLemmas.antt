@@ -1,26 +1,21 @@
 -- A line is cut into words in one way.
-use Rattle.std.proofs.Common.{◌≡◌, ℕ, ◌+◌, ◌%◌, ◌<◌, ◌≤◌, ◌^◌, ◌==◌, Bool, true, false, cond, refl, sym, ap, ap₂, ◌∙◌, subst, List, [], ◌∷◌, ◌++◌, length, take, drop, ℤ, pos, negsuc, arith, FitsSigned, w64, Result, Ok, Err, unsigned_abs, suc, append_assoc}
-use Rattle.std.specs.List.{take_while}
-use Rattle.std.specs.Prelude.{nat_lt, nat_le}
-use Rattle.std.specs.Fmt.{decimal, signed_decimal, digits}
-use Rattle.std.specs.Int.{FitsUnsignedBits}
+use Rattle.kit_words.proofs.Common.{◌≡◌, ℕ, ◌+◌, ◌%◌, ◌<◌, ◌≤◌, ◌^◌, ◌==◌, Bool, true, false, cond, refl, sym, ap, ap₂}
+use Rattle.kit_words.proofs.Common.{◌∙◌, subst, List, [], ◌∷◌, ◌++◌, length, take, drop, ℤ, pos, negsuc, arith}
+use Rattle.kit_words.proofs.Common.{FitsSigned, w64, Result, Ok, Err, unsigned_abs, suc, append_assoc, take_while}
+use Rattle.kit_words.proofs.Common.{nat_lt, nat_le, signed_decimal, digits, FitsUnsignedBits, ParsesUnsigned}
+use Rattle.kit_words.proofs.Common.{digits_value, nat_tests, false≢true, lt-ltb, decimal_by_steps}
+use Rattle.kit_words.proofs.Common.{signed_decimal_injective, IsAscii-signed, IsAscii-decimal_wide, parse-decimal_wide}
+use Rattle.kit_words.proofs.Common.{decimal_is_IsNumeral_wide, IsAscii, bytes_eq, IsUtf8-from_ascii, bytes_eq-Decides}
+use Rattle.kit_words.proofs.Common.{take-append-drop, take_while-cons}
+use Rattle.std.specs.Fmt.{decimal}
 use Rattle.std.specs.Int.Signed.{mag}
-use Rattle.std.specs.Str.Parse.{ParsesUnsigned, digits_value}
-use Rattle.std.proofs.lemmas.Bool.Decides.{nat_tests}
-use Rattle.std.proofs.lemmas.Bool.{false≢true, lt-ltb}
-use Rattle.std.proofs.lemmas.Fmt.{decimal_by_steps, signed_decimal_injective, IsAscii-signed, IsAscii-decimal_wide, parse-decimal_wide, decimal_is_IsNumeral_wide}
-use Rattle.std.specs.Str.{IsUtf8, IsAscii, bytes_eq}
-use Rattle.std.proofs.lemmas.Str.{IsUtf8-from_ascii}
-use Rattle.std.proofs.lemmas.Slice.Eq.{bytes_eq-Decides}
-use Rattle.std.proofs.lemmas.List.{take-append-drop}
-use Rattle.std.proofs.lemmas.List.Sums.{take_while-cons}
-use Rattle.grid_geometry.specs.Position.{Position, position, InRange}
-use Rattle.json_spans.specs.Whole.{value_from, held, whole_of}
+use Rattle.std.specs.Str.{IsUtf8}
+use Rattle.grid_geometry.specs.Common.{Position, position, InRange}
+use Rattle.json_spans.specs.Common.{value_from, held, whole_of}
 use Rattle.json_spans.specs.declared.number.NotWhole.{NotWhole}
-use Rattle.json_spans.proofs.Meant.{whole_is}
+use Rattle.json_spans.proofs.Common.{whole_is}
 use Rattle.map_text.proofs.GrammarNumbers.{whole_written}
-use Rattle.script_lines.specs.Lines.{spaced}
-use Rattle.script_lines.specs.Words.{is_letter, EndsWord, IsSpaced, IsFeature, IsPlace}
+use Rattle.script_lines.specs.Common.{spaced, is_letter, EndsWord, IsSpaced, IsFeature, IsPlace}
 
 -- ---- a list that is empty
 

@@ -2,11 +2,11 @@
 use Rattle.std.specs.Prelude.{◌≡◌, ℕ, ℤ, pos, negsuc, ◌<◌, ◌≤◌, ◌^◌, ◌==◌, List, [], ◌∷◌, ◌++◌, length, Bool, true, codes, Option, None, Some, IsTrue, IsUtf8}
 use Rattle.std.specs.Fmt.{signed_decimal}
 use Rattle.std.specs.List.{AllByRecursion, flat_map}
-use Rattle.grid_geometry.specs.Position.{Position, InRange}
-use Rattle.ring_machine.specs.Document.{Text}
-use Rattle.ring_machine.specs.Command.{Command, Move, Insert, Remove, Thin, Split, Merge, Rename, Delete, Undo, Area, At, Neighbours, Rings, Count, Show}
-use Rattle.topo_outline.specs.Kept.{IsName}
-use Rattle.map_text.specs.Strings.{string_text}
+use Rattle.grid_geometry.specs.Common.{Position, InRange}
+use Rattle.ring_machine.specs.Common.{Text, Command, Move, Insert, Remove, Thin, Split, Merge, Rename, Delete, Undo}
+use Rattle.ring_machine.specs.Common.{Area, At, Neighbours, Rings, Count, Show}
+use Rattle.topo_outline.specs.Common.{IsName}
+use Rattle.map_text.specs.Common.{string_text}
 
 -- a number behind its space: 0, or digits of which the first is not 0, perhaps behind a minus
 abbrev pub spaced : ℤ → List ℕ

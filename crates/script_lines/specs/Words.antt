@@ -1,7 +1,7 @@
 -- Words of a line, and numbers and positions at its front.
 use Rattle.std.specs.Prelude.{◌≡◌, ◌≢◌, ℕ, ℤ, pos, ◌<◌, ◌^◌, ◌==◌, not, List, [], ◌∷◌, ◌++◌, Bool, FitsSigned}
 use Rattle.std.specs.Int.{w64}
-use Rattle.grid_geometry.specs.Position.{Position, InRange}
+use Rattle.grid_geometry.specs.Common.{Position, InRange}
 use Rattle.script_lines.specs.Lines.{spaced, spaced_position, spaced_token, spaced_path, IsPath}
 
 abbrev pub is_letter : ℕ → Bool

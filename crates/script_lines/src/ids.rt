@@ -1,8 +1,7 @@
 // The texts of ids, from JSON strings.
 ghost use Rattle.std.specs.Prelude.{◌≡◌, ℕ, List, IfOk, MatchOption};
-ghost use Rattle.json_spans.specs.Inside.{IsText};
-ghost use Rattle.json_spans.specs.Left.{node};
-ghost use Rattle.topo_outline.specs.Kept.{IsName};
+ghost use Rattle.json_spans.specs.Common.{IsText, node};
+ghost use Rattle.topo_outline.specs.Common.{IsName};
 ghost use Rattle.script_lines.specs.Words.{IsMarked};
 
 use arc_store::IdText;

@@ -1,6 +1,6 @@
 ghost use Rattle.std.specs.Prelude.{◌≡◌, ◌∷◌, [], IfOk, IsTrue, IsUtf8, ◌↔◌, MatchResult, Option};
 ghost use Rattle.std.specs.Prelude.{Some, None};
-ghost use Rattle.map_text.specs.Strings.{string_text};
+ghost use Rattle.map_text.specs.Common.{string_text};
 ghost use Rattle.ring_machine.specs.Command.{Split as Cut, Rename as Name, Thin as Thinning};
 ghost use Rattle.script_lines.specs.Lines.{ArePositions, AreFeatures, AskedWith, Asks, Says};
 ghost use Rattle.script_lines.specs.Lines.{is_comment};

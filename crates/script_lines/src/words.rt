@@ -3,7 +3,7 @@ ghost use Rattle.std.specs.Prelude.{◌≡◌, ◌≢◌, ◌≤◌, ◌++◌, �
 ghost use Rattle.std.specs.Int.{w64};
 ghost use Rattle.std.specs.Fmt.{decimal, signed_decimal};
 ghost use Rattle.std.specs.Str.{bytes_eq};
-ghost use Rattle.grid_geometry.specs.Position.{Position};
+ghost use Rattle.grid_geometry.specs.Common.{Position};
 ghost use Rattle.script_lines.specs.Words.{is_letter, is_unmarked, IsSpaced, IsFeature, IsPlace, IsToken};
 
 use crate::numbers::short_number;

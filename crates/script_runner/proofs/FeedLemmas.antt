@@ -1,13 +1,13 @@
 -- The bytes up to a line feed, fed at once.
-use Rattle.std.proofs.Common.{◌≡◌, ◌≢◌, ℕ, zero, suc, ◌+◌, ◌-◌, ◌<◌, ◌≤◌, min, Bool, true, false, length, take, drop, get_or, List, [], ◌∷◌, ◌++◌, refl, sym, ap, ap₂, subst, ◌∙◌, arith, append_assoc, append-nil, length-append, length-drop, nat_lt, not, ◌==◌, ◌||◌, Option, Some, None, Result, Ok, Err, OnErr, inl, inr, ◌⊎◌, MatchBool}
-use Rattle.std.proofs.lemmas.Bool.Decides.{nat_tests}
-use Rattle.std.proofs.lemmas.List.{take-append-drop, drop_more, drop-drop, take_all}
-use Rattle.std.specs.Io.KnownBytes.{Appends}
-use Rattle.std.proofs.KnownBytes.{Appends-nil}
-use Rattle.device_io.proofs.DeviceLemmas.{Appends-more}
+use Rattle.kit_words.proofs.Common.{◌≡◌, ◌≢◌, ℕ, zero, suc, ◌+◌, ◌-◌, ◌<◌, ◌≤◌, min, Bool, true, false, length, take}
+use Rattle.kit_words.proofs.Common.{drop, get_or, List, [], ◌∷◌, ◌++◌, refl, sym, ap, ap₂, subst, ◌∙◌, arith}
+use Rattle.kit_words.proofs.Common.{append_assoc, nat_lt, not, ◌==◌, ◌||◌, Option, Some, None, Result, Ok, Err, OnErr}
+use Rattle.kit_words.proofs.Common.{inl, inr, ◌⊎◌, MatchBool, nat_tests, take-append-drop, drop_more, drop-drop}
+use Rattle.kit_words.proofs.Common.{take_all, Appends, Appends-nil}
+use Rattle.std.proofs.Common.{append-nil, length-append, length-drop}
+use Rattle.device_io.proofs.Common.{Appends-more}
 use Rattle.memchr.specs.Find.{Passes, is_byte, NoneBefore, Nowhere}
-use Rattle.script_runner.specs.Runs.{NoFeed}
-use Rattle.script_runner.specs.Progress.{Progress, LineStep, more, ByteStep, Feeds, FeedsPart, PutsPart, Told}
+use Rattle.script_runner.specs.Common.{NoFeed, Progress, LineStep, more, ByteStep, Feeds, FeedsPart, PutsPart, Told}
 use Rattle.script_runner.proofs.StepLemmas.{fed_line, put_at_feed, Feeds-more, Feeds-append}
 
 -- ---- bytes without a line feed

@@ -1,14 +1,15 @@
 -- Byte by byte is line by line.
-use Rattle.std.proofs.Common.{◌≡◌, ◌≢◌, ℕ, suc, ◌+◌, ◌-◌, ◌<◌, ◌≤◌, min, Bool, true, false, length, take, drop, List, [], ◌∷◌, ◌++◌, refl, sym, ap, ap₂, subst, ◌∙◌, arith, append_assoc, append-nil, length-append, nat_lt, MatchBool, ◌==◌, ◌||◌, map}
-use Rattle.std.specs.Str.{bytes_eq}
-use Rattle.std.proofs.lemmas.Bool.Decides.{nat_tests}
-use Rattle.std.proofs.lemmas.Bool.{false≢true}
-use Rattle.std.proofs.lemmas.List.{map-append, take-append-drop}
-use Rattle.std.proofs.lemmas.Slice.Eq.{bytes_eq-Decides}
-use Rattle.ring_machine.specs.Document.{Document}
-use Rattle.ring_machine.specs.Machine.{State}
-use Rattle.script_runner.specs.Runs.{NoFeed, NoFeeds, with_feeds, AreLines, ScriptLine, without_return, ended_line, Meaning, Bad, Means, AllMean, reply_text, state_after, answered_by, refused_by, ShowsSaved, AllShowSaved, replies, state_after_all, answered, refused, opened_state}
-use Rattle.script_runner.specs.Progress.{Progress, start, line_at, KeptMeans, LineStep, more, ByteStep, Feeds}
+use Rattle.kit_words.proofs.Common.{◌≡◌, ◌≢◌, ℕ, suc, ◌+◌, ◌-◌, ◌<◌, ◌≤◌, min, Bool, true, false, length, take, drop}
+use Rattle.kit_words.proofs.Common.{List, [], ◌∷◌, ◌++◌, refl, sym, ap, ap₂, subst, ◌∙◌, arith, append_assoc, nat_lt}
+use Rattle.kit_words.proofs.Common.{MatchBool, ◌==◌, ◌||◌, map, bytes_eq, nat_tests, false≢true, map-append}
+use Rattle.kit_words.proofs.Common.{take-append-drop, bytes_eq-Decides}
+use Rattle.std.proofs.Common.{append-nil, length-append}
+use Rattle.ring_machine.specs.Common.{Document, State}
+use Rattle.script_runner.specs.Common.{NoFeed, NoFeeds, with_feeds, AreLines, ScriptLine, without_return, ended_line}
+use Rattle.script_runner.specs.Common.{Meaning, Bad, Means, AllMean, reply_text, state_after, answered_by, refused_by}
+use Rattle.script_runner.specs.Common.{ShowsSaved, AllShowSaved, replies, state_after_all, answered, refused}
+use Rattle.script_runner.specs.Common.{opened_state, Progress, start, line_at, KeptMeans, LineStep, more, ByteStep}
+use Rattle.script_runner.specs.Common.{Feeds}
 
 -- ---- a carriage return at the end
 

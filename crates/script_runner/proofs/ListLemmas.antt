@@ -1,15 +1,14 @@
 -- Lists of JSON that are appended an item at a time, and the rings of a feature that a map shows.
-use Rattle.std.proofs.Common.{◌≡◌, ◌≤◌, ◌<◌, ◌+◌, ℕ, ℤ, Bool, true, false, sym, ap, ap₂, ◌∙◌, List, [], ◌∷◌, ◌++◌, length, map, drop, get_or, codes, append_assoc, append-nil, Some, None, arith}
-use Rattle.std.specs.Prelude.{nat_lt}
-use Rattle.std.specs.Fmt.{signed_decimal}
-use Rattle.std.proofs.lemmas.List.{drop_more, drop_all}
-use Rattle.grid_geometry.specs.Position.{Position, position}
-use Rattle.ring_machine.specs.Document.{Document}
-use Rattle.ring_machine.specs.Refusals.{feature_at}
-use Rattle.map_frame.specs.Readers.{ring_at}
-use Rattle.map_text.specs.Text.{further, commas, comma_if, list_text, pair_text}
-use Rattle.point_queries.proofs.Shows.{ring_read, no_ring_read}
-use Rattle.script_runner.specs.Answers.{ring_text}
+use Rattle.kit_words.proofs.Common.{◌≡◌, ◌≤◌, ◌<◌, ◌+◌, ℕ, ℤ, Bool, true, false, sym, ap, ap₂, ◌∙◌, List, [], ◌∷◌, ◌++◌}
+use Rattle.kit_words.proofs.Common.{length, map, drop, get_or, codes, append_assoc, Some, None, arith, nat_lt}
+use Rattle.kit_words.proofs.Common.{signed_decimal, drop_more, drop_all}
+use Rattle.std.proofs.Common.{append-nil}
+use Rattle.grid_geometry.specs.Common.{Position, position}
+use Rattle.ring_machine.specs.Common.{Document, feature_at}
+use Rattle.map_frame.specs.Common.{ring_at}
+use Rattle.map_text.specs.Common.{further, commas, comma_if, list_text, pair_text}
+use Rattle.point_queries.proofs.Common.{ring_read, no_ring_read}
+use Rattle.script_runner.specs.Common.{ring_text}
 
 -- what is left to append: each with a comma before it where something stands before
 abbrev pub left_text : Bool → List (List ℕ) → List ℕ

@@ -1,22 +1,15 @@
 -- What opens as a document, and what opens as none.
-use Rattle.std.proofs.Common.{◌≡◌, refl, sym, ap, ◌∙◌, subst, List, ℕ, inl}
-use Rattle.std.specs.Prelude.{Some, None, Ok}
-use Rattle.grid_geometry.specs.Segment.{Segment}
-use Rattle.ring_machine.specs.Document.{Document}
-use Rattle.ring_machine.specs.Planar.{Proper, first_pair}
-use Rattle.topo_reader.specs.Document.{Opened, document_of}
-use Rattle.topo_reader.specs.Opening.{Opens}
-use Rattle.topo_reader.specs.Reads.{Reads, Fits}
-use Rattle.topo_reader.proofs.MeaningOfText.{is_read}
-use Rattle.topo_reader.proofs.OneReading.{one_reading}
-use Rattle.arc_store.specs.Faults.{Names}
+use Rattle.kit_words.proofs.Common.{◌≡◌, refl, sym, ap, ◌∙◌, subst, List, ℕ, inl, Some, None, Ok}
+use Rattle.grid_geometry.specs.Common.{Segment}
+use Rattle.ring_machine.specs.Common.{Document, Proper, first_pair}
+use Rattle.topo_reader.specs.Common.{Opened, document_of, Opens, Reads, Fits}
+use Rattle.topo_reader.proofs.Common.{is_read, one_reading}
+use Rattle.arc_store.specs.Common.{Names}
 use Rattle.arc_store.specs.declared.fault.BuildFault.{BuildFault}
 use Rattle.arc_store.specs.declared.fault.BuildFault.TheVariants as build
 use Rattle.script_runner.specs.declared.fault.RunFault.{RunFault}
 use Rattle.script_runner.specs.declared.fault.RunFault.TheVariants as fault
-use Rattle.script_runner.specs.Devices.{Devices}
-use Rattle.script_runner.specs.Outcome.{OpensAs, IsUnopened, Ends}
-use Rattle.script_runner.specs.Ended.{IsOpenEnd, IsBuildEnd}
+use Rattle.script_runner.specs.Common.{Devices, OpensAs, IsUnopened, Ends, IsOpenEnd, IsBuildEnd}
 
 pub opens_as : (bytes : List ℕ) (read d : Document) → ((reading : Reads bytes read) × Fits reading) → d ≡ read → Proper d → OpensAs bytes d
 opens_as bytes read d is e proper = subst (λ z. Proper z → OpensAs bytes z) (sym e) (λ p. record { reads = is.0; fits = is.1; proper = p }) proper

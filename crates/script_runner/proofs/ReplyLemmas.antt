@@ -1,20 +1,16 @@
 -- The answers to commands are the machine's.
-use Rattle.std.proofs.Common.{◌≡◌, ℕ, refl, sym, ap, ◌∙◌, List, ◌++◌, length, Bool, true, false, cond, Option, None, Some, IsTrue, codes, ◌⊎◌}
-use Rattle.std.specs.Prelude.{MatchOption, IsSomeAnd}
-use Rattle.ring_machine.specs.Document.{Document}
-use Rattle.ring_machine.specs.Parts.{features, has_feature}
-use Rattle.ring_machine.specs.Query.{vertices, distinct_segments, counts_of}
-use Rattle.ring_machine.specs.Refusals.{first_of, feature_refusals, feature_at}
+use Rattle.kit_words.proofs.Common.{◌≡◌, ℕ, refl, sym, ap, ◌∙◌, List, ◌++◌, length, Bool, true, false, cond, Option}
+use Rattle.kit_words.proofs.Common.{None, Some, IsTrue, codes, ◌⊎◌, MatchOption, IsSomeAnd}
+use Rattle.ring_machine.specs.Common.{Document, features, has_feature, vertices, distinct_segments, counts_of, first_of}
+use Rattle.ring_machine.specs.Common.{feature_refusals, feature_at, State, step, edit, query}
 use Rattle.ring_machine.specs.Command.{Command, Undo, Rings, Count, Show, Refusal, NoFeature, NothingToUndo, Answer as Answered, Done, RingsAre, CountsAre, DocumentIs, Refused}
-use Rattle.ring_machine.specs.Machine.{State, step, edit, query}
 use Rattle.arc_store.specs.declared.fault.EditFault.{EditFault}
-use Rattle.undo_ring.specs.Answers.{answer_of, refusal_of}
-use Rattle.undo_ring.specs.Edited.{Edited, machine_of, IsSame, Applies, Refuses, LacksMemory, IsCutShort, Fails, IsUndone}
+use Rattle.undo_ring.specs.Common.{answer_of, refusal_of, Edited, machine_of, IsSame, Applies, Refuses, LacksMemory}
+use Rattle.undo_ring.specs.Common.{IsCutShort, Fails, IsUndone}
 use Rattle.undo_ring.specs.declared.answer.Answer.{Answer}
 use Rattle.undo_ring.specs.declared.answer.Answer.TheVariants as told
-use Rattle.script_runner.specs.Answers.{answer_text, refusal_text, polygons_text, numbers_text}
-use Rattle.script_runner.specs.Runs.{refusals}
-use Rattle.script_runner.specs.Replies.{Replied, IsShown, TellsFault}
+use Rattle.script_runner.specs.Common.{answer_text, refusal_text, polygons_text, numbers_text, refusals, Replied}
+use Rattle.script_runner.specs.Common.{IsShown, TellsFault}
 
 step-rings : (depth : ℕ) (st : State) (n : ℕ) → step depth st (Rings n) ≡ query st (feature_refusals st.doc n) (RingsAre (feature_at st.doc n).polygons)
 unfolding step

@@ -1,25 +1,23 @@
 -- What was fed to a runner is lines with their answers, and the bytes after them.
-use Rattle.std.proofs.Common.{◌≡◌, ◌≢◌, ℕ, ◌+◌, ◌<◌, ◌≤◌, min, Bool, true, false, length, take, drop, List, [], ◌∷◌, ◌++◌, refl, sym, ap, ap₂, subst, ◌∙◌, arith, append_assoc, append-nil, length-append, length-drop, MatchBool, ◌==◌, map, inl, inr, ◌⊎◌, Option}
-use Rattle.std.proofs.lemmas.Bool.Decides.{nat_tests}
-use Rattle.std.proofs.lemmas.List.{take-append-drop, length-take-le, take-take}
-use Rattle.std.specs.Io.KnownBytes.{Appends, Consumes, Keeps, IsAtEnd}
-use Rattle.device_io.proofs.DeviceLemmas.{Consumes-more, Consumes-none, Appends-more}
-use Rattle.ring_machine.specs.Document.{Document}
-use Rattle.script_runner.specs.Devices.{Reader, Writer, Devices, devices}
-use Rattle.script_runner.specs.Runs.{ended_line, open_line, lines_of, reply_text, state_after_all, opened_state}
-use Rattle.script_runner.specs.Progress.{Progress, start, line_at, LineStep, Feeds, FeedsPart, IsReplyFront, IsPartAt, Told}
-use Rattle.script_runner.specs.Finish.{Finishes, PutsLast}
-use Rattle.script_runner.specs.Outcome.{OpensAs, Runs, AnswersAll, AnswersUpTo, AnswersLines, AnswersPart, IsNextLine, IsFront, Completes, SavesPart, Ends}
-use Rattle.script_runner.specs.Ended.{Answers, Halts}
+use Rattle.kit_words.proofs.Common.{◌≡◌, ◌≢◌, ℕ, ◌+◌, ◌<◌, ◌≤◌, min, Bool, true, false, length, take, drop, List, []}
+use Rattle.kit_words.proofs.Common.{◌∷◌, ◌++◌, refl, sym, ap, ap₂, subst, ◌∙◌, arith, append_assoc, MatchBool, ◌==◌}
+use Rattle.kit_words.proofs.Common.{map, inl, inr, ◌⊎◌, Option, nat_tests, take-append-drop, length-take-le, take-take}
+use Rattle.kit_words.proofs.Common.{Appends, Consumes, Keeps, IsAtEnd}
+use Rattle.std.proofs.Common.{append-nil, length-append, length-drop}
+use Rattle.device_io.proofs.Common.{Consumes-more, Consumes-none, Appends-more}
+use Rattle.ring_machine.specs.Common.{Document}
+use Rattle.script_runner.specs.Common.{Reader, Writer, Devices, devices, ended_line, open_line, lines_of, reply_text}
+use Rattle.script_runner.specs.Common.{state_after_all, opened_state, Progress, start, line_at, LineStep, Feeds}
+use Rattle.script_runner.specs.Common.{FeedsPart, IsReplyFront, IsPartAt, Told, Finishes, PutsLast, OpensAs, Runs}
+use Rattle.script_runner.specs.Common.{AnswersAll, AnswersUpTo, AnswersLines, AnswersPart, IsNextLine, IsFront}
+use Rattle.script_runner.specs.Common.{Completes, SavesPart, Ends, Answers, Halts, Summary}
 use Rattle.script_runner.specs.declared.fault.RunFault.TheVariants as fault
 use Rattle.script_runner.specs.declared.stop.Halt.TheVariants as halt
-use Rattle.device_io.specs.Devices.{AppendsPrefix}
-use Rattle.map_text.specs.Text.{text_of}
-use Rattle.map_text.specs.Saved.{Saved}
+use Rattle.device_io.specs.Common.{AppendsPrefix}
+use Rattle.map_text.specs.Common.{text_of, Saved}
 use Rattle.arc_store.specs.State.{State as MapState}
-use Rattle.undo_ring.specs.Edited.{Edited, begun}
-use Rattle.script_runner.specs.declared.runner.Summary.{Summary}
-use Rattle.script_lines.proofs.CommandLemmas.{not_empty}
+use Rattle.undo_ring.specs.Common.{Edited, begun}
+use Rattle.script_lines.proofs.Common.{not_empty}
 use Rattle.script_runner.proofs.StepLemmas.{Feeds-append}
 use Rattle.script_runner.proofs.LineLemmas.{Kept, Mid, Mid-feeds, Mid-start, kept_means, AllMean-more, replied, showing, stated, counted, refusing}
 

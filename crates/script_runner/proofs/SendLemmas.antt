@@ -1,17 +1,14 @@
 -- What a writer has of the answer to a line.
-use Rattle.std.proofs.Common.{◌≡◌, ℕ, List, [], ◌++◌, length, false, Option, refl, sym, ap, subst, ◌∙◌, arith, codes, append-nil}
-use Rattle.std.proofs.lemmas.List.{take_all}
-use Rattle.device_io.proofs.DeviceLemmas.{Appends-more, Appends-none}
-use Rattle.std.specs.Io.KnownBytes.{Appends, Keeps}
-use Rattle.device_io.specs.Devices.{AppendsPrefix}
-use Rattle.ring_machine.specs.Document.{Document}
-use Rattle.undo_ring.specs.Edited.{Edited, machine_of}
-use Rattle.ring_machine.specs.Command.{Show}
-use Rattle.map_text.specs.Text.{text_of}
-use Rattle.script_runner.specs.Answers.{answer_text}
-use Rattle.script_runner.specs.Runs.{Asked, reply_text, refusals}
-use Rattle.script_runner.specs.Replies.{RepliedLine, of_writer, stop_of}
-use Rattle.topo_writer.specs.Faults.{of_device}
+use Rattle.kit_words.proofs.Common.{◌≡◌, ℕ, List, [], ◌++◌, length, false, Option, refl, sym, ap, subst, ◌∙◌, arith}
+use Rattle.kit_words.proofs.Common.{codes, take_all, Appends, Keeps}
+use Rattle.std.proofs.Common.{append-nil}
+use Rattle.device_io.proofs.Common.{Appends-more, Appends-none}
+use Rattle.device_io.specs.Common.{AppendsPrefix}
+use Rattle.ring_machine.specs.Common.{Document, Show}
+use Rattle.undo_ring.specs.Common.{Edited, machine_of}
+use Rattle.map_text.specs.Common.{text_of}
+use Rattle.script_runner.specs.Common.{answer_text, Asked, reply_text, refusals, RepliedLine, of_writer, stop_of}
+use Rattle.topo_writer.specs.Common.{of_device}
 use Rattle.topo_writer.specs.declared.fault.WriteFault.{WriteFault}
 use Rattle.topo_writer.specs.declared.fault.WriteFault.TheVariants as write
 use Rattle.script_runner.proofs.ReplyLemmas.{step-show}

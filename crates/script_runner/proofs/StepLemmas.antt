@@ -1,24 +1,22 @@
 -- Steps that follow one another, and what stands where one of them failed.
-use Rattle.std.proofs.Common.{Result, Ok, Err, OnErr, ◌≡◌, ◌≢◌, ℕ, ◌+◌, ◌<◌, take, drop, get_or, length, List, [], ◌∷◌, ◌++◌, Option, None, Some, refl, sym, ap, ap₂, subst, ◌∙◌, arith, append_assoc, append-nil, inl, inr, ◌⊎◌, MatchBool, Bool, true, false, cond, ◌==◌}
-use Rattle.std.proofs.lemmas.List.{take_all, take-append-drop, drop_more}
-use Rattle.std.specs.Io.KnownBytes.{Appends, Keeps}
-use Rattle.std.proofs.KnownBytes.{Appends-nil}
-use Rattle.ring_machine.specs.Document.{Document}
-use Rattle.ring_machine.specs.Command.{Show}
-use Rattle.undo_ring.specs.Commands.{command_of}
-use Rattle.undo_ring.specs.Edited.{Edited, machine_of}
+use Rattle.kit_words.proofs.Common.{Result, Ok, Err, OnErr, ◌≡◌, ◌≢◌, ℕ, ◌+◌, ◌<◌, take, drop, get_or, length, List, []}
+use Rattle.kit_words.proofs.Common.{◌∷◌, ◌++◌, Option, None, Some, refl, sym, ap, ap₂, subst, ◌∙◌, arith, append_assoc}
+use Rattle.kit_words.proofs.Common.{inl, inr, ◌⊎◌, MatchBool, Bool, true, false, cond, ◌==◌, take_all, take-append-drop}
+use Rattle.kit_words.proofs.Common.{drop_more, Appends, Keeps, Appends-nil}
+use Rattle.std.proofs.Common.{append-nil}
+use Rattle.ring_machine.specs.Common.{Document, Show}
+use Rattle.undo_ring.specs.Common.{command_of, Edited, machine_of}
 use Rattle.undo_ring.specs.declared.command.Command.{Command}
 use Rattle.undo_ring.specs.declared.command.Command.TheVariants as command
 use Rattle.script_lines.specs.declared.lines.Line.{Line}
 use Rattle.script_lines.specs.declared.lines.Line.TheVariants as said
-use Rattle.script_lines.proofs.CommandLemmas.{not_empty}
-use Rattle.device_io.specs.Devices.{AppendsPrefix}
-use Rattle.device_io.proofs.DeviceLemmas.{Appends-none, Appends-more}
-use Rattle.script_runner.specs.Runs.{Meaning, Asked, reply_text, state_after, answered_by, refused_by, ShowsSaved}
-use Rattle.script_runner.specs.Replies.{RepliedLine, IsShownSaved, meaning_of_said}
-use Rattle.script_runner.specs.Progress.{Progress, KeptMeans, LineStep, ByteStep, Feeds, IsReplyFront, PutsPart, IsPartAt, FeedsPart, Told}
-use Rattle.script_runner.specs.Finish.{Finishes, PutsLast, Counts}
-use Rattle.script_runner.specs.declared.runner.Summary.{Summary}
+use Rattle.script_lines.proofs.Common.{not_empty}
+use Rattle.device_io.specs.Common.{AppendsPrefix}
+use Rattle.device_io.proofs.Common.{Appends-none, Appends-more}
+use Rattle.script_runner.specs.Common.{Meaning, Asked, reply_text, state_after, answered_by, refused_by, ShowsSaved}
+use Rattle.script_runner.specs.Common.{RepliedLine, IsShownSaved, meaning_of_said, Progress, KeptMeans, LineStep}
+use Rattle.script_runner.specs.Common.{ByteStep, Feeds, IsReplyFront, PutsPart, IsPartAt, FeedsPart, Told, Finishes}
+use Rattle.script_runner.specs.Common.{PutsLast, Counts, Summary}
 use Rattle.script_runner.proofs.SendLemmas.{put_kept}
 
 pub OnErr-by : {A E : Type 0} (r : Result A E) {P : Type 0} → P → OnErr r P

@@ -2,11 +2,13 @@
 use Rattle.std.specs.Prelude.{ℕ, List, ◌++◌, map, codes, decimal}
 use Rattle.std.specs.List.{flat_map}
 use Rattle.std.specs.Fmt.{signed_decimal}
-use Rattle.grid_geometry.specs.Position.{Position}
-use Rattle.grid_geometry.specs.Segment.{Segment}
-use Rattle.ring_machine.specs.Command.{Refusal, NoFeature, NoVertex, NoSegment, Occupied, Junction, RingShort, SegmentExists, NoCollection, NotOnOuterRing, RepeatedPoint, WrongSide, TooLarge, SameFeature, NotOnePolygon, NotNeighbours, SameSide, NothingToUndo, Sweeps, Conflict, Runs, CommonElse, Answer, Done, Thinned, Made, AreaIs, AtIs, NeighboursAre, RingsAre, CountsAre, DocumentIs, Refused}
-use Rattle.ring_machine.specs.Query.{Counts}
-use Rattle.map_text.specs.Text.{list_text, pair_text, text_of}
+use Rattle.grid_geometry.specs.Common.{Position, Segment}
+use Rattle.ring_machine.specs.Common.{Refusal, NoFeature, NoVertex, NoSegment, Occupied, Junction, RingShort}
+use Rattle.ring_machine.specs.Common.{SegmentExists, NoCollection, NotOnOuterRing, RepeatedPoint, WrongSide, TooLarge}
+use Rattle.ring_machine.specs.Common.{SameFeature, NotOnePolygon, NotNeighbours, SameSide, NothingToUndo, Sweeps}
+use Rattle.ring_machine.specs.Common.{Conflict, Runs, CommonElse, Answer, Done, Thinned, Made, AreaIs, AtIs}
+use Rattle.ring_machine.specs.Common.{NeighboursAre, RingsAre, CountsAre, DocumentIs, Refused, Counts}
+use Rattle.map_text.specs.Common.{list_text, pair_text, text_of}
 
 -- both numbers, a space between them
 abbrev pub position_text : Position → List ℕ

@@ -1,7 +1,7 @@
 -- What the steps of a run leave, for the proof of the run alone.
 use Rattle.std.specs.Prelude.{◌≡◌, ◌≢◌, ℕ, List}
-use Rattle.ring_machine.specs.Document.{Document}
-use Rattle.topo_reader.specs.Opening.{IsFault}
+use Rattle.ring_machine.specs.Common.{Document}
+use Rattle.topo_reader.specs.Common.{IsFault}
 use Rattle.topo_outline.specs.declared.fault.OpenFault.TheVariants as opening
 use Rattle.arc_store.specs.declared.fault.BuildFault.{BuildFault}
 use Rattle.arc_store.specs.declared.fault.BuildFault.TheVariants as build

@@ -1,6 +1,6 @@
 -- The end of a script.
 use Rattle.std.specs.Prelude.{◌≡◌, ◌≢◌, ℕ, List, [], length, ◌==◌, MatchBool, false, Option, ◌⊎◌}
-use Rattle.ring_machine.specs.Document.{Document}
+use Rattle.ring_machine.specs.Common.{Document}
 use Rattle.script_runner.specs.Progress.{Progress, LineStep, Told, IsReplyFront}
 use Rattle.script_runner.specs.declared.runner.Summary.{Summary}
 

@@ -6,3 +6,4 @@ pub mod Progress
 pub mod Replies
 pub mod Finish
 pub mod Ended
+pub mod Common

@@ -1,15 +1,11 @@
 -- What a run answers and saves, and what stands after it.
 use Rattle.std.specs.Prelude.{◌≡◌, ◌≢◌, ℕ, ◌<◌, ◌≤◌, List, [], ◌∷◌, ◌++◌, length, take, map, true, Option, ◌⊎◌}
 use Rattle.std.specs.Io.KnownBytes.{Appends, Consumes, IsAtEnd}
-use Rattle.device_io.specs.Devices.{AppendsPrefix}
-use Rattle.ring_machine.specs.Document.{Document}
-use Rattle.ring_machine.specs.Machine.{State}
-use Rattle.ring_machine.specs.Planar.{Proper}
-use Rattle.topo_reader.specs.Opening.{IsFault}
-use Rattle.topo_reader.specs.Reads.{Reads, Fits}
+use Rattle.device_io.specs.Common.{AppendsPrefix}
+use Rattle.ring_machine.specs.Common.{Document, State, Proper}
+use Rattle.topo_reader.specs.Common.{IsFault, Reads, Fits}
 use Rattle.topo_outline.specs.declared.fault.OpenFault.TheVariants as opening
-use Rattle.map_text.specs.Text.{text_of}
-use Rattle.map_text.specs.Saved.{Saved}
+use Rattle.map_text.specs.Common.{text_of, Saved}
 use Rattle.script_runner.specs.Devices.{Devices}
 use Rattle.script_runner.specs.Runs.{AreLines, ScriptLine, ended_line, open_line, lines_of, Meaning, Means, AllMean, AllShowSaved, reply_text, replies, state_after_all, answered, refused, opened_state, document_after}
 use Rattle.script_runner.specs.declared.runner.Summary.{Summary}

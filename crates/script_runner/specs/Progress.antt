@@ -1,8 +1,7 @@
 -- What a runner keeps between two bytes of a script, and what one more byte does.
 use Rattle.std.specs.Prelude.{◌≡◌, ℕ, ◌+◌, ◌≤◌, ◌==◌, List, [], ◌∷◌, ◌++◌, length, take, nat_lt, Bool, true, false, not, ◌||◌, if◌then◌else◌, Option, MatchBool, ◌⊎◌}
 use Rattle.std.specs.Io.KnownBytes.{Appends}
-use Rattle.ring_machine.specs.Document.{Document}
-use Rattle.ring_machine.specs.Machine.{State}
+use Rattle.ring_machine.specs.Common.{Document, State}
 use Rattle.script_runner.specs.Runs.{ScriptLine, ended_line, open_line, Meaning, Bad, Means, reply_text, state_after, answered_by, refused_by, ShowsSaved, opened_state}
 
 -- the machine's state and how many changes it keeps at most, the bytes of the line so far, whether more than are kept came, and the counts

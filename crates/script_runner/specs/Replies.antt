@@ -1,15 +1,11 @@
 -- What the reply to a command is, and what is left after it.
 use Rattle.std.specs.Prelude.{◌≡◌, ℕ, List, ◌++◌, Bool, true, false, if◌then◌else◌, Option, None, Some, IsSomeAnd, codes}
-use Rattle.ring_machine.specs.Document.{Document}
-use Rattle.ring_machine.specs.Command.{Command}
-use Rattle.ring_machine.specs.Machine.{step}
-use Rattle.undo_ring.specs.Answers.{refusal_of}
-use Rattle.undo_ring.specs.Edited.{Edited, machine_of}
-use Rattle.map_text.specs.Text.{text_of}
-use Rattle.map_text.specs.Saved.{Saved}
+use Rattle.ring_machine.specs.Common.{Document, Command, step}
+use Rattle.undo_ring.specs.Common.{refusal_of, Edited, machine_of}
+use Rattle.map_text.specs.Common.{text_of, Saved}
 use Rattle.script_runner.specs.Answers.{answer_text, refusal_text}
 use Rattle.script_runner.specs.Runs.{Meaning, Bad, meaning_of, state_after, refused_by, refusals}
-use Rattle.script_lines.specs.Commands.{says_of}
+use Rattle.script_lines.specs.Common.{says_of}
 use Rattle.arc_store.specs.declared.fault.EditFault.{EditFault}
 use Rattle.script_lines.specs.declared.lines.Line.{Line}
 use Rattle.script_lines.specs.declared.lines.Line.TheVariants as said

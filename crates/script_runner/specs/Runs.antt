@@ -1,13 +1,9 @@
 -- A whole run: the lines of a script, what each means, and the answers.
 use Rattle.std.specs.Prelude.{◌≡◌, ◌≢◌, ℕ, ◌+◌, ◌≤◌, ◌==◌, List, [], ◌∷◌, ◌++◌, length, map, if◌then◌else◌, codes, Option, None, Some}
 use Rattle.std.specs.List.{flat_map}
-use Rattle.ring_machine.specs.Document.{Document}
-use Rattle.ring_machine.specs.Parts.{features}
-use Rattle.ring_machine.specs.Command.{Command, Show, Answer, Refused}
-use Rattle.ring_machine.specs.Machine.{State, step}
-use Rattle.map_text.specs.Text.{text_of}
-use Rattle.map_text.specs.Saved.{Saved}
-use Rattle.script_lines.specs.Lines.{Says}
+use Rattle.ring_machine.specs.Common.{Document, features, Command, Show, Answer, Refused, State, step}
+use Rattle.map_text.specs.Common.{text_of, Saved}
+use Rattle.script_lines.specs.Common.{Says}
 use Rattle.script_runner.specs.Answers.{answer_text}
 
 -- ---- lines

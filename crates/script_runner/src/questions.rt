@@ -1,6 +1,6 @@
 // The answers to questions that no editor is asked, and their texts.
 ghost use Rattle.std.specs.Prelude.{◌≡◌, ◌++◌, OnOk, IfOk};
-ghost use Rattle.ring_machine.specs.Command.{Count};
+ghost use Rattle.ring_machine.specs.Common.{Count};
 ghost use Rattle.script_runner.specs.Answers.{numbers_text};
 ghost use Rattle.script_runner.specs.Replies.{IsShown};
 

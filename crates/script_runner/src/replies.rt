@@ -1,8 +1,7 @@
 // The answers to commands, and their texts.
 ghost use Rattle.std.specs.Prelude.{◌≡◌, ◌++◌, codes, decimal, OnOk, IfOk};
-ghost use Rattle.ring_machine.specs.Command.{Undo};
-ghost use Rattle.undo_ring.specs.Commands.{command_of, IsSound};
-ghost use Rattle.undo_ring.specs.Answers.{answer_of};
+ghost use Rattle.ring_machine.specs.Common.{Undo};
+ghost use Rattle.undo_ring.specs.Common.{command_of, IsSound, answer_of};
 ghost use Rattle.script_runner.specs.Answers.{position_text, segment_text};
 ghost use Rattle.script_runner.specs.Answers.{answer_text, at_text, neighbours_text};
 ghost use Rattle.script_runner.specs.Replies.{Replied, TellsFault};

@@ -1,8 +1,7 @@
 // The rings of a feature as nested lists of JSON, with no space in them.
 ghost use Rattle.std.specs.Prelude.{◌≡◌, ◌++◌, [], map, length, get_or, OnOk, IfOk};
-ghost use Rattle.ring_machine.specs.Command.{Rings};
-ghost use Rattle.ring_machine.specs.Refusals.{feature_at};
-ghost use Rattle.map_text.specs.Text.{commas, pair_text};
+ghost use Rattle.ring_machine.specs.Common.{Rings, feature_at};
+ghost use Rattle.map_text.specs.Common.{commas, pair_text};
 ghost use Rattle.script_runner.specs.Answers.{ring_text, polygon_text};
 ghost use Rattle.script_runner.specs.Replies.{IsShown};
 

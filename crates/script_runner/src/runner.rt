@@ -2,11 +2,11 @@
 ghost use Rattle.std.specs.Prelude.{◌≡◌, ◌≤◌, ◌<◌, ◌+◌, ◌^◌, ◌∷◌, ◌++◌, if◌then◌else◌};
 ghost use Rattle.std.specs.Prelude.{[], length, false, true, OnOk, OnErr, IfOk};
 ghost use Rattle.std.specs.Io.KnownBytes.{Keeps};
-ghost use Rattle.device_io.specs.Sending.{Stands};
+ghost use Rattle.device_io.specs.Common.{Stands};
 ghost use Rattle.script_runner.specs.Runs.{without_return, answered_by, NoFeed};
 ghost use Rattle.script_runner.specs.Replies.{meaning_of_said, of_writer};
-ghost use Rattle.script_lines.specs.Commands.{SaysSound};
-ghost use Rattle.ring_machine.specs.Parts.{features};
+ghost use Rattle.script_lines.specs.Common.{SaysSound};
+ghost use Rattle.ring_machine.specs.Common.{features};
 ghost use Rattle.script_runner.specs.Progress.{KeptMeans, LineStep, Feeds, FeedsPart, PutsPart};
 ghost use Rattle.script_runner.specs.Progress.{Told, start};
 

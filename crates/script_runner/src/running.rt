@@ -1,9 +1,8 @@
 ghost use Rattle.std.specs.Prelude.{◌≡◌, ◌≤◌, [], length, false, true, OnOk, IfOk, IfErr, Err, None};
-ghost use Rattle.ring_machine.specs.Parts.{features};
-ghost use Rattle.device_io.specs.Sending.{Sends};
-ghost use Rattle.map_text.specs.Text.{text_of};
-ghost use Rattle.map_text.specs.Saved.{Saved};
-ghost use Rattle.topo_writer.specs.Faults.{of_device};
+ghost use Rattle.ring_machine.specs.Common.{features};
+ghost use Rattle.device_io.specs.Common.{Sends};
+ghost use Rattle.map_text.specs.Common.{text_of, Saved};
+ghost use Rattle.topo_writer.specs.Common.{of_device};
 ghost use Rattle.script_runner.specs.Devices.{reader_of, writer_of, devices_of};
 ghost use Rattle.script_runner.specs.Outcome.{OpensAs, Completes, Ends};
 ghost use Rattle.script_runner.specs.Ended.{Answers, Halts, IsOpenEnd, IsBuildEnd};

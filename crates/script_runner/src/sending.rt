@@ -1,12 +1,11 @@
 // Answers to lines, sent to a writer.
 ghost use Rattle.std.specs.Prelude.{◌≡◌, ◌++◌, codes, false, true, OnOk, IfOk};
-ghost use Rattle.device_io.specs.Sending.{Sends};
-ghost use Rattle.map_text.specs.Text.{text_of};
-ghost use Rattle.map_text.specs.Saved.{Saved};
-ghost use Rattle.undo_ring.specs.Edited.{machine_of};
+ghost use Rattle.device_io.specs.Common.{Sends};
+ghost use Rattle.map_text.specs.Common.{text_of, Saved};
+ghost use Rattle.undo_ring.specs.Common.{machine_of};
 ghost use Rattle.script_runner.specs.Runs.{reply_text};
 ghost use Rattle.script_runner.specs.Replies.{RepliedLine, IsShownSaved, meaning_of_said, of_writer};
-ghost use Rattle.script_lines.specs.Commands.{SaysSound};
+ghost use Rattle.script_lines.specs.Common.{SaysSound};
 
 use crate::questions::reply_to_count;
 use crate::replies::{reply_to, reply_to_undo};

@@ -1,15 +1,10 @@
 -- Boxes that meet share a cell.
-use Rattle.std.proofs.Common.{◌≡◌, ◌≤◌, ◌+◌, ◌≤ℤ◌, ℤ, ℕ, max, Bool, true, false, cond, ◌&&◌, refl, ap, arith, int_le, None, Some}
-use Rattle.std.specs.Int.{int_min, int_max}
-use Rattle.std.proofs.lemmas.Int.{ints}
-use Rattle.grid_geometry.specs.Segment.{Segment, Box, box_of, boxes_meet}
-use Rattle.segment_trees.specs.Covers.{Lines, AreMonotone, cover_of, within, has_cell, shared}
-use Rattle.segment_index.specs.Frames.{Frame, IsFrame, lines_of}
-use Rattle.segment_index.specs.Grids.{shared_cells}
-use Rattle.segment_index.specs.Times.{times_by}
-use Rattle.segment_trees.proofs.Branches.{meet_parts, le_from}
-use Rattle.segment_trees.proofs.Lines.{line-mono}
-use Rattle.segment_trees.proofs.Sums.{total-one}
+use Rattle.kit_words.proofs.Common.{◌≡◌, ◌≤◌, ◌+◌, ◌≤ℤ◌, ℤ, ℕ, max, Bool, true, false, cond, ◌&&◌, refl, ap, arith}
+use Rattle.kit_words.proofs.Common.{int_le, None, Some, int_min, int_max, ints}
+use Rattle.grid_geometry.specs.Common.{Segment, Box, box_of, boxes_meet}
+use Rattle.segment_trees.specs.Common.{Lines, AreMonotone, cover_of, within, has_cell, shared}
+use Rattle.segment_index.specs.Common.{Frame, IsFrame, lines_of, shared_cells, times_by}
+use Rattle.segment_trees.proofs.Common.{meet_parts, le_from, line-mono, total-one}
 
 -- the only fact about columns and rows that a grid rests on
 pub frame-monotone : (f : Frame) → IsFrame f → AreMonotone (lines_of f)

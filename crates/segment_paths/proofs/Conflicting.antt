@@ -1,16 +1,11 @@
 -- Pairs of segments of which links conflict.
-use Rattle.std.proofs.Common.{◌≡◌, true, sym, subst, List, Contains, ◌⊎◌, inl, inr, Option, Result, Ok, Err, ℕ, ◌<◌}
-use Rattle.std.specs.List.{All}
-use Rattle.std.specs.Prelude.{IfSome, IfErr, IsErrAnd}
-use Rattle.grid_geometry.specs.Segment.{Segment}
-use Rattle.grid_geometry.specs.Conflict.{conflict}
-use Rattle.segment_paths.specs.Paths.{Path, ArePaths, links_of, inner_positions}
-use Rattle.segment_paths.specs.Faults.{StillConflict, HasMore}
-use Rattle.segment_paths.specs.Seen.{paths_seen}
-use Rattle.segment_paths.specs.Stops.{IsPiece, IsOf, AreOwners}
+use Rattle.kit_words.proofs.Common.{◌≡◌, true, sym, subst, List, Contains, ◌⊎◌, inl, inr, Option, Result, Ok, Err, ℕ}
+use Rattle.kit_words.proofs.Common.{◌<◌, All, IfSome, IfErr, IsErrAnd}
+use Rattle.grid_geometry.specs.Common.{Segment, conflict}
+use Rattle.segment_paths.specs.Common.{Path, ArePaths, links_of, inner_positions, StillConflict, HasMore, paths_seen}
+use Rattle.segment_paths.specs.Common.{IsPiece, IsOf, AreOwners, SegmentPath}
 use Rattle.segment_paths.specs.declared.link.Piece.{Piece}
 use Rattle.segment_paths.specs.declared.fault.PathFault.{PathFault}
-use Rattle.segment_paths.specs.declared.path.SegmentPath.{SegmentPath}
 
 piece_in : (P : Piece → Type 0) (ones : List Piece) (one : Piece) → All P ones → Contains ones one → P one
 piece_in P ones one h k = subst P k.2 (h k.0 one k.1)

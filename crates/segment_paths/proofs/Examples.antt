@@ -1,12 +1,8 @@
 -- Worked examples: what is a way along a segment, and what is none.
-use Rattle.std.proofs.Common.{◌≡◌, ℕ, pos, refl, [], ◌∷◌}
-use Rattle.std.specs.List.Sorted.{IsStrictlySortedBy}
-use Rattle.std.specs.declared.cmp.Ordering.TheVariants.{Less, Equal, Greater}
-use Rattle.grid_geometry.specs.Orientation.{orientation}
-use Rattle.grid_geometry.specs.Position.{Position, position}
-use Rattle.grid_geometry.specs.Segment.{Segment, segment}
-use Rattle.snap_geometry.specs.Near.{is_near, along}
-use Rattle.segment_paths.specs.Paths.{IsWay}
+use Rattle.kit_words.proofs.Common.{◌≡◌, ℕ, pos, refl, [], ◌∷◌, IsStrictlySortedBy, Less, Equal, Greater}
+use Rattle.grid_geometry.specs.Common.{orientation, Position, position, Segment, segment}
+use Rattle.snap_geometry.specs.Common.{is_near, along}
+use Rattle.segment_paths.specs.Common.{IsWay}
 
 abbrev at : ℕ → ℕ → Position
 at x y = position (pos x) (pos y)

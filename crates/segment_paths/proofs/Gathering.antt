@@ -1,23 +1,16 @@
 -- Segments in an index, and segments that conflict.
-use Rattle.std.proofs.Common.{◌≡◌, ◌<◌, ℕ, ℤ, Bool, true, false, ◌&&◌, ◌||◌, int_le, refl, sym, ap, ap₂, subst, ◌∙◌, List, [], ◌∷◌, ◌++◌, length, get_or, Contains, None, arith, zero, suc, Option, Result, Ok, Err, is_ok}
+use Rattle.kit_words.proofs.Common.{◌≡◌, ◌<◌, ℕ, ℤ, Bool, true, false, ◌&&◌, ◌||◌, int_le, refl, sym, ap, ap₂, subst}
+use Rattle.kit_words.proofs.Common.{◌∙◌, List, [], ◌∷◌, ◌++◌, length, get_or, Contains, None, arith, zero, suc, Option}
+use Rattle.kit_words.proofs.Common.{Result, Ok, Err, is_ok, list_any, HoldsAt, IsSearchInRange, Equal, int_min, int_max}
+use Rattle.kit_words.proofs.Common.{false≢true, false_from_ne_true, ints, clamps}
 use Rattle.std.specs.FinSet as set
-use Rattle.std.specs.List.{list_any, HoldsAt}
-use Rattle.std.specs.List.Sorted.{IsSearchInRange}
 use Rattle.std.specs.Result.{IfOk}
-use Rattle.std.specs.declared.cmp.Ordering.TheVariants.{Equal}
-use Rattle.std.specs.Int.{int_min, int_max}
-use Rattle.std.proofs.lemmas.Bool.{false≢true, false_from_ne_true}
-use Rattle.std.proofs.lemmas.Int.{ints, clamps}
-use Rattle.grid_geometry.specs.Segment.{Segment, Box, box_of, boxes_meet, segment_cmp, segment_eq, segment_lt}
-use Rattle.grid_geometry.specs.Conflict.{conflict}
-use Rattle.grid_geometry.proofs.Conflicts.{conflict-comm, conflict-same}
-use Rattle.ring_machine.specs.Planar.{least_conflict, pair_lt}
-use Rattle.ring_machine.proofs.First.{In, least_conflict_is}
-use Rattle.ring_machine.proofs.Local.{Bad, IsLeast}
-use Rattle.ring_machine.proofs.Members.{contains_in}
-use Rattle.ring_machine.proofs.Orders.{segment_ordered}
-use Rattle.segment_index.specs.Candidates.{SegmentSet, Gives, has}
-use Rattle.segment_index.proofs.Singles.{segment_eq-is, segment_exact}
+use Rattle.grid_geometry.specs.Common.{Segment, Box, box_of, boxes_meet, segment_cmp, segment_eq, segment_lt, conflict}
+use Rattle.grid_geometry.proofs.Common.{conflict-comm, conflict-same}
+use Rattle.ring_machine.specs.Common.{least_conflict, pair_lt}
+use Rattle.ring_machine.proofs.Common.{In, least_conflict_is, Bad, IsLeast, contains_in, segment_ordered}
+use Rattle.segment_index.specs.Common.{SegmentSet, Gives, has}
+use Rattle.segment_index.proofs.Common.{segment_eq-is, segment_exact}
 
 by_bool : {X : Type 0} (p : Bool) → (p ≡ true → X) → (p ≡ false → X) → X
 by_bool true f g = f refl

@@ -1,26 +1,17 @@
 -- Paths that grow: a position more at the end of one, and a path more after the others.
-use Rattle.std.proofs.Common.{◌≡◌, ◌≤◌, ◌<◌, ℕ, zero, suc, ℤ, ◌<ℤ◌, Bool, true, false, ◌&&◌, refl, sym, ap, ap₂, subst, ◌∙◌, List, [], ◌∷◌, ◌++◌, map, length, get_or, Contains, arith, cond, ◌||◌, ◌==◌}
-use Rattle.std.specs.List.{All, list_all}
-use Rattle.std.specs.List.Sorted.{IsStrictlySortedBy}
-use Rattle.std.specs.Ordering.{int_cmp}
-use Rattle.std.proofs.lemmas.Bool.{false≢true}
-use Rattle.std.proofs.lemmas.List.{map-append}
-use Rattle.std.proofs.lemmas.List.Folds.{list_all-append}
-use Rattle.std.proofs.lemmas.List.Elements.{All-push, All-same, All-nil, All-tail}
-use Rattle.std.specs.Ordering.{is_gt, is_lt}
-use Rattle.std.specs.declared.cmp.Ordering.{Ordering}
-use Rattle.std.specs.declared.cmp.Ordering.TheVariants.{Less, Equal, Greater}
-use Rattle.grid_geometry.specs.Position.{Position, position_cmp, position_eq}
-use Rattle.grid_geometry.specs.Segment.{Segment, segment, segment_cmp, segment_lt}
-use Rattle.grid_geometry.proofs.Conflicts.{position_eq-same}
-use Rattle.ring_machine.proofs.Order.{or_right}
-use Rattle.segment_index.proofs.Singles.{segment_total}
-use Rattle.snap_geometry.specs.Near.{is_near, along}
-use Rattle.segment_paths.specs.Paths.{Path, IsWay, IsKnown, vertex, ArePaths, segments_of, links_of}
-use Rattle.segment_paths.specs.Seen.{path_seen, paths_seen}
-use Rattle.segment_paths.specs.declared.path.SegmentPath.{SegmentPath}
+use Rattle.kit_words.proofs.Common.{◌≡◌, ◌≤◌, ◌<◌, ℕ, zero, suc, ℤ, ◌<ℤ◌, Bool, true, false, ◌&&◌, refl, sym, ap, ap₂}
+use Rattle.kit_words.proofs.Common.{subst, ◌∙◌, List, [], ◌∷◌, ◌++◌, map, length, get_or, Contains, arith, cond, ◌||◌}
+use Rattle.kit_words.proofs.Common.{◌==◌, All, list_all, IsStrictlySortedBy, int_cmp, false≢true, map-append}
+use Rattle.kit_words.proofs.Common.{list_all-append, All-push, All-same, All-nil, All-tail, is_gt, is_lt, Ordering}
+use Rattle.kit_words.proofs.Common.{Less, Equal, Greater}
+use Rattle.grid_geometry.specs.Common.{Position, position_cmp, position_eq, Segment, segment, segment_cmp, segment_lt}
+use Rattle.grid_geometry.proofs.Common.{position_eq-same}
+use Rattle.ring_machine.proofs.Common.{or_right}
+use Rattle.segment_index.proofs.Common.{segment_total}
+use Rattle.snap_geometry.specs.Common.{is_near, along}
+use Rattle.segment_paths.specs.Common.{Path, IsWay, IsKnown, vertex, ArePaths, segments_of, links_of, path_seen}
+use Rattle.segment_paths.specs.Common.{paths_seen, SegmentPath, IsStop, IsPiece, AreWays}
 use Rattle.segment_paths.specs.declared.ways.Ways.{Ways}
-use Rattle.segment_paths.specs.Stops.{IsStop, IsPiece, AreWays}
 use Rattle.segment_paths.proofs.Rising.{Rising, rising_push, rising_one, sorted_push, past_last}
 
 -- these positions lead from the lesser end of the segment as far along as is said

@@ -5,3 +5,4 @@ pub mod Conflicting
 pub mod Led
 pub mod Gathering
 mod Examples
+pub mod Common

@@ -1,20 +1,13 @@
 -- The links of a segment along its path.
-use Rattle.std.proofs.Common.{◌≡◌, ◌<◌, ℕ, Bool, true, false, not, zero, suc, refl, sym, ap, subst, ◌∙◌, List, [], ◌∷◌, ◌++◌, map, length, get_or, Contains, inl, inr, cond, arith}
-use Rattle.std.specs.List.Sorted.{IsStrictlySortedBy}
-use Rattle.std.specs.Ordering.{is_gt}
-use Rattle.grid_geometry.specs.Position.{Position}
-use Rattle.grid_geometry.specs.Segment.{Segment, segment, segment_cmp, segment_eq, IsSegment}
-use Rattle.grid_geometry.specs.Ring.{links}
-use Rattle.ring_machine.specs.Ring.{segment_of}
-use Rattle.ring_machine.proofs.RingSegments.{segment_eq-true}
-use Rattle.ring_machine.proofs.First.{In}
-use Rattle.ring_machine.proofs.Members.{in_contains}
-use Rattle.segment_index.proofs.Singles.{segment_total}
-use Rattle.segment_paths.specs.Paths.{Path, inner_of, links_of, segments_of}
-use Rattle.segment_paths.specs.Seen.{paths_seen}
-use Rattle.segment_paths.specs.declared.path.SegmentPath.{SegmentPath}
+use Rattle.kit_words.proofs.Common.{◌≡◌, ◌<◌, ℕ, Bool, true, false, not, zero, suc, refl, sym, ap, subst, ◌∙◌, List, []}
+use Rattle.kit_words.proofs.Common.{◌∷◌, ◌++◌, map, length, get_or, Contains, inl, inr, cond, arith, IsStrictlySortedBy}
+use Rattle.kit_words.proofs.Common.{is_gt, tied_itself}
+use Rattle.grid_geometry.specs.Common.{Position, Segment, segment, segment_cmp, segment_eq, IsSegment, links}
+use Rattle.ring_machine.specs.Common.{segment_of}
+use Rattle.ring_machine.proofs.Common.{segment_eq-true, In, in_contains}
+use Rattle.segment_index.proofs.Common.{segment_total}
+use Rattle.segment_paths.specs.Common.{Path, inner_of, links_of, segments_of, paths_seen, SegmentPath}
 use Rattle.segment_paths.proofs.Searched.{found_at}
-use Rattle.std.specs.Cmp.{tied_itself}
 
 -- what is not different is the same
 pub same_as : (s t : Segment) → not (segment_eq s t) ≡ false → s ≡ t

@@ -1,13 +1,7 @@
 -- Lists that ascend, with one element more at their end.
-use Rattle.std.proofs.Common.{◌≡◌, ℕ, zero, suc, ℤ, ◌≤ℤ◌, ◌<ℤ◌, refl, subst, List, [], ◌∷◌, ◌++◌, map, length, get_or, arith}
-use Rattle.std.specs.List.{AllByRecursion}
-use Rattle.std.specs.List.Sorted.{IsStrictlySortedBy}
-use Rattle.std.specs.Ordering.{int_cmp}
-use Rattle.std.specs.Cmp.{IsTotalOrder}
-use Rattle.std.specs.declared.cmp.Ordering.{Ordering}
-use Rattle.std.specs.declared.cmp.Ordering.TheVariants.{Less}
-use Rattle.std.proofs.lemmas.Cmp.{int_ranked, by_ranked}
-use Rattle.std.proofs.lemmas.Int.{ints}
+use Rattle.kit_words.proofs.Common.{◌≡◌, ℕ, zero, suc, ℤ, ◌≤ℤ◌, ◌<ℤ◌, refl, subst, List, [], ◌∷◌, ◌++◌, map, length}
+use Rattle.kit_words.proofs.Common.{get_or, arith, AllByRecursion, IsStrictlySortedBy, int_cmp, IsTotalOrder, Ordering}
+use Rattle.kit_words.proofs.Common.{Less, int_ranked, by_ranked, ints}
 
 each_push : {X : Type 0} (P : X → Type 0) (xs : List X) (y : X) → AllByRecursion P xs → P y → AllByRecursion P (xs ++ y ∷ [])
 each_push P [] y h k = (k, tt)

@@ -1,19 +1,13 @@
 -- A path found by a search among ascending ones.
-use Rattle.std.proofs.Common.{◌≡◌, ◌<◌, ◌+◌, ℕ, zero, suc, true, false, refl, sym, ap, ap₂, ◌∙◌, subst, cond, List, [], ◌∷◌, map, length, get_or, inl, inr, Result, Ok, Err, is_ok, arith}
-use Rattle.std.specs.List.Sorted.{IsSortedBy, IsStrictlySortedBy, IsPartitionPoint, IsBinarySearchResult}
-use Rattle.std.specs.Ordering.{is_lt, is_eq, ordering_index}
-use Rattle.std.specs.List.Sorted.{IsNonDecreasingBy}
-use Rattle.std.specs.declared.cmp.Ordering.{Ordering}
-use Rattle.std.specs.declared.cmp.Ordering.TheVariants.{Less, Equal, Greater}
-use Rattle.std.specs.Cmp.{tied_itself}
-use Rattle.std.proofs.lemmas.Bool.{cases_lt}
-use Rattle.std.proofs.lemmas.List.Sorted.{searchable_from_sorted}
-use Rattle.grid_geometry.specs.Position.{Position}
-use Rattle.grid_geometry.specs.Segment.{Segment, segment_cmp, segment_eq}
-use Rattle.ring_machine.proofs.First.{In}
-use Rattle.ring_machine.proofs.SortedOnce.{in_recursion}
-use Rattle.segment_index.proofs.Singles.{segment_total, segment_exact, segment_eq-is}
-use Rattle.segment_paths.specs.Paths.{Path, inner_of}
+use Rattle.kit_words.proofs.Common.{◌≡◌, ◌<◌, ◌+◌, ℕ, zero, suc, true, false, refl, sym, ap, ap₂, ◌∙◌, subst, cond}
+use Rattle.kit_words.proofs.Common.{List, [], ◌∷◌, map, length, get_or, inl, inr, Result, Ok, Err, is_ok, arith}
+use Rattle.kit_words.proofs.Common.{IsSortedBy, IsStrictlySortedBy, IsPartitionPoint, IsBinarySearchResult, is_lt}
+use Rattle.kit_words.proofs.Common.{is_eq, ordering_index, IsNonDecreasingBy, Ordering, Less, Equal, Greater}
+use Rattle.kit_words.proofs.Common.{tied_itself, cases_lt, searchable_from_sorted}
+use Rattle.grid_geometry.specs.Common.{Position, Segment, segment_cmp, segment_eq}
+use Rattle.ring_machine.proofs.Common.{In, in_recursion}
+use Rattle.segment_index.proofs.Common.{segment_total, segment_exact, segment_eq-is}
+use Rattle.segment_paths.specs.Common.{Path, inner_of}
 
 -- of two segments one at most is less
 not_both : (s t : Segment) → segment_cmp s t ≡ Less → segment_cmp t s ≡ Less → ⊥

@@ -1,7 +1,6 @@
 -- Why there are no paths.
 use Rattle.std.specs.Prelude.{ℕ, ◌<◌, List, Contains, IsTrue}
-use Rattle.grid_geometry.specs.Segment.{Segment}
-use Rattle.grid_geometry.specs.Conflict.{conflict}
+use Rattle.grid_geometry.specs.Common.{Segment, conflict}
 use Rattle.segment_paths.specs.declared.fault.PathFault.{PathFault}
 use Rattle.segment_paths.specs.declared.fault.PathFault.TheVariants.{TooMany, Unmended, OutOfMemory}
 use Rattle.segment_paths.specs.Paths.{Path, ArePaths, inner_positions, links_of}

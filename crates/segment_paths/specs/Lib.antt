@@ -2,3 +2,4 @@ pub mod Paths
 pub mod Faults
 pub mod Seen
 pub mod Stops
+pub mod Common

@@ -3,13 +3,9 @@ use Rattle.std.specs.Prelude.{ℕ, List, [], ◌∷◌, ◌++◌, map, length, C
 use Rattle.std.specs.List.{All, list_all, sum_by}
 use Rattle.std.specs.List.Sorted.{IsStrictlySortedBy}
 use Rattle.std.specs.Ordering.{int_cmp}
-use Rattle.grid_geometry.specs.Position.{Position}
-use Rattle.grid_geometry.specs.Segment.{Segment, segment_cmp, segment_eq, is_end}
-use Rattle.grid_geometry.specs.Conflict.{cross}
-use Rattle.grid_geometry.specs.Ring.{links}
-use Rattle.ring_machine.specs.Ring.{segment_of}
-use Rattle.snap_geometry.specs.Near.{is_near, along}
-use Rattle.snap_geometry.specs.Crossing.{IsRoundedCrossing}
+use Rattle.grid_geometry.specs.Common.{Position, Segment, segment_cmp, segment_eq, is_end, cross, links}
+use Rattle.ring_machine.specs.Common.{segment_of}
+use Rattle.snap_geometry.specs.Common.{is_near, along, IsRoundedCrossing}
 
 -- a segment, and the positions that are put between its ends, from the lesser end on
 abbrev pub Path : Type 0

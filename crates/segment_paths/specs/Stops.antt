@@ -1,7 +1,7 @@
 -- What the search holds of paths that it makes.
 use Rattle.std.specs.Prelude.{◌≡◌, List, Contains, Option, Some, IfSome}
 use Rattle.std.specs.List.{All}
-use Rattle.grid_geometry.specs.Segment.{Segment}
+use Rattle.grid_geometry.specs.Common.{Segment}
 use Rattle.segment_paths.specs.declared.stop.Stop.{Stop}
 use Rattle.segment_paths.specs.declared.link.Piece.{Piece}
 use Rattle.segment_paths.specs.declared.ways.Ways.{Ways}

@@ -1,7 +1,7 @@
 // Links of paths.
 ghost use Rattle.std.specs.Prelude.{◌≡◌, ◌≤◌, [], List, Contains, IfOk, OnOk, length};
 ghost use Rattle.std.specs.List.{All};
-ghost use Rattle.grid_geometry.specs.Segment.{Segment, segment};
+ghost use Rattle.grid_geometry.specs.Common.{Segment, segment};
 ghost use Rattle.segment_paths.specs.Paths as spec;
 ghost use Rattle.segment_paths.specs.Paths.{Path, IsKnown, ArePaths};
 ghost use Rattle.segment_paths.specs.Seen.{paths_seen};

@@ -1,9 +1,9 @@
 // A round of the search: what is put in where links conflict.
 ghost use Rattle.std.specs.Prelude.{◌≡◌, ◌⊎◌, [], List, IsTrue, None, IfErr, IfOk, OnOk, length};
 ghost use Rattle.std.specs.List.{All};
-ghost use Rattle.grid_geometry.specs.Segment.{Segment};
+ghost use Rattle.grid_geometry.specs.Common.{Segment};
 ghost use Rattle.grid_geometry.specs.Conflict as geometry;
-ghost use Rattle.ring_machine.specs.Planar.{least_conflict};
+ghost use Rattle.ring_machine.specs.Common.{least_conflict};
 ghost use Rattle.segment_paths.specs.Faults.{IsPathFault};
 ghost use Rattle.segment_paths.specs.Paths.{Path, IsKnown};
 ghost use Rattle.segment_paths.specs.Stops.{IsStop, IsPiece, AreOwners, AreWays, IsPair};

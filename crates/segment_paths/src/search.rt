@@ -1,6 +1,6 @@
 // The search, round after round.
 ghost use Rattle.std.specs.Prelude.{◌≡◌, ◌≤◌, [], None, IfErr, IfOk};
-ghost use Rattle.ring_machine.specs.Planar.{least_conflict};
+ghost use Rattle.ring_machine.specs.Common.{least_conflict};
 ghost use Rattle.segment_paths.specs.Faults.{IsPathFault};
 ghost use Rattle.segment_paths.specs.Paths.{ArePaths, inner_positions};
 ghost use Rattle.segment_paths.specs.Seen.{paths_seen};

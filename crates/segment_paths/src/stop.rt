@@ -1,7 +1,7 @@
 // Positions that segments are led over.
 ghost use Rattle.std.specs.Prelude.{◌≡◌, ◌++◌, List, Contains, IsTrue, IfOk, OnOk};
 ghost use Rattle.std.specs.List.{All};
-ghost use Rattle.grid_geometry.specs.Segment.{Segment};
+ghost use Rattle.grid_geometry.specs.Common.{Segment};
 ghost use Rattle.segment_paths.specs.Paths.{IsKnown};
 ghost use Rattle.segment_paths.specs.Stops.{IsStop};
 

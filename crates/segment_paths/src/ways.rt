@@ -3,8 +3,8 @@ ghost use Rattle.std.specs.Prelude.{◌≡◌, ◌≤◌, ◌<◌, ◌+◌, [], 
 ghost use Rattle.std.specs.Prelude.{length, ◌++◌, ◌∷◌, ◌<ℤ◌, MatchOption};
 ghost use Rattle.std.specs.List.Sorted.{IsStrictlySortedBy};
 ghost use Rattle.std.specs.List.{All};
-ghost use Rattle.grid_geometry.specs.Segment.{Segment, segment_cmp, segment_lt};
-ghost use Rattle.snap_geometry.specs.Near.{is_near, along};
+ghost use Rattle.grid_geometry.specs.Common.{Segment, segment_cmp, segment_lt};
+ghost use Rattle.snap_geometry.specs.Common.{is_near, along};
 ghost use Rattle.segment_paths.specs.Paths as spec;
 ghost use Rattle.segment_paths.specs.Paths.{IsKnown, IsWay, ArePaths, segments_of};
 ghost use Rattle.segment_paths.specs.Paths.{inner_positions};

@@ -1,14 +1,12 @@
 -- What stands in a tree, and in which boxes.
-use Rattle.std.proofs.Common.{◌≡◌, ◌≤◌, ◌+◌, ℤ, ◌≤ℤ◌, ℕ, zero, suc, leb, Bool, true, false, cond, ◌&&◌, ◌||◌, List, [], ◌∷◌, ◌++◌, refl, sym, ap, ◌∙◌, arith, int_le, take, get_or, length, ◌<◌, Option, None, Some, unwrap_or, Result, Ok, Err, OnOk, OnErr}
-use Rattle.std.proofs.lemmas.Int.{ints}
-use Rattle.std.proofs.lemmas.List.{take_more}
-use Rattle.std.specs.Int.{int_min, int_max}
+use Rattle.kit_words.proofs.Common.{◌≡◌, ◌≤◌, ◌+◌, ℤ, ◌≤ℤ◌, ℕ, zero, suc, leb, Bool, true, false, cond, ◌&&◌, ◌||◌}
+use Rattle.kit_words.proofs.Common.{List, [], ◌∷◌, ◌++◌, refl, sym, ap, ◌∙◌, arith, int_le, take, get_or, length, ◌<◌}
+use Rattle.kit_words.proofs.Common.{Option, None, Some, Result, Ok, Err, OnOk, OnErr, ints, take_more, int_min, int_max}
+use Rattle.std.proofs.Common.{unwrap_or}
 use Rattle.std.specs.FinSet as set
-use Rattle.grid_geometry.specs.Segment.{Segment, Box, box_of, boxes_meet}
-use Rattle.segment_trees.specs.Bounds.{is_within, box_around, joined}
-use Rattle.segment_trees.specs.Candidates.{segment_is, set_of, has, times_in, AreSingle}
-use Rattle.segment_trees.specs.Gathers.{Loses}
-use Rattle.segment_trees.specs.Trees.{Gains, IsSame, LieIn, LiesIn}
+use Rattle.grid_geometry.specs.Common.{Segment, Box, box_of, boxes_meet}
+use Rattle.segment_trees.specs.Common.{is_within, box_around, joined, segment_is, set_of, has, times_in, AreSingle}
+use Rattle.segment_trees.specs.Common.{Loses, Gains, IsSame, LieIn, LiesIn}
 use Rattle.segment_trees.proofs.Singles.{segment_total, same_segment, same_sets, contains-set_of, has-is, times-append, times-push, times-some, loses-none, gained-single, ok_then, err_then}
 
 pub meet_parts : (a b c d : Bool) → ((a && b) && (c && d)) ≡ true → (a ≡ true) × (b ≡ true) × (c ≡ true) × (d ≡ true)

@@ -1,12 +1,11 @@
 -- Walks over cells, one after another.
-use Rattle.std.proofs.Common.{◌≡◌, ◌≤◌, ◌<◌, ◌+◌, ◌-◌, ℕ, zero, suc, append_assoc, take, Bool, true, false, List, [], ◌∷◌, ◌++◌, refl, sym, ap, ◌∙◌, arith, Result, Ok, Err, OnOk, is_ok}
-use Rattle.grid_geometry.specs.Segment.{Segment, Box, box_of, boxes_meet}
-use Rattle.segment_trees.specs.Candidates.{segment_is, times_in}
-use Rattle.segment_trees.specs.Gathers.{meeting, Gathers}
-use Rattle.segment_trees.specs.Covers.{counted}
+use Rattle.kit_words.proofs.Common.{◌≡◌, ◌≤◌, ◌<◌, ◌+◌, ◌-◌, ℕ, zero, suc, append_assoc, take, Bool, true, false, List}
+use Rattle.kit_words.proofs.Common.{[], ◌∷◌, ◌++◌, refl, sym, ap, ◌∙◌, arith, Result, Ok, Err, OnOk, is_ok}
+use Rattle.kit_words.proofs.Common.{common_steps}
+use Rattle.grid_geometry.specs.Common.{Segment, Box, box_of, boxes_meet}
+use Rattle.segment_trees.specs.Common.{segment_is, times_in, meeting, Gathers, counted}
 use Rattle.segment_trees.proofs.Singles.{same_segment, times-append, times-filter, times-take}
 use Rattle.segment_trees.proofs.Steps.{by_is}
-use Rattle.std.proofs.lemmas.Grind.{common_steps}
 
 pub when_ok : {T E P : Type 0} (r : Result T E) → OnOk r P → is_ok r ≡ true → P
 when_ok (Ok v) h e = h

@@ -1,13 +1,14 @@
 -- Segments in the home cells of a directory.
-use Rattle.std.proofs.Common.{◌≡◌, ◌≢◌, ◌≤◌, ◌<◌, ◌+◌, ◌-◌, ℕ, zero, suc, Bool, true, false, cond, leb, ◌&&◌, List, [], ◌∷◌, ◌++◌, length, unwrap_or, set, replicate, refl, sym, ap, ◌∙◌, arith, int_le, Option, Some, None, Result, Ok, Err, OnOk, OnErr}
-use Rattle.grid_geometry.specs.Segment.{Segment, Box, box_of, boxes_meet}
+use Rattle.kit_words.proofs.Common.{◌≡◌, ◌≢◌, ◌≤◌, ◌<◌, ◌+◌, ◌-◌, ℕ, zero, suc, Bool, true, false, cond, leb, ◌&&◌}
+use Rattle.kit_words.proofs.Common.{List, [], ◌∷◌, ◌++◌, length, set, replicate, refl, sym, ap, ◌∙◌, arith, int_le}
+use Rattle.kit_words.proofs.Common.{Option, Some, None, Result, Ok, Err, OnOk, OnErr}
+use Rattle.std.proofs.Common.{unwrap_or}
+use Rattle.grid_geometry.specs.Common.{Segment, Box, box_of, boxes_meet}
 use Rattle.segment_trees.specs.Bounds.{joined as joined_boxes}
-use Rattle.segment_trees.specs.Candidates.{segment_is, has, times_in}
-use Rattle.segment_trees.specs.Cells.{cell, column, joined, every}
-use Rattle.segment_trees.specs.Covers.{Lines, AreMonotone, has_cell, within, counted, total}
-use Rattle.segment_trees.specs.Directories.{is_short, home_of, block_of, AreAtHome, ChangesAt}
-use Rattle.segment_trees.specs.Gathers.{Gathers, Loses}
-use Rattle.segment_trees.specs.Trees.{Gains, IsSame, LiesIn}
+use Rattle.segment_trees.specs.Common.{segment_is, has, times_in, cell, column, every, Lines, AreMonotone, has_cell}
+use Rattle.segment_trees.specs.Common.{within, counted, total, is_short, home_of, block_of, AreAtHome, ChangesAt}
+use Rattle.segment_trees.specs.Common.{Gathers, Loses, Gains, IsSame, LiesIn}
+use Rattle.segment_trees.specs.Cells.{joined}
 use Rattle.segment_trees.proofs.Branches.{lies-put, lies-less, none-meets, some-at, meet_parts, le_from}
 use Rattle.segment_trees.proofs.Gathering.{gathers-nothing}
 use Rattle.segment_trees.proofs.Sums.{counted-zero, total-one}

@@ -6,3 +6,4 @@ pub mod Steps
 pub mod Sums
 mod Reaching
 mod Homes
+pub mod Common

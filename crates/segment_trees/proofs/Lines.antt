@@ -1,11 +1,8 @@
 -- Columns and rows grow with the coordinate.
-use Rattle.std.proofs.Common.{◌≡◌, ◌∙◌, ap, ℤ, pos, negsuc, ℕ, ◌≤◌, ◌<◌, ◌+◌, ◌/◌, ◌%◌, ◌^◌, ◌-ℤ◌, ◌≤ℤ◌, arith, w64, to_z, of_z, unsigned_abs}
-use Rattle.std.specs.Int.{int_div_euclid}
-use Rattle.std.proofs.lemmas.Int.{ints}
-use Rattle.std.proofs.lemmas.Nat.{le-div, pow_pos}
-use Rattle.std.proofs.Math.Nat.{div-mul-le_self}
-use Rattle.segment_trees.specs.Covers.{AreMonotone, clamped, line}
-use Rattle.segment_trees.specs.Directories.{lines_in}
+use Rattle.kit_words.proofs.Common.{◌≡◌, ◌∙◌, ap, ℤ, pos, negsuc, ℕ, ◌≤◌, ◌<◌, ◌+◌, ◌/◌, ◌%◌, ◌^◌, ◌-ℤ◌, ◌≤ℤ◌, arith}
+use Rattle.kit_words.proofs.Common.{w64, to_z, of_z, unsigned_abs, int_div_euclid, ints, le-div, pow_pos}
+use Rattle.kit_words.proofs.Common.{div-mul-le_self}
+use Rattle.segment_trees.specs.Common.{AreMonotone, clamped, line, lines_in}
 use Rattle.segment_trees.specs.declared.region.Region.{Region}
 
 div-mono : (size m n : ℕ) → 0 < size → m ≤ n → m / size ≤ n / size

@@ -1,10 +1,7 @@
 -- The ends of a segment are the corners of its box, in x in their order.
-use Rattle.std.proofs.Common.{◌≡◌, ◌≤ℤ◌, ℤ, ◌&&◌, true, false, refl, int_le, arith}
-use Rattle.std.specs.Int.{int_min, int_max}
-use Rattle.std.specs.Ordering.{int_cmp, ordering_then}
-use Rattle.std.specs.declared.cmp.Ordering.TheVariants.{Less}
-use Rattle.std.proofs.lemmas.Int.{ints}
-use Rattle.grid_geometry.specs.Segment.{Segment, IsSegment, Box}
+use Rattle.kit_words.proofs.Common.{◌≡◌, ◌≤ℤ◌, ℤ, ◌&&◌, true, false, refl, int_le, arith, int_min, int_max, int_cmp}
+use Rattle.kit_words.proofs.Common.{ordering_then, Less, ints}
+use Rattle.grid_geometry.specs.Common.{Segment, IsSegment, Box}
 
 first_before : (a b c d : ℤ) → ordering_then (int_cmp a b) (int_cmp c d) ≡ Less → a ≤ℤ b
 first_before a b c d h = grind (arith, ints)

@@ -1,21 +1,16 @@
 -- How often a segment stands in a list, and the set that a list makes.
-use Rattle.std.proofs.Common.{◌≡◌, ◌≤◌, ◌+◌, ◌-◌, ◌<◌, leb, ℕ, zero, suc, take, get_or, length, ℤ, Bool, true, false, not, cond, ◌&&◌, ◌||◌, List, [], ◌∷◌, ◌++◌, refl, sym, ap, ◌∙◌, arith, Result, Ok, Err, OnOk, OnErr}
-use Rattle.std.specs.List.{filter, swap_remove, sum_by}
-use Rattle.std.specs.declared.cmp.Ordering.{Ordering}
-use Rattle.std.specs.declared.cmp.Ordering.TheVariants.{Less, Equal, Greater}
-use Rattle.std.specs.Ordering.{int_cmp, int_eq, is_eq, ordering_then}
-use Rattle.std.specs.Cmp.{IsTotalOrder, int_cmp_total, on_total, then_total, Equal-is, tied_itself}
+use Rattle.kit_words.proofs.Common.{◌≡◌, ◌≤◌, ◌+◌, ◌-◌, ◌<◌, leb, ℕ, zero, suc, take, get_or, length, ℤ, Bool, true}
+use Rattle.kit_words.proofs.Common.{false, not, cond, ◌&&◌, ◌||◌, List, [], ◌∷◌, ◌++◌, refl, sym, ap, ◌∙◌, arith}
+use Rattle.kit_words.proofs.Common.{Result, Ok, Err, OnOk, OnErr, filter, swap_remove, sum_by, Ordering, Less, Equal}
+use Rattle.kit_words.proofs.Common.{Greater, int_cmp, int_eq, is_eq, ordering_then, IsTotalOrder, int_cmp_total}
+use Rattle.kit_words.proofs.Common.{on_total, then_total, Equal-is, tied_itself, ints, get_or_default, list_any_more}
+use Rattle.kit_words.proofs.Common.{list_any_at, sum_by-cons, sum_by-swap_remove}
 use Rattle.std.specs.FinSet as set
-use Rattle.std.proofs.lemmas.Int.{ints}
-use Rattle.std.proofs.lemmas.List.{get_or_default}
-use Rattle.std.proofs.lemmas.List.Folds.{list_any_more, list_any_at}
-use Rattle.std.proofs.lemmas.List.Sums.{sum_by-cons, sum_by-swap_remove}
-use Rattle.grid_geometry.specs.Position.{Position, position_cmp}
-use Rattle.grid_geometry.specs.Segment.{Segment, Box, box_of, boxes_meet, segment_cmp, segment_eq}
-use Rattle.grid_geometry.proofs.Conflicts.{position_cmp-exact}
-use Rattle.segment_trees.specs.Candidates.{segment_is, set_of, has, AreSingle, times_in, SegmentSet, Gives, HasNear}
-use Rattle.segment_trees.specs.Gathers.{Gathers, Loses}
-use Rattle.segment_trees.specs.Trees.{Gains}
+use Rattle.grid_geometry.specs.Common.{Position, position_cmp, Segment, Box, box_of, boxes_meet, segment_cmp}
+use Rattle.grid_geometry.specs.Common.{segment_eq}
+use Rattle.grid_geometry.proofs.Common.{position_cmp-exact}
+use Rattle.segment_trees.specs.Common.{segment_is, set_of, has, AreSingle, times_in, SegmentSet, Gives, HasNear}
+use Rattle.segment_trees.specs.Common.{Gathers, Loses, Gains}
 
 position_total : IsTotalOrder position_cmp
 position_total = then_total (on_total (λ (p : Position). p.x) int_cmp_total) (on_total (λ (p : Position). p.y) int_cmp_total)

@@ -1,12 +1,11 @@
 -- One more cell of a range is done.
-use Rattle.std.proofs.lemmas.List.{get_or-set_same, get_or-set_other, length-set}
-use Rattle.std.proofs.lemmas.Bool.{eqb-true, eqb-false}
-use Rattle.std.proofs.Common.{◌≡◌, ◌≢◌, ◌≤◌, ◌<◌, ◌+◌, ◌-◌, ℕ, zero, suc, Bool, true, false, cond, eqb, ◌&&◌, List, [], ◌∷◌, ◌++◌, length, get_or, set, refl, ◌∙◌, arith, replicate}
-use Rattle.grid_geometry.specs.Segment.{Segment}
-use Rattle.segment_trees.specs.Candidates.{segment_is, times_in}
-use Rattle.segment_trees.specs.Gathers.{Loses}
-use Rattle.segment_trees.specs.Cells.{cell, column, GainsIf, GrowsIf, LosesIf, GainsIn, GrowsIn, LosesIn, IsSquare}
-use Rattle.segment_trees.specs.Covers.{within}
+use Rattle.kit_words.proofs.Common.{get_or-set_same, get_or-set_other, length-set, eqb-false, ◌≡◌, ◌≢◌, ◌≤◌, ◌<◌, ◌+◌}
+use Rattle.kit_words.proofs.Common.{◌-◌, ℕ, zero, suc, Bool, true, false, cond, eqb, ◌&&◌, List, [], ◌∷◌, ◌++◌, length}
+use Rattle.kit_words.proofs.Common.{get_or, set, refl, ◌∙◌, arith, replicate}
+use Rattle.std.proofs.lemmas.Bool.{eqb-true}
+use Rattle.grid_geometry.specs.Common.{Segment}
+use Rattle.segment_trees.specs.Common.{segment_is, times_in, Loses, cell, column, GainsIf, GrowsIf, LosesIf, GainsIn}
+use Rattle.segment_trees.specs.Common.{GrowsIn, LosesIn, IsSquare, within}
 use Rattle.segment_trees.proofs.Singles.{times-push}
 
 pub by_is : {P : Type 0} (a b : ℕ) → (a ≡ b → P) → (a ≢ b → P) → P

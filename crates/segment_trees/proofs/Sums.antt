@@ -1,6 +1,6 @@
 -- Sums over the cells of a cover.
-use Rattle.std.proofs.Common.{◌≡◌, ◌≤◌, ◌<◌, ◌+◌, ◌-◌, ℕ, zero, suc, true, ◌&&◌, refl, arith}
-use Rattle.segment_trees.specs.Covers.{Cover, within, has_cell, counted, total}
+use Rattle.kit_words.proofs.Common.{◌≡◌, ◌≤◌, ◌<◌, ◌+◌, ◌-◌, ℕ, zero, suc, true, ◌&&◌, refl, arith}
+use Rattle.segment_trees.specs.Common.{Cover, within, has_cell, counted, total}
 use Rattle.segment_trees.proofs.Steps.{by_is}
 
 pub counted-mono : (f g : ℕ → ℕ) (low n : ℕ) → ((k : ℕ) → f k ≤ g k) → counted f low n ≤ counted g low n

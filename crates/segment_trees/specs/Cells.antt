@@ -2,7 +2,7 @@
 use Rattle.std.specs.Prelude.{◌≡◌, ◌≤◌, ◌<◌, ℕ, ◌+◌, ◌-◌, Bool, ◌&&◌, cond, List, [], ◌++◌, ◌∷◌}
 use Rattle.std.specs.Prelude.{get_or, length}
 use Rattle.std.specs.FinSet as set
-use Rattle.grid_geometry.specs.Segment.{Segment, box_of}
+use Rattle.grid_geometry.specs.Common.{Segment, box_of}
 use Rattle.segment_trees.specs.Candidates.{SegmentSet, segment_is, times_in}
 use Rattle.segment_trees.specs.Covers.{Lines, Cover, cover_of, has_cell, within}
 

@@ -2,7 +2,7 @@
 use Rattle.std.specs.Prelude.{◌≤◌, ℕ, zero, suc, ◌+◌, ◌-◌, ℤ, pos, negsuc, ◌-ℤ◌, ◌≤ℤ◌, min, Bool}
 use Rattle.std.specs.Prelude.{◌&&◌, cond, leb, ltb}
 use Rattle.std.specs.Int.{int_div_euclid}
-use Rattle.grid_geometry.specs.Segment.{Box}
+use Rattle.grid_geometry.specs.Common.{Box}
 
 -- into which column each x falls, and into which row each y
 pub record Lines : Type 0 where

@@ -1,6 +1,6 @@
 -- In which cell of a directory a segment stands, and which cells a call for candidates looks at.
 use Rattle.std.specs.Prelude.{◌≡◌, ◌≤◌, ℕ, ◌+◌, ◌-◌, ◌%◌, ◌^◌, Bool, ◌&&◌, cond, leb, List, Option, Some, None, set}
-use Rattle.grid_geometry.specs.Segment.{Segment, Box, box_of}
+use Rattle.grid_geometry.specs.Common.{Segment, Box, box_of}
 use Rattle.segment_trees.specs.Candidates.{times_in}
 use Rattle.segment_trees.specs.Cells.{Cells, Columns, cell, column}
 use Rattle.segment_trees.specs.Covers.{Lines, Cover, line}

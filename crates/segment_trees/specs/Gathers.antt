@@ -1,7 +1,7 @@
 -- What a cell loses, and what a walk over cells appends for a box.
 use Rattle.std.specs.Prelude.{◌≡◌, ◌≤◌, ◌-◌, ℕ, Bool, true, false, cond, List, ◌++◌}
 use Rattle.std.specs.List.{filter}
-use Rattle.grid_geometry.specs.Segment.{Segment, Box, box_of, boxes_meet}
+use Rattle.grid_geometry.specs.Common.{Segment, Box, box_of, boxes_meet}
 use Rattle.segment_trees.specs.Candidates.{segment_is, times_in}
 
 -- those whose box meets the asked one

@@ -5,3 +5,4 @@ pub mod Cells
 pub mod Bounds
 pub mod Trees
 pub mod Directories
+pub mod Common

@@ -1,6 +1,6 @@
 -- The segments of a tree, and the boxes that they lie in.
 use Rattle.std.specs.Prelude.{◌≡◌, ◌≤◌, ◌+◌, true, cond, List, [], ◌++◌, Option, None, Some}
-use Rattle.grid_geometry.specs.Segment.{Segment, Box, box_of}
+use Rattle.grid_geometry.specs.Common.{Segment, Box, box_of}
 use Rattle.segment_trees.specs.Bounds.{is_within}
 use Rattle.segment_trees.specs.Candidates.{segment_is, times_in}
 use Rattle.segment_trees.specs.declared.tree.Tree.{Tree, Empty, Leaf, Fork'}

@@ -1,7 +1,7 @@
 // Boxes in boxes.
 ghost use Rattle.std.specs.Prelude.{◌≡◌, ◌&&◌, int_le};
 ghost use Rattle.std.specs.Int.{int_min, int_max};
-ghost use Rattle.grid_geometry.specs.Segment.{box_of, boxes_meet};
+ghost use Rattle.grid_geometry.specs.Common.{box_of, boxes_meet};
 ghost use Rattle.segment_trees.specs.Bounds.{box_around, is_within, joined};
 
 use grid_geometry::{Rect, Seg};

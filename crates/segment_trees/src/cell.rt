@@ -1,6 +1,6 @@
 ghost use Rattle.std.specs.Prelude.{◌≡◌, ◌||◌, ◌++◌, ◌∷◌, [], ◌<◌, ℕ, None, true, false, take, length};
 ghost use Rattle.std.specs.Prelude.{get_or, OnOk, OnErr, IfOk, IfSome, is_ok};
-ghost use Rattle.grid_geometry.specs.Segment.{Segment};
+ghost use Rattle.grid_geometry.specs.Common.{Segment};
 ghost use Rattle.segment_trees.specs.Candidates.{times_in, has, segment_is, AreSingle};
 ghost use Rattle.segment_trees.specs.Gathers.{Gathers, Loses, meeting};
 ghost use Rattle.segment_trees.specs.Trees.{Gains, IsSame, LiesIn};

@@ -1,6 +1,6 @@
 ghost use Rattle.std.specs.Prelude.{◌≡◌, ◌<◌, ◌≤◌, ◌-◌, [], List, replicate, length, ℕ, None, OnOk};
 ghost use Rattle.std.specs.Prelude.{OnErr, IfOk, IfSome, Some, is_ok};
-ghost use Rattle.grid_geometry.specs.Segment.{Segment};
+ghost use Rattle.grid_geometry.specs.Common.{Segment};
 ghost use Rattle.segment_trees.specs.Candidates.{times_in};
 ghost use Rattle.segment_trees.specs.Cells.{cell, column};
 ghost use Rattle.segment_trees.specs.Covers.{counted, total};

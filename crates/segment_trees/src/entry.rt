@@ -1,5 +1,5 @@
 ghost use Rattle.std.specs.Prelude.{◌≡◌};
-ghost use Rattle.grid_geometry.specs.Segment.{box_of};
+ghost use Rattle.grid_geometry.specs.Common.{box_of};
 
 use crate::way::Way;
 use grid_geometry::{Rect, Seg};

@@ -1,6 +1,6 @@
 ghost use Rattle.std.specs.Prelude.{◌≡◌, ◌<◌, ◌≤◌, ◌-◌, [], List, replicate, length, OnOk, OnErr};
 ghost use Rattle.std.specs.Prelude.{IfOk, is_ok};
-ghost use Rattle.grid_geometry.specs.Segment.{Segment};
+ghost use Rattle.grid_geometry.specs.Common.{Segment};
 ghost use Rattle.segment_trees.specs.Candidates.{times_in, has};
 ghost use Rattle.segment_trees.specs.Cells.{cell};
 ghost use Rattle.segment_trees.specs.Covers.{counted};

@@ -1,21 +1,14 @@
 -- What stands around a vertex, from the arcs that it stands in.
-use Rattle.std.proofs.Common.{◌≡◌, ◌≢◌, ℕ, ◌≤◌, ◌<◌, ◌+◌, ◌-◌, false, refl, sym, ap, ◌∙◌, subst, List, [], ◌∷◌, ◌++◌, take, length, get_or, ◌⊎◌, inl, inr, ◌↔◌, arith, Contains}
-use Rattle.std.specs.Prelude.{◌==◌}
-use Rattle.std.specs.List.{flat_map, list_any}
-use Rattle.std.proofs.lemmas.Bool.{cases_Bool, both_ways}
-use Rattle.std.proofs.lemmas.Bool.Decides.{Decides-eqb, nat_tests}
-use Rattle.std.proofs.lemmas.List.{take_more, append-nil}
-use Rattle.std.proofs.lemmas.List.Concat.{flat_map-append}
-use Rattle.std.proofs.lemmas.List.Elements.{Contains-append_left, Contains-append_right, Contains-append_cases}
+use Rattle.kit_words.proofs.Common.{◌≡◌, ◌≢◌, ℕ, ◌≤◌, ◌<◌, ◌+◌, ◌-◌, false, refl, sym, ap, ◌∙◌, subst, List, [], ◌∷◌}
+use Rattle.kit_words.proofs.Common.{◌++◌, take, length, get_or, ◌⊎◌, inl, inr, ◌↔◌, arith, Contains, ◌==◌, flat_map}
+use Rattle.kit_words.proofs.Common.{list_any, cases_Bool, both_ways, Decides-eqb, nat_tests, take_more, append-nil}
+use Rattle.kit_words.proofs.Common.{flat_map-append, Contains-append_left, Contains-append_right, Contains-append_cases}
 use Rattle.slab.proofs.SlabLemmas.{Contains-cons, Contains-cons_cases}
-use Rattle.shared_arcs.specs.declared.around.Neighbours.{Neighbours}
-use Rattle.shared_arcs.specs.declared.around.Neighbours.TheVariants.{None, One, Two, More}
-use Rattle.arc_tables.specs.Ways.{Edge, links, times}
-use Rattle.shared_arcs.specs.Around.{noted, noted_all, other_end, other_ends, ends_among}
+use Rattle.shared_arcs.specs.Common.{Neighbours, None, One, Two, More, noted, noted_all, other_end, other_ends}
+use Rattle.shared_arcs.specs.Common.{ends_among}
+use Rattle.arc_tables.specs.Common.{Edge, links, times, has_segment}
 use Rattle.arc_tables.proofs.Finding.{links_more}
-use Rattle.arc_tables.proofs.Different.{any_contained, contained_any}
-use Rattle.arc_tables.proofs.Counting.{segment_times, times_segment}
-use Rattle.arc_tables.specs.Rings.{has_segment}
+use Rattle.arc_tables.proofs.Common.{any_contained, contained_any, segment_times, times_segment}
 
 -- ---- what was seen
 

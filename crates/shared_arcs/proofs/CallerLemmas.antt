@@ -1,17 +1,12 @@
 -- For callers: what follows from a count of uses, and a removal in other words.
-use Rattle.std.proofs.Common.{◌≡◌, ◌≢◌, ℕ, ◌≤◌, Bool, true, cond, refl, sym, ap, ◌∙◌, List, [], ◌∷◌, map, Some, is_some, arith}
-use Rattle.std.specs.Prelude.{◌==◌, count_by, not}
-use Rattle.std.specs.List.{filter, AllByRecursion}
-use Rattle.std.specs.Ordering.{nat_cmp}
-use Rattle.std.proofs.lemmas.Bool.{false≢true}
-use Rattle.std.proofs.lemmas.Bool.Decides.{nat_tests}
-use Rattle.std.proofs.lemmas.List.Sums.{sum_by-cons}
+use Rattle.kit_words.proofs.Common.{◌≡◌, ◌≢◌, ℕ, ◌≤◌, Bool, true, cond, refl, sym, ap, ◌∙◌, List, [], ◌∷◌, map, Some}
+use Rattle.kit_words.proofs.Common.{is_some, arith, ◌==◌, not, filter, AllByRecursion, nat_cmp, false≢true, nat_tests}
+use Rattle.kit_words.proofs.Common.{sum_by-cons}
+use Rattle.std.specs.Prelude.{count_by}
 use Rattle.std.specs.FinMap as rings
-use Rattle.arc_tables.specs.Ways.{Edge}
-use Rattle.arc_tables.specs.Rings.{Rings, has_segment, users_of}
-use Rattle.arc_tables.specs.Edited.{onto, collapsed}
-use Rattle.shared_arcs.specs.Joined.{Joined}
-use Rattle.arc_tables.proofs.Counting.{times_segment}
+use Rattle.arc_tables.specs.Common.{Edge, Rings, has_segment, users_of, onto, collapsed}
+use Rattle.shared_arcs.specs.Common.{Joined}
+use Rattle.arc_tables.proofs.Common.{times_segment}
 
 -- ---- a segment that no ring uses joins no two vertices
 

@@ -1,11 +1,12 @@
 -- Numbers that come behind a list, each once.
-use Rattle.std.proofs.Common.{◌≡◌, ℕ, ◌≤◌, refl, ap, ap₂, ◌∙◌, subst, arith, List, [], ◌∷◌, ◌++◌, take, drop, length, Contains, ◌⊎◌, inl, inr}
-use Rattle.std.proofs.lemmas.List.{length-take-le}
-use Rattle.std.proofs.Math.Seq.{take-append_seam, drop-append_seam, drop-length, take-length}
+use Rattle.kit_words.proofs.Common.{◌≡◌, ℕ, ◌≤◌, refl, ap, ap₂, ◌∙◌, subst, arith, List, [], ◌∷◌, ◌++◌, take, drop}
+use Rattle.kit_words.proofs.Common.{length, Contains, ◌⊎◌, inl, inr, length-take-le, take-append_seam, drop-append_seam}
+use Rattle.kit_words.proofs.Common.{drop-length, take-length}
 use Rattle.slab.proofs.SlabLemmas.{Contains-cons, Contains-cons_cases}
-use Rattle.arc_tables.specs.Stores.{including, AllDifferent}
-use Rattle.shared_arcs.specs.Listing.{including_all, gathered}
-use Rattle.arc_tables.proofs.Different.{none_contained, different_including, in_including, itself_including, from_including}
+use Rattle.arc_tables.specs.Common.{including, AllDifferent}
+use Rattle.shared_arcs.specs.Common.{including_all, gathered}
+use Rattle.arc_tables.proofs.Common.{none_contained, different_including, in_including, itself_including}
+use Rattle.arc_tables.proofs.Common.{from_including}
 
 -- ---- a list with more numbers
 

@@ -1,28 +1,19 @@
 -- The segments of rings are those of the arcs that they use.
-use Rattle.std.proofs.Common.{◌≡◌, ℕ, ◌≤◌, true, refl, sym, ap, ◌∙◌, subst, List, [], inl, inr, arith, Contains, is_some, IsSome, Option, get_or, length}
-use Rattle.std.proofs.lemmas.List.{get_or_default}
+use Rattle.kit_words.proofs.Common.{◌≡◌, ℕ, ◌≤◌, true, refl, sym, ap, ◌∙◌, subst, List, [], inl, inr, arith, Contains}
+use Rattle.kit_words.proofs.Common.{is_some, IsSome, Option, get_or, length, get_or_default, ◌==◌, list_any, cases_Bool}
+use Rattle.kit_words.proofs.Common.{both_ways}
 use Rattle.std.proofs.Common.{None as Absent, Some}
-use Rattle.std.specs.Prelude.{◌==◌}
 use Rattle.std.specs.Option.{unwrap_or}
 use Rattle.std.specs.FinMap as rings
 use Rattle.slab.specs.Slab.{get, ContainsKey}
 use Rattle.arc_tables.specs.declared.arc.Arc.{Arc}
 use Rattle.arc_tables.specs.declared.tables.Tables.{Tables}
-use Rattle.shared_arcs.specs.declared.around.Neighbours.{Neighbours}
-use Rattle.shared_arcs.specs.declared.around.Neighbours.TheVariants.{None, One, Two, More}
-use Rattle.arc_tables.specs.Ways.{Edge, links, times, edges_of}
-use Rattle.shared_arcs.specs.Around.{noted_all, other_ends, ends_among}
-use Rattle.shared_arcs.specs.Joined.{Joined, AreNeighbours}
-use Rattle.arc_tables.specs.Stores.{path_of, path_in, users_in, uses_in, uses_arc, store, stand_at, Known, Listed}
-use Rattle.arc_tables.specs.Sound.{rings_of}
-use Rattle.shared_arcs.specs.Listing.{ListsJoined, gathered, including_all}
-use Rattle.arc_tables.proofs.CutLemmas.{present}
-use Rattle.arc_tables.proofs.Counting.{chain_has, chain_uses}
-use Rattle.arc_tables.proofs.Different.{any_contained, contained_any}
+use Rattle.shared_arcs.specs.Common.{Neighbours, None, One, Two, More, noted_all, other_ends, ends_among, Joined}
+use Rattle.shared_arcs.specs.Common.{AreNeighbours, ListsJoined, gathered, including_all}
+use Rattle.arc_tables.specs.Common.{Edge, links, times, edges_of, path_of, path_in, users_in, uses_in, uses_arc, store}
+use Rattle.arc_tables.specs.Common.{stand_at, Known, Listed, rings_of}
+use Rattle.arc_tables.proofs.Common.{present, chain_has, chain_uses, any_contained, contained_any, held_ring, ring_here}
 use Rattle.arc_tables.proofs.Held.{none_at}
-use Rattle.std.specs.List.{list_any}
-use Rattle.std.proofs.lemmas.Bool.{cases_Bool, both_ways}
-use Rattle.arc_tables.proofs.RingLemmas.{held_ring, ring_here}
 use Rattle.shared_arcs.proofs.AroundLemmas.{Sees, sees_alike, sees_list, in_flat_map, to_flat_map, ends_times, times_ends}
 use Rattle.shared_arcs.proofs.Gathering.{gathered_behind, only_including, themselves_including, different_including_all}
 

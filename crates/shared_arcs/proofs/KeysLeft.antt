@@ -1,19 +1,17 @@
 -- A ring that is gone along key by key.
-use Rattle.std.proofs.Common.{◌≡◌, ℕ, zero, suc, ◌+◌, ◌-◌, ◌<◌, ◌≤◌, Bool, true, false, cond, Some, IsSome, option_map, List, [], ◌∷◌, ◌++◌, drop, length, get_or, refl, sym, ap, ◌∙◌, subst, arith, drop-cons}
-use Rattle.std.proofs.lemmas.List.{drop_all, map-append, get_or-reverse, length-take-le}
+use Rattle.kit_words.proofs.Common.{◌≡◌, ℕ, zero, suc, ◌+◌, ◌-◌, ◌<◌, ◌≤◌, Bool, true, false, cond, Some, IsSome}
+use Rattle.kit_words.proofs.Common.{option_map, List, [], ◌∷◌, ◌++◌, drop, length, get_or, refl, sym, ap, ◌∙◌, subst}
+use Rattle.kit_words.proofs.Common.{arith, drop-cons, drop_all, map-append, get_or-reverse, length-take-le}
 use Rattle.std.specs.FinMap as rings
 use Rattle.slab.specs.Slab.{Slab, get}
 use Rattle.arc_tables.specs.declared.arc.Use.{Use}
 use Rattle.arc_tables.specs.declared.arc.Arc.{Arc}
 use Rattle.arc_tables.specs.declared.arc.Ring.{Ring}
 use Rattle.arc_tables.specs.declared.tables.Tables.{Tables}
-use Rattle.arc_tables.specs.Ways.{links, walk, chain}
-use Rattle.arc_tables.specs.Rings.{begins}
-use Rattle.arc_tables.specs.Stores.{path_in, path_of, uses_in}
-use Rattle.arc_tables.specs.Sound.{rings_of}
-use Rattle.shared_arcs.specs.Coming.{from_place, keys_left}
+use Rattle.arc_tables.specs.Common.{links, walk, chain, begins, path_in, path_of, uses_in, rings_of}
+use Rattle.shared_arcs.specs.Common.{from_place, keys_left}
 use Rattle.shared_arcs.proofs.ReadLemmas.{begins_links, length-walk}
-use Rattle.arc_tables.proofs.RingLemmas.{ring_here}
+use Rattle.arc_tables.proofs.Common.{ring_here}
 
 length-begins : (back : Bool) (ps : List ℕ) → length (begins (links (walk back ps))) ≡ length ps - 1
 length-begins back ps =

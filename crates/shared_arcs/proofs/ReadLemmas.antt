@@ -1,16 +1,12 @@
 -- The keys of a ring, read from its uses.
-use Rattle.std.proofs.Common.{◌≡◌, ℕ, zero, suc, ◌+◌, ◌-◌, ◌<◌, ◌≤◌, Bool, true, false, cond, List, [], ◌∷◌, ◌++◌, take, reverse, length, get_or, Option, is_some, IsSome, refl, sym, ap, ◌∙◌, arith, take_all}
-use Rattle.std.specs.Prelude.{◌==◌}
-use Rattle.std.specs.Option.{option_copied}
-use Rattle.std.specs.Borrow.{Bor}
-use Rattle.std.proofs.lemmas.List.{take_more, length-reverse, map-append, append-nil, get_or-reverse}
-use Rattle.std.proofs.lemmas.Bool.Decides.{Decides-eqb}
+use Rattle.kit_words.proofs.Common.{◌≡◌, ℕ, zero, suc, ◌+◌, ◌-◌, ◌<◌, ◌≤◌, Bool, true, false, cond, List, [], ◌∷◌, ◌++◌}
+use Rattle.kit_words.proofs.Common.{take, reverse, length, get_or, Option, is_some, IsSome, refl, sym, ap, ◌∙◌, arith}
+use Rattle.kit_words.proofs.Common.{◌==◌, option_copied, Bor, take_more, length-reverse, map-append, append-nil}
+use Rattle.kit_words.proofs.Common.{get_or-reverse, Decides-eqb, or_left, or_right}
+use Rattle.std.proofs.Common.{take_all}
 use Rattle.arc_tables.specs.declared.arc.Use.{Use}
-use Rattle.arc_tables.specs.Ways.{links, walk, chain}
-use Rattle.arc_tables.specs.Rings.{begins}
-use Rattle.arc_tables.specs.Stores.{uses_arc}
-use Rattle.arc_tables.proofs.Moves.{chain_append}
-use Rattle.std.proofs.lemmas.Bool.{or_left, or_right}
+use Rattle.arc_tables.specs.Common.{links, walk, chain, begins, uses_arc}
+use Rattle.arc_tables.proofs.Common.{chain_append}
 
 -- the links of a path begin at its keys but for the last
 pub begins_links : (ps : List ℕ) → begins (links ps) ≡ take (length ps - 1) ps

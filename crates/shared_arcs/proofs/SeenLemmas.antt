@@ -1,20 +1,15 @@
 -- What stands around every vertex, by a table.
-use Rattle.std.proofs.Common.{◌≡◌, ℕ, zero, suc, ◌<◌, ◌≤◌, refl, sym, ap, ◌∙◌, List, [], ◌∷◌, ◌++◌, length, get_or, set, arith, Contains, Some, Option}
+use Rattle.kit_words.proofs.Common.{◌≡◌, ℕ, zero, suc, ◌<◌, ◌≤◌, refl, sym, ap, ◌∙◌, List, [], ◌∷◌, ◌++◌, length}
+use Rattle.kit_words.proofs.Common.{get_or, set, arith, Contains, Some, Option, nat_tests, cases_eq, get_or-set_same}
+use Rattle.kit_words.proofs.Common.{get_or-set_other}
 use Rattle.std.proofs.Common.{None as Absent}
-use Rattle.std.proofs.lemmas.Bool.Decides.{nat_tests}
-use Rattle.std.proofs.lemmas.Bool.{cases_eq}
-use Rattle.std.proofs.lemmas.List.{get_or-set_same, get_or-set_other}
 use Rattle.slab.specs.Slab.{get, entries}
 use Rattle.slab.proofs.SlabLemmas.{Contains-entries}
 use Rattle.arc_tables.specs.declared.arc.Arc.{Arc}
 use Rattle.arc_tables.specs.declared.tables.Tables.{Tables}
-use Rattle.shared_arcs.specs.declared.around.Neighbours.{Neighbours}
-use Rattle.shared_arcs.specs.declared.around.Neighbours.TheVariants.{None}
-use Rattle.arc_tables.specs.Ways.{links, times}
-use Rattle.arc_tables.specs.Stores.{path_in}
-use Rattle.arc_tables.specs.Sound.{rings_of}
-use Rattle.shared_arcs.specs.Around.{noted, noted_all, ending, other_ends, ends_in, SeesMore}
-use Rattle.shared_arcs.specs.Joined.{Joined, AreAllNeighbours}
+use Rattle.shared_arcs.specs.Common.{Neighbours, None, noted, noted_all, ending, other_ends, ends_in, SeesMore, Joined}
+use Rattle.shared_arcs.specs.Common.{AreAllNeighbours}
+use Rattle.arc_tables.specs.Common.{links, times, path_in, rings_of}
 use Rattle.shared_arcs.proofs.AroundLemmas.{noted_all-append, in_flat_map, to_flat_map, ends_times, times_ends}
 use Rattle.shared_arcs.proofs.JoinedLemmas.{EachUsed, arc_joined, joined_arc, neighbours_of}
 

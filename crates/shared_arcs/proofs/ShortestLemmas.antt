@@ -1,32 +1,20 @@
 -- The least edge count of the rings at a vertex.
-use Rattle.std.proofs.Common.{◌≡◌, ℕ, ◌+◌, ◌-◌, ◌≤◌, ◌<◌, true, cond, refl, sym, ap, ◌∙◌, subst, List, [], ◌∷◌, ◌++◌, map, take, length, get_or, ◌⊎◌, inl, inr, arith, Contains, Option, Some, None, IfSome, IfNone}
-use Rattle.std.specs.Prelude.{min}
-use Rattle.std.proofs.Math.Nat.{min-eq_left, min-eq_right, min-le_left}
-use Rattle.std.proofs.lemmas.Bool.{false≢true, cases_lt}
-use Rattle.std.proofs.lemmas.List.{take_more, append-nil, length-append, map-append}
-use Rattle.std.specs.List.{flat_map}
-use Rattle.std.proofs.lemmas.List.Concat.{flat_map-append}
+use Rattle.kit_words.proofs.Common.{◌≡◌, ℕ, ◌+◌, ◌-◌, ◌≤◌, ◌<◌, true, cond, refl, sym, ap, ◌∙◌, subst, List, [], ◌∷◌}
+use Rattle.kit_words.proofs.Common.{◌++◌, map, take, length, get_or, ◌⊎◌, inl, inr, arith, Contains, Option, Some, None}
+use Rattle.kit_words.proofs.Common.{IfSome, IfNone, min, min-eq_left, min-eq_right, min-le_left, false≢true, cases_lt}
+use Rattle.kit_words.proofs.Common.{take_more, append-nil, length-append, map-append, flat_map, flat_map-append}
+use Rattle.kit_words.proofs.Common.{flat_map_single, cases_Bool}
 use Rattle.slab.specs.Slab.{get}
 use Rattle.slab.proofs.SlabLemmas.{Contains-cons, Contains-cons_cases}
 use Rattle.arc_tables.specs.declared.arc.Use.{Use}
 use Rattle.arc_tables.specs.declared.tables.Tables.{Tables}
-use Rattle.shared_arcs.specs.declared.around.Neighbours.{Neighbours}
+use Rattle.shared_arcs.specs.Common.{Neighbours, noted_all, other_ends, Passes, is_any, touches, edge_count, less_of}
+use Rattle.shared_arcs.specs.Common.{least_of, users_at, rings_among}
 use Rattle.shared_arcs.specs.declared.around.Neighbours.TheVariants as neighbours
-use Rattle.arc_tables.specs.Ways.{Edge, links, walk, chain, times, edges_of}
-use Rattle.shared_arcs.specs.Around.{noted_all, other_ends}
-use Rattle.arc_tables.specs.Rings.{Rings}
-use Rattle.shared_arcs.specs.Joined.{Passes}
-use Rattle.shared_arcs.specs.Shortest.{is_any, touches, edge_count, less_of, least_of, users_at, rings_among}
-use Rattle.arc_tables.specs.Sound.{rings_of}
-use Rattle.arc_tables.specs.Stores.{path_of, users_in, uses_in, store, stand_at, Known, Listed, Whole}
-use Rattle.arc_tables.proofs.Moves.{chain_append}
-use Rattle.arc_tables.proofs.CutLemmas.{present}
-use Rattle.arc_tables.proofs.Counting.{chain_has, chain_uses}
-use Rattle.arc_tables.proofs.Different.{none_contained}
-use Rattle.std.proofs.lemmas.List.Concat.{flat_map_single}
-use Rattle.std.proofs.lemmas.Bool.{cases_Bool}
+use Rattle.arc_tables.specs.Common.{Edge, links, walk, chain, times, edges_of, Rings, rings_of, path_of, users_in}
+use Rattle.arc_tables.specs.Common.{uses_in, store, stand_at, Known, Listed, Whole}
+use Rattle.arc_tables.proofs.Common.{chain_append, present, chain_has, chain_uses, none_contained, ring_here}
 use Rattle.shared_arcs.proofs.ReadLemmas.{length-walk}
-use Rattle.arc_tables.proofs.RingLemmas.{ring_here}
 use Rattle.shared_arcs.proofs.AroundLemmas.{Sees, sees_list, in_flat_map, to_flat_map, ends_times, times_ends}
 use Rattle.shared_arcs.proofs.JoinedLemmas.{stands_in, edges_held}
 

@@ -4,7 +4,7 @@ use Rattle.std.specs.List.{flat_map}
 use Rattle.shared_arcs.specs.declared.around.Neighbours.{Neighbours}
 use Rattle.shared_arcs.specs.declared.around.Neighbours.TheVariants.{None, One, Two, More}
 use Rattle.arc_tables.specs.declared.arc.Arc.{Arc}
-use Rattle.arc_tables.specs.Ways.{Edge, links}
+use Rattle.arc_tables.specs.Common.{Edge, links}
 
 -- the neighbours, where x is one too
 abbrev pub noted : Neighbours → ℕ → Neighbours

@@ -3,9 +3,7 @@ use Rattle.std.specs.Prelude.{ℕ, Bool, List, ◌++◌, ◌-◌, drop}
 use Rattle.slab.specs.Slab.{Slab, get}
 use Rattle.arc_tables.specs.declared.arc.Use.{Use}
 use Rattle.arc_tables.specs.declared.arc.Arc.{Arc}
-use Rattle.arc_tables.specs.Ways.{links, walk, chain}
-use Rattle.arc_tables.specs.Rings.{begins}
-use Rattle.arc_tables.specs.Stores.{path_in}
+use Rattle.arc_tables.specs.Common.{links, walk, chain, begins, path_in}
 
 -- the keys of a path, or of its reverse, from the at-th on, counted from 1, but for the last
 abbrev pub from_place : List ℕ → Bool → ℕ → List ℕ

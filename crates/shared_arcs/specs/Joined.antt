@@ -3,8 +3,7 @@ use Rattle.std.specs.Prelude.{ℕ, ◌≡◌, ◌≢◌, ◌≤◌, ◌⊎◌, �
 use Rattle.std.specs.FinMap as rings
 use Rattle.shared_arcs.specs.declared.around.Neighbours.{Neighbours}
 use Rattle.shared_arcs.specs.declared.around.Neighbours.TheVariants.{None, One, Two, More}
-use Rattle.arc_tables.specs.Ways.{Edge, times}
-use Rattle.arc_tables.specs.Rings.{Rings}
+use Rattle.arc_tables.specs.Common.{Edge, times, Rings}
 
 -- some ring has the segment of k and x
 pub record Joined (m : Rings) (k x : ℕ) : Type 0 where

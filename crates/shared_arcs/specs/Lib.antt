@@ -3,3 +3,4 @@ pub mod Coming
 pub mod Joined
 pub mod Listing
 pub mod Shortest
+pub mod Common

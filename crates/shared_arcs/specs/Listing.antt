@@ -1,8 +1,7 @@
 -- The list of the vertices that are joined to one.
 use Rattle.std.specs.Prelude.{ℕ, ◌≡◌, ◌↔◌, List, [], ◌∷◌, ◌++◌, take, drop, Contains}
-use Rattle.arc_tables.specs.Rings.{Rings}
+use Rattle.arc_tables.specs.Common.{Rings, AllDifferent, including}
 use Rattle.shared_arcs.specs.Joined.{Joined}
-use Rattle.arc_tables.specs.Stores.{AllDifferent, including}
 
 -- the list with these numbers, each of which comes last where it is new
 abbrev pub including_all : List ℕ → List ℕ → List ℕ

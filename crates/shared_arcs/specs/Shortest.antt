@@ -7,8 +7,7 @@ use Rattle.arc_tables.specs.declared.arc.Arc.{Arc}
 use Rattle.arc_tables.specs.declared.arc.Ring.{Ring}
 use Rattle.shared_arcs.specs.declared.around.Neighbours.{Neighbours}
 use Rattle.shared_arcs.specs.declared.around.Neighbours.TheVariants as neighbours
-use Rattle.arc_tables.specs.Ways.{chain, links}
-use Rattle.arc_tables.specs.Stores.{path_in, users_in, uses_in}
+use Rattle.arc_tables.specs.Common.{chain, links, path_in, users_in, uses_in}
 use Rattle.shared_arcs.specs.Around.{noted_all, other_ends}
 
 -- whether there is a neighbour

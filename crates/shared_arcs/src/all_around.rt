@@ -1,7 +1,7 @@
 //! What stands around every vertex, in one pass over the arcs.
 ghost use Rattle.std.specs.Prelude.{◌≡◌, ◌<◌, IfOk, OnOk, [], ◌∷◌, length, if◌then◌else◌, ◌==◌, vec_len};
 ghost use Rattle.slab.specs.Slab.{entries};
-ghost use Rattle.arc_tables.specs.Ways.{links};
+ghost use Rattle.arc_tables.specs.Common.{links};
 ghost use Rattle.shared_arcs.specs.Around.{other_end, other_ends, ending, ends_in, SeesMore};
 ghost use Rattle.shared_arcs.specs.Joined.{AreAllNeighbours};
 

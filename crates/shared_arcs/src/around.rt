@@ -1,11 +1,10 @@
 //! What stands around a vertex: its neighbours, and the rings that pass it.
 ghost use Rattle.std.specs.Prelude.{◌≡◌};
 ghost use Rattle.slab.specs.Slab.{get};
-ghost use Rattle.arc_tables.specs.Ways.{links};
+ghost use Rattle.arc_tables.specs.Common.{links, path_in, path_of, users_in, uses_in, stand_at};
 ghost use Rattle.shared_arcs.specs.Around.{noted, noted_all, other_end, other_ends, ends_among};
 ghost use Rattle.shared_arcs.specs.Shortest.{most, edge_count, less_of, least_of, touches};
 ghost use Rattle.shared_arcs.specs.Shortest.{edge_counts, rings_along, rings_of_arc};
-ghost use Rattle.arc_tables.specs.Stores.{path_in, path_of, users_in, uses_in, stand_at};
 ghost use Rattle.shared_arcs.specs.declared.around.Neighbours.{Neighbours};
 
 use arc_tables::{Arc, Ring, Tables, Use, arcs_at};

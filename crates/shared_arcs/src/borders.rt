@@ -1,8 +1,7 @@
 //! Rings over shared arcs, as a caller sees them.
 ghost use Rattle.std.specs.Prelude.{◌≡◌, ◌≤◌, ◌++◌, true, None, IfOk, OnOk, OnErr, IfSome, length};
 ghost use Rattle.std.specs.FinMap as map;
-ghost use Rattle.arc_tables.specs.Rings.{begins, edges, users_of};
-ghost use Rattle.arc_tables.specs.Users.{ListsUsers, ListsSharing};
+ghost use Rattle.arc_tables.specs.Common.{begins, edges, users_of, ListsUsers, ListsSharing};
 
 use crate::reading::push_ring_keys;
 use arc_tables::{Place, Tables, mark_end};

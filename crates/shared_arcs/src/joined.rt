@@ -1,9 +1,8 @@
 //! The list of the vertices that are joined to one.
 ghost use Rattle.std.specs.Prelude.{◌≡◌, ◌≤◌, OnOk, [], ◌∷◌, length};
 ghost use Rattle.slab.specs.Slab.{get};
-ghost use Rattle.arc_tables.specs.Ways.{links};
+ghost use Rattle.arc_tables.specs.Common.{links, path_in};
 ghost use Rattle.shared_arcs.specs.Around.{other_end, other_ends, ends_among};
-ghost use Rattle.arc_tables.specs.Stores.{path_in};
 ghost use Rattle.shared_arcs.specs.Listing.{gathered, ListsJoined};
 
 use crate::around::path_at;

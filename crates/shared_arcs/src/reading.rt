@@ -1,9 +1,7 @@
 //! Reading a ring's keys from its arcs.
 ghost use Rattle.std.specs.Prelude.{◌≡◌, ◌≤◌, ◌-◌, ◌++◌, OnOk, if◌then◌else◌};
 ghost use Rattle.slab.specs.Slab.{ContainsKey};
-ghost use Rattle.arc_tables.specs.Ways.{links, walk, edges_of};
-ghost use Rattle.arc_tables.specs.Rings.{begins};
-ghost use Rattle.arc_tables.specs.Stores.{store, Whole};
+ghost use Rattle.arc_tables.specs.Common.{links, walk, edges_of, begins, store, Whole};
 
 use arc_tables::Tables;
 use std::alloc::{AllocError, Allocator};

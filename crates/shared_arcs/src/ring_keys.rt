@@ -3,9 +3,7 @@ ghost use Rattle.std.specs.Prelude.{◌≡◌, ◌≤◌, option_map};
 ghost use Rattle.std.specs.FinMap as map;
 ghost use Rattle.std.specs.Iterator.{YieldsFirst, item_count};
 ghost use Rattle.slab.specs.Slab.{get};
-ghost use Rattle.arc_tables.specs.Rings.{begins};
-ghost use Rattle.arc_tables.specs.Stores.{path_in};
-ghost use Rattle.arc_tables.specs.Ways.{chain};
+ghost use Rattle.arc_tables.specs.Common.{begins, path_in, chain};
 
 use crate::around::path_at;
 use crate::borders::Borders;

@@ -1,8 +1,8 @@
 //! The edits of one vertex in every ring at once, and what stands around it.
 ghost use Rattle.std.specs.Prelude.{◌≡◌, ◌≤◌, ◌<◌, ◌^◌, ◌⊎◌, ℕ, List, OnOk, OnErr, IfOk, IfSome, IfNone, option_map, length, min};
 ghost use Rattle.std.specs.FinMap as map;
-ghost use Rattle.arc_tables.specs.Ways.{Edge};
-ghost use Rattle.arc_tables.specs.Edited.{AreApart, through, collapsed, throughs, gained, ArePuts};
+ghost use Rattle.arc_tables.specs.Common.{Edge, AreApart, through, collapsed, throughs, gained};
+ghost use Rattle.arc_tables.specs.Common.{ArePuts};
 ghost use Rattle.shared_arcs.specs.Joined.{Joined, Passes, AreNeighbours};
 
 use crate::around::{Neighbours, neighbours_at, shortest_ring};

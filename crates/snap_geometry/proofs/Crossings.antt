@@ -1,12 +1,9 @@
 -- Segments that cross have their ends beside each other's lines.
-use Rattle.std.proofs.Common.{ℕ, ℤ, ◌≡◌, ◌≤◌, ◌<◌, ◌+◌, ◌&&◌, Bool, false, arith, unsigned_abs, true, to_z, of_z, w64, subst, sym, ap, ◌∙◌}
-use Rattle.std.proofs.lemmas.Bool.{false≢true}
-use Rattle.std.proofs.lemmas.Int.{ints}
-use Rattle.grid_geometry.specs.Position.{Position, position, InRange}
-use Rattle.grid_geometry.specs.Segment.{Segment}
-use Rattle.grid_geometry.specs.Conflict.{cross}
-use Rattle.grid_geometry.specs.Orientation.{orientation, are_split, are_opposite}
-use Rattle.snap_geometry.specs.Crossing.{beside, before, whole, IsRoundedBetween, IsRoundedCrossing}
+use Rattle.kit_words.proofs.Common.{ℕ, ℤ, ◌≡◌, ◌≤◌, ◌<◌, ◌+◌, ◌&&◌, Bool, false, arith, unsigned_abs, true, to_z, of_z}
+use Rattle.kit_words.proofs.Common.{w64, subst, sym, ap, ◌∙◌, false≢true, ints}
+use Rattle.grid_geometry.specs.Common.{Position, position, InRange, Segment, cross, orientation, are_split}
+use Rattle.grid_geometry.specs.Common.{are_opposite}
+use Rattle.snap_geometry.specs.Common.{beside, before, whole, IsRoundedBetween, IsRoundedCrossing}
 use Rattle.snap_geometry.proofs.Widths.{narrow_is}
 
 second : (a b : Bool) → (a && b) ≡ true → b ≡ true

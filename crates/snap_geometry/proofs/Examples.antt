@@ -1,11 +1,8 @@
 -- Worked examples: unit squares that a segment meets or misses, and crossings rounded to the grid.
-use Rattle.std.proofs.Common.{◌≡◌, ℕ, pos, negsuc, true, false, refl, arith}
-use Rattle.std.proofs.lemmas.Int.{ints}
-use Rattle.grid_geometry.specs.Position.{Position, position}
-use Rattle.grid_geometry.specs.Segment.{Segment, segment}
-use Rattle.grid_geometry.specs.Orientation.{orientation}
-use Rattle.snap_geometry.specs.Near.{is_near, is_above_falling, meets_square, along}
-use Rattle.snap_geometry.specs.Crossing.{IsRounded, IsRoundedCrossing, before, whole}
+use Rattle.kit_words.proofs.Common.{◌≡◌, ℕ, pos, negsuc, true, false, refl, arith, ints}
+use Rattle.grid_geometry.specs.Common.{Position, position, Segment, segment, orientation}
+use Rattle.snap_geometry.specs.Common.{is_near, is_above_falling, meets_square, along, IsRounded, IsRoundedCrossing}
+use Rattle.snap_geometry.specs.Common.{before, whole}
 
 abbrev at : ℕ → ℕ → Position
 at x y = position (pos x) (pos y)

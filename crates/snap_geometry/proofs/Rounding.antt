@@ -1,9 +1,9 @@
 -- Quotients rounded to the nearest whole number.
-use Rattle.std.proofs.Common.{ℕ, ℤ, pos, ◌≡◌, ◌≤◌, ◌<◌, ◌+◌, ◌-◌, ◌*◌, ◌/◌, ◌+ℤ◌, ◌-ℤ◌, ◌*ℤ◌, ◌≤ℤ◌, ◌<ℤ◌, arith, unsigned_abs, ap, subst, sym, ◌∙◌, to_z, of_z, w64, neg_ℤ, int_le, true, false}
-use Rattle.std.proofs.Math.Nat.{mul-le-mul_left}
-use Rattle.std.proofs.lemmas.Int.{ints}
-use Rattle.grid_geometry.proofs.Algebra.{expand, assoc}
-use Rattle.snap_geometry.specs.Crossing.{IsRounded, IsRoundedBetween}
+use Rattle.kit_words.proofs.Common.{ℕ, ℤ, pos, ◌≡◌, ◌≤◌, ◌<◌, ◌+◌, ◌-◌, ◌*◌, ◌/◌, ◌+ℤ◌, ◌-ℤ◌, ◌*ℤ◌, ◌≤ℤ◌, ◌<ℤ◌, arith}
+use Rattle.kit_words.proofs.Common.{unsigned_abs, ap, subst, sym, ◌∙◌, to_z, of_z, w64, neg_ℤ, int_le, true, false}
+use Rattle.kit_words.proofs.Common.{mul-le-mul_left, ints}
+use Rattle.grid_geometry.proofs.Common.{expand, assoc}
+use Rattle.snap_geometry.specs.Common.{IsRounded, IsRoundedBetween}
 
 -- what a division says of its quotient
 quotient_is : (m n : ℕ) → 0 < n → (n * (m / n) ≤ m) × (m < n * (m / n) + n)

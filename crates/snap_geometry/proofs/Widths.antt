@@ -1,7 +1,6 @@
 -- Sums and differences of two products of differences of coordinates.
-use Rattle.std.proofs.Common.{ℤ, ◌≡◌, ◌≤◌, ◌+ℤ◌, ◌-ℤ◌, arith, unsigned_abs, FitsSigned, to_z, of_z, w64}
-use Rattle.std.specs.Int.{w128}
-use Rattle.std.proofs.lemmas.Int.{ints}
+use Rattle.kit_words.proofs.Common.{ℤ, ◌≡◌, ◌≤◌, ◌+ℤ◌, ◌-ℤ◌, arith, unsigned_abs, FitsSigned, to_z, of_z, w64, w128}
+use Rattle.kit_words.proofs.Common.{ints}
 
 pub difference_is : (u v : ℤ) → unsigned_abs u ≤ 4000000000000000000000000 → unsigned_abs v ≤ 4000000000000000000000000
     → unsigned_abs (to_z w128 (of_z w128 u) -ℤ to_z w128 (of_z w128 v)) ≡ unsigned_abs (u -ℤ v)

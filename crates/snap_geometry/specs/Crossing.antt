@@ -1,8 +1,6 @@
 -- Where two segments cross, rounded to the grid.
 use Rattle.std.specs.Prelude.{ℤ, ℕ, pos, ◌+◌, ◌-ℤ◌, ◌+ℤ◌, ◌*ℤ◌, ◌≤ℤ◌, ◌<ℤ◌, unsigned_abs}
-use Rattle.grid_geometry.specs.Position.{Position}
-use Rattle.grid_geometry.specs.Orientation.{orientation}
-use Rattle.grid_geometry.specs.Segment.{Segment}
+use Rattle.grid_geometry.specs.Common.{Position, orientation, Segment}
 
 -- z is a / b, rounded to a whole number, a half upwards: 2 z - 1 <= 2 a / b < 2 z + 1
 pub record IsRounded (a : ℤ) (b : ℕ) (z : ℤ) : Type 0 where

@@ -1,2 +1,3 @@
 pub mod Near
 pub mod Crossing
+pub mod Common

@@ -1,8 +1,6 @@
 -- When a segment meets the unit square around a position, and where along the segment a position is.
 use Rattle.std.specs.Prelude.{ℤ, pos, ◌+◌, ◌*◌, ◌-ℤ◌, ◌+ℤ◌, ◌*ℤ◌, Bool, ◌&&◌, ◌||◌, nat_le, nat_lt, int_lt, unsigned_abs}
-use Rattle.grid_geometry.specs.Position.{Position}
-use Rattle.grid_geometry.specs.Orientation.{orientation, is_in_box}
-use Rattle.grid_geometry.specs.Segment.{Segment}
+use Rattle.grid_geometry.specs.Common.{Position, orientation, is_in_box, Segment}
 
 -- the unit square around q meets the segment: q lies in its box, and no more than half a unit in x
 -- or in y beside it

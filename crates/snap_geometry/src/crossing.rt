@@ -1,6 +1,6 @@
 // Crossings, rounded to the grid.
 ghost use Rattle.std.specs.Prelude.{ℤ, pos, ◌≤◌, ◌<◌, ◌*◌, ◌≤ℤ◌, IsTrue, unsigned_abs};
-ghost use Rattle.grid_geometry.specs.Conflict.{cross};
+ghost use Rattle.grid_geometry.specs.Common.{cross};
 ghost use Rattle.snap_geometry.specs.Crossing.{IsRounded, IsRoundedBetween, IsRoundedCrossing};
 
 use crate::near::beside;

@@ -1,7 +1,7 @@
 // Unit squares, and distances along a segment.
 ghost use Rattle.std.specs.Prelude.{◌≡◌, ◌≤◌, ◌+◌, ◌*◌, ◌-ℤ◌, ◌+ℤ◌, ◌*ℤ◌, ◌&&◌};
 ghost use Rattle.std.specs.Prelude.{unsigned_abs};
-ghost use Rattle.grid_geometry.specs.Orientation.{orientation, is_in_box, is_between};
+ghost use Rattle.grid_geometry.specs.Common.{orientation, is_in_box, is_between};
 ghost use Rattle.snap_geometry.specs.Near as spec;
 ghost use Rattle.snap_geometry.specs.Crossing.{beside};
 

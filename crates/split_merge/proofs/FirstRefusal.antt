@@ -1,8 +1,7 @@
 -- The first refusal of two groups of conditions, the one after the other.
-use Rattle.std.proofs.Common.{◌≡◌, ◌++◌, Bool, true, false, refl, sym, subst, List, [], ◌∷◌, Option, None, Some}
-use Rattle.ring_machine.specs.Command.{Refusal}
-use Rattle.ring_machine.specs.Refusals.{◌unless◌, first_of}
-use Rattle.arc_store.specs.Faults.{Refuses}
+use Rattle.kit_words.proofs.Common.{◌≡◌, ◌++◌, Bool, true, false, refl, sym, subst, List, [], ◌∷◌, Option, None, Some}
+use Rattle.ring_machine.specs.Common.{Refusal, ◌unless◌, first_of}
+use Rattle.arc_store.specs.Common.{Refuses}
 use Rattle.arc_store.specs.declared.fault.EditFault.{EditFault}
 use Rattle.arc_store.specs.declared.fault.EditFault.TheVariants as edit
 

@@ -1,17 +1,13 @@
 -- A split that passes the conditions before planarity is refused by a later one.
-use Rattle.std.proofs.Common.{◌≡◌, ℕ, Bool, true, false, refl, sym, ap, ◌∙◌, [], ◌∷◌, Option, None, Some}
-use Rattle.std.proofs.lemmas.Bool.{false≢true}
-use Rattle.grid_geometry.specs.Segment.{Segment}
-use Rattle.ring_machine.specs.Document.{Document, Text}
-use Rattle.ring_machine.specs.Planar.{first_pair}
-use Rattle.ring_machine.specs.Cut.{Path, cut}
-use Rattle.ring_machine.specs.Command.{Refusal, Conflict, WrongSide, TooLarge}
-use Rattle.ring_machine.specs.Refusals.{◌unless◌, first_of, conflict_of, split_refusals}
-use Rattle.arc_store.specs.Faults.{Refuses}
+use Rattle.kit_words.proofs.Common.{◌≡◌, ℕ, Bool, true, false, refl, sym, ap, ◌∙◌, [], ◌∷◌, Option, None, Some}
+use Rattle.kit_words.proofs.Common.{false≢true}
+use Rattle.grid_geometry.specs.Common.{Segment}
+use Rattle.ring_machine.specs.Common.{Document, Text, first_pair, Path, cut, Refusal, Conflict, WrongSide, TooLarge}
+use Rattle.ring_machine.specs.Common.{◌unless◌, first_of, conflict_of, split_refusals}
+use Rattle.arc_store.specs.Common.{Refuses}
 use Rattle.arc_store.specs.declared.fault.EditFault.{EditFault}
 use Rattle.arc_store.specs.declared.fault.EditFault.TheVariants as edit
-use Rattle.split_merge.specs.Conditions.{early_refusals}
-use Rattle.split_merge.specs.Untested.{is_early}
+use Rattle.split_merge.specs.Common.{early_refusals, is_early}
 use Rattle.split_merge.proofs.FirstRefusal.{second_group}
 use Rattle.split_merge.proofs.SplitConditions.{late_refusals, split_groups}
 

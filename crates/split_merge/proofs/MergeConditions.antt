@@ -1,20 +1,12 @@
 -- Two features, and what is asked of a merge of them.
-use Rattle.std.proofs.Common.{◌≡◌, ℕ, ◌≤◌, ◌+ℤ◌, refl, sym, ap, ◌∙◌, List, [], ◌∷◌, ◌++◌, length, Option, None, Some, inl, inr, arith}
-use Rattle.std.specs.Prelude.{Result, Ok, Err, OnOk}
-use Rattle.std.specs.List.{sum_by}
-use Rattle.std.proofs.lemmas.List.Sums.{sum_by-cons}
-use Rattle.grid_geometry.specs.Position.{Position}
-use Rattle.ring_machine.specs.Document.{Document, Feature}
-use Rattle.ring_machine.specs.Parts.{rings, size, feature}
-use Rattle.ring_machine.specs.Planar.{Proper}
-use Rattle.ring_machine.specs.Join.{join}
-use Rattle.ring_machine.specs.Query.{area_of}
-use Rattle.ring_machine.specs.Refusals.{first_of, merge_refusals, feature_at}
-use Rattle.ring_machine.specs.Refusals.{or_else, no_feature}
-use Rattle.ring_machine.proofs.First.{In}
-use Rattle.ring_machine.proofs.Found.{feature_in}
+use Rattle.kit_words.proofs.Common.{◌≡◌, ℕ, ◌≤◌, ◌+ℤ◌, refl, sym, ap, ◌∙◌, List, [], ◌∷◌, ◌++◌, length, Option, None}
+use Rattle.kit_words.proofs.Common.{Some, inl, inr, arith, Result, Ok, Err, OnOk, sum_by, sum_by-cons}
+use Rattle.grid_geometry.specs.Common.{Position}
+use Rattle.ring_machine.specs.Common.{Document, Feature, rings, size, feature, Proper, join, area_of, first_of}
+use Rattle.ring_machine.specs.Common.{merge_refusals, feature_at, or_else, no_feature}
+use Rattle.ring_machine.proofs.Common.{In, feature_in}
 use Rattle.ring_machine.proofs.MergeAreas.{outer_in, merge_areas}
-use Rattle.split_merge.specs.Conditions.{pair_refusals, outline_refusals, only_outer}
+use Rattle.split_merge.specs.Common.{pair_refusals, outline_refusals, only_outer}
 
 -- ---- sizes
 

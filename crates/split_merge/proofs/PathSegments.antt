@@ -1,16 +1,11 @@
 -- The segments along a path, and those of the map.
-use Rattle.std.proofs.Common.{◌≡◌, ℕ, suc, ◌+◌, ◌<◌, Bool, true, false, refl, sym, ap, ◌∙◌, cond, List, [], ◌∷◌, ◌||◌, length, drop, get_or, arith}
-use Rattle.std.specs.Prelude.{nat_lt}
-use Rattle.std.specs.List.{list_any, filter}
-use Rattle.std.proofs.lemmas.Bool.Decides.{nat_tests}
-use Rattle.std.proofs.lemmas.List.{at_drop_more}
-use Rattle.grid_geometry.specs.Position.{Position}
-use Rattle.grid_geometry.specs.Segment.{Segment}
-use Rattle.grid_geometry.specs.Ring.{Edge, links}
-use Rattle.ring_machine.specs.Document.{Document}
-use Rattle.ring_machine.specs.Parts.{rings, is_segment}
-use Rattle.arc_store.specs.Spots.{users}
-use Rattle.arc_store.proofs.Insertions.{has_segment, is_segment_by}
+use Rattle.kit_words.proofs.Common.{◌≡◌, ℕ, suc, ◌+◌, ◌<◌, Bool, true, false, refl, sym, ap, ◌∙◌, cond, List, [], ◌∷◌}
+use Rattle.kit_words.proofs.Common.{◌||◌, length, drop, get_or, arith, nat_lt, list_any, filter, nat_tests}
+use Rattle.kit_words.proofs.Common.{at_drop_more}
+use Rattle.grid_geometry.specs.Common.{Position, Segment, Edge, links}
+use Rattle.ring_machine.specs.Common.{Document, rings, is_segment}
+use Rattle.arc_store.specs.Common.{users}
+use Rattle.arc_store.proofs.Common.{has_segment, is_segment_by}
 
 -- ---- a segment
 

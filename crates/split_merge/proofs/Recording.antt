@@ -1,24 +1,17 @@
 -- An edit of features that has begun, carried out: its record takes it back.
-use Rattle.std.proofs.Common.{◌≡◌, ◌≢◌, ℕ, true, false, refl, sym, ap, ap₂, ◌∙◌, subst, Option, Some, None, is_some, eq-eqb}
-use Rattle.std.specs.Prelude.{Result, Ok, Err, OnOk}
-use Rattle.std.proofs.lemmas.Bool.{false≢true}
-use Rattle.ring_machine.specs.Document.{Document, Feature, Text}
-use Rattle.ring_machine.specs.Parts.{features, feature, has_feature}
-use Rattle.ring_machine.specs.Join.{join, take_out}
-use Rattle.ring_machine.specs.Cut.{Path}
-use Rattle.ring_machine.specs.Machine.{renamed}
-use Rattle.ring_machine.specs.Command.{Refusal, NoFeature}
-use Rattle.ring_machine.specs.Refusals.{first_of, feature_refusals, split_refusals, merge_refusals, feature_at, or_else, no_feature}
-use Rattle.ring_machine.proofs.Found.{has_feature-found}
-use Rattle.ring_machine.proofs.MergeAccepted.{found, merge-accepted}
-use Rattle.edit_records.specs.Records.{Renamed, Exchanged, IsHeld, Takes}
-use Rattle.edit_records.proofs.ExchangesBack.{deleted, merged, split}
-use Rattle.edit_records.proofs.Recorded.{delete-recorded, merge-recorded, split-recorded, rename-recorded}
-use Rattle.arc_store.specs.Outcomes.{Edits, split_map}
-use Rattle.arc_store.specs.State.{State}
+use Rattle.kit_words.proofs.Common.{◌≡◌, ◌≢◌, ℕ, true, false, refl, sym, ap, ap₂, ◌∙◌, subst, Option, Some, None}
+use Rattle.kit_words.proofs.Common.{is_some, eq-eqb, Result, Ok, Err, OnOk, false≢true}
+use Rattle.ring_machine.specs.Common.{Document, Feature, Text, features, feature, has_feature, join, take_out, Path}
+use Rattle.ring_machine.specs.Common.{renamed, Refusal, NoFeature, first_of, feature_refusals, split_refusals}
+use Rattle.ring_machine.specs.Common.{merge_refusals, feature_at, or_else, no_feature}
+use Rattle.ring_machine.proofs.Common.{has_feature-found, merge-accepted}
+use Rattle.ring_machine.proofs.MergeAccepted.{found}
+use Rattle.edit_records.specs.Common.{Renamed, Exchanged, IsHeld, Takes}
+use Rattle.edit_records.proofs.Common.{deleted, merged, split, delete-recorded, merge-recorded, split-recorded}
+use Rattle.edit_records.proofs.Common.{rename-recorded}
+use Rattle.arc_store.specs.Common.{Edits, split_map, State, IsRecorded}
 use Rattle.arc_store.specs.declared.fault.EditFault.{EditFault}
-use Rattle.arc_store.proofs.Outcomes.{is_made, holds_made}
-use Rattle.arc_store.specs.Recorded.{IsRecorded}
+use Rattle.arc_store.proofs.Common.{is_made, holds_made}
 use Rattle.split_merge.proofs.FirstRefusal.{passes}
 
 -- a feature that is cut is there

@@ -1,13 +1,9 @@
 -- What a merge is refused by, from what its two outer rings have in common.
-use Rattle.std.proofs.Common.{◌≡◌, ℕ, ◌<◌, ◌≤◌, Bool, true, false, sym, ap, ap₂, ◌∙◌, List, [], ◌∷◌, Option, None, Some, arith}
-use Rattle.std.specs.Prelude.{not, nat_le}
-use Rattle.std.specs.List.{list_any}
-use Rattle.std.proofs.lemmas.Bool.Decides.{nat_tests}
-use Rattle.grid_geometry.specs.Position.{Position}
-use Rattle.grid_geometry.specs.Ring.{edges}
-use Rattle.ring_machine.specs.Join.{is_common, runs, common_else, same_side}
-use Rattle.ring_machine.specs.Command.{Refusal, NotNeighbours, Runs, CommonElse, SameSide}
-use Rattle.ring_machine.specs.Refusals.{◌unless◌, first_of, ring_refusals}
+use Rattle.kit_words.proofs.Common.{◌≡◌, ℕ, ◌<◌, ◌≤◌, Bool, true, false, sym, ap, ap₂, ◌∙◌, List, [], ◌∷◌, Option, None}
+use Rattle.kit_words.proofs.Common.{Some, arith, not, nat_le, list_any, nat_tests}
+use Rattle.grid_geometry.specs.Common.{Position, edges}
+use Rattle.ring_machine.specs.Common.{is_common, runs, common_else, same_side, Refusal, NotNeighbours, Runs, CommonElse}
+use Rattle.ring_machine.specs.Common.{SameSide, ◌unless◌, first_of, ring_refusals}
 
 abbrev elsewhere : Option Position → Option Refusal
 elsewhere None = None

@@ -1,25 +1,14 @@
 -- A split that passes the conditions before any test of two segments.
-use Rattle.std.proofs.Common.{◌≡◌, ℕ, ◌<◌, ◌≤◌, true, false, refl, sym, ap, ap₂, ◌∙◌, List, [], ◌∷◌, ◌++◌, Option, None, ◌⊎◌, inl, inr, arith}
-use Rattle.std.specs.Prelude.{not, ◌&&◌, ◌==◌, nat_lt, is_some, Result, Ok, Err, OnOk, IfOk, ◌+ℤ◌}
-use Rattle.std.specs.List.{list_any}
-use Rattle.std.proofs.lemmas.Bool.{cases_lt, false≢true}
-use Rattle.std.proofs.lemmas.Bool.Decides.{Decides-eqb, nat_tests}
-use Rattle.ring_machine.specs.Ring.{is_distinct}
-use Rattle.ring_machine.specs.Document.{Document, Feature, Text}
-use Rattle.ring_machine.specs.Parts.{features, feature, has_feature, is_vertex}
-use Rattle.ring_machine.specs.WellFormed.{WellFormed}
-use Rattle.ring_machine.specs.Planar.{Proper}
-use Rattle.ring_machine.specs.Cut.{Path, cut, is_cut_by, is_wrong_side, first_that}
-use Rattle.ring_machine.specs.Command.{Refusal, WrongSide, TooLarge}
-use Rattle.ring_machine.specs.Query.{area_of}
-use Rattle.ring_machine.specs.Refusals.{◌unless◌, first_of, planar, is_small, feature_at, is_layer}
-use Rattle.ring_machine.specs.Refusals.{positions_of, is_path_segment, split_refusals}
-use Rattle.ring_machine.proofs.First.{In}
-use Rattle.ring_machine.proofs.Found.{has_feature-found}
-use Rattle.ring_machine.proofs.Members.{in_any}
-use Rattle.ring_machine.proofs.Removal.{not_true}
+use Rattle.kit_words.proofs.Common.{◌≡◌, ℕ, ◌<◌, ◌≤◌, true, false, refl, sym, ap, ap₂, ◌∙◌, List, [], ◌∷◌, ◌++◌, Option}
+use Rattle.kit_words.proofs.Common.{None, ◌⊎◌, inl, inr, arith, not, ◌&&◌, ◌==◌, nat_lt, is_some, Result, Ok, Err, OnOk}
+use Rattle.kit_words.proofs.Common.{IfOk, ◌+ℤ◌, list_any, cases_lt, false≢true, Decides-eqb, nat_tests}
+use Rattle.ring_machine.specs.Common.{is_distinct, Document, Feature, Text, features, feature, has_feature, is_vertex}
+use Rattle.ring_machine.specs.Common.{WellFormed, Proper, Path, cut, is_cut_by, is_wrong_side, first_that, Refusal}
+use Rattle.ring_machine.specs.Common.{WrongSide, TooLarge, area_of, ◌unless◌, first_of, planar, is_small, feature_at}
+use Rattle.ring_machine.specs.Common.{is_layer, positions_of, is_path_segment, split_refusals}
+use Rattle.ring_machine.proofs.Common.{In, has_feature-found, in_any, not_true}
 use Rattle.ring_machine.proofs.SplitLaws.{are_below, split_areas}
-use Rattle.split_merge.specs.Conditions.{early_refusals}
+use Rattle.split_merge.specs.Common.{early_refusals}
 use Rattle.split_merge.proofs.FirstRefusal.{passes}
 
 -- what is asked of a split after that

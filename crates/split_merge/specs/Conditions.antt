@@ -1,15 +1,11 @@
 -- The conditions of edits of features, in groups.
 use Rattle.std.specs.Prelude.{ℕ, not, ◌&&◌, ◌==◌, List, [], ◌∷◌, ◌++◌, Option}
 use Rattle.std.specs.List.{list_any}
-use Rattle.grid_geometry.specs.Position.{Position}
-use Rattle.ring_machine.specs.Ring.{is_distinct}
-use Rattle.ring_machine.specs.Document.{Document}
-use Rattle.ring_machine.specs.Parts.{has_feature, is_vertex}
-use Rattle.ring_machine.specs.Cut.{Path, is_cut_by}
-use Rattle.ring_machine.specs.Command.{Refusal, NoFeature, NoCollection, NotOnOuterRing}
-use Rattle.ring_machine.specs.Command.{RepeatedPoint, Occupied, SegmentExists, SameFeature}
-use Rattle.ring_machine.specs.Refusals.{◌unless◌, no_feature, outer_of, feature_at, is_layer}
-use Rattle.ring_machine.specs.Refusals.{positions_of, is_path_segment, ring_refusals}
+use Rattle.grid_geometry.specs.Common.{Position}
+use Rattle.ring_machine.specs.Common.{is_distinct, Document, has_feature, is_vertex, Path, is_cut_by, Refusal}
+use Rattle.ring_machine.specs.Common.{NoFeature, NoCollection, NotOnOuterRing, RepeatedPoint, Occupied, SegmentExists}
+use Rattle.ring_machine.specs.Common.{SameFeature, ◌unless◌, no_feature, outer_of, feature_at, is_layer, positions_of}
+use Rattle.ring_machine.specs.Common.{is_path_segment, ring_refusals}
 
 -- feature n is there, in a collection, and has a polygon that the path cuts
 abbrev pub place_refusals : Document → ℕ → Path → List (Option Refusal)

@@ -1,2 +1,3 @@
 pub mod Conditions
 pub mod Untested
+pub mod Common

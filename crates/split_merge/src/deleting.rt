@@ -1,8 +1,6 @@
 ghost use Rattle.std.specs.Prelude.{◌≡◌, OnOk};
-ghost use Rattle.ring_machine.specs.Join.{take_out};
-ghost use Rattle.ring_machine.specs.Refusals.{first_of, feature_refusals};
-ghost use Rattle.arc_store.specs.Outcomes.{Edits, edit_begun};
-ghost use Rattle.arc_store.specs.Recorded.{IsRecorded};
+ghost use Rattle.ring_machine.specs.Common.{take_out, first_of, feature_refusals};
+ghost use Rattle.arc_store.specs.Common.{Edits, edit_begun, IsRecorded};
 
 use arc_store::{EditFault, Map};
 use segment_index::SegIndex;

@@ -1,8 +1,8 @@
 ghost use Rattle.std.specs.Prelude.{◌≡◌, [], ◌∷◌, IfOk};
 ghost use Rattle.json.specs.Print.{print};
 ghost use Rattle.json.specs.Token.{string};
-ghost use Rattle.topo_outline.specs.Kept.{IsJson};
-ghost use Rattle.map_text.specs.Strings.{string_text};
+ghost use Rattle.topo_outline.specs.Common.{IsJson};
+ghost use Rattle.map_text.specs.Common.{string_text};
 
 use arc_store::IdText;
 use json::Writer;

@@ -1,12 +1,8 @@
 ghost use Rattle.std.specs.Prelude.{◌≡◌, ◌≤◌, ◌+ℤ◌, [], ◌∷◌, Some, None, OnOk, IfErr};
-ghost use Rattle.ring_machine.specs.Join.{join};
-ghost use Rattle.ring_machine.specs.Parts.{feature, size};
-ghost use Rattle.ring_machine.specs.Query.{area_of};
-ghost use Rattle.ring_machine.specs.Refusals.{first_of, merge_refusals, feature_at};
+ghost use Rattle.ring_machine.specs.Common.{join, feature, size, area_of, first_of, merge_refusals};
+ghost use Rattle.ring_machine.specs.Common.{feature_at};
 ghost use Rattle.edit_records.specs.Records as made;
-ghost use Rattle.arc_store.specs.Faults.{Refuses};
-ghost use Rattle.arc_store.specs.Outcomes.{Edits, edit_begun};
-ghost use Rattle.arc_store.specs.Recorded.{IsRecorded};
+ghost use Rattle.arc_store.specs.Common.{Refuses, Edits, edit_begun, IsRecorded};
 ghost use Rattle.split_merge.specs.Conditions.{pair_refusals, outline_refusals};
 
 use crate::outlines::{check_rings, only_outer};

@@ -1,7 +1,7 @@
 ghost use Rattle.std.specs.Prelude.{◌≡◌, ◌≤◌, length, None, Some, option_map, OnOk, IfErr};
-ghost use Rattle.ring_machine.specs.Refusals.{first_of, ring_refusals};
-ghost use Rattle.ring_parts.specs.Seen.{polygons_seen};
-ghost use Rattle.arc_store.specs.Faults.{Refuses};
+ghost use Rattle.ring_machine.specs.Common.{first_of, ring_refusals};
+ghost use Rattle.ring_parts.specs.Common.{polygons_seen};
+ghost use Rattle.arc_store.specs.Common.{Refuses};
 ghost use Rattle.split_merge.specs.Conditions.{only_outer};
 
 use arc_store::EditFault;

@@ -1,12 +1,10 @@
 ghost use Rattle.std.specs.Prelude.{◌≡◌, ◌≢◌, true, IfErr, OnOk, None};
 ghost use Rattle.std.specs.List.{list_any};
-ghost use Rattle.grid_geometry.specs.Ring.{links};
-ghost use Rattle.grid_geometry.specs.Segment.{segment};
-ghost use Rattle.ring_machine.specs.Parts.{is_segment, is_vertex};
-ghost use Rattle.ring_machine.specs.Ring.{is_distinct, segment_of};
-ghost use Rattle.ring_machine.specs.Refusals.{first_of, positions_of};
-ghost use Rattle.ring_parts.specs.Seen.{path_seen};
-ghost use Rattle.arc_store.specs.Faults.{Refuses};
+ghost use Rattle.grid_geometry.specs.Common.{links, segment};
+ghost use Rattle.ring_machine.specs.Common.{is_segment, is_vertex, is_distinct, segment_of};
+ghost use Rattle.ring_machine.specs.Common.{first_of, positions_of};
+ghost use Rattle.ring_parts.specs.Common.{path_seen};
+ghost use Rattle.arc_store.specs.Common.{Refuses};
 ghost use Rattle.split_merge.specs.Conditions.{path_refusals};
 
 use arc_store::{EditFault, Map};

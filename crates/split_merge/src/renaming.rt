@@ -1,9 +1,7 @@
 ghost use Rattle.std.specs.Prelude.{◌≡◌, OnOk};
-ghost use Rattle.ring_machine.specs.Machine.{renamed};
-ghost use Rattle.ring_machine.specs.Refusals.{first_of, feature_refusals};
-ghost use Rattle.arc_store.specs.Outcomes.{Edits, edit_begun};
-ghost use Rattle.arc_store.specs.Recorded.{IsRecorded};
-ghost use Rattle.map_text.specs.Strings.{string_text};
+ghost use Rattle.ring_machine.specs.Common.{renamed, first_of, feature_refusals};
+ghost use Rattle.arc_store.specs.Common.{Edits, edit_begun, IsRecorded};
+ghost use Rattle.map_text.specs.Common.{string_text};
 
 use crate::id_text::json_string;
 use arc_store::{EditFault, IdText, Map};

@@ -1,17 +1,14 @@
 ghost use Rattle.std.specs.Prelude.{◌≡◌, ◌≤◌, ◌+◌, ◌+ℤ◌, length, None, OnOk, IfOk, IfErr, IsTrue};
 ghost use Rattle.std.specs.List.{list_any};
-ghost use Rattle.ring_machine.specs.Cut.{path_of, cut, is_cut_by};
-ghost use Rattle.ring_machine.specs.Query.{area_of};
-ghost use Rattle.ring_machine.specs.Refusals.{first_of, split_refusals, feature_at};
-ghost use Rattle.ring_parts.specs.Seen.{path_seen};
-ghost use Rattle.segment_index.specs.Times.{times_by};
-ghost use Rattle.local_planarity.specs.Tests.{most_for};
-ghost use Rattle.arc_store.specs.Faults.{Refuses};
-ghost use Rattle.arc_store.specs.Outcomes.{Edits, edit_begun, split_map};
-ghost use Rattle.arc_store.specs.Recorded.{IsRecorded};
+ghost use Rattle.ring_machine.specs.Common.{path_of, cut, is_cut_by, area_of, first_of};
+ghost use Rattle.ring_machine.specs.Common.{split_refusals, feature_at};
+ghost use Rattle.ring_parts.specs.Common.{path_seen};
+ghost use Rattle.segment_index.specs.Common.{times_by};
+ghost use Rattle.local_planarity.specs.Common.{most_for};
+ghost use Rattle.arc_store.specs.Common.{Refuses, Edits, edit_begun, split_map, IsRecorded};
 ghost use Rattle.split_merge.specs.Conditions.{place_refusals, early_refusals};
 ghost use Rattle.split_merge.specs.Untested.{is_early};
-ghost use Rattle.map_text.specs.Strings.{string_text};
+ghost use Rattle.map_text.specs.Common.{string_text};
 
 use crate::id_text::json_string;
 use crate::path_way::check_path;

@@ -1,8 +1,7 @@
 -- Pieces that are appended one after another.
 use mir.Syntax.{w64}
 use mir.Val.{SFits, of_z, to_z}
-use Rattle.std.proofs.Common.{◌≡◌, ℕ, List, ◌++◌, ap, ap₂, ◌∙◌, append_assoc}
-use Rattle.std.specs.Prelude.{ℤ}
+use Rattle.kit_words.proofs.Common.{◌≡◌, ℕ, List, ◌++◌, ap, ap₂, ◌∙◌, append_assoc, ℤ}
 use Rattle.std.proofs.Math.Facts.{to_z-of_z}
 
 pub two : (old a b mid new : List ℕ) → mid ≡ old ++ a → new ≡ mid ++ b → new ≡ old ++ (a ++ b)

@@ -1,10 +1,9 @@
 -- What escaping makes of bytes is text.
-use Rattle.std.proofs.Common.{◌≡◌, ℕ, ◌<◌, ◌==◌, ◌⊎◌, inl, inr, List, [], ◌∷◌, ◌++◌, Bool, true, false, refl, arith, lit<}
-use Rattle.std.specs.Prelude.{if◌then◌else◌}
-use Rattle.std.proofs.lemmas.Bool.{eqb-false, lt-ltb}
-use Rattle.std.proofs.lemmas.Bool.Decides.{eqb_tells}
-use Rattle.svg_text.specs.Escaping.{escaped, escaped_from, escaped_byte, escaped_behind, ends_noncharacter, is_control, IsText, IsPlain}
-use Rattle.svg_text.specs.Escaping.{none, plain, reference, ampersand, less, greater, quote, apostrophe, return}
+use Rattle.kit_words.proofs.Common.{◌≡◌, ℕ, ◌<◌, ◌==◌, ◌⊎◌, inl, inr, List, [], ◌∷◌, ◌++◌, Bool, true, false, refl}
+use Rattle.kit_words.proofs.Common.{arith, lit<, if◌then◌else◌, eqb-false, lt-ltb, eqb_tells}
+use Rattle.svg_text.specs.Common.{escaped, escaped_from, escaped_byte, escaped_behind, ends_noncharacter, is_control}
+use Rattle.svg_text.specs.Common.{IsText, IsPlain, none, plain, reference, ampersand, less, greater, quote, apostrophe}
+use Rattle.svg_text.specs.Common.{return}
 
 -- a choice has what both of its sides have
 by_test : (t : Bool) (x y : List ℕ) (P : List ℕ → Type 0) → (t ≡ true → P x) → (t ≡ false → P y) → P (if t then x else y)

@@ -1,3 +1,4 @@
 pub mod Escaping
 pub mod Numbers
 pub mod Elements
+pub mod Common

@@ -1,6 +1,5 @@
 -- A copy of a list, seen item by item.
-use Rattle.std.proofs.Common.{◌≡◌, refl, ap₂, List, [], ◌∷◌, map}
-use Rattle.std.specs.List.{AllZip}
+use Rattle.kit_words.proofs.Common.{◌≡◌, refl, ap₂, List, [], ◌∷◌, map, AllZip}
 
 module _ {X Y : Type 0} (Same : X → X → Type 0) (f : X → Y) (seen : (x c : X) → Same x c → f c ≡ f x) where
   pub copied_map : (xs copies : List X) → AllZip Same xs copies → map f copies ≡ map f xs

@@ -1,18 +1,13 @@
 -- Geometries depth first.
-use Rattle.std.proofs.Common.{◌≡◌, ◌≢◌, ℕ, zero, suc, ◌-◌, List, [], ◌∷◌, ◌++◌, refl, sym, ap, ◌∙◌, append_assoc, sub-one, true, false}
-use Rattle.std.specs.Prelude.{Result, Ok, Err, codes}
-use Rattle.std.proofs.lemmas.List.{append-nil}
-use Rattle.json_spans.specs.Nodes.{Node}
-use Rattle.json_spans.specs.Walk.{items}
+use Rattle.kit_words.proofs.Common.{◌≡◌, ◌≢◌, ℕ, zero, suc, ◌-◌, List, [], ◌∷◌, ◌++◌, refl, sym, ap, ◌∙◌, append_assoc}
+use Rattle.kit_words.proofs.Common.{sub-one, true, false, Result, Ok, Err, codes, append-nil}
+use Rattle.json_spans.specs.Common.{Node, items}
 use Rattle.topo_outline.specs.declared.words.Word.TheVariants as word
-use Rattle.topo_outline.specs.declared.words.Geometry.{Geometry}
+use Rattle.topo_outline.specs.Common.{Geometry, OpenFault, Fault, too_deep, ◌>>=◌, demand, Fails, EntryNode, head}
+use Rattle.topo_outline.specs.Common.{Piece, starts, ends, is_list, members_of, type_of, single, is_collection}
+use Rattle.topo_outline.specs.Common.{member_that, is_object, wrong, each_joined}
 use Rattle.topo_outline.specs.declared.members.Owner.TheVariants as owner
-use Rattle.topo_outline.specs.declared.fault.OpenFault.{OpenFault}
-use Rattle.topo_outline.specs.Faults.{Fault, too_deep, ◌>>=◌, demand}
-use Rattle.topo_outline.specs.Gives.{Fails}
-use Rattle.topo_outline.specs.Members.{EntryNode, head}
-use Rattle.topo_outline.specs.Layers.{Piece, starts, ends}
-use Rattle.topo_outline.specs.Shape.{is_list, members_of, type_of, single, is_collection, member_that, is_object, wrong, geometry, each_joined}
+use Rattle.topo_outline.specs.Shape.{geometry}
 use Rattle.topo_outline.proofs.Walking.{with_front, carry}
 
 abbrev pub inside : EntryNode → ℕ → Node → Result (List Piece) Fault

@@ -1,20 +1,15 @@
 -- The names of an object are tested in order exactly if no two stand for one text.
-use Rattle.std.proofs.Common.{◌≡◌, not, List, [], ◌∷◌, ◌++◌, ℕ, Bool, true, false, refl, sym, ◌∙◌, subst, true≢false, bytes_eq}
-use Rattle.std.proofs.lemmas.Cmp.{nat_list_eq_equiv}
-use Rattle.std.specs.Prelude.{Ok, Option, Some, None}
-use Rattle.std.specs.List.{list_any, IsDistinct, AllByRecursion}
-use Rattle.std.proofs.lemmas.List.Folds.{list_any-append}
-use Rattle.std.proofs.lemmas.Slice.Eq.{bytes_eq-Decides}
-use Rattle.std.proofs.lemmas.Map.Made.{AllPairs-from_IsDistinct, IsDistinct-from_AllPairs}
-use Rattle.json_spans.specs.Nodes.{Node}
-use Rattle.json_spans.specs.Walk.{members}
-use Rattle.json_spans.specs.Decoded.{decoded}
-use Rattle.json_spans.proofs.Told.{members_told}
-use Rattle.topo_outline.specs.Faults.{Fault, duplicate, demand}
-use Rattle.topo_outline.specs.Members.{EntryNode, entry_of}
-use Rattle.topo_outline.specs.Shape.{named, name_text, text_from, unquoted, members_of, is_object}
-use Rattle.topo_outline.specs.IsOutline.{Entries, no_entry, entry, HasEntries, NestsAtMost}
-use Rattle.ring_machine.proofs.Removal.{not_true}
+use Rattle.kit_words.proofs.Common.{◌≡◌, not, List, [], ◌∷◌, ◌++◌, ℕ, Bool, true, false, refl, sym, ◌∙◌, subst}
+use Rattle.kit_words.proofs.Common.{true≢false, nat_list_eq_equiv, Ok, Option, Some, None, list_any, IsDistinct}
+use Rattle.kit_words.proofs.Common.{AllByRecursion, list_any-append, bytes_eq-Decides, AllPairs-from_IsDistinct}
+use Rattle.kit_words.proofs.Common.{IsDistinct-from_AllPairs}
+use Rattle.std.proofs.Common.{bytes_eq}
+use Rattle.json_spans.specs.Common.{Node, members, decoded}
+use Rattle.json_spans.proofs.Common.{members_told}
+use Rattle.topo_outline.specs.Common.{Fault, duplicate, demand, EntryNode, entry_of, named, name_text, text_from}
+use Rattle.topo_outline.specs.Common.{unquoted, members_of, is_object, Entries, no_entry, entry, HasEntries}
+use Rattle.topo_outline.specs.Common.{NestsAtMost}
+use Rattle.ring_machine.proofs.Common.{not_true}
 use Rattle.topo_outline.proofs.Levels.{object_here}
 use Rattle.topo_outline.proofs.Steps.{step, demanded, same_ok, neither}
 

@@ -1,21 +1,19 @@
 -- The texts of an outline are ones that opening would keep.
-use Rattle.std.proofs.Common.{◌≡◌, ◌≢◌, ℕ, List, [], ◌∷◌, ◌++◌, Bool, true, false, not, cond, refl, ap, map}
-use Rattle.std.specs.Prelude.{Option, Some, None, option_map, filter}
-use Rattle.std.specs.List.{AllByRecursion, AllPairs, AllZip}
-use Rattle.std.proofs.lemmas.List.Kept.{AllPairs-filter}
-use Rattle.json_spans.specs.Nodes.{Node}
-use Rattle.json_spans.specs.Inside.{IsText, IsValue}
-use Rattle.json_spans.proofs.Told.{member_values}
-use Rattle.ring_machine.specs.Document.{Text}
-use Rattle.topo_outline.specs.declared.words.Word.{Word}
+use Rattle.kit_words.proofs.Common.{◌≡◌, ◌≢◌, ℕ, List, [], ◌∷◌, ◌++◌, Bool, true, false, not, cond, refl, ap, map}
+use Rattle.kit_words.proofs.Common.{Option, Some, None, option_map, AllByRecursion, AllPairs, AllZip, AllPairs-filter}
+use Rattle.std.specs.Prelude.{filter}
+use Rattle.json_spans.specs.Common.{Node, IsText, IsValue}
+use Rattle.json_spans.proofs.Common.{member_values}
+use Rattle.ring_machine.specs.Common.{Text}
+use Rattle.topo_outline.specs.Common.{Word, Owner, word_of, EntryNode, entry_of, member, is_known, kept, kept_text}
+use Rattle.topo_outline.specs.Common.{text_of, head, Piece, starts, ends, leaf, text, LayerText, OutlineText, Entries}
+use Rattle.topo_outline.specs.Common.{no_entry, entry, HasEntries, NestsAtMost, IsTransform, no_transform}
+use Rattle.topo_outline.specs.Common.{null_transform, transform, IsGeometry, null_geometry, point, multi_point, polygon}
+use Rattle.topo_outline.specs.Common.{multi_polygon, collection, AreGeometries, no_geometry, geometry, AreLayers}
+use Rattle.topo_outline.specs.Common.{no_layer, layer, IsOutline, IsJson, IsName, IfThere, IsKeptMember, AreKeptMembers}
+use Rattle.topo_outline.specs.Common.{IsKeptHead, IsKeptGeometry, IsKeptTransform, owner_of}
 use Rattle.topo_outline.specs.declared.words.Word.TheVariants as word
-use Rattle.topo_outline.specs.declared.members.Owner.{Owner}
 use Rattle.topo_outline.specs.declared.members.Owner.TheVariants as owner
-use Rattle.topo_outline.specs.Words.{word_of}
-use Rattle.topo_outline.specs.Members.{EntryNode, entry_of, member, is_known, kept, kept_text, text_of, head}
-use Rattle.topo_outline.specs.Layers.{Piece, starts, ends, leaf, text, LayerText, OutlineText}
-use Rattle.topo_outline.specs.IsOutline.{Entries, no_entry, entry, HasEntries, NestsAtMost, IsTransform, no_transform, null_transform, transform, IsGeometry, null_geometry, point, multi_point, polygon, multi_polygon, collection, AreGeometries, no_geometry, geometry, AreLayers, no_layer, layer, IsOutline}
-use Rattle.topo_outline.specs.Kept.{IsJson, IsName, IfThere, IsKeptMember, AreKeptMembers, IsKeptHead, IsKeptGeometry, IsKeptTransform, owner_of}
 use Rattle.topo_outline.proofs.Levels.{AllNest, object_nests, list_nests, value_nests}
 
 -- ---- members

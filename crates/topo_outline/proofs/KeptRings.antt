@@ -1,9 +1,8 @@
 -- A document whose rings are changed in place keeps the texts that it kept.
-use Rattle.std.specs.Prelude.{ℕ, List, [], ◌∷◌, map}
-use Rattle.std.specs.List.{AllByRecursion, AllZip}
-use Rattle.ring_machine.specs.Document.{ItemOf, LayerOf, DocumentOf, Open, Close, Leaf, Kept}
-use Rattle.ring_machine.specs.Parts.{in_feature, in_item, in_layer, in_rings}
-use Rattle.topo_outline.specs.Kept.{IsName, KeepsItem, KeepsTexts}
+use Rattle.kit_words.proofs.Common.{ℕ, List, [], ◌∷◌, map, AllByRecursion, AllZip}
+use Rattle.ring_machine.specs.Common.{ItemOf, LayerOf, DocumentOf, Open, Close, Leaf, Kept, in_feature, in_item}
+use Rattle.ring_machine.specs.Common.{in_layer, in_rings}
+use Rattle.topo_outline.specs.Common.{IsName, KeepsItem, KeepsTexts}
 
 -- the items of each layer are ones that opening would keep
 abbrev KeepsLayers : {R : Type 0} → List (LayerOf R) → Type 0

@@ -1,25 +1,17 @@
 -- A document in which others stand in the place of a feature, or none, keeps its texts.
-use Rattle.std.specs.Prelude.{◌≡◌, ℕ, Bool, true, false, not, ◌==◌, List, [], ◌∷◌, ◌++◌, map, Some}
-use Rattle.std.proofs.Common.{suc, length, refl, sym, ap, ◌∙◌, subst, cond, inl, inr, arith, eqb-true}
-use Rattle.grid_geometry.specs.Position.{Position}
-use Rattle.std.specs.List.{AllByRecursion, AllZip, filter, flat_map, filter_map}
-use Rattle.ring_machine.specs.Document.{FeatureOf, ItemOf, LayerOf, DocumentOf, Open, Close, Leaf, Kept}
-use Rattle.ring_machine.specs.Document.{Feature, Document, Form, Text}
+use Rattle.kit_words.proofs.Common.{◌≡◌, ℕ, Bool, true, false, not, ◌==◌, List, [], ◌∷◌, ◌++◌, map, Some, suc, length}
+use Rattle.kit_words.proofs.Common.{refl, sym, ap, ◌∙◌, subst, cond, inl, inr, arith, eqb-true, AllByRecursion, AllZip}
+use Rattle.kit_words.proofs.Common.{filter, flat_map, filter_map}
+use Rattle.grid_geometry.specs.Common.{Position}
+use Rattle.ring_machine.specs.Common.{FeatureOf, ItemOf, LayerOf, DocumentOf, Open, Close, Leaf, Kept, Feature}
+use Rattle.ring_machine.specs.Common.{Document, Form, Text, feature_of, features, feature, in_layer, in_items, Path}
+use Rattle.ring_machine.specs.Common.{is_cut_by, first_that, becomes, instead, cut, is_leaf, empty_collection, take_out}
+use Rattle.ring_machine.specs.Common.{joined_feature, join, renamed, fits_form, WellFormed}
 use Rattle.ring_machine.specs.Document as form
-use Rattle.ring_machine.specs.Parts.{feature_of, features, feature, in_layer, in_items}
-use Rattle.ring_machine.specs.Cut.{Path, is_cut_by, first_that, becomes, instead, cut}
-use Rattle.ring_machine.specs.Join.{is_leaf, empty_collection, take_out, joined_feature, join}
-use Rattle.ring_machine.specs.Machine.{renamed}
-use Rattle.ring_machine.specs.WellFormed.{fits_form, WellFormed}
-use Rattle.ring_machine.proofs.First.{In, in_left, in_right}
-use Rattle.ring_machine.proofs.Neighbours.{all_in}
-use Rattle.ring_machine.proofs.InItems.{of_layers}
-use Rattle.ring_machine.proofs.TakenOut.{taken, take_out_is}
-use Rattle.ring_machine.proofs.Renamed.{renamed_is}
-use Rattle.ring_machine.proofs.CutJoined.{new_part, parts, cut_is, join_is}
+use Rattle.ring_machine.proofs.Common.{In, in_left, in_right, all_in, of_layers, taken, take_out_is, renamed_is}
+use Rattle.ring_machine.proofs.Common.{new_part, parts, cut_is, join_is}
 use Rattle.topo_outline.specs.declared.members.Owner.TheVariants as owner
-use Rattle.topo_outline.specs.Kept.{IsJson, IsName, AreKeptMembers, owner_of, KeepsItem}
-use Rattle.topo_outline.specs.Kept.{KeepsTexts}
+use Rattle.topo_outline.specs.Common.{IsJson, IsName, AreKeptMembers, owner_of, KeepsItem, KeepsTexts}
 
 -- the items of each layer are ones that opening would keep
 abbrev KeepsLayers : {R : Type 0} → List (LayerOf R) → Type 0

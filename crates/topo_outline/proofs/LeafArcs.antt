@@ -1,11 +1,11 @@
 -- The `arcs` of each feature of an outline is a list of lists, as deep as its form asks.
-use Rattle.std.specs.Prelude.{List, [], ◌∷◌, ◌++◌}
-use Rattle.std.specs.List.{AllByRecursion}
-use Rattle.json_spans.specs.Nodes.{Node}
-use Rattle.ring_machine.specs.Document.{Form}
-use Rattle.topo_outline.specs.Members.{EntryNode}
-use Rattle.topo_outline.specs.Layers.{Piece, starts, ends, leaf, text, LayerText, OutlineText, leaves_in, leaves}
-use Rattle.topo_outline.specs.IsOutline.{IsGeometry, null_geometry, point, multi_point, polygon, multi_polygon, collection, AreGeometries, no_geometry, geometry, AreLayers, no_layer, layer, IsOutline}
+use Rattle.kit_words.proofs.Common.{List, [], ◌∷◌, ◌++◌, AllByRecursion}
+use Rattle.json_spans.specs.Common.{Node}
+use Rattle.ring_machine.specs.Common.{Form}
+use Rattle.topo_outline.specs.Common.{EntryNode, Piece, starts, ends, leaf, text, LayerText, OutlineText, leaves_in}
+use Rattle.topo_outline.specs.Common.{leaves, IsGeometry, null_geometry, point, multi_point, polygon, multi_polygon}
+use Rattle.topo_outline.specs.Common.{collection, AreGeometries, no_geometry, geometry, AreLayers, no_layer, layer}
+use Rattle.topo_outline.specs.Common.{IsOutline}
 use Rattle.topo_outline.proofs.Nesting.{AreArcs}
 
 abbrev pub HasArcs : Form × Node → Type 0

@@ -1,21 +1,15 @@
 -- What stands in a list or in an object has fewer lists and objects one in another, and what is
 -- tested is so in the grammar.
-use Rattle.std.proofs.Common.{◌≡◌, ◌≤◌, ◌&&◌, ℕ, zero, suc, List, [], ◌∷◌, Bool, true, false, refl, sym, ap, ap₂, subst, arith}
-use Rattle.std.specs.Prelude.{Some}
-use Rattle.std.specs.List.{AllByRecursion, list_all}
-use Rattle.std.proofs.lemmas.List.Elements.{recursion_from_All}
-use Rattle.json_spans.specs.Nodes.{Node}
-use Rattle.json_spans.specs.Walk.{items, members}
-use Rattle.json_spans.specs.Kinds.{kind_of}
-use Rattle.json_spans.specs.Inside.{IsText, IsValue, IsListOf, IsObjectOf, IsList, IsListWith}
+use Rattle.kit_words.proofs.Common.{◌≡◌, ◌≤◌, ◌&&◌, ℕ, zero, suc, List, [], ◌∷◌, Bool, true, false, refl, sym, ap, ap₂}
+use Rattle.kit_words.proofs.Common.{subst, arith, Some, AllByRecursion, list_all, recursion_from_All}
+use Rattle.json_spans.specs.Common.{Node, items, members, kind_of, IsText, IsValue, IsListOf, IsObjectOf, IsList}
+use Rattle.json_spans.specs.Common.{IsListWith}
 use Rattle.json_spans.specs.declared.kinds.Kind.{Kind}
 use Rattle.json_spans.specs.declared.kinds.Kind.TheVariants as kind
-use Rattle.json_spans.proofs.Grouped.{items_are_values, members_are_values}
-use Rattle.json_spans.proofs.Told.{list_told, object_told, list_kind, object_kind, items_told, members_told}
-use Rattle.topo_outline.specs.declared.words.Word.{Word}
-use Rattle.topo_outline.specs.Members.{EntryNode}
-use Rattle.topo_outline.specs.Shape.{is_list, is_object, is_list_kind, is_kind_object, are_lists, are_lists_of_lists}
-use Rattle.topo_outline.specs.IsOutline.{HasEntries, value_at, AreLists, AreListsOfLists, NestsAtMost}
+use Rattle.json_spans.proofs.Common.{items_are_values, members_are_values, list_told, object_told, list_kind}
+use Rattle.json_spans.proofs.Common.{object_kind, items_told, members_told}
+use Rattle.topo_outline.specs.Common.{Word, EntryNode, is_list, is_object, is_list_kind, is_kind_object, are_lists}
+use Rattle.topo_outline.specs.Common.{are_lists_of_lists, HasEntries, value_at, AreLists, AreListsOfLists, NestsAtMost}
 use Rattle.topo_outline.proofs.Steps.{both_true}
 use Rattle.topo_outline.proofs.Values.{values_have, value_has}
 

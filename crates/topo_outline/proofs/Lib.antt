@@ -16,3 +16,4 @@ pub mod Promised
 pub mod Copied
 pub mod LeafArcs
 pub mod OneOutline
+pub mod Common

@@ -1,24 +1,16 @@
 -- Names, and members found by them.
-use Rattle.std.proofs.Common.{◌≡◌, ℕ, suc, ◌+◌, ◌<◌, ◌≤◌, List, [], ◌∷◌, ◌++◌, length, get_or, drop, map, refl, sym, ap₂, ◌∙◌, add-one, drop-cons, arith, Bool, true, false, cond}
-use Rattle.std.specs.Prelude.{Result, Ok, Err, Some, None, filter, not, ◌||◌, ◌==◌}
-use Rattle.std.specs.Str.{bytes_eq}
-use Rattle.std.specs.List.{list_any}
+use Rattle.kit_words.proofs.Common.{◌≡◌, ℕ, suc, ◌+◌, ◌<◌, ◌≤◌, List, [], ◌∷◌, ◌++◌, length, get_or, drop, map, refl}
+use Rattle.kit_words.proofs.Common.{sym, ap₂, ◌∙◌, add-one, drop-cons, arith, Bool, true, false, cond, Result, Ok, Err}
+use Rattle.kit_words.proofs.Common.{Some, None, not, ◌||◌, ◌==◌, bytes_eq, list_any, nat_list_eq_equiv, append-nil}
+use Rattle.kit_words.proofs.Common.{drop_all}
+use Rattle.std.specs.Prelude.{filter}
 use Rattle.std.proofs.Math.Bool.{or_comm}
-use Rattle.std.proofs.lemmas.Cmp.{nat_list_eq_equiv}
-use Rattle.std.proofs.lemmas.List.{append-nil, drop_all}
 use Rattle.std.proofs.lemmas.List.Recursion.{or_push}
-use Rattle.json_spans.specs.Nodes.{Node}
-use Rattle.topo_outline.specs.declared.words.Word.{Word}
-use Rattle.topo_outline.specs.declared.members.Owner.{Owner}
+use Rattle.json_spans.specs.Common.{Node}
+use Rattle.topo_outline.specs.Common.{Word, Owner, Fault, duplicate, EntryNode, code, member, kept, kept_text, is_known}
+use Rattle.topo_outline.specs.Common.{named, name_text, unquoted, word_of, view_entry, Fails, OpenFault}
 use Rattle.topo_outline.specs.declared.entries.Entry.{Entry}
-use Rattle.topo_outline.specs.Faults.{Fault, duplicate}
-use Rattle.ring_machine.specs.Document.{Member}
-use Rattle.topo_outline.specs.Members.{EntryNode, code, member, kept, kept_text, is_known}
-use Rattle.topo_outline.specs.Shape.{named, name_text, unquoted}
-use Rattle.topo_outline.specs.Words.{word_of}
-use Rattle.topo_outline.specs.Views.{view_entry}
-use Rattle.topo_outline.specs.Gives.{Fails}
-use Rattle.topo_outline.specs.declared.fault.OpenFault.{OpenFault}
+use Rattle.ring_machine.specs.Common.{Member}
 use Rattle.topo_outline.proofs.Walking.{with_front, regroup, carry}
 
 -- a text tested against a set is tested against a list of the same texts

@@ -1,23 +1,20 @@
 -- A geometry's pieces are answered exactly if it is one, as far as the walk goes down.
-use Rattle.std.proofs.Common.{arith, ◌≤◌, ◌≡◌, if◌then◌else◌, ◌⊎◌, inl, inr, ℕ, zero, suc, List, [], ◌∷◌, ◌++◌, Bool, true, false, refl, subst, codes}
-use Rattle.std.specs.Prelude.{Result, Ok, Err, Some}
-use Rattle.std.specs.List.{AllByRecursion}
-use Rattle.json_spans.specs.Nodes.{Node}
-use Rattle.json_spans.specs.Inside.{IsListOf}
-use Rattle.json_spans.specs.Walk.{items}
-use Rattle.json_spans.proofs.Told.{items_told}
-use Rattle.ring_machine.specs.Document.{Form}
+use Rattle.kit_words.proofs.Common.{arith, ◌≤◌, ◌≡◌, if◌then◌else◌, ◌⊎◌, inl, inr, ℕ, zero, suc, List, [], ◌∷◌, ◌++◌}
+use Rattle.kit_words.proofs.Common.{Bool, true, false, refl, subst, codes, Result, Ok, Err, Some, AllByRecursion}
+use Rattle.json_spans.specs.Common.{Node, IsListOf, items}
+use Rattle.json_spans.proofs.Common.{items_told}
+use Rattle.ring_machine.specs.Common.{Form}
 use Rattle.ring_machine.specs.Document as form
 use Rattle.topo_outline.specs.declared.words.Word.TheVariants as word
-use Rattle.topo_outline.specs.declared.words.Geometry.{Geometry}
+use Rattle.topo_outline.specs.Common.{Geometry, geometry_of, Fault, too_deep, ◌>>=◌, EntryNode, head, Piece, starts}
+use Rattle.topo_outline.specs.Common.{ends, leaf, is_list, is_object, are_rings, wrong, members_of, member_that}
+use Rattle.topo_outline.specs.Common.{type_of, with_rings, single, is_collection, shaped, each_joined, NestsAtMost}
+use Rattle.topo_outline.specs.Common.{HasEntries, value_at, HasType, AreLists, AreListsOfLists, IsGeometry}
+use Rattle.topo_outline.specs.Common.{AreGeometries, null_geometry, polygon, multi_polygon, point, multi_point}
+use Rattle.topo_outline.specs.Common.{collection, no_geometry}
 use Rattle.topo_outline.specs.declared.words.Geometry.TheVariants as geo
 use Rattle.topo_outline.specs.declared.members.Owner.TheVariants as owner
-use Rattle.topo_outline.specs.Words.{geometry_of}
-use Rattle.topo_outline.specs.Faults.{Fault, too_deep, ◌>>=◌}
-use Rattle.topo_outline.specs.Members.{EntryNode, head}
-use Rattle.topo_outline.specs.Layers.{Piece, starts, ends, leaf}
-use Rattle.topo_outline.specs.Shape.{is_list, is_object, are_rings, wrong, members_of, member_that, type_of, with_rings, single, is_collection, shaped, each_joined, geometry}
-use Rattle.topo_outline.specs.IsOutline.{NestsAtMost, HasEntries, value_at, HasType, AreLists, AreListsOfLists, IsGeometry, AreGeometries, null_geometry, polygon, multi_polygon, point, multi_point, collection, no_geometry}
+use Rattle.topo_outline.specs.Shape.{geometry}
 use Rattle.topo_outline.specs.IsOutline as shape
 use Rattle.topo_outline.proofs.Depth.{inside, list_of}
 use Rattle.topo_outline.proofs.Levels.{AllNest, object_nests, list_nests, value_nests, list_here, lists_here, lists_of_lists_here, is_an_object, is_a_list, are_lists_tested, are_lists_of_lists_tested}

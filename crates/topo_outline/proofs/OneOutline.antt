@@ -1,14 +1,12 @@
 -- A text has one outline at most.
-use Rattle.std.proofs.Common.{◌≡◌, ℕ, List, [], ◌∷◌, refl, sym, ap, ap₂, ◌∙◌, subst, arith}
-use Rattle.std.specs.Prelude.{Option, Some, Ok}
-use Rattle.json_spans.specs.Nodes.{Node}
-use Rattle.ring_machine.specs.Document.{Text, Member}
+use Rattle.kit_words.proofs.Common.{◌≡◌, ℕ, List, [], ◌∷◌, refl, sym, ap, ap₂, ◌∙◌, subst, arith, Option, Some, Ok}
+use Rattle.json_spans.specs.Common.{Node}
+use Rattle.ring_machine.specs.Common.{Text, Member}
 use Rattle.topo_outline.specs.declared.words.Word.TheVariants as word
 use Rattle.topo_outline.specs.declared.members.Owner.TheVariants as owner
-use Rattle.topo_outline.specs.Members.{EntryNode, member, kept}
-use Rattle.topo_outline.specs.Layers.{Piece, LayerText, OutlineText}
-use Rattle.topo_outline.specs.Shape.{transform_from}
-use Rattle.topo_outline.specs.IsOutline.{NestsAtMost, HasEntries, value_at, IsGeometry, AreLayers, no_layer, layer, IsOutline}
+use Rattle.topo_outline.specs.Common.{EntryNode, member, kept, Piece, LayerText, OutlineText, transform_from}
+use Rattle.topo_outline.specs.Common.{NestsAtMost, HasEntries, value_at, IsGeometry, AreLayers, no_layer, layer}
+use Rattle.topo_outline.specs.Common.{IsOutline}
 use Rattle.topo_outline.proofs.Steps.{same_ok}
 use Rattle.topo_outline.proofs.Levels.{AllNest, object_nests, value_nests}
 use Rattle.topo_outline.proofs.Entering.{object_gives}

@@ -1,12 +1,11 @@
 -- The features in the order of the text, as the loops go over them.
-use Rattle.std.proofs.Common.{◌≡◌, ℕ, suc, ◌+◌, ◌<◌, ◌≤◌, List, ◌∷◌, ◌++◌, length, get_or, drop, map, refl, sym, ap, ◌∙◌, append_assoc, add-one, drop-cons}
-use Rattle.std.proofs.lemmas.List.{append-nil, drop_all}
-use Rattle.json_spans.specs.Nodes.{Node}
-use Rattle.ring_machine.specs.Document.{Form}
+use Rattle.kit_words.proofs.Common.{◌≡◌, ℕ, suc, ◌+◌, ◌<◌, ◌≤◌, List, ◌∷◌, ◌++◌, length, get_or, drop, map, refl, sym}
+use Rattle.kit_words.proofs.Common.{ap, ◌∙◌, append_assoc, add-one, drop-cons, append-nil, drop_all}
+use Rattle.json_spans.specs.Common.{Node}
+use Rattle.ring_machine.specs.Common.{Form}
 use Rattle.topo_outline.specs.declared.document.Item.{Item}
 use Rattle.topo_outline.specs.declared.document.RawLayer.{RawLayer}
-use Rattle.topo_outline.specs.Layers.{leaf_of, at_most_one, leaves_in, leaves}
-use Rattle.topo_outline.specs.Views.{view_item, view_layer}
+use Rattle.topo_outline.specs.Common.{leaf_of, at_most_one, leaves_in, leaves, view_item, view_layer}
 
 tail_at : {A : Type 0} (a : A) (xs : List A) (i : ℕ) → i < length xs → a ≡ get_or xs i a → drop i xs ≡ a ∷ drop (i + 1) xs
 tail_at {A = A} a xs i lt is = drop-cons xs i a lt ∙ rw add-one (ap (λ (b : A). b ∷ drop (suc i) xs) (sym is))

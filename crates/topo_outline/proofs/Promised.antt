@@ -1,16 +1,11 @@
 -- What is answered for a root, and what a fault says of it.
-use Rattle.std.proofs.Common.{◌≡◌, ◌≢◌, Bool, true, false, refl, IfOk, IfErr}
-use Rattle.std.specs.Prelude.{Result, Ok, Err}
-use Rattle.json_spans.specs.Nodes.{Node}
+use Rattle.kit_words.proofs.Common.{◌≡◌, ◌≢◌, Bool, true, false, refl, IfOk, IfErr, Result, Ok, Err}
+use Rattle.json_spans.specs.Common.{Node}
 use Rattle.topo_outline.specs.declared.fault.Limit.TheVariants as limit
-use Rattle.topo_outline.specs.declared.fault.OpenFault.{OpenFault}
+use Rattle.topo_outline.specs.Common.{OpenFault, Fails, Gives, OutlineText, few, outline, view_outline, HasOutline}
+use Rattle.topo_outline.specs.Common.{HasNoOutline, NestsAtMost}
 use Rattle.topo_outline.specs.declared.fault.OpenFault.TheVariants as open_fault
 use Rattle.topo_outline.specs.declared.shape.Outline.{Outline}
-use Rattle.topo_outline.specs.Gives.{Fails, Gives}
-use Rattle.topo_outline.specs.Layers.{OutlineText, few}
-use Rattle.topo_outline.specs.Outline.{outline}
-use Rattle.topo_outline.specs.OutlineView.{view_outline}
-use Rattle.topo_outline.specs.IsOutline.{HasOutline, HasNoOutline, NestsAtMost}
 use Rattle.topo_outline.proofs.Shaped.{outline_means, outline_few, outline_gives}
 
 -- beside an answer that is defined the code may only lack memory

@@ -1,29 +1,23 @@
 -- An outline is answered exactly if it is that of the topology, and has few features.
-use Rattle.std.proofs.Common.{arith, ◌≤◌, ◌≡◌, ◌&&◌, ℕ, List, [], ◌∷◌, true, refl, sym, ap, ap₂, subst, codes}
-use Rattle.std.specs.Prelude.{Ok, Option, Some, None, option_map}
-use Rattle.json_spans.specs.Nodes.{Node}
-use Rattle.json_spans.specs.Inside.{IsListOf}
-use Rattle.json_spans.specs.Walk.{items}
-use Rattle.json_spans.proofs.Grouped.{number_kind}
-use Rattle.json_spans.proofs.Told.{items_told, number_told, text_told, null_told, text_kind, null_kind}
-use Rattle.json_spans.specs.Kinds.{kind_of}
-use Rattle.json_spans.specs.Decoded.{decoded}
+use Rattle.kit_words.proofs.Common.{arith, ◌≤◌, ◌≡◌, ◌&&◌, ℕ, List, [], ◌∷◌, true, refl, sym, ap, ap₂, subst, codes, Ok}
+use Rattle.kit_words.proofs.Common.{Option, Some, None, option_map}
+use Rattle.json_spans.specs.Common.{Node, IsListOf, items, kind_of, decoded}
+use Rattle.json_spans.proofs.Common.{number_kind, items_told, number_told, text_told, null_told, text_kind, null_kind}
 use Rattle.json_spans.specs.declared.kinds.Kind.{Kind}
 use Rattle.json_spans.specs.declared.kinds.Kind.TheVariants as kind
-use Rattle.ring_machine.specs.Document.{Text}
-use Rattle.topo_outline.specs.declared.words.Word.{Word}
+use Rattle.ring_machine.specs.Common.{Text}
+use Rattle.topo_outline.specs.Common.{Word, Geometry, geometry_of, not_topology, too_large, ◌>>=◌, each, EntryNode}
+use Rattle.topo_outline.specs.Common.{member, kept, LayerText, OutlineText, few, is_list, is_object, members_of}
+use Rattle.topo_outline.specs.Common.{member_that, wrong, is_number, two_numbers, are_two_numbers, is_transform}
+use Rattle.topo_outline.specs.Common.{transform_value, transform_from, is_topology_word, says_topology, is_type_text}
+use Rattle.topo_outline.specs.Common.{is_topology, is_kind_object, layers, outline_text, outlined, outline, NestsAtMost}
+use Rattle.topo_outline.specs.Common.{HasEntries, value_at, HasType, AreTwoNumbers, IsGeometry, IsTransform}
+use Rattle.topo_outline.specs.Common.{no_transform, null_transform, AreLayers, no_layer, IsOutline}
 use Rattle.topo_outline.specs.declared.words.Word.TheVariants as word
-use Rattle.topo_outline.specs.declared.words.Geometry.{Geometry}
 use Rattle.topo_outline.specs.declared.words.Geometry.TheVariants as geo
 use Rattle.topo_outline.specs.declared.fault.Limit.TheVariants as limit
 use Rattle.topo_outline.specs.declared.members.Owner.TheVariants as owner
-use Rattle.topo_outline.specs.Words.{geometry_of}
-use Rattle.topo_outline.specs.Faults.{not_topology, too_large, ◌>>=◌, each}
-use Rattle.topo_outline.specs.Members.{EntryNode, member, kept}
-use Rattle.topo_outline.specs.Layers.{LayerText, OutlineText, few}
-use Rattle.topo_outline.specs.Shape.{is_list, is_object, members_of, member_that, wrong, is_number, two_numbers, are_two_numbers, is_transform, transform_value, transform_from, is_topology_word, says_topology, is_type_text, is_topology, is_kind_object, layer, layers, geometry}
-use Rattle.topo_outline.specs.Outline.{outline_text, outlined, outline}
-use Rattle.topo_outline.specs.IsOutline.{NestsAtMost, HasEntries, value_at, HasType, AreTwoNumbers, IsGeometry, IsTransform, no_transform, null_transform, AreLayers, no_layer, IsOutline}
+use Rattle.topo_outline.specs.Shape.{layer, geometry}
 use Rattle.topo_outline.specs.IsOutline as shape
 use Rattle.topo_outline.proofs.Levels.{AllNest, an_object, object_nests, list_nests, value_nests, list_here, is_an_object, is_a_list}
 use Rattle.topo_outline.proofs.Steps.{step, demanded, same_ok, both_true}

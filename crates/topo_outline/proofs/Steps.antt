@@ -1,7 +1,6 @@
 -- What stood before an answer: each step of a program in do-notation.
-use Rattle.std.proofs.Common.{◌≡◌, ◌||◌, ◌&&◌, refl, Bool, true, false}
-use Rattle.std.specs.Prelude.{Result, Ok, Err}
-use Rattle.topo_outline.specs.Faults.{Fault, ◌>>=◌, demand}
+use Rattle.kit_words.proofs.Common.{◌≡◌, ◌||◌, ◌&&◌, refl, Bool, true, false, Result, Ok, Err}
+use Rattle.topo_outline.specs.Common.{Fault, ◌>>=◌, demand}
 
 pub step : {A B P : Type 0} (r : Result A Fault) (f : A → Result B Fault) {y : B} → r >>= f ≡ Ok y → ((x : A) → r ≡ Ok x → f x ≡ Ok y → P) → P
 step (Ok x) f h k = k x refl h

@@ -1,22 +1,14 @@
 -- Members by their names, and what the member `type` says.
-use Rattle.std.proofs.Common.{◌≡◌, ◌||◌, if◌then◌else◌, List, ℕ, Bool, true, false, refl, ap, codes}
-use Rattle.std.specs.Prelude.{Ok, Option, Some, None, option_map}
-use Rattle.std.proofs.lemmas.Slice.Eq.{bytes_eq-Decides}
-use Rattle.json_spans.specs.Nodes.{Node}
-use Rattle.json_spans.specs.Inside.{IsText, IsNull}
-use Rattle.json_spans.specs.Kinds.{kind_of}
-use Rattle.json_spans.specs.Decoded.{decoded}
+use Rattle.kit_words.proofs.Common.{◌≡◌, ◌||◌, if◌then◌else◌, List, ℕ, Bool, true, false, refl, ap, codes, Ok, Option}
+use Rattle.kit_words.proofs.Common.{Some, None, option_map, bytes_eq-Decides}
+use Rattle.json_spans.specs.Common.{Node, IsText, IsNull, kind_of, decoded}
 use Rattle.json_spans.specs.declared.kinds.Kind.{Kind}
 use Rattle.json_spans.specs.declared.kinds.Kind.TheVariants as kind
-use Rattle.json_spans.proofs.Told.{text_told, null_told, text_kind, null_kind}
-use Rattle.topo_outline.specs.declared.words.Word.{Word}
+use Rattle.json_spans.proofs.Common.{text_told, null_told, text_kind, null_kind}
+use Rattle.topo_outline.specs.Common.{Word, Geometry, geometry_of, EntryNode, member, there, wrong, member_that}
+use Rattle.topo_outline.specs.Common.{text_from, type_text, type_of, value_at, HasType, NestsAtMost}
 use Rattle.topo_outline.specs.declared.words.Word.TheVariants as word
-use Rattle.topo_outline.specs.declared.words.Geometry.{Geometry}
 use Rattle.topo_outline.specs.declared.words.Geometry.TheVariants as geo
-use Rattle.topo_outline.specs.Words.{geometry_of}
-use Rattle.topo_outline.specs.Members.{EntryNode, member}
-use Rattle.topo_outline.specs.Shape.{there, wrong, member_that, text_from, type_text, type_of}
-use Rattle.topo_outline.specs.IsOutline.{value_at, HasType, NestsAtMost}
 use Rattle.topo_outline.proofs.Steps.{step, demanded, same_ok}
 use Rattle.topo_outline.proofs.Levels.{AllNest, value_nests}
 use Rattle.topo_outline.proofs.Entering.{text_is}

@@ -1,12 +1,9 @@
 -- What holds of every value of an object holds of the one that is found by its name.
-use Rattle.std.proofs.Common.{◌≡◌, ℕ, ◌≤◌, List, [], ◌∷◌, Bool, true, false, cond, length, subst}
-use Rattle.std.specs.Prelude.{Option, Some, option_map, ◌==◌}
-use Rattle.std.specs.List.{AllByRecursion}
-use Rattle.json_spans.specs.Nodes.{Node}
-use Rattle.json_spans.proofs.Sized.{members_short}
-use Rattle.topo_outline.specs.declared.words.Word.{Word}
-use Rattle.topo_outline.specs.Members.{EntryNode, code, member}
-use Rattle.topo_outline.specs.IsOutline.{Entries, no_entry, entry, HasEntries, value_at}
+use Rattle.kit_words.proofs.Common.{◌≡◌, ℕ, ◌≤◌, List, [], ◌∷◌, Bool, true, false, cond, length, subst, Option, Some}
+use Rattle.kit_words.proofs.Common.{option_map, ◌==◌, AllByRecursion}
+use Rattle.json_spans.specs.Common.{Node}
+use Rattle.json_spans.proofs.Common.{members_short}
+use Rattle.topo_outline.specs.Common.{Word, EntryNode, code, member, Entries, no_entry, entry, HasEntries, value_at}
 
 module _ (P : Node → Type 0) where
   pub values_have : {ms : List (Node × Node)} {ts : List (List ℕ)} {es : List EntryNode} → Entries ms ts es → AllByRecursion (λ m. P m.1) ms → AllByRecursion (λ e. P e.value) es

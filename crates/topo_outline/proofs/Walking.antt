@@ -1,11 +1,9 @@
 -- Reading one after another, as a loop does.
-use Rattle.std.proofs.Common.{◌+◌, suc, ◌<◌, length, get_or, drop, map, drop-cons, add-one, ◌≡◌, ℕ, List, [], ◌∷◌, ◌++◌, refl, sym, ap, ◌∙◌, append_assoc}
-use Rattle.std.specs.Prelude.{Result, Ok, Err}
-use Rattle.topo_outline.specs.Gives.{Fails}
+use Rattle.kit_words.proofs.Common.{◌+◌, suc, ◌<◌, length, get_or, drop, map, drop-cons, add-one, ◌≡◌, ℕ, List, [], ◌∷◌}
+use Rattle.kit_words.proofs.Common.{◌++◌, refl, sym, ap, ◌∙◌, append_assoc, Result, Ok, Err}
+use Rattle.topo_outline.specs.Common.{Fails, OpenFault, Fault, ◌>>=◌, each, each_at}
 use Rattle.topo_outline.specs.declared.fault.Limit.TheVariants as limit
-use Rattle.topo_outline.specs.declared.fault.OpenFault.{OpenFault}
 use Rattle.topo_outline.specs.declared.fault.OpenFault.TheVariants as open_fault
-use Rattle.topo_outline.specs.Faults.{Fault, ◌>>=◌, each, each_at}
 
 abbrev pub with_front : {A : Type 0} → List A → Result (List A) Fault → Result (List A) Fault
 with_front front r = r >>= λ xs. Ok (front ++ xs)

@@ -2,7 +2,7 @@
 use Rattle.std.specs.Prelude.{ℕ, ◌+◌, Bool, true, false, List, [], ◌∷◌, Result, Ok, Err}
 use Rattle.json_spans.specs.declared.scanning.ScanFault.{ScanFault}
 use Rattle.json_spans.specs.declared.scanning.ScanFault.TheVariants as scan
-use Rattle.grid_geometry.specs.Position.{Position}
+use Rattle.grid_geometry.specs.Common.{Position}
 use Rattle.topo_outline.specs.declared.fault.RingAt.{RingAt}
 use Rattle.topo_outline.specs.declared.fault.Limit.{Limit}
 use Rattle.topo_outline.specs.declared.fault.OpenFault.{OpenFault}

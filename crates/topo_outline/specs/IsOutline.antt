@@ -1,10 +1,9 @@
 -- What the outline of a topology is, by the grammar of JSON and with no order of faults.
 use Rattle.std.specs.Prelude.{◌≡◌, ◌≢◌, ℕ, List, [], ◌∷◌, ◌++◌, false, codes, Option, Some, None, option_map}
 use Rattle.std.specs.List.{AllPairs}
-use Rattle.json_spans.specs.Nodes.{Node}
-use Rattle.json_spans.specs.Inside.{IsValue, IsText, IsNumber, IsNull, IsListOf, IsObjectOf, IsList, IsListWith}
-use Rattle.json_spans.specs.Decoded.{decoded}
-use Rattle.ring_machine.specs.Document.{Text}
+use Rattle.json_spans.specs.Common.{Node, IsValue, IsText, IsNumber, IsNull, IsListOf, IsObjectOf, IsList, IsListWith}
+use Rattle.json_spans.specs.Common.{decoded}
+use Rattle.ring_machine.specs.Common.{Text}
 use Rattle.ring_machine.specs.Document as form
 use Rattle.topo_outline.specs.declared.words.Word.{Word}
 use Rattle.topo_outline.specs.declared.words.Word.TheVariants as word

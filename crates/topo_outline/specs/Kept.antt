@@ -1,9 +1,9 @@
 -- The texts of a document that opening would keep in their places.
 use Rattle.std.specs.Prelude.{◌≡◌, ◌≢◌, ℕ, List, [], ◌∷◌, Bool, false, Option, Some, None}
 use Rattle.std.specs.List.{AllByRecursion, AllPairs, AllZip}
-use Rattle.json_spans.specs.Inside.{IsValue, IsText}
-use Rattle.json_spans.specs.Decoded.{decoded}
-use Rattle.ring_machine.specs.Document.{Text, Form, Member, Head, FeatureOf, ItemOf, Open, Close, Leaf, Kept, LayerOf, DocumentOf}
+use Rattle.json_spans.specs.Common.{IsValue, IsText, decoded}
+use Rattle.ring_machine.specs.Common.{Text, Form, Member, Head, FeatureOf, ItemOf, Open, Close, Leaf, Kept, LayerOf}
+use Rattle.ring_machine.specs.Common.{DocumentOf}
 use Rattle.ring_machine.specs.Document as form
 use Rattle.topo_outline.specs.declared.members.Owner.{Owner}
 use Rattle.topo_outline.specs.declared.members.Owner.TheVariants as owner

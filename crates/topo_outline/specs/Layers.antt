@@ -1,7 +1,7 @@
 -- What stands in the layers of a topology: its pieces in the order of the text, and its features.
 use Rattle.std.specs.Prelude.{ℕ, List, [], ◌∷◌, ◌++◌, length, Bool, nat_le, Option, Some, None}
-use Rattle.json_spans.specs.Nodes.{Node}
-use Rattle.ring_machine.specs.Document.{Text, Form, Head, Member}
+use Rattle.json_spans.specs.Common.{Node}
+use Rattle.ring_machine.specs.Common.{Text, Form, Head, Member}
 
 -- a collection stands from its start to the end that belongs to it (TopoJSON 1.0, 2.2.7)
 pub data Piece : Type 0 where

@@ -9,3 +9,4 @@ pub mod IsOutline
 pub mod Kept
 pub mod Views
 pub mod OutlineView
+pub mod Common

@@ -1,7 +1,7 @@
 -- The members of an object by their names, and those of them that a document keeps.
 use Rattle.std.specs.Prelude.{ℕ, List, ◌==◌, map, filter, Bool, true, false, not, Option, option_map, find}
-use Rattle.json_spans.specs.Nodes.{Node}
-use Rattle.ring_machine.specs.Document.{Text, Head, Member}
+use Rattle.json_spans.specs.Common.{Node}
+use Rattle.ring_machine.specs.Common.{Text, Head, Member}
 use Rattle.topo_outline.specs.declared.words.Word.{Word}
 use Rattle.topo_outline.specs.declared.words.Word.TheVariants as word
 use Rattle.topo_outline.specs.declared.members.Owner.{Owner}

@@ -1,8 +1,8 @@
 -- The outline of a topology, or the first fault of its shape.
 use Rattle.std.specs.Prelude.{List, codes, Option, Result, Ok}
-use Rattle.json_spans.specs.Nodes.{Node}
+use Rattle.json_spans.specs.Common.{Node}
 use Rattle.topo_outline.specs.declared.fault.Limit.TheVariants as limit
-use Rattle.ring_machine.specs.Document.{Text}
+use Rattle.ring_machine.specs.Common.{Text}
 use Rattle.topo_outline.specs.declared.words.Word.TheVariants as word
 use Rattle.topo_outline.specs.declared.members.Owner.TheVariants as owner
 use Rattle.topo_outline.specs.Faults.{Fault, not_topology, too_large, ◌>>=◌, demand}

@@ -1,6 +1,6 @@
 -- The outline that the code answers, as the definitions see it.
 use Rattle.std.specs.Prelude.{◌≡◌, map, option_map}
-use Rattle.json_spans.specs.Left.{node}
+use Rattle.json_spans.specs.Common.{node}
 use Rattle.topo_outline.specs.declared.shape.Outline.{Outline}
 use Rattle.topo_outline.specs.Layers.{OutlineText, leaves}
 use Rattle.topo_outline.specs.Views.{view_layer, view_kept, view_place}

@@ -2,13 +2,10 @@
 use Rattle.std.specs.Prelude.{ℕ, zero, suc, ◌-◌, ◌&&◌, List, [], ◌∷◌, ◌++◌, length, take, drop, Bool, true, false, not, if◌then◌else◌, codes, Option, Some, None, Result, Ok, Err}
 use Rattle.std.specs.List.{list_any, list_all}
 use Rattle.std.specs.Str.{bytes_eq}
-use Rattle.json_spans.specs.Nodes.{Node}
-use Rattle.json_spans.specs.Walk.{items, members}
-use Rattle.json_spans.specs.Kinds.{kind_of}
-use Rattle.json_spans.specs.Decoded.{decoded}
+use Rattle.json_spans.specs.Common.{Node, items, members, kind_of, decoded}
 use Rattle.json_spans.specs.declared.kinds.Kind.{Kind}
 use Rattle.json_spans.specs.declared.kinds.Kind.TheVariants as kind
-use Rattle.ring_machine.specs.Document.{Text, Form}
+use Rattle.ring_machine.specs.Common.{Text, Form}
 use Rattle.ring_machine.specs.Document as form
 use Rattle.topo_outline.specs.declared.words.Word.{Word}
 use Rattle.topo_outline.specs.declared.words.Word.TheVariants as word

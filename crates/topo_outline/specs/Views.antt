@@ -1,8 +1,7 @@
 -- What the code holds, as the definitions see it.
 use Rattle.std.specs.Prelude.{map, option_map}
-use Rattle.json_spans.specs.Left.{node}
-use Rattle.json_spans.specs.Nodes.{Node}
-use Rattle.ring_machine.specs.Document.{Form, Polygon, MultiPolygon, Null, Head, Member}
+use Rattle.json_spans.specs.Common.{node, Node}
+use Rattle.ring_machine.specs.Common.{Form, Polygon, MultiPolygon, Null, Head, Member}
 use Rattle.topo_outline.specs.declared.entries.Entry.{Entry}
 use Rattle.topo_outline.specs.declared.document.Form.{Form as CodeForm}
 use Rattle.topo_outline.specs.declared.document.Form.TheVariants as form

@@ -1,7 +1,6 @@
 // Geometries, collections walked depth first (TopoJSON 1.0, 2.2).
 ghost use Rattle.std.specs.Prelude.{◌≡◌, ◌++◌, [], ◌∷◌, map, OnOk, Ok, codes};
-ghost use Rattle.json_spans.specs.Left.{node};
-ghost use Rattle.json_spans.specs.Kinds.{kind_of};
+ghost use Rattle.json_spans.specs.Common.{node, kind_of};
 ghost use Rattle.topo_outline.specs.Gives.{Gives, Appends};
 ghost use Rattle.topo_outline.specs.Members.{head};
 ghost use Rattle.topo_outline.specs.Layers.{leaf};

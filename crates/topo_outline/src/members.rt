@@ -2,7 +2,7 @@
 ghost use Rattle.std.specs.Prelude.{◌≡◌, ◌||◌, ℕ, List, map, not, IfOk, OnOk, Ok, option_map, string_bytes};
 ghost use Rattle.std.specs.BTreeSet.{contains_text};
 ghost use Rattle.std.specs.Str.{bytes_eq};
-ghost use Rattle.json_spans.specs.Left.{node};
+ghost use Rattle.json_spans.specs.Common.{node};
 ghost use Rattle.topo_outline.specs.Gives.{Gives};
 ghost use Rattle.topo_outline.specs.Members.{code, member, is_known, kept, text_of, head};
 ghost use Rattle.topo_outline.specs.Shape.{unquoted, name_text, members_of, named_member, member_if, member_that, is_list, is_object};

@@ -1,9 +1,6 @@
 // The shape of a topology (TopoJSON 1.0, 2.1): its transform, its layers and where its arcs stand.
 ghost use Rattle.std.specs.Prelude.{◌≡◌, ◌≢◌, ◌&&◌, true, map, Ok, IfOk, IfErr, option_map, nat_le, length};
-ghost use Rattle.json_spans.specs.Left.{node};
-ghost use Rattle.json_spans.specs.Walk.{items};
-ghost use Rattle.json_spans.specs.Kinds.{kind_of};
-ghost use Rattle.json_spans.specs.Decoded.{decoded};
+ghost use Rattle.json_spans.specs.Common.{node, items, kind_of, decoded};
 ghost use Rattle.topo_outline.specs.Gives.{Gives};
 ghost use Rattle.topo_outline.specs.Faults.{each, demand, not_topology};
 ghost use Rattle.topo_outline.specs.Members.{member};

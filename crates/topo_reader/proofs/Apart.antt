@@ -1,13 +1,9 @@
 -- No two neighbours of a walk are equal.
-use Rattle.std.proofs.Common.{◌≡◌, Bool, true, List, [], ◌∷◌, ◌++◌, refl, sym, ap, ap₂, ◌∙◌, subst, ◌&&◌}
-use Rattle.std.specs.Prelude.{not}
-use Rattle.std.specs.List.{list_all, flat_map}
-use Rattle.grid_geometry.specs.Position.{Position, position_eq}
-use Rattle.grid_geometry.specs.Ring.{Edge, links}
-use Rattle.topo_reader.specs.Arcs.{Arc}
-use Rattle.topo_reader.specs.Document.{is_walk}
-use Rattle.topo_reader.specs.Rings.{squeezed}
-use Rattle.topo_reader.specs.Reads.{Chain, Once, none, last, same, next, IsWalk, nowhere, around}
+use Rattle.kit_words.proofs.Common.{◌≡◌, Bool, true, List, [], ◌∷◌, ◌++◌, refl, sym, ap, ap₂, ◌∙◌, subst, ◌&&◌, not}
+use Rattle.kit_words.proofs.Common.{list_all, flat_map}
+use Rattle.grid_geometry.specs.Common.{Position, position_eq, Edge, links}
+use Rattle.topo_reader.specs.Common.{Arc, is_walk, squeezed, Chain, Once, none, last, same, next, IsWalk, nowhere}
+use Rattle.topo_reader.specs.Common.{around}
 use Rattle.topo_reader.proofs.Repeats.{not_equal}
 use Rattle.topo_reader.proofs.MeaningOfRings.{all_is, begins_with, once_squeezed}
 

@@ -1,11 +1,8 @@
 -- A box with one more position in it.
-use Rattle.std.proofs.Common.{◌≡◌, ℕ, ◌≤◌, Bool, true, false, cond, ℤ, refl, arith}
-use Rattle.std.specs.Prelude.{unsigned_abs, int_lt, ◌≤ℤ◌, Option, Some}
-use Rattle.std.specs.Int.{int_min, int_max}
-use Rattle.std.proofs.lemmas.Int.{ints, clamps}
-use Rattle.grid_geometry.specs.Position.{Position, InRange}
-use Rattle.grid_geometry.specs.Segment.{Box, IsBox}
-use Rattle.topo_reader.specs.Extent.{box_with}
+use Rattle.kit_words.proofs.Common.{◌≡◌, ℕ, ◌≤◌, Bool, true, false, cond, ℤ, refl, arith, unsigned_abs, int_lt, ◌≤ℤ◌}
+use Rattle.kit_words.proofs.Common.{Option, Some, int_min, int_max, ints, clamps}
+use Rattle.grid_geometry.specs.Common.{Position, InRange, Box, IsBox}
+use Rattle.topo_reader.specs.Common.{box_with}
 
 min_within : (a b : ℤ) (n : ℕ) → unsigned_abs a ≤ n → unsigned_abs b ≤ n → unsigned_abs (int_min a b) ≤ n
 min_within a b n ha hb = by (int_lt b a)

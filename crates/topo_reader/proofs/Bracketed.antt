@@ -1,12 +1,12 @@
 -- The items of a geometry stand between brackets that belong together.
-use Rattle.std.proofs.Common.{◌≡◌, ℕ, suc, ◌+◌, true, refl, ap, ap₂, ◌∙◌, ◌&&◌, List, [], ◌∷◌, ◌++◌, length, append_assoc}
-use Rattle.std.specs.List.{list_all}
-use Rattle.json_spans.specs.Nodes.{Node}
-use Rattle.ring_machine.specs.WellFormed.{is_inner, is_geometry}
-use Rattle.topo_outline.specs.Members.{EntryNode}
-use Rattle.topo_outline.specs.Layers.{Piece, ends, LayerText, leaves_in}
-use Rattle.topo_outline.specs.IsOutline.{IsGeometry, null_geometry, point, multi_point, polygon, multi_polygon, collection, AreGeometries, no_geometry, geometry, AreLayers, no_layer, layer}
-use Rattle.topo_reader.specs.Document.{Polygons, items_from, layers_from}
+use Rattle.kit_words.proofs.Common.{◌≡◌, ℕ, suc, ◌+◌, true, refl, ap, ap₂, ◌∙◌, ◌&&◌, List, [], ◌∷◌, ◌++◌, length}
+use Rattle.kit_words.proofs.Common.{append_assoc, list_all}
+use Rattle.json_spans.specs.Common.{Node}
+use Rattle.ring_machine.specs.Common.{is_inner, is_geometry}
+use Rattle.topo_outline.specs.Common.{EntryNode, Piece, ends, LayerText, leaves_in, IsGeometry, null_geometry, point}
+use Rattle.topo_outline.specs.Common.{multi_point, polygon, multi_polygon, collection, AreGeometries, no_geometry}
+use Rattle.topo_outline.specs.Common.{geometry, AreLayers, no_layer, layer}
+use Rattle.topo_reader.specs.Common.{Polygons, items_from, layers_from}
 
 module _ (all : List Polygons) where
   -- with the pieces that follow, whatever numbers they have, the open collections are closed

@@ -1,9 +1,8 @@
 -- Counting positions, as the loops do.
-use Rattle.std.proofs.Common.{◌≡◌, ℕ, ◌+◌, Bool, true, false, cond, List, length, drop, map, reverse, refl, arith}
+use Rattle.kit_words.proofs.Common.{◌≡◌, ℕ, ◌+◌, Bool, true, false, cond, List, length, drop, map, reverse, refl, arith}
+use Rattle.kit_words.proofs.Common.{length-reverse}
 use Rattle.std.specs.Prelude.{sum_by}
-use Rattle.std.proofs.lemmas.List.{length-reverse}
-use Rattle.topo_reader.specs.declared.indexes.Use.{Use}
-use Rattle.topo_reader.specs.Uses.{arc_of}
+use Rattle.topo_reader.specs.Common.{Use, arc_of}
 
 pub length_use : (u : Use) → length (arc_of u) ≡ length u.arc.now
 length_use u = grind (arith, length-reverse u.arc.now)

@@ -1,27 +1,17 @@
 -- What arcs, indexes, walks and rings mean, and what means nothing, worked out.
-use Rattle.std.proofs.Common.{◌≡◌, ℕ, List, [], ◌∷◌, codes, true, false, refl, pos, negsuc, ℤ, ap, sym, ◌∙◌}
-use Rattle.json_spans.specs.Nodes.{Node}
-use Rattle.json_spans.specs.Parts.{parts_from, part_len}
-use Rattle.json_spans.specs.Whole.{value_from, IsWhole}
-use Rattle.json_spans.specs.Kinds.{kind_of}
-use Rattle.json_spans.specs.Machine.{run, verdict, good}
+use Rattle.kit_words.proofs.Common.{◌≡◌, ℕ, List, [], ◌∷◌, codes, true, false, refl, pos, negsuc, ℤ, ap, sym, ◌∙◌, Ok}
+use Rattle.kit_words.proofs.Common.{Err}
+use Rattle.json_spans.specs.Common.{Node, parts_from, part_len, value_from, IsWhole, kind_of, run, verdict, good}
 use Rattle.json_spans.proofs.Sound.{verdict_json}
-use Rattle.json_spans.proofs.Grouped.{root_value, padded_root}
-use Rattle.json_spans.proofs.Meant.{means, whole_meant}
-use Rattle.json_spans.proofs.Told.{object_kind}
-use Rattle.ring_machine.specs.Document.{Document}
-use Rattle.ring_machine.proofs.Worked.{at, under}
-use Rattle.std.specs.Prelude.{Ok, Err}
-use Rattle.grid_geometry.specs.Position.{Position}
+use Rattle.json_spans.proofs.Common.{root_value, padded_root, means, whole_meant, object_kind}
+use Rattle.ring_machine.specs.Common.{Document}
+use Rattle.ring_machine.proofs.Common.{at, under}
+use Rattle.grid_geometry.specs.Common.{Position}
 use Rattle.topo_outline.specs.declared.fault.RingAt.{RingAt}
-use Rattle.topo_outline.specs.Faults.{arcs_do_not_meet, ring_short, ring_repeats}
-use Rattle.topo_outline.specs.IsOutline.{NestsAtMost}
-use Rattle.topo_reader.specs.Positions.{position, positions, arc}
-use Rattle.topo_reader.specs.Arcs.{Arc}
-use Rattle.topo_reader.specs.Document.{is_walk, is_simple}
-use Rattle.topo_reader.specs.Opening.{root_of}
-use Rattle.topo_reader.specs.Rings.{meet_from, ends, squeezed, all_of, first_repeat, walk_of, ring_of}
-use Rattle.topo_reader.specs.Reads.{IsArc, IsUse, forward, backward, IsWalk, IsRing, Reads}
+use Rattle.topo_outline.specs.Common.{arcs_do_not_meet, ring_short, ring_repeats, NestsAtMost}
+use Rattle.topo_reader.specs.Common.{position, positions, arc, Arc, is_walk, is_simple, root_of, meet_from, ends}
+use Rattle.topo_reader.specs.Common.{squeezed, all_of, first_repeat, walk_of, ring_of, IsArc, IsUse, forward, backward}
+use Rattle.topo_reader.specs.Common.{IsWalk, IsRing, Reads}
 use Rattle.topo_reader.proofs.MeaningOfArcs.{is_arc}
 use Rattle.topo_reader.proofs.MeaningOfRings.{walk_read, walk_meant, ring_read, ring_meant}
 

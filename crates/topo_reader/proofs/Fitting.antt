@@ -1,19 +1,13 @@
 -- Each feature that was read has polygons that fit its form.
-use Rattle.std.proofs.Common.{◌≡◌, ℕ, zero, suc, ◌+◌, true, arith, add-one, refl, sym, ap, ap₂, ◌∙◌, ◌&&◌, subst, List, [], ◌∷◌, ◌++◌, length, drop, get_or}
-use Rattle.std.specs.Prelude.{◌==◌}
-use Rattle.std.specs.List.{list_all, AllZip, flat_map, filter_map}
-use Rattle.std.proofs.lemmas.List.Folds.{list_all-append}
-use Rattle.std.proofs.lemmas.Option.{unwrap_or-slice_get}
-use Rattle.std.proofs.lemmas.Slice.Zip.{AllZip-long}
-use Rattle.json_spans.specs.Nodes.{Node}
-use Rattle.grid_geometry.specs.Position.{Position}
-use Rattle.ring_machine.specs.Document.{Form, Polygon, MultiPolygon, Null, Head}
-use Rattle.ring_machine.specs.Parts.{feature_of}
-use Rattle.ring_machine.specs.WellFormed.{fits_form}
-use Rattle.topo_outline.specs.Layers.{LayerText, Piece, starts, ends, leaf, text, leaves_in, leaves}
-use Rattle.topo_reader.specs.Arcs.{Arc}
-use Rattle.topo_reader.specs.Document.{Polygons, polygons_at, numbered, items_from, layers_from}
-use Rattle.topo_reader.specs.Reads.{GeometryUses, AreClosed}
+use Rattle.kit_words.proofs.Common.{◌≡◌, ℕ, zero, suc, ◌+◌, true, arith, add-one, refl, sym, ap, ap₂, ◌∙◌, ◌&&◌, subst}
+use Rattle.kit_words.proofs.Common.{List, [], ◌∷◌, ◌++◌, length, drop, get_or, ◌==◌, list_all, AllZip, flat_map}
+use Rattle.kit_words.proofs.Common.{filter_map, list_all-append, unwrap_or-slice_get, AllZip-long}
+use Rattle.json_spans.specs.Common.{Node}
+use Rattle.grid_geometry.specs.Common.{Position}
+use Rattle.ring_machine.specs.Common.{Form, Polygon, MultiPolygon, Null, Head, feature_of, fits_form}
+use Rattle.topo_outline.specs.Common.{LayerText, Piece, starts, ends, leaf, text, leaves_in, leaves}
+use Rattle.topo_reader.specs.Common.{Arc, Polygons, polygons_at, numbered, items_from, layers_from, GeometryUses}
+use Rattle.topo_reader.specs.Common.{AreClosed}
 
 -- ---- one feature
 

@@ -1,17 +1,13 @@
 -- What was read is well formed.
-use Rattle.std.proofs.Common.{◌≡◌, ℕ, suc, ◌+◌, refl, sym, ap, List, [], ◌∷◌, length}
-use Rattle.std.specs.List.{AllZip, flat_map, filter_map}
-use Rattle.json_spans.specs.Nodes.{Node}
-use Rattle.grid_geometry.specs.Position.{Position}
-use Rattle.ring_machine.specs.Document.{Feature, Item, Layer}
-use Rattle.ring_machine.specs.Parts.{feature_of}
-use Rattle.ring_machine.specs.WellFormed.{WellFormed}
-use Rattle.ring_machine.proofs.Numbered.{AreNumbered, numbered-append, numbered_distinct}
-use Rattle.topo_outline.specs.Layers.{LayerText, Piece, starts, ends, leaf, text, OutlineText, leaves_in, leaves}
-use Rattle.topo_outline.specs.IsOutline.{IsOutline}
-use Rattle.topo_reader.specs.Arcs.{Arc}
-use Rattle.topo_reader.specs.Document.{Polygons, items_from, layers_from, document_of}
-use Rattle.topo_reader.specs.Reads.{GeometryUses, AreClosed}
+use Rattle.kit_words.proofs.Common.{◌≡◌, ℕ, suc, ◌+◌, refl, sym, ap, List, [], ◌∷◌, length, AllZip, flat_map}
+use Rattle.kit_words.proofs.Common.{filter_map}
+use Rattle.json_spans.specs.Common.{Node}
+use Rattle.grid_geometry.specs.Common.{Position}
+use Rattle.ring_machine.specs.Common.{Feature, Item, Layer, feature_of, WellFormed}
+use Rattle.ring_machine.proofs.Common.{AreNumbered, numbered-append, numbered_distinct}
+use Rattle.topo_outline.specs.Common.{LayerText, Piece, starts, ends, leaf, text, OutlineText, leaves_in, leaves}
+use Rattle.topo_outline.specs.Common.{IsOutline}
+use Rattle.topo_reader.specs.Common.{Arc, Polygons, items_from, layers_from, document_of, GeometryUses, AreClosed}
 use Rattle.topo_reader.proofs.Bracketed.{each_geometry}
 use Rattle.topo_reader.proofs.Fitting.{each_fits}
 

@@ -1,12 +1,11 @@
 -- Joining arcs, as the loops do.
-use Rattle.std.proofs.Common.{◌≡◌, ℕ, suc, ◌+◌, ◌<◌, ◌≤◌, List, [], ◌∷◌, ◌++◌, length, get_or, drop, refl, sym, ap, ◌∙◌, append_assoc, add-one, drop-cons, map, true, cond}
-use Rattle.std.specs.Prelude.{Option, Some, None, ◌&&◌}
-use Rattle.std.proofs.lemmas.List.{append-nil, drop_all}
-use Rattle.grid_geometry.specs.Position.{Position}
-use Rattle.ring_machine.specs.Ring.{has}
-use Rattle.topo_reader.specs.declared.indexes.Use.{Use}
-use Rattle.topo_reader.specs.Uses.{arc_of}
-use Rattle.topo_reader.specs.Rings.{first_of, last_of, starts_at, is_at, unless, ends, meet_from, squeezed, last_after, all_of, first_repeat}
+use Rattle.kit_words.proofs.Common.{◌≡◌, ℕ, suc, ◌+◌, ◌<◌, ◌≤◌, List, [], ◌∷◌, ◌++◌, length, get_or, drop, refl, sym}
+use Rattle.kit_words.proofs.Common.{ap, ◌∙◌, append_assoc, add-one, drop-cons, map, true, cond, Option, Some, None}
+use Rattle.kit_words.proofs.Common.{◌&&◌, append-nil, drop_all}
+use Rattle.grid_geometry.specs.Common.{Position}
+use Rattle.ring_machine.specs.Common.{has}
+use Rattle.topo_reader.specs.Common.{Use, arc_of, first_of, last_of, starts_at, is_at, unless, ends, meet_from}
+use Rattle.topo_reader.specs.Common.{squeezed, last_after, all_of, first_repeat}
 
 pub meet_step : (before : Option Position) (uses : List Use) (i : ℕ) (d : Use) → i < length uses → meet_from before (map arc_of (drop i uses)) ≡ (starts_at (first_of (arc_of (get_or uses i d))) before && meet_from (last_of (arc_of (get_or uses i d))) (map arc_of (drop (i + 1) uses)))
 unfolding meet_from

@@ -1,12 +1,10 @@
 -- What was read has texts that opening would keep.
-use Rattle.std.proofs.Common.{ℕ, ◌+◌, List, [], ◌∷◌, length}
-use Rattle.std.specs.List.{AllByRecursion, AllZip}
-use Rattle.json_spans.specs.Nodes.{Node}
-use Rattle.topo_outline.specs.Layers.{LayerText, Piece, starts, ends, leaf, text, OutlineText, leaves_in}
-use Rattle.topo_outline.specs.IsOutline.{IsOutline, NestsAtMost}
-use Rattle.topo_outline.specs.Kept.{IsName, KeepsItem, KeepsTexts}
+use Rattle.kit_words.proofs.Common.{ℕ, ◌+◌, List, [], ◌∷◌, length, AllByRecursion, AllZip}
+use Rattle.json_spans.specs.Common.{Node}
+use Rattle.topo_outline.specs.Common.{LayerText, Piece, starts, ends, leaf, text, OutlineText, leaves_in, IsOutline}
+use Rattle.topo_outline.specs.Common.{NestsAtMost, IsName, KeepsItem, KeepsTexts}
 use Rattle.topo_outline.proofs.Keeping.{KeepsPiece, outline_keeps}
-use Rattle.topo_reader.specs.Document.{Polygons, items_from, layers_from, document_of}
+use Rattle.topo_reader.specs.Common.{Polygons, items_from, layers_from, document_of}
 
 module _ (all : List Polygons) where
   items_keep : (n : ℕ) (ps : List Piece) → AllByRecursion KeepsPiece ps

@@ -1,7 +1,8 @@
 -- Counting features down, as the loops do.
-use Rattle.std.proofs.Common.{◌≡◌, ℕ, ◌+◌, ◌-◌, ◌<◌, ◌≤◌, List, length, get_or, drop, map, ap, ◌∙◌, arith, length-append}
-use Rattle.std.proofs.lemmas.List.{drop_all}
-use Rattle.topo_outline.specs.Layers.{LayerText, Piece, at_most_one, leaf_of, leaves_in, leaves}
+use Rattle.kit_words.proofs.Common.{◌≡◌, ℕ, ◌+◌, ◌-◌, ◌<◌, ◌≤◌, List, length, get_or, drop, map, ap, ◌∙◌, arith}
+use Rattle.kit_words.proofs.Common.{drop_all}
+use Rattle.std.proofs.Common.{length-append}
+use Rattle.topo_outline.specs.Common.{LayerText, Piece, at_most_one, leaf_of, leaves_in, leaves}
 use Rattle.topo_reader.proofs.Joining.{tail_at}
 
 pub item_turn : {X : Type 0} (v : X → Piece) (whole left left' n : ℕ) (xs : List X) (i : ℕ) (x : X) → i < length xs → x ≡ get_or xs i x →

@@ -29,3 +29,4 @@ pub mod PlainNumbers
 pub mod PlainItems
 pub mod PlainArcs
 pub mod PlainLists
+pub mod Common

@@ -1,24 +1,16 @@
 -- What the arcs mean is what the reader gives.
-use Rattle.std.proofs.Common.{◌≡◌, ℕ, suc, ◌≤◌, ◌<◌, ◌^◌, length, ℤ, ◌+ℤ◌, ◌&&◌, List, [], ◌∷◌, Bool, true, false, cond, refl, sym, ap, subst, ◌∙◌, ap₂, arith}
-use Rattle.std.specs.Prelude.{Option, Some, None, Result, Ok, Err, unsigned_abs}
-use Rattle.std.specs.List.{AllByRecursion, AllZip}
-use Rattle.std.proofs.lemmas.Bool.{false≢true}
-use Rattle.std.proofs.lemmas.Int.{ints}
-use Rattle.json_spans.specs.Nodes.{Node}
-use Rattle.json_spans.specs.Inside.{IsListOf, IsList}
-use Rattle.json_spans.specs.Walk.{items}
-use Rattle.json_spans.specs.Whole.{whole_of}
+use Rattle.kit_words.proofs.Common.{◌≡◌, ℕ, suc, ◌≤◌, ◌<◌, ◌^◌, length, ℤ, ◌+ℤ◌, ◌&&◌, List, [], ◌∷◌, Bool, true, false}
+use Rattle.kit_words.proofs.Common.{cond, refl, sym, ap, subst, ◌∙◌, ap₂, arith, Option, Some, None, Result, Ok, Err}
+use Rattle.kit_words.proofs.Common.{unsigned_abs, AllByRecursion, AllZip, false≢true, ints}
+use Rattle.json_spans.specs.Common.{Node, IsListOf, IsList, items, whole_of}
 use Rattle.json_spans.specs.declared.number.NotWhole.{NotWhole}
-use Rattle.json_spans.proofs.Meant.{whole_read, whole_meant}
-use Rattle.json_spans.proofs.Told.{items_told, item_values}
+use Rattle.json_spans.proofs.Common.{whole_read, whole_meant, items_told, item_values}
 use Rattle.grid_geometry.specs.Position.{Position, position as placed, InRange}
-use Rattle.topo_outline.specs.Shape.{is_list}
-use Rattle.topo_outline.specs.IsOutline.{NestsAtMost}
-use Rattle.topo_outline.specs.Faults.{out_of_range, bad_position, ◌>>=◌, each}
-use Rattle.topo_outline.proofs.Levels.{is_a_list, list_here, list_nests}
-use Rattle.topo_reader.specs.Arcs.{Arc, origin}
-use Rattle.topo_reader.specs.Positions.{is_within, summed, coordinate, two_of, pair_of, pair, position, before_next, positions, has_two, arc, arcs}
-use Rattle.topo_reader.specs.Reads.{IsSum, Sums, ArePositions, IsArc, AreArcs}
+use Rattle.topo_outline.specs.Common.{is_list, NestsAtMost, out_of_range, bad_position, ◌>>=◌, each}
+use Rattle.topo_outline.proofs.Common.{is_a_list, list_here, list_nests}
+use Rattle.topo_reader.specs.Common.{Arc, origin, is_within, summed, coordinate, two_of, pair_of, position, before_next}
+use Rattle.topo_reader.specs.Common.{positions, has_two, arc, arcs, IsSum, Sums, ArePositions, IsArc, AreArcs}
+use Rattle.topo_reader.specs.Positions.{pair}
 use Rattle.topo_reader.specs.Reads as reads
 use Rattle.topo_reader.proofs.Steps.{bind_ok, ok_same, at_least, at_most, each_of, of_each}
 

@@ -1,22 +1,18 @@
 -- The walks and rings that arcs mean are those that the reader gives.
-use Rattle.std.proofs.Common.{◌≡◌, ℕ, ◌-◌, ◌≤◌, Bool, true, false, List, [], ◌∷◌, ◌++◌, length, take, refl, sym, ap, ◌∙◌, subst, arith, length-append}
-use Rattle.std.specs.Prelude.{Option, Some, None, Ok, nat_le}
-use Rattle.std.specs.List.{AllZip, flat_map}
-use Rattle.std.proofs.lemmas.Bool.{false≢true}
-use Rattle.std.proofs.lemmas.List.{reverse-append}
-use Rattle.std.proofs.lemmas.List.Concat.{flat_map-cons}
-use Rattle.std.proofs.Math.Seq.{take-append_seam}
-use Rattle.grid_geometry.specs.Position.{Position, position_eq}
-use Rattle.ring_machine.specs.Ring.{canonical}
-use Rattle.ring_machine.proofs.Order.{and_both, position_eq-true, position_eq-refl}
+use Rattle.kit_words.proofs.Common.{◌≡◌, ℕ, ◌-◌, ◌≤◌, Bool, true, false, List, [], ◌∷◌, ◌++◌, length, take, refl, sym}
+use Rattle.kit_words.proofs.Common.{ap, ◌∙◌, subst, arith, Option, Some, None, Ok, nat_le, AllZip, flat_map, false≢true}
+use Rattle.kit_words.proofs.Common.{reverse-append, flat_map-cons, take-append_seam}
+use Rattle.std.proofs.Common.{length-append}
+use Rattle.grid_geometry.specs.Common.{Position, position_eq}
+use Rattle.ring_machine.specs.Common.{canonical}
+use Rattle.ring_machine.proofs.Common.{and_both, position_eq-true, position_eq-refl}
 use Rattle.topo_outline.specs.declared.fault.RingAt.{RingAt}
-use Rattle.topo_outline.specs.Faults.{arcs_do_not_meet, ring_short}
-use Rattle.topo_reader.specs.declared.rings.Closed.{Closed}
-use Rattle.topo_reader.specs.declared.rings.Closed.TheVariants.{Rings, Walks}
-use Rattle.topo_reader.specs.Arcs.{Arc}
-use Rattle.topo_reader.specs.Rings.{is_at, first_of, last_of, meet_from, ends, meet, unless, squeezed, last_after, front, all_of, joined, first_repeat, distinct, simple, walk_of, ring_of, closed_of, polygon_of, feature_of, all_rings}
-use Rattle.topo_reader.specs.Document.{Polygons}
-use Rattle.topo_reader.specs.Reads.{Leads, Chain, there, along, Once, none, last, same, next, IsWalk, nowhere, around, IsRing, IsClosed, AreClosed}
+use Rattle.topo_outline.specs.Common.{arcs_do_not_meet, ring_short}
+use Rattle.topo_reader.specs.Common.{Closed, Rings, Walks, Arc, is_at, first_of, last_of, meet_from, ends, meet, unless}
+use Rattle.topo_reader.specs.Common.{squeezed, last_after, front, all_of, joined, first_repeat, distinct, simple}
+use Rattle.topo_reader.specs.Common.{walk_of, ring_of, closed_of, polygon_of, feature_of, all_rings, Polygons, Leads}
+use Rattle.topo_reader.specs.Common.{Chain, there, along, Once, none, last, same, next, IsWalk, nowhere, around, IsRing}
+use Rattle.topo_reader.specs.Common.{IsClosed, AreClosed}
 use Rattle.topo_reader.proofs.Repeats.{none_again, no_repeat, Differ, differ, distinct_of, not_equal}
 use Rattle.topo_reader.proofs.Steps.{at_least, at_most, bind_ok, demand_ok, ok_same, each_at_of, of_each_at}
 

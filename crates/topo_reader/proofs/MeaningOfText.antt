@@ -1,35 +1,20 @@
 -- What a text means is what opening it gives, in both directions.
-use Rattle.std.proofs.Common.{◌≡◌, ◌≢◌, ℕ, ◌≤◌, List, length, refl, sym, ap, ◌∙◌, subst, arith}
-use Rattle.std.specs.Prelude.{Bool, Result, Ok, Err, IfOk, IfErr, nat_le, is_some}
-use Rattle.std.specs.List.{AllZip}
-use Rattle.std.proofs.lemmas.Slice.Zip.{AllZip-long}
-use Rattle.json_spans.specs.Grammar.{Json}
-use Rattle.json_spans.specs.Nodes.{Node}
-use Rattle.ring_machine.specs.Document.{Document}
+use Rattle.kit_words.proofs.Common.{◌≡◌, ◌≢◌, ℕ, ◌≤◌, List, length, refl, sym, ap, ◌∙◌, subst, arith, Bool, Result, Ok}
+use Rattle.kit_words.proofs.Common.{Err, IfOk, IfErr, nat_le, is_some, AllZip, AllZip-long}
+use Rattle.json_spans.specs.Common.{Json, Node}
+use Rattle.ring_machine.specs.Common.{Document}
 use Rattle.topo_outline.specs.declared.fault.Limit.TheVariants as limit
 use Rattle.topo_outline.specs.declared.fault.OpenFault.{OpenFault}
 use Rattle.topo_outline.specs.declared.fault.OpenFault.TheVariants as open_fault
-use Rattle.topo_outline.specs.Faults.{Fault, too_large, ◌>>=◌, each, demand}
-use Rattle.topo_outline.specs.Gives.{Fails, Gives}
+use Rattle.topo_outline.specs.Common.{Fault, too_large, ◌>>=◌, each, demand, Fails, Gives, OutlineText, leaves, outline}
+use Rattle.topo_outline.specs.Common.{IsOutline}
 use Rattle.topo_outline.specs.declared.words.Word.TheVariants as word
-use Rattle.topo_outline.specs.Layers.{OutlineText, leaves}
-use Rattle.topo_outline.specs.Outline.{outline}
-use Rattle.topo_outline.specs.IsOutline.{IsOutline}
-use Rattle.topo_reader.specs.declared.rings.Closed.{Closed}
-use Rattle.topo_reader.specs.declared.rings.Closed.TheVariants.{Rings}
-use Rattle.topo_reader.specs.Positions.{arcs}
-use Rattle.topo_reader.specs.Arcs.{Arc}
-use Rattle.topo_reader.specs.Indexes.{uses_of}
-use Rattle.topo_reader.specs.Sizes.{size}
-use Rattle.topo_reader.specs.Rings.{all_rings}
-use Rattle.topo_reader.specs.Document.{Polygons, Opened, document_of}
-use Rattle.topo_reader.specs.Opening.{polygons_along, polygons_read, opening, root_of, OpensBy, Opens}
-use Rattle.topo_reader.specs.Reads.{IsArc, AreArcs, GeometryUses, IsClosed, AreClosed, ReadsWith, ReadsBy, Reads, Fits}
-use Rattle.json_spans.proofs.Grouped.{root_value, root_padded, padded_root}
-use Rattle.json_spans.proofs.Sized.{padded_short, list_count}
+use Rattle.topo_reader.specs.Common.{Closed, Rings, arcs, Arc, uses_of, size, all_rings, Polygons, Opened, document_of}
+use Rattle.topo_reader.specs.Common.{polygons_along, polygons_read, opening, root_of, OpensBy, Opens, IsArc, AreArcs}
+use Rattle.topo_reader.specs.Common.{GeometryUses, IsClosed, AreClosed, ReadsWith, ReadsBy, Reads, Fits}
+use Rattle.json_spans.proofs.Common.{root_value, root_padded, padded_root, padded_short, list_count}
 use Rattle.topo_outline.proofs.Values.{value_short}
-use Rattle.topo_outline.proofs.LeafArcs.{HasArcs, leaves_have_arcs}
-use Rattle.topo_outline.proofs.Shaped.{outline_means, outline_few, outline_gives}
+use Rattle.topo_outline.proofs.Common.{HasArcs, leaves_have_arcs, outline_means, outline_few, outline_gives}
 use Rattle.topo_reader.proofs.MeaningOfArcs.{arcs_of, are_arcs}
 use Rattle.topo_reader.proofs.MeaningOfUses.{AreFew, uses_are, are_uses}
 use Rattle.topo_reader.proofs.MeaningOfRings.{rings_of, are_rings}

@@ -1,23 +1,17 @@
 -- The arcs that a geometry names are those that the reader gives.
-use Rattle.std.proofs.Common.{◌≡◌, ◌<◌, ◌^◌, ℕ, ℤ, pos, negsuc, List, [], ◌∷◌, length, refl, sym, ap, subst, arith}
-use Rattle.std.specs.Prelude.{Option, Some, None, option_map, slice_get, reverse, Result, Ok, Err}
-use Rattle.std.specs.List.{AllByRecursion}
-use Rattle.std.proofs.lemmas.Option.{slice_get_within}
-use Rattle.json_spans.specs.Nodes.{Node}
-use Rattle.json_spans.specs.Inside.{IsListFor, IsList, IsListWith}
-use Rattle.json_spans.specs.Walk.{items}
-use Rattle.json_spans.specs.Whole.{whole_of}
+use Rattle.kit_words.proofs.Common.{◌≡◌, ◌<◌, ◌^◌, ℕ, ℤ, pos, negsuc, List, [], ◌∷◌, length, refl, sym, ap, subst}
+use Rattle.kit_words.proofs.Common.{arith, Option, Some, None, option_map, slice_get, reverse, Result, Ok, Err}
+use Rattle.kit_words.proofs.Common.{AllByRecursion, slice_get_within}
+use Rattle.json_spans.specs.Common.{Node, IsListFor, IsList, IsListWith, items, whole_of}
 use Rattle.json_spans.specs.declared.number.NotWhole.{NotWhole}
 use Rattle.json_spans.specs.declared.number.NotWhole.TheVariants as is_not
-use Rattle.json_spans.proofs.Meant.{whole_read, whole_meant}
-use Rattle.json_spans.proofs.Told.{items_told}
-use Rattle.ring_machine.specs.Document.{Form, Polygon, MultiPolygon, Null}
-use Rattle.topo_outline.specs.Faults.{Fault, each}
-use Rattle.topo_outline.specs.IsOutline.{AreLists}
-use Rattle.topo_outline.proofs.LeafArcs.{HasArcs}
-use Rattle.topo_reader.specs.Arcs.{Arc}
-use Rattle.topo_reader.specs.Indexes.{there, index_from, index, ring, polygon, polygons, uses_of}
-use Rattle.topo_reader.specs.Reads.{IsUse, forward, backward, RingUses, PolygonUses, GeometryUses}
+use Rattle.json_spans.proofs.Common.{whole_read, whole_meant, items_told}
+use Rattle.ring_machine.specs.Common.{Form, Polygon, MultiPolygon, Null}
+use Rattle.topo_outline.specs.Common.{Fault, each, AreLists}
+use Rattle.topo_outline.proofs.Common.{HasArcs}
+use Rattle.topo_reader.specs.Common.{Arc, index_from, index, ring, polygon, polygons, uses_of, IsUse, forward, backward}
+use Rattle.topo_reader.specs.Common.{RingUses, PolygonUses, GeometryUses}
+use Rattle.topo_reader.specs.Indexes.{there}
 use Rattle.topo_reader.proofs.Steps.{bind_ok, ok_same, each_of, of_each}
 
 -- ---- the items of a list

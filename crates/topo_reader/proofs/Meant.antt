@@ -1,14 +1,11 @@
 -- What bytes mean is well formed, and its texts are ones that opening would keep.
-use Rattle.std.proofs.Common.{ℕ, List, Bool, sym, subst}
-use Rattle.json_spans.specs.Nodes.{Node}
-use Rattle.json_spans.specs.Inside.{IsValue}
-use Rattle.json_spans.proofs.Grouped.{padded_value}
-use Rattle.ring_machine.specs.Document.{Document}
-use Rattle.ring_machine.specs.WellFormed.{WellFormed}
-use Rattle.topo_outline.specs.Kept.{KeepsTexts}
-use Rattle.grid_geometry.specs.Position.{Position}
-use Rattle.topo_reader.specs.Arcs.{Arc}
-use Rattle.topo_reader.specs.Reads.{ReadsWith}
+use Rattle.kit_words.proofs.Common.{ℕ, List, Bool, sym, subst}
+use Rattle.json_spans.specs.Common.{Node, IsValue}
+use Rattle.json_spans.proofs.Common.{padded_value}
+use Rattle.ring_machine.specs.Common.{Document, WellFormed}
+use Rattle.topo_outline.specs.Common.{KeepsTexts}
+use Rattle.grid_geometry.specs.Common.{Position}
+use Rattle.topo_reader.specs.Common.{Arc, ReadsWith}
 use Rattle.topo_reader.proofs.Formed.{read_formed}
 use Rattle.topo_reader.proofs.Keeping.{read_keeps}
 

@@ -1,35 +1,25 @@
 -- What opens is of rings, or of walks.
-use Rattle.std.proofs.Common.{◌≡◌, ℕ, suc, ◌+◌, ◌-◌, ◌≤◌, Bool, true, false, List, [], ◌∷◌, ◌++◌, length, refl, sym, ap, ap₂, ◌∙◌, subst, arith, ◌&&◌}
-use Rattle.std.specs.Prelude.{Option, Some, None, Result, Ok, Err, IfOk, nat_le, sum_by, is_some}
-use Rattle.std.specs.List.{list_all, flat_map}
-use Rattle.std.proofs.lemmas.List.{length-append, length-take, take_all}
-use Rattle.std.proofs.lemmas.List.Sums.{sum_by-cons}
-use Rattle.grid_geometry.specs.Position.{Position}
-use Rattle.ring_machine.specs.Ring.{is_ring, canonical}
-use Rattle.ring_machine.specs.Parts.{rings, size}
-use Rattle.ring_machine.specs.WellFormed.{WellFormed}
-use Rattle.ring_machine.proofs.Canonical.{canonical_parts}
-use Rattle.ring_machine.proofs.StaysRing.{canonical_is_ring}
-use Rattle.json_spans.specs.Grammar.{Json}
-use Rattle.json_spans.specs.Nodes.{Node}
-use Rattle.topo_outline.specs.Faults.{Fault, arcs_do_not_meet, ring_short, too_large, ◌>>=◌, each, each_at, demand}
-use Rattle.topo_outline.specs.Layers.{OutlineText, leaves}
-use Rattle.topo_outline.specs.Kept.{KeepsTexts}
-use Rattle.topo_outline.specs.Outline.{outline}
-use Rattle.topo_outline.proofs.Shaped.{outline_few}
+use Rattle.kit_words.proofs.Common.{◌≡◌, ℕ, suc, ◌+◌, ◌-◌, ◌≤◌, Bool, true, false, List, [], ◌∷◌, ◌++◌, length, refl}
+use Rattle.kit_words.proofs.Common.{sym, ap, ap₂, ◌∙◌, subst, arith, ◌&&◌, Option, Some, None, Result, Ok, Err, IfOk}
+use Rattle.kit_words.proofs.Common.{nat_le, is_some, list_all, flat_map, length-append, length-take, take_all}
+use Rattle.kit_words.proofs.Common.{sum_by-cons}
+use Rattle.std.specs.Prelude.{sum_by}
+use Rattle.grid_geometry.specs.Common.{Position}
+use Rattle.ring_machine.specs.Common.{is_ring, canonical, rings, size, WellFormed}
+use Rattle.ring_machine.proofs.Common.{canonical_parts, canonical_is_ring}
+use Rattle.json_spans.specs.Common.{Json, Node}
+use Rattle.topo_outline.specs.Common.{Fault, arcs_do_not_meet, ring_short, too_large, ◌>>=◌, each, each_at, demand}
+use Rattle.topo_outline.specs.Common.{OutlineText, leaves, KeepsTexts, outline}
+use Rattle.topo_outline.proofs.Common.{outline_few}
 use Rattle.topo_outline.specs.declared.fault.RingAt.{RingAt}
 use Rattle.topo_outline.specs.declared.fault.Limit.TheVariants as limit
 use Rattle.topo_outline.specs.declared.fault.OpenFault.{OpenFault}
-use Rattle.topo_reader.specs.declared.rings.Closed.{Closed}
-use Rattle.topo_reader.specs.declared.rings.Closed.TheVariants.{Rings, Walks}
-use Rattle.topo_reader.specs.Positions.{arcs}
-use Rattle.topo_reader.specs.Arcs.{Arc}
-use Rattle.topo_reader.specs.Indexes.{uses_of}
+use Rattle.topo_reader.specs.Common.{Closed, Rings, Walks, arcs, Arc, uses_of, unless, is_at, meet, squeezed, all_of}
+use Rattle.topo_reader.specs.Common.{joined, first_repeat, distinct, simple, walk_of, ring_of, closed_of, polygon_of}
+use Rattle.topo_reader.specs.Common.{feature_of, all_rings, Polygons, Opened, document_of, is_walk, IsOf}
+use Rattle.topo_reader.specs.Common.{polygons_along, walks_read, polygons_read, root_of, OpensBy, AreArcs, IsClosed}
+use Rattle.topo_reader.specs.Common.{IsWalk, ReadsWith, ReadsBy}
 use Rattle.topo_reader.specs.Sizes as sizes
-use Rattle.topo_reader.specs.Rings.{unless, is_at, meet, squeezed, all_of, joined, first_repeat, distinct, simple, walk_of, ring_of, closed_of, polygon_of, feature_of, all_rings}
-use Rattle.topo_reader.specs.Document.{Polygons, Opened, document_of, is_walk, IsOf}
-use Rattle.topo_reader.specs.Opening.{polygons_along, walks_read, polygons_read, root_of, OpensBy}
-use Rattle.topo_reader.specs.Reads.{AreArcs, IsClosed, IsWalk, ReadsWith, ReadsBy}
 use Rattle.topo_reader.proofs.Meant.{meant_formed, meant_keeps}
 use Rattle.topo_reader.proofs.MeaningOfText.{made, made_along, is_read_by}
 use Rattle.topo_reader.proofs.MeaningOfRings.{walk_meant}

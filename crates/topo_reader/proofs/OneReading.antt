@@ -1,24 +1,16 @@
 -- Bytes mean one document at most, whatever their length and depth, and however many their features.
-use Rattle.std.proofs.Common.{◌≡◌, ℕ, ℤ, pos, negsuc, ◌+ℤ◌, List, [], ◌∷◌, refl, sym, ap, ap₂, ◌∙◌, subst, true, false, Bool}
-use Rattle.std.specs.Prelude.{Some, slice_get, reverse, is_some, Result, Ok, Err, IfOk}
-use Rattle.std.specs.List.{AllZip}
-use Rattle.json_spans.specs.Nodes.{Node}
-use Rattle.json_spans.specs.Inside.{IsValue, IsListOf, IsListFor}
-use Rattle.json_spans.specs.Whole.{IsWhole}
-use Rattle.json_spans.proofs.Meant.{one_whole}
-use Rattle.json_spans.proofs.Told.{items_told}
-use Rattle.json_spans.proofs.Grouped.{padded_value, padded_root}
-use Rattle.grid_geometry.specs.Position.{Position, position}
-use Rattle.ring_machine.specs.Document.{Form, Polygon, MultiPolygon, Null, Document}
+use Rattle.kit_words.proofs.Common.{◌≡◌, ℕ, ℤ, pos, negsuc, ◌+ℤ◌, List, [], ◌∷◌, refl, sym, ap, ap₂, ◌∙◌, subst, true}
+use Rattle.kit_words.proofs.Common.{false, Bool, Some, slice_get, reverse, is_some, Result, Ok, Err, IfOk, AllZip}
+use Rattle.json_spans.specs.Common.{Node, IsValue, IsListOf, IsListFor, IsWhole}
+use Rattle.json_spans.proofs.Common.{one_whole, items_told, padded_value, padded_root}
+use Rattle.grid_geometry.specs.Common.{Position, position}
+use Rattle.ring_machine.specs.Common.{Form, Polygon, MultiPolygon, Null, Document}
 use Rattle.topo_outline.specs.declared.fault.OpenFault.{OpenFault}
-use Rattle.topo_outline.specs.Layers.{OutlineText, leaves}
-use Rattle.topo_outline.specs.IsOutline.{IsOutline}
+use Rattle.topo_outline.specs.Common.{OutlineText, leaves, IsOutline}
 use Rattle.topo_outline.proofs.OneOutline.{outline_same}
-use Rattle.topo_reader.specs.declared.rings.Closed.{Closed}
-use Rattle.topo_reader.specs.declared.rings.Closed.TheVariants.{Rings}
-use Rattle.topo_reader.specs.Arcs.{Arc, origin}
-use Rattle.topo_reader.specs.Document.{Polygons, Opened, document_of}
-use Rattle.topo_reader.specs.Reads.{IsSum, Sums, no_pair, pair, ArePositions, IsArc, AreArcs, IsUse, forward, backward, RingUses, PolygonUses, GeometryUses, IsClosed, AreClosed, ReadsBy, Reads}
+use Rattle.topo_reader.specs.Common.{Closed, Rings, Arc, origin, Polygons, Opened, document_of, IsSum, Sums, no_pair}
+use Rattle.topo_reader.specs.Common.{pair, ArePositions, IsArc, AreArcs, IsUse, forward, backward, RingUses}
+use Rattle.topo_reader.specs.Common.{PolygonUses, GeometryUses, IsClosed, AreClosed, ReadsBy, Reads}
 use Rattle.topo_reader.proofs.Steps.{ok_same}
 use Rattle.topo_reader.proofs.MeaningOfRings.{rings_of}
 use Rattle.topo_reader.proofs.MeaningOfText.{IsReadBy}

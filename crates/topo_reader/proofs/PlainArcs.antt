@@ -1,15 +1,13 @@
 -- What plain pairs are read as, one after another.
-use Rattle.std.proofs.Common.{◌≡◌, ℕ, suc, ◌+◌, ◌<◌, List, [], ◌∷◌, ◌++◌, length, drop, Bool, true, false, refl, sym, ap, subst, ◌∙◌, arith}
-use Rattle.std.specs.Prelude.{ℤ, ◌+ℤ◌, Ok}
-use Rattle.std.specs.List.{list_all}
-use Rattle.std.proofs.lemmas.List.{length-append, append_assoc, append-nil, nil_from_length}
+use Rattle.kit_words.proofs.Common.{◌≡◌, ℕ, suc, ◌+◌, ◌<◌, List, [], ◌∷◌, ◌++◌, length, drop, Bool, true, false, refl}
+use Rattle.kit_words.proofs.Common.{sym, ap, subst, ◌∙◌, arith, ℤ, ◌+ℤ◌, Ok, list_all, length-append, append-nil}
+use Rattle.kit_words.proofs.Common.{nil_from_length}
+use Rattle.std.proofs.lemmas.List.{append_assoc}
 use Rattle.grid_geometry.specs.Position.{Position, position as placed, InRange}
 use Rattle.json_spans.specs.Parts.{Node}
-use Rattle.json_spans.specs.Walk.{items}
-use Rattle.json_spans.specs.Whole.{whole_of}
-use Rattle.topo_reader.specs.Arcs.{origin}
-use Rattle.topo_reader.specs.Positions.{position, positions, before_next, arc}
-use Rattle.topo_reader.specs.Plain.{is_plain, PlainStep, PlainFront, PlainArc, nodes_from}
+use Rattle.json_spans.specs.Common.{items, whole_of}
+use Rattle.topo_reader.specs.Common.{origin, position, positions, before_next, arc, is_plain, PlainStep, PlainFront}
+use Rattle.topo_reader.specs.Common.{PlainArc, nodes_from}
 use Rattle.topo_reader.proofs.MeaningOfArcs.{within, count, two_or_more}
 use Rattle.topo_reader.proofs.PlainItems.{pair_text, regroup, pair_items, comma_long, bracket_long, pair_comma, pair_last}
 

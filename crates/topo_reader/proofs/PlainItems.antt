@@ -1,21 +1,16 @@
 -- The parts of a list whose first one is a pair of plain numbers, and the items of that pair.
-use Rattle.std.proofs.Common.{◌≡◌, ℕ, suc, ◌+◌, ◌-◌, List, [], ◌∷◌, ◌++◌, length, take, drop, map, true, false, refl, sym, ap, subst, ◌∙◌, arith}
-use Rattle.std.specs.Prelude.{ℤ, Some, None, Ok, reverse}
-use Rattle.std.specs.List.{list_all, take_while}
-use Rattle.std.proofs.lemmas.Bool.Decides.{nat_tests}
-use Rattle.std.proofs.lemmas.List.{append_assoc, reverse-append, length-append, take_all}
-use Rattle.std.proofs.lemmas.List.Folds.{list_all-append}
-use Rattle.std.proofs.lemmas.List.Sums.{take_while-cons}
-use Rattle.std.proofs.Math.Seq.{drop-append_seam, take-append_seam}
-use Rattle.ring_machine.proofs.Order.{and_both}
-use Rattle.json_spans.specs.Bytes.{is_space}
-use Rattle.json_spans.specs.Parts.{Node, skip_step, part_len, closes, after_comma, parts_left}
-use Rattle.json_spans.specs.Trimmed.{trimmed, spaces_before}
-use Rattle.json_spans.specs.Walk.{items}
-use Rattle.json_spans.specs.Whole.{whole_of}
+use Rattle.kit_words.proofs.Common.{◌≡◌, ℕ, suc, ◌+◌, ◌-◌, List, [], ◌∷◌, ◌++◌, length, take, drop, map, true, false}
+use Rattle.kit_words.proofs.Common.{refl, sym, ap, subst, ◌∙◌, arith, ℤ, Some, None, Ok, reverse, list_all, take_while}
+use Rattle.kit_words.proofs.Common.{nat_tests, reverse-append, length-append, take_all, list_all-append}
+use Rattle.kit_words.proofs.Common.{take_while-cons, drop-append_seam, take-append_seam}
+use Rattle.std.proofs.lemmas.List.{append_assoc}
+use Rattle.ring_machine.proofs.Common.{and_both}
+use Rattle.json_spans.specs.Common.{is_space, skip_step, part_len, closes, after_comma, parts_left, trimmed}
+use Rattle.json_spans.specs.Common.{spaces_before, items, whole_of}
+use Rattle.json_spans.specs.Parts.{Node}
 use Rattle.json_spans.specs.declared.parts.Skip.TheVariants.{Plain}
 use Rattle.json_spans.proofs.Parting.{parts_next, parts_last}
-use Rattle.topo_reader.specs.Plain.{is_plain, nodes_from}
+use Rattle.topo_reader.specs.Common.{is_plain, nodes_from}
 
 -- ---- bytes and words
 

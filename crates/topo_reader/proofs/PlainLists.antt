@@ -1,20 +1,16 @@
 -- What plain arcs are read as, one after another.
-use Rattle.std.proofs.Common.{◌≡◌, ℕ, suc, ◌+◌, ◌-◌, ◌<◌, List, [], ◌∷◌, ◌++◌, length, take, drop, get_or, map, Bool, true, false, refl, sym, ap, subst, ◌∙◌, arith, add-one, drop-cons}
-use Rattle.std.specs.Prelude.{None, Some, Ok}
-use Rattle.std.proofs.lemmas.Bool.Decides.{nat_tests}
-use Rattle.std.proofs.lemmas.List.{length-append, append_assoc, append-nil, reverse-append, length-drop, take_all, map-append, nil_from_length}
-use Rattle.grid_geometry.specs.Position.{Position}
-use Rattle.json_spans.specs.Bytes.{is_space}
-use Rattle.json_spans.specs.Grammar.{Space, no_space, space}
-use Rattle.json_spans.specs.Inside.{Padded, padded}
-use Rattle.json_spans.specs.Parts.{Node, skip_step, part_len, has_first}
-use Rattle.json_spans.specs.Trimmed.{trimmed, spaces_before}
+use Rattle.kit_words.proofs.Common.{◌≡◌, ℕ, suc, ◌+◌, ◌-◌, ◌<◌, List, [], ◌∷◌, ◌++◌, length, take, drop, get_or, map}
+use Rattle.kit_words.proofs.Common.{Bool, true, false, refl, sym, ap, subst, ◌∙◌, arith, add-one, drop-cons, None, Some}
+use Rattle.kit_words.proofs.Common.{Ok, nat_tests, length-append, append-nil, reverse-append, length-drop, take_all}
+use Rattle.kit_words.proofs.Common.{map-append, nil_from_length}
+use Rattle.std.proofs.lemmas.List.{append_assoc}
+use Rattle.grid_geometry.specs.Common.{Position}
+use Rattle.json_spans.specs.Common.{is_space, Space, no_space, space, Padded, padded, skip_step, part_len, has_first}
+use Rattle.json_spans.specs.Common.{trimmed, spaces_before}
+use Rattle.json_spans.specs.Parts.{Node}
 use Rattle.json_spans.specs.declared.parts.Skip.TheVariants.{Plain}
-use Rattle.json_spans.proofs.Framing.{Firm, space_framed, alone}
-use Rattle.json_spans.proofs.Padding.{Solid, trimmed_is, first_is}
-use Rattle.topo_reader.specs.Positions.{arc, arcs}
-use Rattle.topo_reader.specs.Plain.{nodes_from}
-use Rattle.topo_reader.specs.PlainList.{PlainItem, PlainItems, Begins}
+use Rattle.json_spans.proofs.Common.{Firm, space_framed, alone, Solid, trimmed_is, first_is}
+use Rattle.topo_reader.specs.Common.{arc, arcs, nodes_from, PlainItem, PlainItems, Begins}
 use Rattle.topo_reader.proofs.PlainItems.{first_part, last_part}
 use Rattle.topo_reader.proofs.PlainArcs.{left_len, arc_reads}
 

@@ -1,16 +1,12 @@
 -- A number read digit by digit is the whole number of its word.
-use Rattle.std.proofs.Common.{rules, to_z, of_z, ◌≡◌, ℕ, zero, suc, ◌+◌, ◌-◌, ◌*◌, ◌<◌, ◌^◌, nat_lt, nat_le, List, [], ◌∷◌, ◌++◌, length, take, drop, get_or, Bool, true, false, refl, ap, ◌∙◌, arith, add-one}
-use Rattle.std.specs.Prelude.{◌&&◌, ◌==◌, ℤ, pos, ◌-ℤ◌, Some, Ok}
-use Rattle.std.specs.List.{list_all, prefix_len}
-use Rattle.std.proofs.lemmas.Bool.Decides.{nat_tests}
-use Rattle.std.proofs.lemmas.List.{take_all, drop_all}
-use Rattle.std.proofs.lemmas.List.Folds.{list_all-append}
-use Rattle.std.proofs.Math.Seq.{take-suc}
-use Rattle.json_spans.specs.Bytes.{is_digit}
-use Rattle.json_spans.specs.Whole.{value_from, digits_len, whole_digits, whole_of, minus}
-use Rattle.ring_machine.proofs.Order.{and_both}
-use Rattle.topo_reader.specs.Plain.{is_plain, PlainDigits, PlainNumber}
-use Rattle.std.proofs.lemmas.Int.{to_z_pos, to_z-of_z, ints}
+use Rattle.kit_words.proofs.Common.{rules, to_z, of_z, ◌≡◌, ℕ, zero, suc, ◌+◌, ◌-◌, ◌*◌, ◌<◌, ◌^◌, nat_lt, nat_le, List}
+use Rattle.kit_words.proofs.Common.{[], ◌∷◌, ◌++◌, length, take, drop, get_or, Bool, true, false, refl, ap, ◌∙◌, arith}
+use Rattle.kit_words.proofs.Common.{add-one, ◌&&◌, ◌==◌, ℤ, pos, ◌-ℤ◌, Some, Ok, list_all, prefix_len, nat_tests}
+use Rattle.kit_words.proofs.Common.{take_all, drop_all, list_all-append, take-suc, to_z_pos, to_z-of_z, ints}
+use Rattle.json_spans.specs.Common.{is_digit, value_from, digits_len, whole_digits, whole_of}
+use Rattle.json_spans.specs.Whole.{minus}
+use Rattle.ring_machine.proofs.Common.{and_both}
+use Rattle.topo_reader.specs.Common.{is_plain, PlainDigits, PlainNumber}
 use mir.Syntax.{w64}
 use mir.Val.{SFits}
 

@@ -1,16 +1,11 @@
 -- No position stands twice: as a loop with what was seen finds it, as a test, and by places.
-use Rattle.std.proofs.Common.{◌≡◌, ◌≢◌, suc, Bool, true, false, cond, List, [], ◌∷◌, ◌++◌, get_or, refl, sym, ap, ap₂, ◌∙◌, arith, ◌&&◌, ◌||◌, inl, inr}
-use Rattle.std.specs.Prelude.{Some, None, not}
-use Rattle.std.specs.List.{All, AllPairs}
-use Rattle.std.proofs.lemmas.Bool.{false≢true}
-use Rattle.std.proofs.lemmas.List.Folds.{list_any-append, list_any_none}
-use Rattle.std.proofs.lemmas.List.Elements.{All-cons, All-nil}
-use Rattle.std.proofs.lemmas.List.Kept.{AllPairs-cons}
-use Rattle.grid_geometry.specs.Position.{Position, position_eq}
-use Rattle.ring_machine.specs.Ring.{has, is_distinct}
-use Rattle.ring_machine.proofs.Order.{and_both, or_true, position_eq-true, position_eq-refl}
-use Rattle.ring_machine.proofs.Removal.{not_true}
-use Rattle.topo_reader.specs.Rings.{first_repeat}
+use Rattle.kit_words.proofs.Common.{◌≡◌, ◌≢◌, suc, Bool, true, false, cond, List, [], ◌∷◌, ◌++◌, get_or, refl, sym, ap}
+use Rattle.kit_words.proofs.Common.{ap₂, ◌∙◌, arith, ◌&&◌, ◌||◌, inl, inr, Some, None, not, All, AllPairs, false≢true}
+use Rattle.kit_words.proofs.Common.{list_any-append, list_any_none, All-cons, All-nil, AllPairs-cons}
+use Rattle.grid_geometry.specs.Common.{Position, position_eq}
+use Rattle.ring_machine.specs.Common.{has, is_distinct}
+use Rattle.ring_machine.proofs.Common.{and_both, or_true, position_eq-true, position_eq-refl, not_true}
+use Rattle.topo_reader.specs.Common.{first_repeat}
 
 -- ---- by a loop and by a test
 

@@ -1,12 +1,10 @@
 -- The document of what was read, with each ring changed.
-use Rattle.std.proofs.Common.{◌≡◌, ℕ, ◌+◌, List, [], ◌∷◌, refl, sym, ap, ap₂, ◌∙◌, map, length, Option, None, Some}
-use Rattle.std.specs.Prelude.{slice_get, unwrap_or, option_map}
-use Rattle.std.proofs.lemmas.Option.{slice_get-map}
-use Rattle.grid_geometry.specs.Position.{Position}
-use Rattle.ring_machine.specs.Document.{Open, Close, Leaf, Kept}
-use Rattle.ring_machine.specs.Parts.{in_feature, in_item, in_layer, in_rings}
-use Rattle.topo_outline.specs.Layers.{Piece, starts, ends, leaf, text, LayerText, leaves_in}
-use Rattle.topo_reader.specs.Document.{Polygons, Opened, polygons_at, numbered, items_from, layers_from, document_of}
+use Rattle.kit_words.proofs.Common.{◌≡◌, ℕ, ◌+◌, List, [], ◌∷◌, refl, sym, ap, ap₂, ◌∙◌, map, length, Option, None}
+use Rattle.kit_words.proofs.Common.{Some, slice_get, unwrap_or, option_map, slice_get-map}
+use Rattle.grid_geometry.specs.Common.{Position}
+use Rattle.ring_machine.specs.Common.{Open, Close, Leaf, Kept, in_feature, in_item, in_layer, in_rings}
+use Rattle.topo_outline.specs.Common.{Piece, starts, ends, leaf, text, LayerText, leaves_in}
+use Rattle.topo_reader.specs.Common.{Polygons, Opened, polygons_at, numbered, items_from, layers_from, document_of}
 
 module _ (g : List Position → List Position) where
   abbrev changed : Polygons → Polygons

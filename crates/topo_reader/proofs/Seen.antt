@@ -1,15 +1,11 @@
 -- The positions that were seen, as a set in order has them.
-use Rattle.std.proofs.Common.{◌≡◌, ℕ, ◌+◌, ◌<◌, length, drop, get_or, Bool, true, false, cond, List, [], ◌∷◌, ◌++◌, refl, sym, ap, ap₂, ◌∙◌, subst, not, ◌||◌, Result, Ok, Err, OnOk, arith}
-use Rattle.std.specs.Prelude.{Some, IfOk}
-use Rattle.std.specs.List.{list_any}
-use Rattle.std.specs.Ordering.{int_cmp}
-use Rattle.std.specs.Cmp.{tied_then}
-use Rattle.std.specs.BTreeSet.{BTreeSet, contains, Updates}
-use Rattle.std.proofs.lemmas.List.Folds.{list_any-append}
-use Rattle.grid_geometry.specs.Position.{Position, position_cmp, position_eq}
-use Rattle.ring_machine.specs.Ring.{has}
-use Rattle.ring_machine.proofs.Removal.{position_eq-sym}
-use Rattle.topo_reader.specs.Rings.{first_repeat}
+use Rattle.kit_words.proofs.Common.{◌≡◌, ℕ, ◌+◌, ◌<◌, length, drop, get_or, Bool, true, false, cond, List, [], ◌∷◌}
+use Rattle.kit_words.proofs.Common.{◌++◌, refl, sym, ap, ap₂, ◌∙◌, subst, not, ◌||◌, Result, Ok, Err, OnOk, arith, Some}
+use Rattle.kit_words.proofs.Common.{IfOk, list_any, int_cmp, tied_then, BTreeSet, contains, Updates, list_any-append}
+use Rattle.grid_geometry.specs.Common.{Position, position_cmp, position_eq}
+use Rattle.ring_machine.specs.Common.{has}
+use Rattle.ring_machine.proofs.Common.{position_eq-sym}
+use Rattle.topo_reader.specs.Common.{first_repeat}
 use Rattle.topo_reader.proofs.Joining.{tail_at}
 
 -- the order finds a position where the test of equality does

@@ -1,20 +1,14 @@
 -- Positions that stay all when equal neighbours of the sorted ones are left out are distinct.
-use Rattle.std.proofs.Common.{◌≡◌, suc, ◌≤◌, Bool, true, false, cond, List, [], ◌∷◌, ◌++◌, length, refl, sym, ap, ap₂, ◌∙◌, subst, arith, not, ◌&&◌, ◌||◌}
-use Rattle.std.specs.Prelude.{None}
-use Rattle.std.specs.List.{AllByRecursion, IsDistinct, dedup, dedup_from}
-use Rattle.std.specs.List.Sorted.{IsPermutation, IsSorted}
-use Rattle.std.specs.List.Retain.{IsFiltered, DiffersFromLast}
-use Rattle.std.specs.Ordering.{int_cmp, eq_by_cmp}
-use Rattle.std.specs.Cmp.{IsTotalOrder, int_cmp_total, on_total, then_total, tied_then}
-use Rattle.std.proofs.lemmas.Bool.{false≢true}
-use Rattle.std.proofs.lemmas.List.Filters.{dedup_is}
-use Rattle.std.proofs.lemmas.List.Kept.{IsStrictlySortedBy-dedup}
-use Rattle.std.proofs.lemmas.List.Sorted.{IsPermutation-sym}
+use Rattle.kit_words.proofs.Common.{◌≡◌, suc, ◌≤◌, Bool, true, false, cond, List, [], ◌∷◌, ◌++◌, length, refl, sym, ap}
+use Rattle.kit_words.proofs.Common.{ap₂, ◌∙◌, subst, arith, not, ◌&&◌, ◌||◌, None, AllByRecursion, IsDistinct, dedup}
+use Rattle.kit_words.proofs.Common.{dedup_from, IsPermutation, IsSorted, IsFiltered, DiffersFromLast, int_cmp}
+use Rattle.kit_words.proofs.Common.{eq_by_cmp, IsTotalOrder, int_cmp_total, on_total, then_total, tied_then, false≢true}
+use Rattle.kit_words.proofs.Common.{dedup_is, IsStrictlySortedBy-dedup, IsPermutation-sym}
 use Rattle.std.proofs.lemmas.Map.Keys.{IsDistinct-from_sorted, IsDistinct-IsPermutation, IsDistinct-head, IsDistinct-tail}
-use Rattle.grid_geometry.specs.Position.{Position, position_cmp, position_eq}
-use Rattle.ring_machine.specs.Ring.{has, is_distinct}
-use Rattle.ring_machine.proofs.Removal.{position_eq-sym}
-use Rattle.topo_reader.specs.Rings.{first_repeat}
+use Rattle.grid_geometry.specs.Common.{Position, position_cmp, position_eq}
+use Rattle.ring_machine.specs.Common.{has, is_distinct}
+use Rattle.ring_machine.proofs.Common.{position_eq-sym}
+use Rattle.topo_reader.specs.Common.{first_repeat}
 use Rattle.topo_reader.proofs.Repeats.{no_repeat}
 
 position_total : IsTotalOrder position_cmp

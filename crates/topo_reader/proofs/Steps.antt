@@ -1,8 +1,7 @@
 -- Steps that went well, one after another.
-use Rattle.std.proofs.Common.{◌≡◌, ℕ, ◌+◌, ◌≤◌, arith, Bool, true, false, List, [], ◌∷◌, refl, subst}
-use Rattle.std.specs.Prelude.{Result, Ok, Err, nat_le}
-use Rattle.std.specs.List.{AllByRecursion, AllZip}
-use Rattle.topo_outline.specs.Faults.{Fault, ◌>>=◌, each, each_at, demand}
+use Rattle.kit_words.proofs.Common.{◌≡◌, ℕ, ◌+◌, ◌≤◌, arith, Bool, true, false, List, [], ◌∷◌, refl, subst, Result, Ok}
+use Rattle.kit_words.proofs.Common.{Err, nat_le, AllByRecursion, AllZip}
+use Rattle.topo_outline.specs.Common.{Fault, ◌>>=◌, each, each_at, demand}
 
 pub bind_ok : {A B : Type 0} (r : Result A Fault) (f : A → Result B Fault) (b : B) → (r >>= f) ≡ Ok b → (a : A) × (r ≡ Ok a) × (f a ≡ Ok b)
 bind_ok (Ok a) f b h = (a, refl, h)

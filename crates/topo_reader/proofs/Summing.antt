@@ -1,14 +1,11 @@
 -- Reading the positions of an arc one after another, as the loop does.
-use Rattle.std.proofs.Common.{◌≡◌, List, [], ◌∷◌, ◌++◌, refl, sym, ◌∙◌}
-use Rattle.std.specs.Prelude.{ℤ, Bool, Result, Ok}
-use Rattle.std.proofs.lemmas.List.{append-nil}
-use Rattle.json_spans.specs.Nodes.{Node}
-use Rattle.grid_geometry.specs.Position.{Position}
-use Rattle.topo_outline.specs.Gives.{Fails}
+use Rattle.kit_words.proofs.Common.{◌≡◌, List, [], ◌∷◌, ◌++◌, refl, sym, ◌∙◌, ℤ, Bool, Result, Ok, append-nil}
+use Rattle.json_spans.specs.Common.{Node}
+use Rattle.grid_geometry.specs.Common.{Position}
+use Rattle.topo_outline.specs.Common.{Fails, Fault}
 use Rattle.topo_outline.specs.declared.fault.OpenFault.{OpenFault}
-use Rattle.topo_outline.specs.Faults.{Fault}
-use Rattle.topo_outline.proofs.Walking.{with_front, carry, regroup}
-use Rattle.topo_reader.specs.Positions.{coordinate, pair_of, position, positions, before_next}
+use Rattle.topo_outline.proofs.Common.{with_front, carry, regroup}
+use Rattle.topo_reader.specs.Common.{coordinate, pair_of, position, positions, before_next}
 
 pub turn : (delta : Bool) (before : Position) (front : List Position) (p : Position) (n : Node) (ns left : List Node) (whole : Result (List Position) Fault) → left ≡ n ∷ ns → position before n ≡ Ok p → with_front front (positions delta before left) ≡ whole →
     with_front (front ++ p ∷ []) (positions delta (before_next delta p) ns) ≡ whole

@@ -1,20 +1,13 @@
 -- Bytes mean a document of rings exactly where they mean one of walks that are all simple: the rings are the
 -- walks, begun at their least positions.
-use Rattle.std.proofs.Common.{◌≡◌, ℕ, Bool, true, List, [], ◌∷◌, length, map, refl, sym, ap, ap₂, ◌∙◌, arith, ◌&&◌}
-use Rattle.std.specs.Prelude.{nat_le}
-use Rattle.std.specs.List.{AllZip, list_all, flat_map}
-use Rattle.std.proofs.lemmas.List.{take_all}
-use Rattle.std.proofs.lemmas.List.Folds.{list_all-append}
-use Rattle.std.proofs.lemmas.Slice.Zip.{AllZip-long}
-use Rattle.grid_geometry.specs.Position.{Position}
-use Rattle.ring_machine.specs.Ring.{is_distinct, canonical}
-use Rattle.ring_machine.specs.Document.{Document}
-use Rattle.ring_machine.specs.Parts.{rings, in_rings}
-use Rattle.ring_machine.proofs.Order.{and_both}
-use Rattle.topo_outline.specs.Layers.{OutlineText, leaves}
-use Rattle.topo_reader.specs.Arcs.{Arc}
-use Rattle.topo_reader.specs.Document.{Polygons, Opened, document_of, is_simple}
-use Rattle.topo_reader.specs.Reads.{GeometryUses, IsWalk, around, IsRing, AreClosed, ReadsBy, Reads, ReadsWalks, Fits}
+use Rattle.kit_words.proofs.Common.{◌≡◌, ℕ, Bool, true, List, [], ◌∷◌, length, map, refl, sym, ap, ap₂, ◌∙◌, arith}
+use Rattle.kit_words.proofs.Common.{◌&&◌, nat_le, AllZip, list_all, flat_map, take_all, list_all-append, AllZip-long}
+use Rattle.grid_geometry.specs.Common.{Position}
+use Rattle.ring_machine.specs.Common.{is_distinct, canonical, Document, rings, in_rings}
+use Rattle.ring_machine.proofs.Common.{and_both}
+use Rattle.topo_outline.specs.Common.{OutlineText, leaves}
+use Rattle.topo_reader.specs.Common.{Arc, Polygons, Opened, document_of, is_simple, GeometryUses, IsWalk, around}
+use Rattle.topo_reader.specs.Common.{IsRing, AreClosed, ReadsBy, Reads, ReadsWalks, Fits}
 use Rattle.topo_reader.proofs.MeaningOfRings.{long_ring}
 use Rattle.topo_reader.proofs.Numbering.{rings_within, rings_document, all_within}
 use Rattle.topo_reader.proofs.Repeats.{differ, distinct_of}

@@ -1,18 +1,11 @@
 -- The extent, as the loops come to it.
-use Rattle.std.proofs.Common.{◌≡◌, ℕ, ◌+◌, ◌-◌, ◌<◌, ◌≤◌, List, [], ◌∷◌, ◌++◌, length, get_or, take, drop, map, refl, sym, ap, ap₂, ◌∙◌, arith, ℤ}
-use Rattle.std.specs.Prelude.{min, Option, Some, None}
-use Rattle.std.specs.List.{fold, flat_map}
-use Rattle.std.specs.Int.{int_min, int_max}
-use Rattle.std.proofs.lemmas.List.{drop_all, take_min, take-map}
-use Rattle.std.proofs.lemmas.List.Concat.{flat_map-append}
-use Rattle.std.proofs.lemmas.List.Folds.{flat_map-map}
-use Rattle.std.proofs.lemmas.List.Sums.{fold-append}
-use Rattle.grid_geometry.specs.Position.{Position}
-use Rattle.grid_geometry.specs.Segment.{Box}
-use Rattle.ring_machine.specs.Parts.{positions}
-use Rattle.topo_outline.specs.Layers.{LayerText, leaves}
-use Rattle.topo_reader.specs.Document.{Polygons, Opened, document_of}
-use Rattle.topo_reader.specs.Extent.{box_with, widened, extent_of}
+use Rattle.kit_words.proofs.Common.{◌≡◌, ℕ, ◌+◌, ◌-◌, ◌<◌, ◌≤◌, List, [], ◌∷◌, ◌++◌, length, get_or, take, drop, map}
+use Rattle.kit_words.proofs.Common.{refl, sym, ap, ap₂, ◌∙◌, arith, ℤ, min, Option, Some, None, fold, flat_map, int_min}
+use Rattle.kit_words.proofs.Common.{int_max, drop_all, take_min, take-map, flat_map-append, flat_map-map, fold-append}
+use Rattle.grid_geometry.specs.Common.{Position, Box}
+use Rattle.ring_machine.specs.Common.{positions}
+use Rattle.topo_outline.specs.Common.{LayerText, leaves}
+use Rattle.topo_reader.specs.Common.{Polygons, Opened, document_of, box_with, widened, extent_of}
 use Rattle.topo_reader.proofs.Joining.{tail_at}
 use Rattle.topo_reader.proofs.Numbering.{rings_within, rings_document}
 

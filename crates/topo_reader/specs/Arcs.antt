@@ -1,6 +1,6 @@
 -- Arcs as lists of positions.
 use Rattle.std.specs.Prelude.{List, pos}
-use Rattle.grid_geometry.specs.Position.{Position}
+use Rattle.grid_geometry.specs.Common.{Position}
 
 -- an arc is the list of its positions (TopoJSON 1.0, 2.1.3)
 abbrev pub Arc : Type 0

@@ -1,14 +1,10 @@
 -- What was read, as a document: each feature with its number and its polygons.
 use Rattle.std.specs.Prelude.{◌≡◌, ℕ, ◌+◌, ◌≤◌, nat_le, Bool, not, ◌&&◌, List, [], ◌∷◌, length, Option, unwrap_or, slice_get, IsTrue}
 use Rattle.std.specs.List.{list_all}
-use Rattle.grid_geometry.specs.Position.{Position, position_eq}
-use Rattle.grid_geometry.specs.Ring.{edges}
-use Rattle.ring_machine.specs.Ring.{is_ring, is_distinct}
-use Rattle.ring_machine.specs.Document.{Text, Form, Member, Head, FeatureOf, ItemOf, Open, Close, Leaf, Kept, LayerOf, Document}
-use Rattle.ring_machine.specs.Parts.{rings, size}
-use Rattle.ring_machine.specs.WellFormed.{WellFormed}
-use Rattle.topo_outline.specs.Layers.{Piece, starts, ends, leaf, text, LayerText, leaves_in, leaves}
-use Rattle.topo_outline.specs.Kept.{KeepsTexts}
+use Rattle.grid_geometry.specs.Common.{Position, position_eq, edges}
+use Rattle.ring_machine.specs.Common.{is_ring, is_distinct, Text, Form, Member, Head, FeatureOf, ItemOf, Open, Close}
+use Rattle.ring_machine.specs.Common.{Leaf, Kept, LayerOf, Document, rings, size, WellFormed}
+use Rattle.topo_outline.specs.Common.{Piece, starts, ends, leaf, text, LayerText, leaves_in, leaves, KeepsTexts}
 
 -- the polygons of one feature: an outer ring and its holes each (RFC 7946, 3.1.6)
 abbrev pub Polygons : Type 0

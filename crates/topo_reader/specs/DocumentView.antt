@@ -1,6 +1,6 @@
 -- What was read, as the definitions see it.
 use Rattle.std.specs.Prelude.{map, option_map}
-use Rattle.topo_outline.specs.Views.{view_layer, view_kept}
+use Rattle.topo_outline.specs.Common.{view_layer, view_kept}
 use Rattle.topo_reader.specs.declared.document.RawDoc.{RawDoc}
 use Rattle.topo_reader.specs.Document.{Opened}
 use Rattle.topo_reader.specs.Uses.{feature_positions}

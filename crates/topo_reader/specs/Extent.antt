@@ -2,8 +2,7 @@
 use Rattle.std.specs.Prelude.{List, [], ◌∷◌, map, Option, Some, None}
 use Rattle.std.specs.List.{fold}
 use Rattle.std.specs.Int.{int_min, int_max}
-use Rattle.grid_geometry.specs.Position.{Position}
-use Rattle.grid_geometry.specs.Segment.{Box}
+use Rattle.grid_geometry.specs.Common.{Position, Box}
 
 -- the least box of all positions: from their least x and y to their greatest (TopoJSON 1.0, 3)
 abbrev pub extent_of : List Position → Option Box

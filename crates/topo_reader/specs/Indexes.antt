@@ -1,14 +1,12 @@
 -- The arcs that the rings use: the first fault in the order of the text, or all of them,
 -- each in its direction.
 use Rattle.std.specs.Prelude.{ℕ, ℤ, pos, negsuc, List, [], ◌∷◌, reverse, Option, Some, None, option_map, slice_get, Result, Ok, Err}
-use Rattle.json_spans.specs.Nodes.{Node}
-use Rattle.json_spans.specs.Walk.{items}
-use Rattle.json_spans.specs.Whole.{whole_of}
+use Rattle.json_spans.specs.Common.{Node, items, whole_of}
 use Rattle.json_spans.specs.declared.number.NotWhole.{NotWhole}
 use Rattle.json_spans.specs.declared.number.NotWhole.TheVariants as is_not
-use Rattle.ring_machine.specs.Document.{Form, Polygon, MultiPolygon, Null}
+use Rattle.ring_machine.specs.Common.{Form, Polygon, MultiPolygon, Null}
 pub use Rattle.topo_reader.specs.Arcs.{Arc}
-use Rattle.topo_outline.specs.Faults.{Fault, not_whole, bad_arc_index, ◌>>=◌, each}
+use Rattle.topo_outline.specs.Common.{Fault, not_whole, bad_arc_index, ◌>>=◌, each}
 
 -- an index names an arc, or by its ones' complement the arc in reverse (TopoJSON 1.0, 2.1.4)
 abbrev pub arc_named : List Arc → ℤ → Option Arc

@@ -11,3 +11,4 @@ pub mod Extent
 pub mod Opening
 pub mod Plain
 pub mod PlainList
+pub mod Common

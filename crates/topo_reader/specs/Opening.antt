@@ -1,18 +1,16 @@
 -- Opening: the first fault of the first phase that has one, or what was read.
 -- The phases follow each other as the lines do. Rings are wanted, or walks.
 use Rattle.std.specs.Prelude.{◌≡◌, ℕ, ◌<◌, ◌≤◌, ◌⊎◌, List, length, nat_le, Some, is_some, Result, Ok, Err}
-use Rattle.ring_machine.specs.Planar.{first_pair}
-use Rattle.json_spans.specs.Grammar.{Json}
-use Rattle.json_spans.specs.Nodes.{Node}
-use Rattle.json_spans.specs.Machine.{verdict}
+use Rattle.ring_machine.specs.Common.{first_pair}
+use Rattle.json_spans.specs.Common.{Json, Node, verdict, trimmed}
 use Rattle.json_spans.specs.Machine as verdicts
-use Rattle.json_spans.specs.Trimmed.{trimmed}
 use Rattle.topo_outline.specs.declared.fault.Limit.TheVariants as limit
 use Rattle.topo_outline.specs.declared.fault.OpenFault.{OpenFault}
 use Rattle.topo_outline.specs.declared.fault.OpenFault.TheVariants as fault
-use Rattle.topo_outline.specs.Faults.{Fault, too_deep, not_topology, bad_member, duplicate, unsupported, not_whole, out_of_range, bad_position, bad_arc_index, arcs_do_not_meet, ring_short, ring_repeats, too_large, ◌>>=◌, each, demand}
-use Rattle.topo_outline.specs.Layers.{LayerText, OutlineText, leaves}
-use Rattle.topo_outline.specs.Outline.{outline}
+use Rattle.topo_outline.specs.Common.{Fault, too_deep, not_topology, bad_member, duplicate, unsupported, not_whole}
+use Rattle.topo_outline.specs.Common.{out_of_range, bad_position, bad_arc_index, arcs_do_not_meet, ring_short}
+use Rattle.topo_outline.specs.Common.{ring_repeats, too_large, ◌>>=◌, each, demand, LayerText, OutlineText, leaves}
+use Rattle.topo_outline.specs.Common.{outline}
 use Rattle.topo_reader.specs.Positions.{arcs}
 use Rattle.topo_reader.specs.Arcs.{Arc}
 use Rattle.topo_reader.specs.Indexes.{uses_of}

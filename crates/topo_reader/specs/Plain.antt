@@ -3,12 +3,10 @@
 -- Bytes: 44 `,`, 45 `-`, 91 `[`, 93 `]`.
 use Rattle.std.specs.Prelude.{◌≡◌, ℕ, ◌+◌, ◌<◌, ◌≤◌, ◌^◌, ℤ, ◌+ℤ◌, List, [], ◌∷◌, ◌++◌, Bool, true, false, ◌==◌, ◌||◌, Ok, map, length, drop}
 use Rattle.std.specs.List.{list_all}
-use Rattle.json_spans.specs.Bytes.{is_digit}
-use Rattle.json_spans.specs.Parts.{Node, part_len, parts_left}
+use Rattle.json_spans.specs.Common.{is_digit, part_len, parts_left, trimmed, value_from, whole_of}
+use Rattle.json_spans.specs.Parts.{Node}
 use Rattle.json_spans.specs.declared.parts.Skip.TheVariants.{Plain}
-use Rattle.json_spans.specs.Trimmed.{trimmed}
-use Rattle.json_spans.specs.Whole.{value_from, whole_of}
-use Rattle.grid_geometry.specs.Position.{Position, position, InRange}
+use Rattle.grid_geometry.specs.Common.{Position, position, InRange}
 use Rattle.topo_reader.specs.Positions.{origin, positions}
 
 -- a minus or a digit

@@ -1,10 +1,8 @@
 -- A list of arcs that are written plainly, with white space round each of them.
 use Rattle.std.specs.Prelude.{◌≡◌, ℕ, List, [], Bool, true, false, drop, Ok}
-use Rattle.grid_geometry.specs.Position.{Position}
-use Rattle.json_spans.specs.Grammar.{Space}
-use Rattle.json_spans.specs.Parts.{has_first}
-use Rattle.json_spans.specs.Trimmed.{spaces_before}
-use Rattle.topo_outline.specs.Faults.{each}
+use Rattle.grid_geometry.specs.Common.{Position}
+use Rattle.json_spans.specs.Common.{Space, has_first, spaces_before}
+use Rattle.topo_outline.specs.Common.{each}
 use Rattle.topo_reader.specs.Positions.{arc}
 use Rattle.topo_reader.specs.Plain.{Follows, PlainArc, nodes_from}
 

@@ -1,14 +1,11 @@
 -- The positions of the arcs: the first fault in the order of the text, or all of them.
 use Rattle.std.specs.Prelude.{ℕ, ◌&&◌, ℤ, ◌+ℤ◌, unsigned_abs, List, [], ◌∷◌, Bool, true, false, nat_le, if◌then◌else◌, Option, Some, None, Result, Ok, Err}
-use Rattle.json_spans.specs.Nodes.{Node}
-use Rattle.json_spans.specs.Walk.{items}
-use Rattle.json_spans.specs.Whole.{whole_of}
+use Rattle.json_spans.specs.Common.{Node, items, whole_of}
 use Rattle.json_spans.specs.declared.number.NotWhole.{NotWhole}
 use Rattle.json_spans.specs.declared.number.NotWhole.TheVariants.{Form, Huge}
-use Rattle.grid_geometry.specs.Position.{Position}
+use Rattle.grid_geometry.specs.Common.{Position}
 pub use Rattle.topo_reader.specs.Arcs.{origin}
-use Rattle.topo_outline.specs.Shape.{is_list}
-use Rattle.topo_outline.specs.Faults.{Fault, not_whole, out_of_range, bad_position, ◌>>=◌, each}
+use Rattle.topo_outline.specs.Common.{is_list, Fault, not_whole, out_of_range, bad_position, ◌>>=◌, each}
 
 -- the greatest absolute value of a coordinate is 10^12
 abbrev pub is_within : ℤ → Bool

@@ -2,15 +2,10 @@
 -- order of faults.
 use Rattle.std.specs.Prelude.{◌≡◌, ◌≢◌, ℕ, ℤ, pos, negsuc, ◌+ℤ◌, ◌≤◌, List, [], ◌∷◌, ◌++◌, length, flat_map, reverse, slice_get, AllPairs, Bool, true, false, Some, is_some}
 use Rattle.std.specs.List.{AllZip}
-use Rattle.json_spans.specs.Grammar.{Json}
-use Rattle.json_spans.specs.Nodes.{Node}
-use Rattle.json_spans.specs.Inside.{IsValue, Padded, IsListOf, IsListFor}
-use Rattle.json_spans.specs.Whole.{IsWhole}
-use Rattle.grid_geometry.specs.Position.{Position, position, InRange}
-use Rattle.ring_machine.specs.Ring.{canonical}
-use Rattle.ring_machine.specs.Document.{Form, Polygon, MultiPolygon, Null, Document}
-use Rattle.topo_outline.specs.Layers.{OutlineText, leaves}
-use Rattle.topo_outline.specs.IsOutline.{IsOutline}
+use Rattle.json_spans.specs.Common.{Json, Node, IsValue, Padded, IsListOf, IsListFor, IsWhole}
+use Rattle.grid_geometry.specs.Common.{Position, position, InRange}
+use Rattle.ring_machine.specs.Common.{canonical, Form, Polygon, MultiPolygon, Null, Document}
+use Rattle.topo_outline.specs.Common.{OutlineText, leaves, IsOutline}
 use Rattle.topo_reader.specs.declared.rings.Closed.{Closed}
 use Rattle.topo_reader.specs.declared.rings.Closed.TheVariants.{Rings, Walks}
 use Rattle.topo_reader.specs.Arcs.{Arc, origin}

@@ -1,9 +1,9 @@
 -- Walks and rings from the arcs that they use.
 use Rattle.std.specs.Prelude.{ℕ, ◌-◌, ◌&&◌, List, [], ◌∷◌, ◌++◌, length, take, Bool, true, false, nat_le, if◌then◌else◌, Option, Some, None, Result, Ok, Err, reverse}
-use Rattle.grid_geometry.specs.Position.{Position, position_eq}
-use Rattle.ring_machine.specs.Ring.{has, canonical}
+use Rattle.grid_geometry.specs.Common.{Position, position_eq}
+use Rattle.ring_machine.specs.Common.{has, canonical}
 use Rattle.topo_outline.specs.declared.fault.RingAt.{RingAt}
-use Rattle.topo_outline.specs.Faults.{Fault, arcs_do_not_meet, ring_short, ring_repeats, ◌>>=◌, each_at, demand}
+use Rattle.topo_outline.specs.Common.{Fault, arcs_do_not_meet, ring_short, ring_repeats, ◌>>=◌, each_at, demand}
 use Rattle.topo_reader.specs.declared.rings.Closed.{Closed}
 use Rattle.topo_reader.specs.declared.rings.Closed.TheVariants.{Rings, Walks}
 use Rattle.topo_reader.specs.Arcs.{Arc}

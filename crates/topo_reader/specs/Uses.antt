@@ -1,6 +1,6 @@
 -- What the code holds of arcs and rings, as the definitions see it.
 use Rattle.std.specs.Prelude.{List, map, flat_map, reverse, if◌then◌else◌, Vec}
-use Rattle.grid_geometry.specs.Position.{Position}
+use Rattle.grid_geometry.specs.Common.{Position}
 use Rattle.topo_reader.specs.declared.indexes.Use.{Use}
 use Rattle.topo_reader.specs.Arcs.{Arc}
 

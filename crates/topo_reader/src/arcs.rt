@@ -1,8 +1,7 @@
 // The positions of the arcs (TopoJSON 1.0, 2.1.1 to 2.1.3).
 ghost use Rattle.std.specs.Prelude.{◌≡◌, map, option_map, IfOk, ◌≤◌, unsigned_abs};
-ghost use Rattle.json_spans.specs.Left.{node};
-ghost use Rattle.json_spans.specs.Walk.{items};
-ghost use Rattle.topo_outline.specs.Gives.{Gives};
+ghost use Rattle.json_spans.specs.Common.{node, items};
+ghost use Rattle.topo_outline.specs.Common.{Gives};
 ghost use Rattle.topo_reader.specs.Arcs.{origin};
 ghost use Rattle.topo_reader.specs.Positions.{coordinate, position, positions, is_within, two_of, pair_of, before_next, has_two, arc, arcs};
 

@@ -1,9 +1,9 @@
 // The extent of a topology.
 ghost use Rattle.std.specs.Prelude.{◌≡◌, ◌-◌, length, map, flat_map};
 ghost use Rattle.std.specs.Prelude as prelude;
-ghost use Rattle.ring_machine.specs.Parts.{positions};
-ghost use Rattle.topo_outline.specs.Layers.{at_most_one, leaf_of, leaves_in, leaves};
-ghost use Rattle.topo_outline.specs.Views.{view_item, view_layer};
+ghost use Rattle.ring_machine.specs.Common.{positions};
+ghost use Rattle.topo_outline.specs.Common.{at_most_one, leaf_of, leaves_in, leaves, view_item};
+ghost use Rattle.topo_outline.specs.Common.{view_layer};
 ghost use Rattle.topo_reader.specs.Document.{document_of};
 ghost use Rattle.topo_reader.specs.DocumentView.{view_raw};
 ghost use Rattle.topo_reader.specs.Extent.{box_with, widened, extent_of};

@@ -1,10 +1,8 @@
 // The arcs that the rings use (TopoJSON 1.0, 2.1.4).
 ghost use Rattle.std.specs.Prelude.{◌≡◌, map, option_map, slice_get, reverse, pos, negsuc, ◌<ℤ◌, ◌≤ℤ◌};
-ghost use Rattle.ring_machine.specs.Document.{MultiPolygon};
-ghost use Rattle.json_spans.specs.Left.{node};
-ghost use Rattle.topo_outline.specs.Faults.{each};
-ghost use Rattle.topo_outline.specs.Gives.{Gives};
-ghost use Rattle.topo_outline.specs.Views.{form_of, view_place};
+ghost use Rattle.ring_machine.specs.Common.{MultiPolygon};
+ghost use Rattle.json_spans.specs.Common.{node};
+ghost use Rattle.topo_outline.specs.Common.{each, Gives, form_of, view_place};
 ghost use Rattle.topo_reader.specs.Indexes.{arc_named, index, ring, polygon, polygons, uses_of};
 ghost use Rattle.topo_reader.specs.Uses.{arc_of, ring_uses, polygon_uses, feature_uses, positions_of};
 

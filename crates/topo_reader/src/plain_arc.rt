@@ -1,8 +1,8 @@
 // An arc that is written without space, and with whole numbers of a minus and digits alone, is
 // read in one walk over its bytes.
 ghost use Rattle.std.specs.Prelude.{◌≡◌, ◌∷◌, ◌+ℤ◌, true, drop, IfSome, IfOk};
-ghost use Rattle.grid_geometry.specs.Position.{position, InRange};
-ghost use Rattle.json_spans.specs.Left.{node};
+ghost use Rattle.grid_geometry.specs.Common.{position, InRange};
+ghost use Rattle.json_spans.specs.Common.{node};
 ghost use Rattle.topo_reader.specs.Arcs.{origin};
 ghost use Rattle.topo_reader.specs.Positions.{arc};
 ghost use Rattle.topo_reader.specs.Plain.{PlainDigits, PlainNumber, PlainPair, PlainStep, PlainFront, PlainArc, Follows};

@@ -1,9 +1,7 @@
 // A list of arcs that are written plainly is read in one walk over its bytes, with white space
 // between them, since maps are often written an arc a line.
 ghost use Rattle.std.specs.Prelude.{◌≡◌, true, map, IfSome, IfOk};
-ghost use Rattle.json_spans.specs.Bytes.{is_space};
-ghost use Rattle.json_spans.specs.Grammar.{Space};
-ghost use Rattle.json_spans.specs.Left.{node};
+ghost use Rattle.json_spans.specs.Common.{is_space, Space, node};
 ghost use Rattle.topo_reader.specs.Positions.{arcs};
 ghost use Rattle.topo_reader.specs.PlainList.{PlainItem, PlainItems};
 

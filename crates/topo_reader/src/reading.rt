@@ -1,10 +1,8 @@
 // Opening a topology, phase after phase.
 ghost use Rattle.std.specs.Prelude.{◌≡◌, ◌≢◌, ◌≤◌, length, map, IfOk, IfErr};
-ghost use Rattle.json_spans.specs.Grammar.{Json};
-ghost use Rattle.json_spans.specs.Left.{node};
-ghost use Rattle.topo_outline.specs.Gives.{Gives};
-ghost use Rattle.topo_outline.specs.OutlineView.{view_outline, IsPlaced};
-ghost use Rattle.ring_machine.specs.Document.{Document};
+ghost use Rattle.json_spans.specs.Common.{Json, node};
+ghost use Rattle.topo_outline.specs.Common.{Gives, view_outline, IsPlaced};
+ghost use Rattle.ring_machine.specs.Common.{Document};
 ghost use Rattle.topo_reader.specs.Document.{document_of, IsOfRings, IsOfWalks};
 ghost use Rattle.topo_reader.specs.DocumentView.{view_raw};
 ghost use Rattle.topo_reader.specs.Opening.{polygons_along, walks_read, polygons_read, opening, OpensBy, Opens, OpensWalks, IsFaultBy, IsFault, IsWalkFault, IsPlaceBy, IsPlace, IsWalkPlace};

@@ -1,8 +1,8 @@
 // Walks and rings from the arcs that they use (TopoJSON 1.0, 2.1.3; RFC 7946, 3.1.6).
 ghost use Rattle.std.specs.Prelude.{◌≡◌, map, OnOk, IfOk, None, Some, ◌++◌, [], ◌∷◌, reverse, not, true};
-ghost use Rattle.grid_geometry.specs.Position.{Position};
-ghost use Rattle.ring_machine.specs.Ring.{has, canonical};
-ghost use Rattle.topo_outline.specs.Gives.{Gives};
+ghost use Rattle.grid_geometry.specs.Common.{Position};
+ghost use Rattle.ring_machine.specs.Common.{has, canonical};
+ghost use Rattle.topo_outline.specs.Common.{Gives};
 ghost use Rattle.topo_reader.specs.Uses.{arc_of, ring_uses, polygon_uses, feature_uses, positions_of, polygon_positions, feature_positions};
 ghost use Rattle.topo_reader.specs.Rings.{first_of, last_of, meet_from, meet, ends, unless, is_at, starts_at, squeezed, last_after, all_of, joined, first_repeat, walk_of, ring_of, closed_of, polygon_of, feature_of, all_rings};
 

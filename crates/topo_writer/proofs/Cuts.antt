@@ -1,10 +1,10 @@
 -- A way and the places at which it is cut.
-use Rattle.std.proofs.Common.{◌≡◌, ℕ, zero, suc, ◌+◌, ◌-◌, ◌<◌, ◌≤◌, Bool, true, false, refl, sym, ap, ap₂, ◌∙◌, subst, List, [], ◌∷◌, ◌++◌, ◌||◌, if◌then◌else◌}
-use Rattle.std.proofs.Common.{take, drop, length, get_or, arith, append-nil, pos}
-use Rattle.std.proofs.lemmas.List.{get_or-drop, length-drop, take_more}
-use Rattle.grid_geometry.specs.Position.{Position, position}
-use Rattle.topo_writer.specs.Found.{at_place}
-use Rattle.topo_writer.specs.Ways.{between, cut_after, is_end, Rising}
+use Rattle.kit_words.proofs.Common.{◌≡◌, ℕ, zero, suc, ◌+◌, ◌-◌, ◌<◌, ◌≤◌, Bool, true, false, refl, sym, ap, ap₂, ◌∙◌}
+use Rattle.kit_words.proofs.Common.{subst, List, [], ◌∷◌, ◌++◌, ◌||◌, if◌then◌else◌, take, drop, length, get_or, arith}
+use Rattle.kit_words.proofs.Common.{pos, get_or-drop, length-drop, take_more}
+use Rattle.std.proofs.Common.{append-nil}
+use Rattle.grid_geometry.specs.Common.{Position, position}
+use Rattle.topo_writer.specs.Common.{at_place, between, cut_after, is_end, Rising}
 use Rattle.topo_writer.proofs.Marks.{cut_step, round_start}
 
 -- ---- places that rise

@@ -1,10 +1,8 @@
 -- The pairs of an arc, place by place.
-use Rattle.std.proofs.Common.{◌≡◌, ℕ, zero, suc, ◌<◌, ◌-◌, ◌-ℤ◌, pos, length, List, [], ◌∷◌, true, refl, sym, ap, ap₂}
-use Rattle.std.proofs.Common.{◌∙◌, arith, get_or, Bool, false}
-use Rattle.std.proofs.lemmas.Bool.{false≢true}
-use Rattle.std.proofs.lemmas.List.{get_or_default}
-use Rattle.grid_geometry.specs.Position.{Position, position}
-use Rattle.map_text.specs.Text.{differences, pairs}
+use Rattle.kit_words.proofs.Common.{◌≡◌, ℕ, zero, suc, ◌<◌, ◌-◌, ◌-ℤ◌, pos, length, List, [], ◌∷◌, true, refl, sym, ap}
+use Rattle.kit_words.proofs.Common.{ap₂, ◌∙◌, arith, get_or, Bool, false, false≢true, get_or_default}
+use Rattle.grid_geometry.specs.Common.{Position, position}
+use Rattle.map_text.specs.Common.{differences, pairs}
 
 pub differences-length : (before : Position) (ps : List Position) → length (differences before ps) ≡ length ps
 differences-length before [] = refl

@@ -1,14 +1,10 @@
 -- The text of a feature, part after part.
-use Rattle.std.proofs.Common.{◌≡◌, refl, sym, ap, ◌∙◌, List, [], ◌∷◌, ◌++◌, map, append_assoc}
-use Rattle.std.specs.Prelude.{codes}
-use Rattle.std.proofs.lemmas.List.{append-nil}
-use Rattle.std.proofs.lemmas.Simd.{map-map}
-use Rattle.grid_geometry.specs.Position.{Position}
-use Rattle.ring_machine.specs.Document.{Feature, Member, Polygon, MultiPolygon, Text}
-use Rattle.map_text.specs.Arcs.{indexes}
-use Rattle.map_text.specs.Text.{commas, further, member_if, member_text, polygon_text, shape_text, type_text}
-use Rattle.topo_writer.specs.Ways.{written_feature, written_polygon, written_polygons, written_shape}
-use Rattle.std.specs.Prelude.{Bool}
+use Rattle.kit_words.proofs.Common.{◌≡◌, refl, sym, ap, ◌∙◌, List, [], ◌∷◌, ◌++◌, map, append_assoc, codes, append-nil}
+use Rattle.kit_words.proofs.Common.{map-map, Bool}
+use Rattle.grid_geometry.specs.Common.{Position}
+use Rattle.ring_machine.specs.Common.{Feature, Member, Polygon, MultiPolygon, Text}
+use Rattle.map_text.specs.Common.{indexes, commas, further, member_if, member_text, polygon_text, shape_text, type_text}
+use Rattle.topo_writer.specs.Common.{written_feature, written_polygon, written_polygons, written_shape}
 use Rattle.topo_writer.proofs.MemberLemmas.{further_both}
 
 -- two texts appended, one after the other

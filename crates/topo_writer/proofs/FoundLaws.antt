@@ -1,14 +1,11 @@
 -- What is found after one more arc.
-use Rattle.std.proofs.Common.{◌≡◌, ℕ, ◌+◌, Bool, true, false, refl, sym, ap, ap₂, ◌∙◌, cond}
-use Rattle.std.proofs.Common.{List, [], ◌∷◌, ◌++◌, arith, length, ◌<◌, get_or, Option, Some, None, ℤ}
-use Rattle.std.proofs.Common.{pos, negsuc}
-use Rattle.std.specs.Prelude.{is_some}
-use Rattle.std.proofs.lemmas.List.{get_or_default}
-use Rattle.grid_geometry.specs.Position.{Position, position, position_eq}
-use Rattle.grid_geometry.specs.Ring.{Edge}
-use Rattle.ring_machine.specs.Ring.{edge_eq}
-use Rattle.ring_machine.proofs.Order.{and_both, position_eq-true, position_eq-refl}
-use Rattle.topo_writer.specs.Found.{first_edge, last_edge, found_from, found, with_found, at_place}
+use Rattle.kit_words.proofs.Common.{◌≡◌, ℕ, ◌+◌, Bool, true, false, refl, sym, ap, ap₂, ◌∙◌, cond, List, [], ◌∷◌, ◌++◌}
+use Rattle.kit_words.proofs.Common.{arith, length, ◌<◌, get_or, Option, Some, None, ℤ, pos, negsuc, is_some}
+use Rattle.kit_words.proofs.Common.{get_or_default}
+use Rattle.grid_geometry.specs.Common.{Position, position, position_eq, Edge}
+use Rattle.ring_machine.specs.Common.{edge_eq}
+use Rattle.ring_machine.proofs.Common.{and_both, position_eq-true, position_eq-refl}
+use Rattle.topo_writer.specs.Common.{first_edge, last_edge, found_from, found, with_found, at_place}
 
 pub edge_eq-true : (e f : Edge) → edge_eq e f ≡ true → e ≡ f
 edge_eq-true e f h =

@@ -1,16 +1,9 @@
 -- The rings of a feature are rings of its document, and no more than those.
-use Rattle.std.proofs.Common.{◌≡◌, ℕ, Bool, true, false, refl, cond, List, [], ◌∷◌}
-use Rattle.std.proofs.Common.{Option, Some, None, inl, inr}
-use Rattle.std.specs.Prelude.{option_map, unwrap_or, Contains, ◌==◌}
-use Rattle.std.specs.List.{flat_map, find, AllByRecursion}
-use Rattle.ring_machine.specs.Document.{Document, Feature}
-use Rattle.ring_machine.specs.Parts.{feature, features, rings, rings_of}
-use Rattle.ring_machine.specs.WellFormed.{WellFormed, fits_form}
-use Rattle.ring_machine.proofs.First.{In}
-use Rattle.ring_machine.proofs.Found.{found_in}
-use Rattle.ring_machine.proofs.Neighbours.{all_of, all_in, in-flat_map}
-use Rattle.ring_machine.proofs.Members.{in_contains}
-use Rattle.topo_writer.specs.Reading.{all_rings_at}
+use Rattle.kit_words.proofs.Common.{◌≡◌, ℕ, Bool, true, false, refl, cond, List, [], ◌∷◌, Option, Some, None, inl, inr}
+use Rattle.kit_words.proofs.Common.{option_map, unwrap_or, Contains, ◌==◌, flat_map, find, AllByRecursion}
+use Rattle.ring_machine.specs.Common.{Document, Feature, feature, features, rings, rings_of, WellFormed, fits_form}
+use Rattle.ring_machine.proofs.Common.{In, found_in, all_of, all_in, in-flat_map, in_contains}
+use Rattle.topo_writer.specs.Common.{all_rings_at}
 
 feature_there : (d : Document) (n : ℕ) (f : Feature) → feature d n ≡ Some f → In f (features d)
 feature_there d n f e = (found_in (λ g. g.number == n) (features d) f e).0

@@ -1,11 +1,7 @@
 -- The pieces of a ring, found one after another.
-use Rattle.std.proofs.Common.{◌≡◌, ℤ, pos, sym, ap, ◌∙◌, List, [], ◌∷◌, ◌++◌, append_assoc, Some}
-use Rattle.std.specs.Prelude.{unwrap_or}
-use Rattle.grid_geometry.specs.Position.{Position}
-use Rattle.topo_writer.specs.declared.arcs.Arcs.{Arcs}
-use Rattle.topo_writer.specs.Found.{first_edge, found, with_found, Fits}
-use Rattle.topo_writer.specs.Tables.{Finds}
-use Rattle.topo_writer.specs.Ways.{all_found, indexes_found, FitAll}
+use Rattle.kit_words.proofs.Common.{◌≡◌, ℤ, pos, sym, ap, ◌∙◌, List, [], ◌∷◌, ◌++◌, append_assoc, Some, unwrap_or}
+use Rattle.grid_geometry.specs.Common.{Position}
+use Rattle.topo_writer.specs.Common.{Arcs, first_edge, found, with_found, Fits, Finds, all_found, indexes_found, FitAll}
 
 -- the table has arcs that become all these with the pieces that are left, and the indexes so far become
 -- all these

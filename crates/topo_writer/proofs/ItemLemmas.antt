@@ -1,19 +1,13 @@
 -- The items of a layer as they are shown are those of the document.
-use Rattle.std.proofs.Common.{◌≡◌, ℕ, Bool, true, false, refl, sym, ap, ◌∙◌, subst, cond, List, [], ◌∷◌, ◌++◌, ◌||◌, map, arith, Some, inl, inr}
-use Rattle.std.specs.Prelude.{◌==◌, not, Contains, unwrap_or}
-use Rattle.std.specs.List.{filter_map, find, list_any}
-use Rattle.std.proofs.lemmas.List.{map-id}
-use Rattle.std.proofs.lemmas.Simd.{map-map}
-use Rattle.std.proofs.lemmas.Bool.Decides.{nat_tests}
-use Rattle.ring_machine.specs.Document.{Document, Feature, Item, ItemOf, Head, Open, Close, Leaf, Kept, Layer}
-use Rattle.ring_machine.specs.Parts.{feature, feature_of, features}
-use Rattle.ring_machine.specs.WellFormed.{WellFormed, are_distinct, is_geometry}
-use Rattle.ring_machine.proofs.First.{In}
-use Rattle.ring_machine.proofs.Neighbours.{all_in, in-flat_map}
-use Rattle.ring_machine.proofs.Members.{contains_in}
-use Rattle.map_frame.specs.Readers.{ShownItem, Opens, Closes, Stands, Keeps, shown_item}
-use Rattle.topo_writer.specs.Items.{bare, item_at, written_item, written_at, feature_at, IsThere, ShowsLayer}
-use Rattle.topo_writer.specs.Opened.{is_begin, open_after, more_after}
+use Rattle.kit_words.proofs.Common.{◌≡◌, ℕ, Bool, true, false, refl, sym, ap, ◌∙◌, subst, cond, List, [], ◌∷◌, ◌++◌}
+use Rattle.kit_words.proofs.Common.{◌||◌, map, arith, Some, inl, inr, ◌==◌, not, Contains, unwrap_or, filter_map, find}
+use Rattle.kit_words.proofs.Common.{list_any, map-id, map-map, nat_tests}
+use Rattle.ring_machine.specs.Common.{Document, Feature, Item, ItemOf, Head, Open, Close, Leaf, Kept, Layer, feature}
+use Rattle.ring_machine.specs.Common.{feature_of, features, WellFormed, are_distinct, is_geometry}
+use Rattle.ring_machine.proofs.Common.{In, all_in, in-flat_map, contains_in}
+use Rattle.map_frame.specs.Common.{ShownItem, Opens, Closes, Stands, Keeps, shown_item}
+use Rattle.topo_writer.specs.Common.{bare, item_at, written_item, written_at, feature_at, IsThere, ShowsLayer, is_begin}
+use Rattle.topo_writer.specs.Common.{open_after, more_after}
 use Rattle.topo_writer.proofs.Later.{map_alike}
 use Rattle.topo_writer.proofs.OpenedLemmas.{geometry_begins}
 

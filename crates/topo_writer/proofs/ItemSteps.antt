@@ -1,19 +1,14 @@
 -- One item more of a layer.
-use Rattle.std.proofs.Common.{◌≡◌, Bool, true, false, sym, ap, ap₂, ◌∙◌, subst, List, [], ◌∷◌, ◌++◌, map, append_assoc}
-use Rattle.std.specs.List.{flat_map}
-use Rattle.std.proofs.lemmas.List.{append-nil, map-append}
-use Rattle.std.proofs.lemmas.List.Concat.{flat_map-append}
-use Rattle.device_io.specs.Sending.{Took, TookFront}
+use Rattle.kit_words.proofs.Common.{◌≡◌, Bool, true, false, sym, ap, ap₂, ◌∙◌, subst, List, [], ◌∷◌, ◌++◌, map}
+use Rattle.kit_words.proofs.Common.{append_assoc, flat_map, append-nil, map-append, flat_map-append}
+use Rattle.device_io.specs.Common.{Took, TookFront}
 use Rattle.device_io.specs.declared.Sink as sink
-use Rattle.device_io.proofs.SendingLaws.{took_both, took_first, took_second}
-use Rattle.grid_geometry.specs.Position.{Position}
-use Rattle.ring_machine.specs.Document.{Document, Head, Text}
-use Rattle.ring_machine.specs.Vertices.{is_junction}
-use Rattle.map_text.specs.Arcs.{pieces, with_pieces}
-use Rattle.map_text.specs.Text.{comma_if, items_text}
-use Rattle.map_frame.specs.Readers.{ShownItem}
-use Rattle.topo_writer.specs.Items.{item_at, item_rings, written_at}
-use Rattle.topo_writer.specs.Opened.{is_begin, open_after, more_after}
+use Rattle.device_io.proofs.Common.{took_both, took_first, took_second}
+use Rattle.grid_geometry.specs.Common.{Position}
+use Rattle.ring_machine.specs.Common.{Document, Head, Text, is_junction}
+use Rattle.map_text.specs.Common.{pieces, with_pieces, comma_if, items_text}
+use Rattle.map_frame.specs.Common.{ShownItem}
+use Rattle.topo_writer.specs.Common.{item_at, item_rings, written_at, is_begin, open_after, more_after}
 use Rattle.topo_writer.proofs.ItemLemmas.{open_both, more_both}
 use Rattle.topo_writer.proofs.Later.{with_pieces-append}
 use Rattle.topo_writer.proofs.Leading.{item_rings-append}

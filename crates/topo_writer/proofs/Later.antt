@@ -1,23 +1,16 @@
 -- Later arcs leave the indexes of earlier rings as they are.
-use Rattle.std.proofs.Common.{◌≡◌, ℕ, ◌+◌, ◌≤◌, ◌<◌, Bool, true, false, refl, sym, ap, ap₂, ◌∙◌, cond}
-use Rattle.std.proofs.Common.{List, [], ◌∷◌, ◌++◌, ◌||◌, arith, length, reverse, take}
-use Rattle.std.proofs.Common.{append_assoc, Some, inl, inr, pos, negsuc, map, get_or}
-use Rattle.std.specs.Prelude.{unwrap_or, nat_lt}
-use Rattle.std.specs.List.{flat_map}
-use Rattle.std.proofs.lemmas.Bool.{false≢true}
-use Rattle.std.proofs.lemmas.List.{append-nil, length-append, take_more}
-use Rattle.std.proofs.lemmas.List.Concat.{flat_map-append}
-use Rattle.grid_geometry.specs.Position.{Position}
-use Rattle.ring_machine.specs.Document.{Text}
-use Rattle.ring_machine.proofs.First.{In}
-use Rattle.ring_machine.proofs.Neighbours.{in-flat_map}
-use Rattle.map_text.specs.Arcs.{are_equal, index_from, index_of, indexes, is_arc, with_piece}
-use Rattle.map_text.specs.Arcs.{with_pieces, pieces, led_from, cut_way, cut_round, begun}
-use Rattle.map_text.specs.Text.{commas, comma_if, ring_text}
-use Rattle.map_text.proofs.Indexed.{all_arcs}
+use Rattle.kit_words.proofs.Common.{◌≡◌, ℕ, ◌+◌, ◌≤◌, ◌<◌, Bool, true, false, refl, sym, ap, ap₂, ◌∙◌, cond, List, []}
+use Rattle.kit_words.proofs.Common.{◌∷◌, ◌++◌, ◌||◌, arith, length, reverse, take, append_assoc, Some, inl, inr, pos}
+use Rattle.kit_words.proofs.Common.{negsuc, map, get_or, unwrap_or, nat_lt, flat_map, false≢true, append-nil}
+use Rattle.kit_words.proofs.Common.{length-append, take_more, flat_map-append}
+use Rattle.grid_geometry.specs.Common.{Position}
+use Rattle.ring_machine.specs.Common.{Text}
+use Rattle.ring_machine.proofs.Common.{In, in-flat_map}
+use Rattle.map_text.specs.Common.{are_equal, index_from, index_of, indexes, is_arc, with_piece, with_pieces, pieces}
+use Rattle.map_text.specs.Common.{led_from, cut_way, cut_round, begun, commas, comma_if, ring_text}
+use Rattle.map_text.proofs.Common.{all_arcs, each_in}
 use Rattle.map_text.proofs.Junctions.{begun_rotated}
-use Rattle.map_text.proofs.Lists.{each_in}
-use Rattle.topo_writer.specs.Ways.{written_ring}
+use Rattle.topo_writer.specs.Common.{written_ring}
 use Rattle.topo_writer.proofs.Listed.{items_step}
 
 pub index_kept : (n : ℕ) (arcs new : List (List Position)) (ps : List Position) → is_arc arcs ps ≡ true → index_from n (arcs ++ new) ps ≡ index_from n arcs ps

@@ -1,21 +1,14 @@
 -- Parts of a map that have rings, written one after another: later arcs leave earlier parts as they are.
-use Rattle.std.proofs.Common.{◌≡◌, ℕ, zero, suc, ◌+◌, ◌≤◌, ◌<◌, refl, sym, ap, ap₂, subst, ◌∙◌}
-use Rattle.std.proofs.Common.{Bool, true, List, [], ◌∷◌, ◌++◌, arith, length, take, drop, map, get_or}
-use Rattle.std.proofs.Common.{inl, inr}
-use Rattle.std.specs.Prelude.{nat_lt}
-use Rattle.std.specs.List.{flat_map, sum_by, AllByRecursion}
-use Rattle.std.proofs.lemmas.List.{append-nil, take_more, drop_more}
-use Rattle.std.proofs.lemmas.List.Concat.{flat_map-append}
-use Rattle.std.proofs.lemmas.List.Sums.{sum_by-append, sum_by-cons}
-use Rattle.grid_geometry.specs.Position.{Position}
-use Rattle.ring_machine.specs.Document.{Text}
-use Rattle.ring_machine.proofs.First.{In, in_left, in_right}
-use Rattle.ring_machine.proofs.Neighbours.{all_of}
-use Rattle.map_text.specs.Arcs.{indexes, index_of, is_arc, with_pieces, pieces}
-use Rattle.map_text.specs.Text.{commas, comma_if, polygon_text}
-use Rattle.map_text.proofs.Indexed.{all_arcs}
-use Rattle.map_text.proofs.Lists.{each_in}
-use Rattle.topo_writer.specs.Ways.{written_polygon}
+use Rattle.kit_words.proofs.Common.{◌≡◌, ℕ, zero, suc, ◌+◌, ◌≤◌, ◌<◌, refl, sym, ap, ap₂, subst, ◌∙◌, Bool, true, List}
+use Rattle.kit_words.proofs.Common.{[], ◌∷◌, ◌++◌, arith, length, take, drop, map, get_or, inl, inr, nat_lt, flat_map}
+use Rattle.kit_words.proofs.Common.{sum_by, AllByRecursion, append-nil, take_more, drop_more, flat_map-append}
+use Rattle.kit_words.proofs.Common.{sum_by-append, sum_by-cons}
+use Rattle.grid_geometry.specs.Common.{Position}
+use Rattle.ring_machine.specs.Common.{Text}
+use Rattle.ring_machine.proofs.Common.{In, in_left, in_right, all_of}
+use Rattle.map_text.specs.Common.{indexes, index_of, is_arc, with_pieces, pieces, commas, comma_if, polygon_text}
+use Rattle.map_text.proofs.Common.{all_arcs, each_in}
+use Rattle.topo_writer.specs.Common.{written_polygon}
 use Rattle.topo_writer.proofs.Later.{index_stays, map_alike, with_pieces-append, ring_few}
 use Rattle.topo_writer.proofs.Listed.{items_step}
 

@@ -1,21 +1,16 @@
 -- The layers of a document, one after another: how they are shown, and the arcs after them.
-use Rattle.std.proofs.Common.{◌≡◌, ℕ, ◌+◌, ◌≤◌, ◌<◌, refl, sym, ap, ap₂, ◌∙◌, subst, append_assoc, List, [], ◌∷◌, ◌++◌, map, length, take, drop, get_or, Some}
-use Rattle.std.specs.Prelude.{option_map, slice_get, Contains, codes, false}
-use Rattle.std.specs.List.{flat_map, filter_map}
-use Rattle.std.proofs.lemmas.List.{drop_more, length-map, take-append-drop}
-use Rattle.std.proofs.lemmas.List.Concat.{flat_map-append}
-use Rattle.std.proofs.lemmas.Option.{slice_get-map, slice_get-get_or, get_or_from_slice_get}
-use Rattle.std.proofs.Math.Seq.{take-length}
-use Rattle.grid_geometry.specs.Position.{Position}
-use Rattle.ring_machine.specs.Document.{Document, Layer, Item, Text}
-use Rattle.ring_machine.specs.Parts.{feature_of, rings_of, size}
-use Rattle.ring_machine.specs.Vertices.{is_junction}
-use Rattle.ring_machine.proofs.Members.{in_contains}
-use Rattle.map_frame.specs.Readers.{ShownItem, shown_item, ShownFrame, shown_layer}
-use Rattle.map_text.specs.Arcs.{arcs_of, pieces, with_pieces}
-use Rattle.map_text.specs.Text.{items_text}
-use Rattle.topo_writer.specs.Items.{items_at, item_rings, items_written, written_item, LeadsOn, ShowsLayer}
-use Rattle.topo_writer.specs.Sections.{arcs_after, layer_at, layer_rings, layer_text, IsMapFrame}
+use Rattle.kit_words.proofs.Common.{◌≡◌, ℕ, ◌+◌, ◌≤◌, ◌<◌, refl, sym, ap, ap₂, ◌∙◌, subst, append_assoc, List, [], ◌∷◌}
+use Rattle.kit_words.proofs.Common.{◌++◌, map, length, take, drop, get_or, Some, option_map, slice_get, Contains, codes}
+use Rattle.kit_words.proofs.Common.{false, flat_map, filter_map, drop_more, length-map, take-append-drop}
+use Rattle.kit_words.proofs.Common.{flat_map-append, slice_get-map, slice_get-get_or, get_or_from_slice_get}
+use Rattle.kit_words.proofs.Common.{take-length}
+use Rattle.grid_geometry.specs.Common.{Position}
+use Rattle.ring_machine.specs.Common.{Document, Layer, Item, Text, feature_of, rings_of, size, is_junction}
+use Rattle.ring_machine.proofs.Common.{in_contains}
+use Rattle.map_frame.specs.Common.{ShownItem, shown_item, ShownFrame, shown_layer}
+use Rattle.map_text.specs.Common.{arcs_of, pieces, with_pieces, items_text}
+use Rattle.topo_writer.specs.Common.{items_at, item_rings, items_written, written_item, LeadsOn, ShowsLayer, arcs_after}
+use Rattle.topo_writer.specs.Common.{layer_at, layer_rings, layer_text, IsMapFrame}
 use Rattle.topo_writer.proofs.ItemLemmas.{items_back, written_layer}
 use Rattle.topo_writer.proofs.LaterParts.{in_place, part_arcs}
 use Rattle.topo_writer.proofs.Leading.{item_rings-append, leads_begin, leads_first, leads_off}

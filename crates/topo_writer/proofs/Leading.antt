@@ -1,19 +1,14 @@
 -- The arcs so far, on their way to those of the document.
-use Rattle.std.proofs.Common.{◌≡◌, ℕ, Bool, subst, ◌+◌, ◌≤◌, refl, sym, ap, ap₂, ◌∙◌, List, [], ◌∷◌, ◌++◌, map, length, arith, append_assoc, Some}
-use Rattle.std.specs.Prelude.{option_map, unwrap_or}
-use Rattle.std.specs.List.{flat_map, filter_map, sum_by, AllByRecursion}
-use Rattle.std.proofs.lemmas.List.{append-nil}
-use Rattle.std.proofs.lemmas.List.Concat.{flat_map-append}
-use Rattle.std.proofs.lemmas.List.Elements.{filter_map-append}
-use Rattle.std.proofs.lemmas.List.Sums.{sum_by-append}
-use Rattle.grid_geometry.specs.Position.{Position}
-use Rattle.ring_machine.specs.Document.{Document, Feature, Item, Leaf, Layer}
-use Rattle.ring_machine.specs.Parts.{feature, feature_of, rings, rings_of, in_feature, size}
-use Rattle.ring_machine.specs.Vertices.{is_junction}
-use Rattle.map_text.specs.Arcs.{arcs_of, indexes, pieces, with_pieces}
-use Rattle.map_text.proofs.Indexed.{all_arcs}
-use Rattle.topo_writer.specs.Items.{feature_at, item_rings, LeadsOn}
-use Rattle.topo_writer.specs.Reading.{all_rings_at}
+use Rattle.kit_words.proofs.Common.{◌≡◌, ℕ, Bool, subst, ◌+◌, ◌≤◌, refl, sym, ap, ap₂, ◌∙◌, List, [], ◌∷◌, ◌++◌, map}
+use Rattle.kit_words.proofs.Common.{length, arith, append_assoc, Some, option_map, unwrap_or, flat_map, filter_map}
+use Rattle.kit_words.proofs.Common.{sum_by, AllByRecursion, append-nil, flat_map-append, filter_map-append}
+use Rattle.kit_words.proofs.Common.{sum_by-append}
+use Rattle.grid_geometry.specs.Common.{Position}
+use Rattle.ring_machine.specs.Common.{Document, Feature, Item, Leaf, Layer, feature, feature_of, rings, rings_of}
+use Rattle.ring_machine.specs.Common.{in_feature, size, is_junction}
+use Rattle.map_text.specs.Common.{arcs_of, indexes, pieces, with_pieces}
+use Rattle.map_text.proofs.Common.{all_arcs}
+use Rattle.topo_writer.specs.Common.{feature_at, item_rings, LeadsOn, all_rings_at}
 use Rattle.topo_writer.proofs.Later.{with_pieces-append}
 use Rattle.topo_writer.proofs.LaterParts.{Known, each_left, each_right, rings_same, rings_few}
 

@@ -1,16 +1,11 @@
 -- Texts with commas between them, one after another.
-use Rattle.std.proofs.Common.{◌≡◌, ℕ, zero, suc, ◌+◌, ◌<◌, length, take, List, [], ◌∷◌, ◌++◌, map}
-use Rattle.std.proofs.Common.{true, refl, sym, ap, ap₂, ◌∙◌, arith, append_assoc, get_or}
-use Rattle.std.specs.Prelude.{Bool, codes, nat_lt}
-use Rattle.std.proofs.lemmas.List.{append-nil, map-append, take_more}
-use Rattle.std.proofs.lemmas.List.Concat.{flat_map-append}
-use Rattle.std.proofs.lemmas.Simd.{map-map}
-use Rattle.grid_geometry.specs.Position.{Position}
-use Rattle.ring_machine.specs.Document.{Text}
-use Rattle.map_text.specs.Arcs.{indexes}
-use Rattle.map_text.specs.Text.{arc_text, further, commas, comma_if, ring_text}
-use Rattle.topo_writer.specs.Named.{listed_arcs}
-use Rattle.topo_writer.specs.Ways.{written_ring, written_rings, written_polygon}
+use Rattle.kit_words.proofs.Common.{◌≡◌, ℕ, zero, suc, ◌+◌, ◌<◌, length, take, List, [], ◌∷◌, ◌++◌, map, true, refl}
+use Rattle.kit_words.proofs.Common.{sym, ap, ap₂, ◌∙◌, arith, append_assoc, get_or, Bool, codes, nat_lt, append-nil}
+use Rattle.kit_words.proofs.Common.{map-append, take_more, flat_map-append, map-map}
+use Rattle.grid_geometry.specs.Common.{Position}
+use Rattle.ring_machine.specs.Common.{Text}
+use Rattle.map_text.specs.Common.{indexes, arc_text, further, commas, comma_if, ring_text}
+use Rattle.topo_writer.specs.Common.{listed_arcs, written_ring, written_rings, written_polygon}
 
 pub further_push : (ts : List Text) (t : Text) → further (ts ++ t ∷ []) ≡ further ts ++ (codes "," ++ t)
 further_push ts t = flat_map-append (λ u. codes "," ++ u) ts (t ∷ []) ∙ ap (λ z. further ts ++ z) (append-nil (codes "," ++ t))

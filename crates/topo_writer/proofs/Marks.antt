@@ -1,11 +1,11 @@
 -- Ways and rings whose places are marked, cut at their marks.
-use Rattle.std.proofs.Common.{◌≡◌, ℕ, zero, suc, ◌+◌, ◌<◌, Bool, true, false, refl, sym, ap, ◌∙◌, List, [], ◌∷◌, ◌++◌, ◌||◌, if◌then◌else◌}
-use Rattle.std.proofs.Common.{map, take, drop, length, get_or, arith, append_assoc, append-nil, pos}
-use Rattle.std.proofs.lemmas.List.{drop_more, take_more, map-append, drop-map, take-map, get_or-map, length-map}
-use Rattle.grid_geometry.specs.Position.{Position, position}
-use Rattle.map_text.specs.Arcs.{begun, from_first, before_first}
-use Rattle.topo_writer.specs.Found.{at_place}
-use Rattle.topo_writer.specs.Ways.{is_end, cut_after}
+use Rattle.kit_words.proofs.Common.{◌≡◌, ℕ, zero, suc, ◌+◌, ◌<◌, Bool, true, false, refl, sym, ap, ◌∙◌, List, [], ◌∷◌}
+use Rattle.kit_words.proofs.Common.{◌++◌, ◌||◌, if◌then◌else◌, map, take, drop, length, get_or, arith, append_assoc}
+use Rattle.kit_words.proofs.Common.{pos, drop_more, take_more, map-append, drop-map, take-map, get_or-map, length-map}
+use Rattle.std.proofs.Common.{append-nil}
+use Rattle.grid_geometry.specs.Common.{Position, position}
+use Rattle.map_text.specs.Common.{begun, from_first, before_first}
+use Rattle.topo_writer.specs.Common.{at_place, is_end, cut_after}
 
 -- before the end
 pub not_end : (way : List Position) (n : ℕ) → n < length way → is_end (drop n way) ≡ false

@@ -1,10 +1,7 @@
 -- Members of an object, one after another.
-use Rattle.std.proofs.Common.{◌≡◌, List, ◌++◌, map, ap, ◌∙◌}
-use Rattle.std.specs.Prelude.{codes}
-use Rattle.std.proofs.lemmas.List.{map-append}
-use Rattle.std.proofs.lemmas.List.Concat.{flat_map-append}
-use Rattle.ring_machine.specs.Document.{Member}
-use Rattle.map_text.specs.Text.{further, member_text}
+use Rattle.kit_words.proofs.Common.{◌≡◌, List, ◌++◌, map, ap, ◌∙◌, codes, map-append, flat_map-append}
+use Rattle.ring_machine.specs.Common.{Member}
+use Rattle.map_text.specs.Common.{further, member_text}
 
 pub further_both : (a b : List Member)
     → further (map member_text (a ++ b)) ≡ further (map member_text a) ++ further (map member_text b)

@@ -1,22 +1,13 @@
 -- The rings that are named, and the arcs along them.
-use Rattle.std.proofs.Common.{◌≡◌, ℕ, zero, suc, ◌≤◌, sym, ap, ◌∙◌, subst, List, [], ◌∷◌, ◌++◌, map, length, get_or}
-use Rattle.std.specs.Prelude.{Contains}
-use Rattle.std.specs.List.{flat_map, AllByRecursion}
-use Rattle.std.proofs.lemmas.List.{append-nil, map-append}
-use Rattle.std.proofs.lemmas.List.Concat.{flat_map-append}
-use Rattle.grid_geometry.specs.Position.{Position}
-use Rattle.ring_machine.specs.Document.{Document}
-use Rattle.ring_machine.specs.Parts.{rings}
-use Rattle.ring_machine.specs.Planar.{Proper}
-use Rattle.ring_machine.specs.Vertices.{is_junction}
-use Rattle.ring_machine.proofs.Neighbours.{all_of, in-flat_map}
-use Rattle.ring_machine.proofs.Members.{contains_in, in_contains}
-use Rattle.map_text.specs.Arcs.{indexes, pieces, with_pieces}
-use Rattle.map_text.proofs.Ends.{with_pieces-each}
-use Rattle.map_text.proofs.Lists.{each_in, each-append}
-use Rattle.topo_writer.specs.Named.{arcs_along, named_ring}
-use Rattle.topo_writer.specs.Reading.{all_rings_at, polygons_at, rings_at}
-use Rattle.topo_writer.specs.Ways.{all_found, all_pieces, indexes_found, ArePieces, FitAll}
+use Rattle.kit_words.proofs.Common.{◌≡◌, ℕ, zero, suc, ◌≤◌, sym, ap, ◌∙◌, subst, List, [], ◌∷◌, ◌++◌, map, length}
+use Rattle.kit_words.proofs.Common.{get_or, Contains, flat_map, AllByRecursion, append-nil, map-append, flat_map-append}
+use Rattle.grid_geometry.specs.Common.{Position}
+use Rattle.ring_machine.specs.Common.{Document, rings, Proper, is_junction}
+use Rattle.ring_machine.proofs.Common.{all_of, in-flat_map, contains_in, in_contains}
+use Rattle.map_text.specs.Common.{indexes, pieces, with_pieces}
+use Rattle.map_text.proofs.Common.{with_pieces-each, each_in, each-append}
+use Rattle.topo_writer.specs.Common.{arcs_along, named_ring, all_rings_at, polygons_at, rings_at, all_found, all_pieces}
+use Rattle.topo_writer.specs.Common.{indexes_found, ArePieces, FitAll}
 use Rattle.topo_writer.specs.declared.arcs.RingName.{RingName}
 use Rattle.topo_writer.proofs.InDocument.{rings_there}
 use Rattle.topo_writer.proofs.Later.{with_pieces-append}

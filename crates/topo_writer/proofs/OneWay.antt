@@ -1,19 +1,13 @@
 -- A piece that has each segment once is not its own reverse.
-use Rattle.std.proofs.Common.{◌≡◌, ◌+◌, ◌≤◌, Bool, true, false, refl, sym, ap, ◌∙◌, List, [], ◌∷◌}
-use Rattle.std.proofs.Common.{◌++◌, map, reverse, arith}
-use Rattle.std.proofs.lemmas.Bool.{false≢true}
-use Rattle.std.proofs.lemmas.List.{reverse-append}
-use Rattle.grid_geometry.specs.Position.{Position, position_eq}
-use Rattle.grid_geometry.specs.Segment.{Segment, segment_eq}
-use Rattle.grid_geometry.specs.Ring.{Edge, links}
-use Rattle.grid_geometry.proofs.Conflicts.{segment-comm}
-use Rattle.ring_machine.specs.Ring.{segment_of}
-use Rattle.ring_machine.proofs.Order.{position_eq-refl}
-use Rattle.ring_machine.proofs.Arcs.{is_of, links-reverse, flip, flipped}
-use Rattle.ring_machine.proofs.Once.{times, one, times-append}
-use Rattle.ring_machine.proofs.Spots.{with_last}
-use Rattle.map_text.specs.Arcs.{are_equal}
-use Rattle.map_text.proofs.OnceEach.{are_equal-true}
+use Rattle.kit_words.proofs.Common.{◌≡◌, ◌+◌, ◌≤◌, Bool, true, false, refl, sym, ap, ◌∙◌, List, [], ◌∷◌, ◌++◌, map}
+use Rattle.kit_words.proofs.Common.{reverse, arith, false≢true, reverse-append}
+use Rattle.grid_geometry.specs.Common.{Position, position_eq, Segment, segment_eq, Edge, links}
+use Rattle.grid_geometry.proofs.Common.{segment-comm}
+use Rattle.ring_machine.specs.Common.{segment_of}
+use Rattle.ring_machine.proofs.Common.{position_eq-refl, is_of, links-reverse, flip, flipped, times, one, times-append}
+use Rattle.ring_machine.proofs.Common.{with_last}
+use Rattle.map_text.specs.Common.{are_equal}
+use Rattle.map_text.proofs.Common.{are_equal-true}
 
 snoc_last : {A : Type 0} (xs ys : List A) (a b : A) → xs ++ a ∷ [] ≡ ys ++ b ∷ [] → a ≡ b
 snoc_last [] [] a b e = cc

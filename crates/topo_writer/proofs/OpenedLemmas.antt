@@ -1,11 +1,9 @@
 -- The items of a layer, one after another.
-use Rattle.std.proofs.Common.{◌≡◌, ℤ, Bool, true, false, refl, sym, ap, ◌∙◌, List, [], ◌∷◌, ◌++◌}
-use Rattle.std.proofs.Common.{length, append_assoc}
-use Rattle.std.proofs.lemmas.Bool.{false≢true}
-use Rattle.ring_machine.specs.Document.{Head, ItemOf, Open, Close, Leaf, Kept}
-use Rattle.ring_machine.specs.WellFormed.{is_geometry, is_inner}
-use Rattle.map_text.specs.Text.{comma_if, closing_text, feature_text, items_text, opening_text}
-use Rattle.topo_writer.specs.Opened.{open_after, more_after, is_begin}
+use Rattle.kit_words.proofs.Common.{◌≡◌, ℤ, Bool, true, false, refl, sym, ap, ◌∙◌, List, [], ◌∷◌, ◌++◌, length}
+use Rattle.kit_words.proofs.Common.{append_assoc, false≢true}
+use Rattle.ring_machine.specs.Common.{Head, ItemOf, Open, Close, Leaf, Kept, is_geometry, is_inner}
+use Rattle.map_text.specs.Common.{comma_if, closing_text, feature_text, items_text, opening_text}
+use Rattle.topo_writer.specs.Common.{open_after, more_after, is_begin}
 
 -- a text before, between and after
 between : {A : Type 0} (a b c d : List A) → a ++ (b ++ (c ++ d)) ≡ (a ++ (b ++ c)) ++ d

@@ -1,13 +1,10 @@
 -- The rings of a polygon, one after another.
-use Rattle.std.proofs.Common.{◌≡◌, ℕ, zero, suc, ◌<◌, refl, List, [], ◌∷◌, length, get_or, arith, Option, Some, None}
-use Rattle.std.specs.Prelude.{option_map, unwrap_or}
-use Rattle.std.specs.List.{AllByRecursion}
-use Rattle.std.proofs.lemmas.Option.{unwrap_or-slice_get}
-use Rattle.grid_geometry.specs.Position.{Position}
-use Rattle.ring_machine.specs.Document.{Document}
-use Rattle.ring_machine.specs.Parts.{feature}
-use Rattle.map_frame.specs.Readers.{element}
-use Rattle.topo_writer.specs.Reading.{positions_at, rings_at}
+use Rattle.kit_words.proofs.Common.{◌≡◌, ℕ, zero, suc, ◌<◌, refl, List, [], ◌∷◌, length, get_or, arith, Option, Some}
+use Rattle.kit_words.proofs.Common.{None, option_map, unwrap_or, AllByRecursion, unwrap_or-slice_get}
+use Rattle.grid_geometry.specs.Common.{Position}
+use Rattle.ring_machine.specs.Common.{Document, feature}
+use Rattle.map_frame.specs.Common.{element}
+use Rattle.topo_writer.specs.Common.{positions_at, rings_at}
 
 -- a ring of a polygon is the ring with its number
 pub ring_is : (d : Document) (n polygon ring : ℕ) → positions_at d n polygon ring ≡ get_or (rings_at d n polygon) ring []

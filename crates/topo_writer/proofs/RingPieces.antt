@@ -1,26 +1,14 @@
 -- What is cut of a ring of a proper document, beside arcs that are pieces of it.
-use Rattle.std.proofs.Common.{◌≡◌, ◌≤◌, Bool, true, false, refl, List, [], ◌∷◌}
-use Rattle.std.proofs.Common.{length, arith}
-use Rattle.std.specs.Prelude.{Contains}
-use Rattle.std.specs.List.{AllByRecursion}
-use Rattle.grid_geometry.specs.Position.{Position, position_eq}
-use Rattle.ring_machine.specs.Ring.{is_ring}
-use Rattle.ring_machine.specs.Document.{Document}
-use Rattle.ring_machine.specs.Parts.{rings}
-use Rattle.ring_machine.specs.Planar.{Proper}
-use Rattle.ring_machine.specs.Vertices.{is_junction}
-use Rattle.ring_machine.proofs.First.{In}
-use Rattle.ring_machine.proofs.Order.{position_eq-true}
-use Rattle.ring_machine.proofs.Neighbours.{all_of, all_in, in-flat_map}
-use Rattle.ring_machine.proofs.Members.{contains_in}
-use Rattle.map_text.specs.Arcs.{pieces, with_pieces, indexes}
-use Rattle.map_text.specs.Saved.{IsCut}
-use Rattle.map_text.proofs.Lists.{each_in, each-flat_map}
-use Rattle.map_text.proofs.OnceEach.{Simple}
+use Rattle.kit_words.proofs.Common.{◌≡◌, ◌≤◌, Bool, true, false, refl, List, [], ◌∷◌, length, arith, Contains}
+use Rattle.kit_words.proofs.Common.{AllByRecursion}
+use Rattle.grid_geometry.specs.Common.{Position, position_eq}
+use Rattle.ring_machine.specs.Common.{is_ring, Document, rings, Proper, is_junction}
+use Rattle.ring_machine.proofs.Common.{In, position_eq-true, all_of, all_in, in-flat_map, contains_in}
+use Rattle.map_text.specs.Common.{pieces, with_pieces, indexes, IsCut}
+use Rattle.map_text.proofs.Common.{each_in, each-flat_map, Simple, ring_cut, long_cut}
 use Rattle.map_text.proofs.Borders.{ends, goes, simple}
-use Rattle.map_text.proofs.Ends.{ring_cut, long_cut}
 use Rattle.map_text.proofs.RingsBack.{Apart, pieces_apart}
-use Rattle.topo_writer.specs.Ways.{all_found, indexes_found, FitAll, all_pieces, ArePieces}
+use Rattle.topo_writer.specs.Common.{all_found, indexes_found, FitAll, all_pieces, ArePieces}
 use Rattle.topo_writer.proofs.Ways.{Whole, Border, all_borders, fit_all, streamed}
 use Rattle.topo_writer.proofs.OneWay.{one_way}
 

@@ -1,27 +1,18 @@
 -- The sections of a text are the text, and a front of some of them is a front of it.
-use Rattle.std.proofs.Common.{◌≡◌, ◌≤◌, refl, sym, ap, ap₂, ◌∙◌, subst, List, [], ◌∷◌, ◌++◌, map, append_assoc}
-use Rattle.std.proofs.Common.{Bool, Option, Some, None, arith}
-use Rattle.std.specs.Prelude.{codes, is_some, option_map}
-use Rattle.std.specs.List.{AllByRecursion}
-use Rattle.device_io.specs.Sending.{TookFront}
+use Rattle.kit_words.proofs.Common.{◌≡◌, ◌≤◌, refl, sym, ap, ap₂, ◌∙◌, subst, List, [], ◌∷◌, ◌++◌, map, append_assoc}
+use Rattle.kit_words.proofs.Common.{Bool, Option, Some, None, arith, codes, is_some, option_map, AllByRecursion}
+use Rattle.device_io.specs.Common.{TookFront}
 use Rattle.device_io.specs.declared.Sink as sink
-use Rattle.device_io.proofs.SendingLaws.{took_first}
-use Rattle.grid_geometry.specs.Position.{InRange}
-use Rattle.ring_machine.specs.Document.{Text, Member, Layer, Document}
-use Rattle.ring_machine.specs.Parts.{in_layer, rings, size}
-use Rattle.ring_machine.specs.Planar.{Proper}
-use Rattle.ring_machine.specs.WellFormed.{WellFormed}
-use Rattle.topo_outline.specs.Kept.{KeepsTexts}
-use Rattle.map_frame.specs.Readers.{ShownFrame}
-use Rattle.map_text.specs.Saved.{Saved}
+use Rattle.device_io.proofs.Common.{took_first}
+use Rattle.grid_geometry.specs.Common.{InRange}
+use Rattle.ring_machine.specs.Common.{Text, Member, Layer, Document, in_layer, rings, size, Proper, WellFormed}
+use Rattle.topo_outline.specs.Common.{KeepsTexts}
+use Rattle.map_frame.specs.Common.{ShownFrame}
+use Rattle.map_text.specs.Common.{Saved, arcs_of, commas, further, member, member_if, member_text, layer_member}
+use Rattle.map_text.specs.Common.{object_text, arcs_text, text_of}
 use Rattle.map_text.proofs.ReadingBack.{text_saves}
-use Rattle.map_text.specs.Arcs.{arcs_of}
-use Rattle.map_text.specs.Text.{commas, further, member, member_if, member_text, layer_member, object_text, arcs_text, text_of}
-use Rattle.topo_writer.specs.Items.{written_item}
-use Rattle.topo_writer.specs.declared.arcs.Arcs.{Arcs}
-use Rattle.topo_writer.specs.Named.{listed_arcs}
-use Rattle.topo_writer.specs.Sections.{begin_text, layer_text, layers_text, middle_text, end_text, IsMapFrame}
-use Rattle.topo_writer.specs.Tables.{arcs_in, FindsArcs}
+use Rattle.topo_writer.specs.Common.{written_item, Arcs, listed_arcs, begin_text, layer_text, layers_text, middle_text}
+use Rattle.topo_writer.specs.Common.{end_text, IsMapFrame, arcs_in, FindsArcs}
 use Rattle.topo_writer.proofs.MemberLemmas.{further_both}
 use Rattle.topo_writer.proofs.Sent.{filled}
 

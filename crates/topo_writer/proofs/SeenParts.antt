@@ -1,16 +1,11 @@
 -- The polygons of a feature as they are seen, and as they are read.
-use Rattle.std.proofs.Common.{◌≡◌, ℕ, zero, suc, refl, sym, ap, ◌∙◌, List, [], ◌∷◌, length, map, get_or, arith}
-use Rattle.std.proofs.Common.{Option, Some, None}
-use Rattle.std.specs.Prelude.{option_map, unwrap_or, slice_get, true, ◌==◌}
-use Rattle.std.specs.List.{flat_map}
-use Rattle.std.proofs.lemmas.List.{append-nil, length-map}
-use Rattle.std.proofs.lemmas.Option.{unwrap_or-slice_get}
-use Rattle.grid_geometry.specs.Position.{Position}
-use Rattle.ring_machine.specs.Document.{Document, Feature, Form, Polygon, Null}
-use Rattle.ring_machine.specs.WellFormed.{fits_form}
-use Rattle.ring_machine.specs.Parts.{feature}
-use Rattle.map_frame.specs.Readers.{element, shown, Shown}
-use Rattle.topo_writer.specs.Reading.{all_rings_at, rings_at, polygons_at}
+use Rattle.kit_words.proofs.Common.{◌≡◌, ℕ, zero, suc, refl, sym, ap, ◌∙◌, List, [], ◌∷◌, length, map, get_or, arith}
+use Rattle.kit_words.proofs.Common.{Option, Some, None, option_map, unwrap_or, slice_get, true, ◌==◌, flat_map}
+use Rattle.kit_words.proofs.Common.{append-nil, length-map, unwrap_or-slice_get}
+use Rattle.grid_geometry.specs.Common.{Position}
+use Rattle.ring_machine.specs.Common.{Document, Feature, Form, Polygon, Null, fits_form, feature}
+use Rattle.map_frame.specs.Common.{element, shown, Shown}
+use Rattle.topo_writer.specs.Common.{all_rings_at, rings_at, polygons_at}
 
 -- a polygon of a feature is the polygon with its number
 pub polygon_is_at : (d : Document) (n polygon : ℕ) → rings_at d n polygon ≡ get_or (polygons_at d n) polygon []

@@ -1,11 +1,10 @@
 -- What a sink took of texts with commas between them.
-use Rattle.std.proofs.Common.{◌≡◌, ℕ, zero, suc, ◌+◌, ◌<◌, length, take, List, [], ◌∷◌, ◌++◌, map}
-use Rattle.std.proofs.Common.{Bool, sym, ap, subst, ◌∙◌, arith, append_assoc, get_or}
-use Rattle.std.specs.Prelude.{codes, nat_lt}
-use Rattle.device_io.specs.Sending.{Took, TookFront}
+use Rattle.kit_words.proofs.Common.{◌≡◌, ℕ, zero, suc, ◌+◌, ◌<◌, length, take, List, [], ◌∷◌, ◌++◌, map, Bool, sym, ap}
+use Rattle.kit_words.proofs.Common.{subst, ◌∙◌, arith, append_assoc, get_or, codes, nat_lt}
+use Rattle.device_io.specs.Common.{Took, TookFront}
 use Rattle.device_io.specs.declared.Sink as sink
-use Rattle.device_io.proofs.SendingLaws.{took_both, took_first, took_second}
-use Rattle.map_text.specs.Text.{further, commas, comma_if}
+use Rattle.device_io.proofs.Common.{took_both, took_first, took_second}
+use Rattle.map_text.specs.Common.{further, commas, comma_if}
 use Rattle.topo_writer.proofs.Listed.{positive, commas_step}
 
 -- a text in an empty buffer is all that stands there

@@ -1,25 +1,17 @@
 -- A way that is cut while one goes along it is cut as the definition says, and arcs that are found by
 -- an edge are those that are found whole.
-use Rattle.std.proofs.Common.{◌≡◌, ℕ, ◌+◌, ◌-◌, ◌≤◌, Bool, true, false, refl, sym, ap, ap₂, ◌∙◌}
-use Rattle.std.proofs.Common.{subst, cond, List, [], ◌∷◌, ◌++◌, ◌||◌, arith, length, reverse}
-use Rattle.std.proofs.Common.{◌<◌, take, drop, append_assoc, Option, Some, None, ℤ, pos, negsuc, map}
-use Rattle.std.specs.Prelude.{is_some, unwrap_or}
-use Rattle.std.specs.List.{AllByRecursion}
-use Rattle.std.proofs.lemmas.Bool.{false≢true}
-use Rattle.std.proofs.lemmas.List.{drop_more, reverse-reverse, get_or-reverse, length-reverse}
-use Rattle.grid_geometry.specs.Position.{Position, position, position_eq}
-use Rattle.ring_machine.specs.Ring.{edge_eq}
-use Rattle.ring_machine.proofs.Members.{same_answer}
-use Rattle.ring_machine.proofs.Order.{and_both, position_eq-true}
-use Rattle.ring_machine.proofs.Pieces.{IsPiece, same_piece, reversed}
-use Rattle.map_text.specs.Arcs.{begun, cut_round, pieces}
-use Rattle.map_text.specs.Arcs.{led_from, cut_way, are_equal, index_from, is_arc, with_piece}
-use Rattle.map_text.specs.Arcs.{with_pieces, index_of}
-use Rattle.map_text.proofs.Indexed.{becomes_arc}
-use Rattle.map_text.proofs.Lists.{each-append}
-use Rattle.map_text.proofs.OnceEach.{are_equal-true, are_equal-refl}
-use Rattle.topo_writer.specs.Found.{first_edge, last_edge, found_from, found, with_found, Fits, at_place}
-use Rattle.topo_writer.specs.Ways.{cut_after, all_found, indexes_found, FitAll}
+use Rattle.kit_words.proofs.Common.{◌≡◌, ℕ, ◌+◌, ◌-◌, ◌≤◌, Bool, true, false, refl, sym, ap, ap₂, ◌∙◌, subst, cond}
+use Rattle.kit_words.proofs.Common.{List, [], ◌∷◌, ◌++◌, ◌||◌, arith, length, reverse, ◌<◌, take, drop, append_assoc}
+use Rattle.kit_words.proofs.Common.{Option, Some, None, ℤ, pos, negsuc, map, is_some, unwrap_or, AllByRecursion}
+use Rattle.kit_words.proofs.Common.{false≢true, drop_more, reverse-reverse, get_or-reverse, length-reverse}
+use Rattle.grid_geometry.specs.Common.{Position, position, position_eq}
+use Rattle.ring_machine.specs.Common.{edge_eq}
+use Rattle.ring_machine.proofs.Common.{same_answer, and_both, position_eq-true, IsPiece, same_piece, reversed}
+use Rattle.map_text.specs.Common.{begun, cut_round, pieces, led_from, cut_way, are_equal, index_from, is_arc}
+use Rattle.map_text.specs.Common.{with_piece, with_pieces, index_of}
+use Rattle.map_text.proofs.Common.{becomes_arc, each-append, are_equal-true, are_equal-refl}
+use Rattle.topo_writer.specs.Common.{first_edge, last_edge, found_from, found, with_found, Fits, at_place, cut_after}
+use Rattle.topo_writer.specs.Common.{all_found, indexes_found, FitAll}
 use Rattle.topo_writer.proofs.FoundLaws.{edge_eq-refl}
 use Rattle.topo_writer.proofs.Later.{index_kept, with_pieces_new}
 

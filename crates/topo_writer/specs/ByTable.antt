@@ -1,7 +1,6 @@
 -- The texts of what a map has, by the indexes of the arcs that stand in a table.
 use Rattle.std.specs.Prelude.{ℕ}
-use Rattle.ring_machine.specs.Document.{Document, Feature, Form, Text}
-use Rattle.ring_machine.specs.Vertices.{is_junction}
+use Rattle.ring_machine.specs.Common.{Document, Feature, Form, Text, is_junction}
 use Rattle.topo_writer.specs.declared.arcs.Arcs.{Arcs}
 use Rattle.topo_writer.specs.declared.arcs.RingName.{RingName}
 use Rattle.topo_writer.specs.Named.{named_ring}

@@ -1,9 +1,8 @@
 -- Arcs found by the edges that they begin and end with.
 use Rattle.std.specs.Prelude.{ℕ, ◌-◌, ◌+◌, ◌≤◌, ℤ, pos, negsuc, false, if◌then◌else◌, List, [], ◌∷◌}
 use Rattle.std.specs.Prelude.{◌++◌, get_or, length, Option, None, Some, is_some, ◌≡◌}
-use Rattle.grid_geometry.specs.Position.{Position, position}
-use Rattle.grid_geometry.specs.Ring.{Edge}
-use Rattle.ring_machine.specs.Ring.{edge_eq}
+use Rattle.grid_geometry.specs.Common.{Position, position, Edge}
+use Rattle.ring_machine.specs.Common.{edge_eq}
 
 -- the position at a place
 abbrev pub at_place : List Position → ℕ → Position

@@ -3,17 +3,14 @@ use Rattle.std.specs.Prelude.{◌≡◌, ℕ, ℤ, ◌+◌, ◌≤◌, List, [],
 use Rattle.std.specs.Prelude.{None, Some, unwrap_or, Contains}
 use Rattle.std.specs.Borrow.{Bor}
 use Rattle.std.specs.List.{flat_map, filter_map, sum_by}
-use Rattle.grid_geometry.specs.Position.{Position}
-use Rattle.ring_machine.specs.Document.{Document, Feature, Null, Head, ItemOf, Item, Layer, Text}
-use Rattle.ring_machine.specs.Document.{Open, Close, Leaf, Kept}
-use Rattle.ring_machine.specs.Parts.{feature, feature_of, rings_of, in_item, in_feature}
-use Rattle.ring_machine.specs.Vertices.{is_junction}
+use Rattle.grid_geometry.specs.Common.{Position}
+use Rattle.ring_machine.specs.Common.{Document, Feature, Null, Head, ItemOf, Item, Layer, Text, Open, Close, Leaf, Kept}
+use Rattle.ring_machine.specs.Common.{feature, feature_of, rings_of, in_item, in_feature, is_junction}
 use Rattle.topo_outline.specs.declared.document.Head.{Head as CodeHead}
-use Rattle.topo_outline.specs.Views.{view_head}
+use Rattle.topo_outline.specs.Common.{view_head}
 use Rattle.map_frame.specs.declared.items.ItemView.{ItemView}
-use Rattle.map_frame.specs.Readers.{ShownItem, Opens, Closes, Stands, Keeps, shown_item}
-use Rattle.map_frame.specs.Shown.{view_item_view}
-use Rattle.map_text.specs.Arcs.{arcs_of, indexes}
+use Rattle.map_frame.specs.Common.{ShownItem, Opens, Closes, Stands, Keeps, shown_item, view_item_view}
+use Rattle.map_text.specs.Common.{arcs_of, indexes}
 use Rattle.topo_writer.specs.Ways.{arcs_with, written_feature}
 
 -- ---- items as they are shown

@@ -1,7 +1,7 @@
 -- The members that a geometry has beside its type and its parts.
 use Rattle.std.specs.Prelude.{List, ◌++◌, map, codes, Option}
-use Rattle.ring_machine.specs.Document.{Member, Head, Text}
-use Rattle.map_text.specs.Text.{further, member_if, member_text}
+use Rattle.ring_machine.specs.Common.{Member, Head, Text}
+use Rattle.map_text.specs.Common.{further, member_if, member_text}
 
 -- the id and the properties, where they are there
 abbrev pub head_members : Head → List Member

@@ -1,10 +1,8 @@
 -- Rings of a document that are named one after another, and their arcs.
 use Rattle.std.specs.Prelude.{Bool, List, [], map}
-use Rattle.grid_geometry.specs.Position.{Position}
-use Rattle.ring_machine.specs.Document.{Document, Text}
-use Rattle.ring_machine.specs.Vertices.{is_junction}
-use Rattle.map_text.specs.Arcs.{pieces}
-use Rattle.map_text.specs.Text.{arc_text, commas}
+use Rattle.grid_geometry.specs.Common.{Position}
+use Rattle.ring_machine.specs.Common.{Document, Text, is_junction}
+use Rattle.map_text.specs.Common.{pieces, arc_text, commas}
 use Rattle.topo_writer.specs.Reading.{positions_at}
 use Rattle.topo_writer.specs.Ways.{arcs_with}
 use Rattle.topo_writer.specs.declared.arcs.RingName.{RingName}

@@ -1,6 +1,6 @@
 -- The collections that are open after items of a layer.
 use Rattle.std.specs.Prelude.{Bool, true, false, List, [], ◌∷◌}
-use Rattle.ring_machine.specs.Document.{Head, ItemOf, Open, Close, Leaf, Kept}
+use Rattle.ring_machine.specs.Common.{Head, ItemOf, Open, Close, Leaf, Kept}
 
 -- the heads of the collections that are open after the items, the innermost first; those that were
 -- open before them

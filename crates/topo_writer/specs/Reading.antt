@@ -1,10 +1,9 @@
 -- The rings of a map, as they are read.
 use Rattle.std.specs.Prelude.{ℕ, List, [], unwrap_or, option_map, Contains}
 use Rattle.std.specs.List.{flat_map, AllByRecursion}
-use Rattle.grid_geometry.specs.Position.{Position}
-use Rattle.ring_machine.specs.Document.{Document}
-use Rattle.ring_machine.specs.Parts.{feature, rings}
-use Rattle.map_frame.specs.Readers.{element, ring_at}
+use Rattle.grid_geometry.specs.Common.{Position}
+use Rattle.ring_machine.specs.Common.{Document, feature, rings}
+use Rattle.map_frame.specs.Common.{element, ring_at}
 
 -- the positions of the ring with this number of the polygon with this number of a feature; none
 -- where there is no such ring

@@ -1,13 +1,10 @@
 -- The text of a document by its sections, in the order in which they are sent.
 use Rattle.std.specs.Prelude.{◌≡◌, ◌≤◌, ℕ, List, [], ◌++◌, map, take, get_or, codes, Option}
 use Rattle.std.specs.List.{flat_map}
-use Rattle.grid_geometry.specs.Position.{Position}
-use Rattle.ring_machine.specs.Document.{Text, Member, Layer, Document}
-use Rattle.ring_machine.specs.Parts.{in_layer, size}
-use Rattle.ring_machine.specs.Planar.{Proper}
-use Rattle.ring_machine.specs.WellFormed.{WellFormed}
-use Rattle.map_frame.specs.Readers.{ShownFrame, shown_frame}
-use Rattle.map_text.specs.Text.{commas, further, layer_member, member_text}
+use Rattle.grid_geometry.specs.Common.{Position}
+use Rattle.ring_machine.specs.Common.{Text, Member, Layer, Document, in_layer, size, Proper, WellFormed}
+use Rattle.map_frame.specs.Common.{ShownFrame, shown_frame}
+use Rattle.map_text.specs.Common.{commas, further, layer_member, member_text}
 use Rattle.topo_writer.specs.Items.{item_rings, written_item}
 use Rattle.topo_writer.specs.Members.{further_if}
 use Rattle.topo_writer.specs.Ways.{arcs_with}

@@ -4,14 +4,11 @@
 use Rattle.std.specs.Prelude.{◌≡◌, ◌≤◌, ◌+◌, ℕ, List, [], ◌∷◌, length, is_some}
 use Rattle.std.specs.List.{sum_by}
 use Rattle.indexmap.specs.IndexMap.{get}
-use Rattle.grid_geometry.specs.Position.{Position}
-use Rattle.ring_machine.specs.Document.{Document}
-use Rattle.ring_machine.specs.Parts.{rings_of}
-use Rattle.ring_machine.specs.Ring.{edge_eq}
+use Rattle.grid_geometry.specs.Common.{Position}
+use Rattle.ring_machine.specs.Common.{Document, rings_of, edge_eq}
 use Rattle.map_frame.specs.declared.items.ItemView.{ItemView}
-use Rattle.map_frame.specs.Readers.{ShownItem}
-use Rattle.map_frame.specs.Shown.{view_item_view}
-use Rattle.map_text.specs.Arcs.{with_pieces}
+use Rattle.map_frame.specs.Common.{ShownItem, view_item_view}
+use Rattle.map_text.specs.Common.{with_pieces}
 use Rattle.topo_writer.specs.declared.arcs.Arcs.{Arcs}
 use Rattle.topo_writer.specs.declared.arcs.RingName.{RingName}
 use Rattle.topo_writer.specs.Found.{HasArcs}

@@ -2,13 +2,10 @@
 use Rattle.std.specs.Prelude.{ℤ, pos, Bool, true, false, ◌||◌, if◌then◌else◌, List, [], ◌∷◌, ◌++◌}
 use Rattle.std.specs.Prelude.{ℕ, ◌+◌, ◌-◌, ◌<◌, ◌≤◌, take, drop, map, unwrap_or, Contains, codes}
 use Rattle.std.specs.List.{flat_map, AllByRecursion}
-use Rattle.grid_geometry.specs.Position.{Position}
-use Rattle.ring_machine.specs.Document.{Document, Feature, Form, Text}
-use Rattle.ring_machine.specs.Parts.{rings, in_feature}
-use Rattle.ring_machine.specs.Vertices.{is_junction}
-use Rattle.map_text.specs.Arcs.{pieces, indexes, with_pieces}
-use Rattle.map_text.specs.Text.{commas, further, member_if, member_text, feature_text}
-use Rattle.map_text.specs.Text.{ring_text, polygon_text, shape_text}
+use Rattle.grid_geometry.specs.Common.{Position}
+use Rattle.ring_machine.specs.Common.{Document, Feature, Form, Text, rings, in_feature, is_junction}
+use Rattle.map_text.specs.Common.{pieces, indexes, with_pieces, commas, further, member_if, member_text, feature_text}
+use Rattle.map_text.specs.Common.{ring_text, polygon_text, shape_text}
 use Rattle.topo_writer.specs.Found.{found, first_edge, with_found, Fits}
 
 -- nothing is left

@@ -4,8 +4,8 @@ ghost use Rattle.std.specs.Prelude.{◌≡◌, ◌+◌, ◌<◌, ◌≤◌, pos,
 ghost use Rattle.std.specs.Prelude.{List, [], ◌∷◌, ◌++◌, length};
 ghost use Rattle.std.specs.List.{AllByRecursion};
 ghost use Rattle.indexmap.specs.IndexMap.{get, Updates};
-ghost use Rattle.grid_geometry.specs.Position.{Position};
-ghost use Rattle.ring_machine.specs.Ring.{edge_eq};
+ghost use Rattle.grid_geometry.specs.Common.{Position};
+ghost use Rattle.ring_machine.specs.Common.{edge_eq};
 ghost use Rattle.topo_writer.specs.Found.{found, first_edge, with_found, Fits};
 ghost use Rattle.topo_writer.specs.Tables.{Finds};
 ghost use Rattle.topo_writer.specs.Ways.{all_found, indexes_found, FitAll};

@@ -1,8 +1,8 @@
 //! Ways and rings, cut at junctions (TopoJSON 1.0, 2.1.3).
 ghost use Rattle.std.specs.Prelude.{◌≡◌, ◌+◌, ◌-◌, ◌<◌, ◌≤◌, ◌||◌, ◌++◌, ◌∷◌, [], map, drop, take, length};
 ghost use Rattle.std.specs.Prelude.{if◌then◌else◌, Bool, List, true, false, get_or, OnOk, IfOk};
-ghost use Rattle.grid_geometry.specs.Position.{Position};
-ghost use Rattle.map_text.specs.Arcs.{begun, pieces};
+ghost use Rattle.grid_geometry.specs.Common.{Position};
+ghost use Rattle.map_text.specs.Common.{begun, pieces};
 ghost use Rattle.topo_writer.specs.Ways.{between, cut_after, is_end, Rising};
 
 use grid_geometry::Pos;

@@ -1,14 +1,10 @@
 //! The items of a layer, sent to a device one after another.
 ghost use Rattle.std.specs.Prelude.{◌≡◌, ℤ, List, ◌++◌, [], ◌∷◌, Some, true, false, OnOk, IfOk};
-ghost use Rattle.device_io.specs.Sending.{Sends};
-ghost use Rattle.ring_machine.specs.Document.{Close};
-ghost use Rattle.ring_machine.specs.Parts.{feature};
-ghost use Rattle.ring_machine.specs.Planar.{Proper};
-ghost use Rattle.ring_machine.specs.WellFormed.{WellFormed};
-ghost use Rattle.topo_outline.specs.Views.{view_head};
-ghost use Rattle.map_frame.specs.Readers.{Stands};
-ghost use Rattle.map_frame.specs.Shown.{view_item_view};
-ghost use Rattle.map_text.specs.Text.{comma_if, items_text, opening_text};
+ghost use Rattle.device_io.specs.Common.{Sends};
+ghost use Rattle.ring_machine.specs.Common.{Close, feature, Proper, WellFormed};
+ghost use Rattle.topo_outline.specs.Common.{view_head};
+ghost use Rattle.map_frame.specs.Common.{Stands, view_item_view};
+ghost use Rattle.map_text.specs.Common.{comma_if, items_text, opening_text};
 ghost use Rattle.topo_writer.specs.Faults.{of_device};
 ghost use Rattle.topo_writer.specs.Items.{feature_at, items_written, leaf_text, open_heads};
 ghost use Rattle.topo_writer.specs.Items.{written, IsThere, ShowsLayer};

@@ -1,8 +1,7 @@
 //! The layers of a map, sent to a device one after another.
 ghost use Rattle.std.specs.Prelude.{◌≡◌, ◌+◌, ◌<◌, ◌++◌, [], codes, length, nat_lt, false, OnOk};
-ghost use Rattle.device_io.specs.Sending.{Sends};
-ghost use Rattle.map_text.specs.Arcs.{arcs_of};
-ghost use Rattle.map_text.specs.Text.{comma_if};
+ghost use Rattle.device_io.specs.Common.{Sends};
+ghost use Rattle.map_text.specs.Common.{arcs_of, comma_if};
 ghost use Rattle.topo_writer.specs.Faults.{of_device};
 ghost use Rattle.topo_writer.specs.Sections.{arcs_after, layer_at, layer_text, layers_text};
 ghost use Rattle.topo_writer.specs.Sections.{IsMapFrame};

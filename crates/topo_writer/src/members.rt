@@ -1,8 +1,8 @@
 // Members of an object, appended to a buffer after the first one.
 ghost use Rattle.std.specs.Prelude.{◌≡◌, ◌++◌, [], ◌∷◌, map, option_map, OnOk};
-ghost use Rattle.topo_outline.specs.Views.{view_head, view_kept};
+ghost use Rattle.topo_outline.specs.Common.{view_head, view_kept};
 ghost use Rattle.topo_writer.specs.Members.{further_if, head_members};
-ghost use Rattle.map_text.specs.Text.{closing_text, further, member, member_text, opening_text};
+ghost use Rattle.map_text.specs.Common.{closing_text, further, member, member_text, opening_text};
 
 use std::alloc::{AllocError, Allocator};
 use topo_outline::{Head, KeptMember};

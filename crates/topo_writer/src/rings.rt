@@ -1,7 +1,6 @@
 //! The rings of a map, in the text.
 ghost use Rattle.std.specs.Prelude.{◌≡◌, ◌++◌, length, Contains, OnOk, IfOk};
-ghost use Rattle.ring_machine.specs.Parts.{rings};
-ghost use Rattle.ring_machine.specs.Planar.{Proper};
+ghost use Rattle.ring_machine.specs.Common.{rings, Proper};
 ghost use Rattle.topo_writer.specs.ByTable.{text_of_polygon, text_of_ring};
 ghost use Rattle.topo_writer.specs.Named.{named_pieces, named_ring};
 ghost use Rattle.topo_writer.specs.Reading.{rings_at, AreRings};

@@ -1,12 +1,9 @@
 //! The polygons of a feature, in the text.
 ghost use Rattle.std.specs.Prelude.{◌≡◌, ◌++◌, Some, true, option_map, OnOk};
-ghost use Rattle.ring_machine.specs.Document.{Feature};
-ghost use Rattle.ring_machine.specs.Parts.{feature};
-ghost use Rattle.ring_machine.specs.Planar.{Proper};
-ghost use Rattle.ring_machine.specs.WellFormed.{fits_form};
-ghost use Rattle.topo_outline.specs.Views.{form_of};
-ghost use Rattle.map_frame.specs.Readers.{shown};
-ghost use Rattle.map_text.specs.Text.{type_text};
+ghost use Rattle.ring_machine.specs.Common.{Feature, feature, Proper, fits_form};
+ghost use Rattle.topo_outline.specs.Common.{form_of};
+ghost use Rattle.map_frame.specs.Common.{shown};
+ghost use Rattle.map_text.specs.Common.{type_text};
 ghost use Rattle.topo_writer.specs.ByTable.{text_of_feature, text_of_polygons, text_of_shape};
 ghost use Rattle.topo_writer.specs.Reading.{all_rings_at, AreRings};
 ghost use Rattle.topo_writer.specs.Tables.{FindsArcs, HasRoom, TakesPolygons};

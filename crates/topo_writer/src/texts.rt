@@ -1,8 +1,8 @@
 //! The pieces of a text (RFC 8259).
 ghost use Rattle.std.specs.Prelude.{◌≡◌, ◌<◌, ◌++◌, ◌-ℤ◌, length, OnOk};
 ghost use Rattle.std.specs.Fmt.{signed_decimal};
-ghost use Rattle.grid_geometry.specs.Position.{position};
-ghost use Rattle.map_text.specs.Text.{comma_if, pair_text, pairs, arc_text, ring_text};
+ghost use Rattle.grid_geometry.specs.Common.{position};
+ghost use Rattle.map_text.specs.Common.{comma_if, pair_text, pairs, arc_text, ring_text};
 ghost use Rattle.topo_writer.specs.Found.{at_place};
 
 use grid_geometry::Pos;

@@ -1,9 +1,8 @@
 //! The text of a whole map, sent to a device.
 ghost use Rattle.std.specs.Prelude.{◌≡◌, ◌++◌, false, map, option_map, OnOk};
-ghost use Rattle.device_io.specs.Sending.{Sends};
-ghost use Rattle.map_text.specs.Saved.{Saved};
-ghost use Rattle.map_text.specs.Text.{text_of};
-ghost use Rattle.topo_outline.specs.Views.{view_kept};
+ghost use Rattle.device_io.specs.Common.{Sends};
+ghost use Rattle.map_text.specs.Common.{Saved, text_of};
+ghost use Rattle.topo_outline.specs.Common.{view_kept};
 ghost use Rattle.topo_writer.specs.Faults.{of_device};
 ghost use Rattle.topo_writer.specs.Sections.{begin_text, end_text, IsMapFrame};
 

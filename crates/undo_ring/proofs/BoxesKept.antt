@@ -1,38 +1,28 @@
 -- The boxes that cover a document cover it after a command, too.
-use Rattle.std.proofs.Common.{◌≡◌, ◌≤◌, ℕ, ℤ, zero, suc, refl, sym, subst, ◌∙◌, List, [], ◌∷◌, take, Bool, true, false, cond, Option, None, Some, inl, inr, ◌⊎◌, arith, Result, Ok, Err, Contains}
-use Rattle.std.proofs.lemmas.Bool.{false≢true}
-use Rattle.std.specs.Prelude.{◌==◌, MatchOption, IfSome, OnOk}
-use Rattle.grid_geometry.specs.Position.{Position}
-use Rattle.ring_machine.specs.Document.{Document, Feature, Text}
-use Rattle.ring_machine.specs.Parts.{rings}
-use Rattle.ring_machine.specs.Ring.{has}
-use Rattle.ring_machine.specs.Vertices.{put, ins, del}
-use Rattle.ring_machine.specs.Cut.{Path, path_of, cut}
-use Rattle.ring_machine.specs.Join.{join, take_out}
-use Rattle.ring_machine.specs.Thin.{thinned, IsThinnedPart}
-use Rattle.ring_machine.specs.Query.{vertices}
-use Rattle.ring_machine.specs.Refusals.{move_refusals, insert_refusals, remove_refusals, split_refusals, merge_refusals, feature_refusals, feature_at}
-use Rattle.ring_machine.specs.Command.{Command, Move, Insert, Remove, Thin, Split, Merge, Rename, Delete, Undo, Area, Neighbours, Rings, Refusal, Answer, Done, Thinned, Made}
-use Rattle.ring_machine.specs.Machine.{State, step, edit, query, changed, renamed, split_state, thin_step}
-use Rattle.ring_machine.proofs.Members.{contains_in, in_contains}
-use Rattle.ring_machine.proofs.Neighbours.{has-in, in-has}
-use Rattle.ring_machine.proofs.Steps.{step-move, step-insert, step-remove, step-thin, step-split, step-merge, step-rename, step-delete}
-use Rattle.ring_machine.specs.Command.{AreaIs, NeighboursAre, RingsAre}
-use Rattle.ring_machine.specs.Query.{area_of, neighbours_of}
-use Rattle.segment_index.specs.Candidates.{SegmentSet}
-use Rattle.ring_boxes.specs.Covering.{Covers, IsCovered, Keeps}
-use Rattle.arc_store.specs.Outcomes.{IsSameMap}
+use Rattle.kit_words.proofs.Common.{◌≡◌, ◌≤◌, ℕ, ℤ, zero, suc, refl, sym, subst, ◌∙◌, List, [], ◌∷◌, take, Bool, true}
+use Rattle.kit_words.proofs.Common.{false, cond, Option, None, Some, inl, inr, ◌⊎◌, arith, Result, Ok, Err, Contains}
+use Rattle.kit_words.proofs.Common.{false≢true, ◌==◌, MatchOption, IfSome, OnOk}
+use Rattle.grid_geometry.specs.Common.{Position}
+use Rattle.ring_machine.specs.Common.{Document, Feature, Text, rings, has, put, ins, del, Path, path_of, cut, join}
+use Rattle.ring_machine.specs.Common.{take_out, thinned, IsThinnedPart, vertices, move_refusals, insert_refusals}
+use Rattle.ring_machine.specs.Common.{remove_refusals, split_refusals, merge_refusals, feature_refusals, feature_at}
+use Rattle.ring_machine.specs.Common.{Command, Move, Insert, Remove, Thin, Split, Merge, Rename, Delete, Undo, Area}
+use Rattle.ring_machine.specs.Common.{Neighbours, Rings, Refusal, Answer, Done, Thinned, Made, State, step, edit, query}
+use Rattle.ring_machine.specs.Common.{changed, renamed, split_state, thin_step, AreaIs, NeighboursAre, RingsAre}
+use Rattle.ring_machine.specs.Common.{area_of, neighbours_of}
+use Rattle.ring_machine.proofs.Common.{contains_in, in_contains, has-in, in-has, step-move, step-insert, step-remove}
+use Rattle.ring_machine.proofs.Common.{step-thin, step-split, step-merge, step-rename, step-delete}
+use Rattle.segment_index.specs.Common.{SegmentSet}
+use Rattle.ring_boxes.specs.Common.{Covers, IsCovered, Keeps}
+use Rattle.arc_store.specs.Common.{IsSameMap}
 use Rattle.arc_store.specs.State.{State as MapState}
 use Rattle.arc_store.specs.declared.fault.EditFault.{EditFault}
-use Rattle.undo_ring.specs.Answers.{refusal_of}
-use Rattle.undo_ring.specs.Answered.{with_past, StopsOn, RefusesOn, AnswersMap}
+use Rattle.undo_ring.specs.Common.{refusal_of, with_past, StopsOn, RefusesOn, AnswersMap, command_of, AreCovered}
+use Rattle.undo_ring.specs.Common.{IsKnown, HasGrown, IsReady, touched_by, HasCome, Follows, Near}
 use Rattle.undo_ring.specs.declared.answer.Answer.{Answer as Told}
-use Rattle.undo_ring.specs.Commands.{command_of}
 use Rattle.undo_ring.specs.declared.command.Command.{Command as Asked}
 use Rattle.undo_ring.specs.declared.command.Command.TheVariants as told
-use Rattle.point_queries.specs.Covered.{CoversFeature}
-use Rattle.undo_ring.specs.Boxed.{AreCovered, IsKnown, HasGrown, IsReady, touched_by, HasCome, Follows}
-use Rattle.undo_ring.specs.declared.near.Near.{Near}
+use Rattle.point_queries.specs.Common.{CoversFeature}
 use Rattle.undo_ring.proofs.Recording.{handed}
 use Rattle.undo_ring.proofs.RingOrigins.{put_from, ins_from, del_from, thinned_from, thinned_over_from, renamed_from, take_out_from, cut_from, join_from}
 use Rattle.undo_ring.proofs.NearLemmas.{keeps_covered}

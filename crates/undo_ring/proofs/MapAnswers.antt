@@ -1,32 +1,28 @@
 -- An edit's own clauses make a step of the machine, whatever the history.
-use Rattle.std.proofs.Common.{◌≡◌, ◌≢◌, ◌≤◌, ℕ, ℤ, ap, ap₂, IfOk, refl, sym, subst, ◌∙◌, List, [], ◌∷◌, take, Bool, true, false, cond, Option, None, Some, IsTrue, Result, Ok, Err, OnOk, not, ◌&&◌, ◌==◌, arith, inl, inr}
-use Rattle.std.proofs.lemmas.Bool.Decides.{nat_tests}
-use Rattle.std.specs.Prelude.{MatchOption}
-use Rattle.std.specs.List.{fold}
-use Rattle.grid_geometry.specs.Position.{Position}
-use Rattle.ring_machine.specs.Document.{Document}
-use Rattle.ring_machine.specs.Parts.{has_feature}
-use Rattle.ring_machine.specs.Vertices.{put, ins, del, is_junction}
-use Rattle.ring_machine.specs.Cut.{path_of}
-use Rattle.ring_machine.specs.Join.{join, take_out}
-use Rattle.ring_machine.specs.Thin.{Thinning, IsThinnedPart, is_flat, without, thin_at, thinned}
-use Rattle.ring_machine.specs.Query.{area_of, inside_at, border_at, neighbours_of, vertices}
-use Rattle.ring_machine.specs.Refusals.{first_of, move_refusals, insert_refusals, remove_refusals, split_refusals, merge_refusals, feature_refusals, feature_at}
-use Rattle.ring_machine.specs.Command.{Command, Move, Insert, Remove, Thin, Split, Merge, Rename, Delete, Area, At, Neighbours, Refusal, Refused}
+use Rattle.kit_words.proofs.Common.{◌≡◌, ◌≢◌, ◌≤◌, ℕ, ℤ, ap, ap₂, IfOk, refl, sym, subst, ◌∙◌, List, [], ◌∷◌, take}
+use Rattle.kit_words.proofs.Common.{Bool, true, false, cond, Option, None, Some, IsTrue, Result, Ok, Err, OnOk, not}
+use Rattle.kit_words.proofs.Common.{◌&&◌, ◌==◌, arith, inl, inr, nat_tests, MatchOption, fold}
+use Rattle.grid_geometry.specs.Common.{Position}
+use Rattle.ring_machine.specs.Common.{Document, has_feature, put, ins, del, is_junction, path_of, join, take_out}
+use Rattle.ring_machine.specs.Common.{Thinning, IsThinnedPart, is_flat, without, thin_at, thinned, area_of, inside_at}
+use Rattle.ring_machine.specs.Common.{border_at, neighbours_of, vertices, first_of, move_refusals, insert_refusals}
+use Rattle.ring_machine.specs.Common.{remove_refusals, split_refusals, merge_refusals, feature_refusals, feature_at}
+use Rattle.ring_machine.specs.Common.{Command, Move, Insert, Remove, Thin, Split, Merge, Rename, Delete, Area, At}
+use Rattle.ring_machine.specs.Common.{Neighbours, Refusal, Refused, State, step, edit, changed, query, renamed}
+use Rattle.ring_machine.specs.Common.{split_state}
 use Rattle.ring_machine.specs.Command as machine
-use Rattle.ring_machine.specs.Machine.{State, step, edit, changed, query, renamed, split_state}
-use Rattle.ring_machine.proofs.Steps.{step-move, step-insert, step-remove, step-thin, step-split, step-merge, step-rename, step-delete}
-use Rattle.map_text.specs.Strings.{string_text}
-use Rattle.edit_records.specs.Records.{Record, Takes}
-use Rattle.arc_store.specs.Outcomes.{Edits, IsSameMap, edit_begun, split_map}
-use Rattle.arc_store.specs.Recorded.{IsRecorded}
+use Rattle.ring_machine.proofs.Common.{step-move, step-insert, step-remove, step-thin, step-split, step-merge}
+use Rattle.ring_machine.proofs.Common.{step-rename, step-delete}
+use Rattle.map_text.specs.Common.{string_text}
+use Rattle.edit_records.specs.Common.{Record, Takes}
+use Rattle.arc_store.specs.Common.{Edits, IsSameMap, edit_begun, split_map, IsRecorded, Refuses}
 use Rattle.arc_store.specs.State.{State as MapState}
-use Rattle.arc_store.specs.Faults.{Refuses}
 use Rattle.arc_store.specs.declared.fault.EditFault.{EditFault}
 use Rattle.arc_store.specs.declared.fault.EditFault.TheVariants.{OutOfMemory}
 use Rattle.point_queries.specs.declared.numbers.At.{At as AtFound}
-use Rattle.edit_vertex.specs.Kept.{IsThinRecorded}
-use Rattle.undo_ring.specs.Answered.{with_past, past_after, is_change, StaysPlaced, Keeps, AcceptsOn, RefusesOn, StopsOn, FailsOn, AnswersMap, done_of, made_of}
+use Rattle.edit_vertex.specs.Common.{IsThinRecorded}
+use Rattle.undo_ring.specs.Common.{with_past, past_after, is_change, StaysPlaced, Keeps, AcceptsOn, RefusesOn, StopsOn}
+use Rattle.undo_ring.specs.Common.{FailsOn, AnswersMap, done_of, made_of}
 use Rattle.undo_ring.specs.declared.answer.Answer.TheVariants as told
 
 step-area : (depth : ℕ) (st : State) (n : ℕ) → step depth st (Area n) ≡ query st (feature_refusals st.doc n) (machine.AreaIs (area_of (feature_at st.doc n)))

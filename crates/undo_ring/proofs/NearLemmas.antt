@@ -1,13 +1,11 @@
 -- The boxes that an editor keeps beside its history: what they cover after a change, and after an undo.
-use Rattle.std.proofs.Common.{◌≡◌, ◌≤◌, ℕ, suc, refl, sym, subst, List, [], ◌∷◌, take, true, Option, None, Some, Result, Ok, Err, OnOk, is_ok}
-use Rattle.std.specs.Prelude.{IfSome}
-use Rattle.std.proofs.lemmas.Bool.{false≢true}
-use Rattle.ring_machine.specs.Document.{Document}
-use Rattle.segment_index.specs.Candidates.{SegmentSet}
-use Rattle.ring_boxes.specs.Covering.{Keeps}
-use Rattle.point_queries.specs.Covered.{CoversFeature}
-use Rattle.undo_ring.specs.Boxed.{AreCovered, IsKnown, HasCome, Follows}
-use Rattle.undo_ring.specs.declared.near.Near.{Near}
+use Rattle.kit_words.proofs.Common.{◌≡◌, ◌≤◌, ℕ, suc, refl, sym, subst, List, [], ◌∷◌, take, true, Option, None, Some}
+use Rattle.kit_words.proofs.Common.{Result, Ok, Err, OnOk, is_ok, IfSome, false≢true}
+use Rattle.ring_machine.specs.Common.{Document}
+use Rattle.segment_index.specs.Common.{SegmentSet}
+use Rattle.ring_boxes.specs.Common.{Keeps}
+use Rattle.point_queries.specs.Common.{CoversFeature}
+use Rattle.undo_ring.specs.Common.{AreCovered, IsKnown, HasCome, Follows, Near}
 
 -- boxes that keep what lay in others cover the documents that those did
 pub keeps_covered : (old new : SegmentSet) (docs : List Document) → Keeps old new → AreCovered old docs → AreCovered new docs

@@ -1,30 +1,24 @@
 -- A history of records is the machine's.
-use Rattle.std.proofs.Common.{◌≡◌, ◌≢◌, ◌≤◌, ℕ, zero, suc, refl, sym, ap, subst, ◌∙◌, List, [], ◌∷◌, map, take, drop, Bool, true, false, cond, Option, None, Some, option_map, is_some, inl, inr, ◌⊎◌, arith, Result, Ok, Err, IfOk, IfErr}
-use Rattle.std.specs.Prelude.{MatchOption, slice_get}
-use Rattle.std.specs.List.{AllByRecursion}
+use Rattle.kit_words.proofs.Common.{◌≡◌, ◌≢◌, ◌≤◌, ℕ, zero, suc, refl, sym, ap, subst, ◌∙◌, List, [], ◌∷◌, map, take}
+use Rattle.kit_words.proofs.Common.{drop, Bool, true, false, cond, Option, None, Some, option_map, is_some, inl, inr}
+use Rattle.kit_words.proofs.Common.{◌⊎◌, arith, Result, Ok, Err, IfOk, IfErr, MatchOption, slice_get, AllByRecursion}
+use Rattle.kit_words.proofs.Common.{take-map}
 use Rattle.circular_buffer.specs.Buffer.{Buffer, buffer}
-use Rattle.ring_machine.specs.Document.{Document}
-use Rattle.ring_machine.specs.Command.{Command, Undo, Refusal, Refused, NothingToUndo}
-use Rattle.ring_machine.specs.Machine.{State, step, undone}
-use Rattle.ring_machine.specs.Parts.{has_feature}
-use Rattle.ring_machine.proofs.Steps.{step-undo}
-use Rattle.edit_records.specs.Places.{grown}
-use Rattle.edit_records.specs.Records.{Record, IsHeld, Undoes, Takes, back}
-use Rattle.edit_records.specs.Histories.{documents, AreUndoing}
+use Rattle.ring_machine.specs.Common.{Document, Command, Undo, Refusal, Refused, NothingToUndo, State, step, undone}
+use Rattle.ring_machine.specs.Common.{has_feature}
+use Rattle.ring_machine.proofs.Common.{step-undo}
+use Rattle.edit_records.specs.Common.{grown, Record, IsHeld, Undoes, Takes, back, documents, AreUndoing}
 use Rattle.edit_records.proofs.HistoriesKept.{documents-take, undoing-take, undoing-later}
 use Rattle.edit_records.proofs.HistoriesKept.{documents-grown, undoing-grown}
-use Rattle.topo_outline.specs.Kept.{KeepsTexts}
-use Rattle.arc_store.specs.Recorded.{IsRecorded}
+use Rattle.topo_outline.specs.Common.{KeepsTexts}
+use Rattle.arc_store.specs.Common.{IsRecorded, IsSameMap}
 use Rattle.arc_store.specs.State.{State as MapState}
 use Rattle.arc_store.specs.declared.fault.EditFault.{EditFault}
-use Rattle.undo_ring.specs.Answers.{answer_of, refusal_of}
-use Rattle.arc_store.specs.Outcomes.{IsSameMap}
-use Rattle.undo_ring.specs.Answered.{with_past, is_change, past_after, StaysPlaced, IsGrown, Keeps, AcceptsOn, RefusesOn, StopsOn, FailsOn, AnswersMap}
-use Rattle.undo_ring.specs.Edited.{Edited, machine_of, IsSame, Applies, Refuses, LacksMemory, IsCutShort, Fails, IsUndone}
-use Rattle.undo_ring.specs.Trails.{IsTrail, kept, edited_by}
-use Rattle.undo_ring.specs.declared.answer.Answer.{Answer}
+use Rattle.undo_ring.specs.Common.{answer_of, refusal_of, with_past, is_change, past_after, StaysPlaced, IsGrown, Keeps}
+use Rattle.undo_ring.specs.Common.{AcceptsOn, RefusesOn, StopsOn, FailsOn, AnswersMap, Edited, machine_of, IsSame}
+use Rattle.undo_ring.specs.Common.{Applies, Refuses, LacksMemory, IsCutShort, Fails, IsUndone, IsTrail, kept, edited_by}
+use Rattle.undo_ring.specs.Common.{Answer}
 use Rattle.undo_ring.proofs.MapAnswers.{same_map}
-use Rattle.std.proofs.lemmas.List.{take-map}
 
 -- the map without the record that it handed out
 abbrev pub handed : MapState → MapState

@@ -1,35 +1,16 @@
 -- From which rings the rings of an edited document come.
-use Rattle.std.proofs.Common.{◌≡◌, ℕ, ℤ, Bool, true, false, refl, sym, ap, ◌∙◌, subst, cond, List, [], ◌∷◌}
-use Rattle.std.proofs.Common.{◌++◌, map, ◌⊎◌, inl, inr, None, Some, Option, Contains}
-use Rattle.std.specs.Prelude.{not, ◌&&◌}
-use Rattle.std.specs.List.{filter, flat_map, fold}
-use Rattle.grid_geometry.specs.Position.{Position, position_eq}
-use Rattle.grid_geometry.specs.Segment.{segment}
-use Rattle.grid_geometry.specs.Ring.{Edge, edges}
-use Rattle.ring_machine.specs.Ring.{segment_of, canonical}
-use Rattle.ring_machine.specs.Document.{Document, Feature, Text}
-use Rattle.ring_machine.specs.Parts.{features, rings_of, rings, in_rings}
-use Rattle.ring_machine.specs.Vertices.{put, ins, del, put_ring, ins_ring, del_ring, is_junction}
-use Rattle.ring_machine.specs.Query.{vertices}
-use Rattle.ring_machine.specs.Command.{Refusal}
-use Rattle.ring_machine.specs.Refusals.{first_of, remove_refusals}
-use Rattle.ring_machine.specs.Thin.{Thinning, is_flat, without, thin_at, thinned_over, thinned}
-use Rattle.ring_machine.specs.Cut.{Path, cut, is_cut_by, first_that, stays, parted, instead}
-use Rattle.ring_machine.specs.Join.{join, joined_feature, take_out}
-use Rattle.ring_machine.specs.Machine.{renamed}
-use Rattle.ring_machine.proofs.Order.{position_eq-true}
-use Rattle.ring_machine.proofs.Arcs.{is_of}
-use Rattle.ring_machine.proofs.Canonical.{canonical_parts}
-use Rattle.ring_machine.proofs.First.{In}
-use Rattle.ring_machine.proofs.Members.{contains_in, in_contains, in_swap, in_mapped, in_flat, in_filter}
-use Rattle.ring_machine.proofs.Neighbours.{edge_in, in-flat_map}
-use Rattle.ring_machine.proofs.RingSegments.{segment_eq-true, same_ends}
-use Rattle.ring_machine.proofs.RingsOf.{rings-in_rings}
-use Rattle.ring_machine.proofs.LeftOut.{part_in}
-use Rattle.ring_machine.proofs.Without.{in-take_out, part-rings}
-use Rattle.ring_machine.proofs.Renamed.{rings-renamed}
-use Rattle.ring_machine.proofs.Instead.{in-instead}
-use Rattle.ring_machine.proofs.SplitFeatures.{new_feature}
+use Rattle.kit_words.proofs.Common.{◌≡◌, ℕ, ℤ, Bool, true, false, refl, sym, ap, ◌∙◌, subst, cond, List, [], ◌∷◌, ◌++◌}
+use Rattle.kit_words.proofs.Common.{map, ◌⊎◌, inl, inr, None, Some, Option, Contains, not, ◌&&◌, filter, flat_map, fold}
+use Rattle.grid_geometry.specs.Common.{Position, position_eq, segment, Edge, edges}
+use Rattle.ring_machine.specs.Common.{segment_of, canonical, Document, Feature, Text, features, rings_of, rings}
+use Rattle.ring_machine.specs.Common.{in_rings, put, ins, del, put_ring, ins_ring, del_ring, is_junction, vertices}
+use Rattle.ring_machine.specs.Common.{Refusal, first_of, remove_refusals, Thinning, is_flat, without, thin_at}
+use Rattle.ring_machine.specs.Common.{thinned_over, thinned, Path, cut, is_cut_by, first_that, stays, parted, instead}
+use Rattle.ring_machine.specs.Common.{join, joined_feature, take_out, renamed}
+use Rattle.ring_machine.proofs.Common.{position_eq-true, is_of, canonical_parts, In, contains_in, in_contains, in_swap}
+use Rattle.ring_machine.proofs.Common.{in_mapped, in_flat, in_filter, edge_in, in-flat_map, segment_eq-true, same_ends}
+use Rattle.ring_machine.proofs.Common.{rings-in_rings, part_in, in-take_out, part-rings, rings-renamed, in-instead}
+use Rattle.ring_machine.proofs.Common.{new_feature}
 
 -- ---- what is said of a ring
 

@@ -1,18 +1,12 @@
 -- A command that edits vertices leaves every position on its side of every ring, whatever its answer.
-use Rattle.std.proofs.Common.{sym, ap, subst, [], Option, None, Some, ◌⊎◌, inl, inr, Result, Ok, Err}
-use Rattle.std.specs.Prelude.{MatchOption}
-use Rattle.ring_machine.specs.Planar.{Proper}
-use Rattle.ring_machine.specs.Sides.{KeepsSides}
+use Rattle.kit_words.proofs.Common.{sym, ap, subst, [], Option, None, Some, ◌⊎◌, inl, inr, Result, Ok, Err, MatchOption}
+use Rattle.ring_machine.specs.Common.{Proper, KeepsSides, State}
 use Rattle.ring_machine.specs.Command.{Command, Refusal, Answer as Answered}
-use Rattle.ring_machine.specs.Machine.{State}
 use Rattle.arc_store.specs.State.{State as MapState}
 use Rattle.arc_store.specs.declared.fault.EditFault.{EditFault}
-use Rattle.edit_vertex.proofs.SidesKept.{same_keeps, part_keeps}
-use Rattle.undo_ring.specs.Answers.{refusal_of}
-use Rattle.arc_store.specs.Outcomes.{IsSameMap}
-use Rattle.undo_ring.specs.Answered.{with_past, StopsOn, RefusesOn, AnswersMap}
-use Rattle.undo_ring.specs.Edited.{EditsVertices}
-use Rattle.undo_ring.specs.declared.answer.Answer.{Answer}
+use Rattle.edit_vertex.proofs.Common.{same_keeps, part_keeps}
+use Rattle.undo_ring.specs.Common.{refusal_of, with_past, StopsOn, RefusesOn, AnswersMap, EditsVertices, Answer}
+use Rattle.arc_store.specs.Common.{IsSameMap}
 use Rattle.undo_ring.proofs.StepSides.{step_keeps}
 
 module _ (old new : MapState) (c : Command) (proper : Proper old.doc) where

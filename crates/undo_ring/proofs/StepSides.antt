@@ -1,17 +1,13 @@
 -- A step of the machine that edits vertices leaves every position on its side of every ring.
-use Rattle.std.proofs.Common.{◌≡◌, ℕ, ℤ, Bool, true, false, refl, sym, subst, cond, List, Option, None, Some}
-use Rattle.std.specs.Prelude.{◌==◌}
-use Rattle.ring_machine.specs.Planar.{Proper}
-use Rattle.ring_machine.specs.Vertices.{put, ins, del}
-use Rattle.ring_machine.specs.Sides.{KeepsSides}
-use Rattle.ring_machine.specs.Thin.{thinned}
-use Rattle.ring_machine.specs.Refusals.{first_of, move_refusals, insert_refusals, remove_refusals}
-use Rattle.ring_machine.specs.Command.{Command, Move, Insert, Remove, Thin, Refusal, Answer, Done, Thinned, Refused}
-use Rattle.ring_machine.specs.Machine.{State, step, edit, changed, thin_step}
-use Rattle.ring_machine.proofs.Accepted.{moved, inserted, removed, thinned-keeps}
-use Rattle.ring_machine.proofs.Steps.{step-move, step-insert, step-remove, step-thin}
-use Rattle.edit_vertex.proofs.SidesKept.{same_keeps}
-use Rattle.undo_ring.specs.Edited.{EditsVertices}
+use Rattle.kit_words.proofs.Common.{◌≡◌, ℕ, ℤ, Bool, true, false, refl, sym, subst, cond, List, Option, None, Some}
+use Rattle.kit_words.proofs.Common.{◌==◌}
+use Rattle.ring_machine.specs.Common.{Proper, put, ins, del, KeepsSides, thinned, first_of, move_refusals}
+use Rattle.ring_machine.specs.Common.{insert_refusals, remove_refusals, Command, Move, Insert, Remove, Thin, Refusal}
+use Rattle.ring_machine.specs.Common.{Answer, Done, Thinned, Refused, State, step, edit, changed, thin_step}
+use Rattle.ring_machine.proofs.Common.{moved, inserted, removed, thinned-keeps, step-move, step-insert, step-remove}
+use Rattle.ring_machine.proofs.Common.{step-thin}
+use Rattle.edit_vertex.proofs.Common.{same_keeps}
+use Rattle.undo_ring.specs.Common.{EditsVertices}
 
 -- what holds of the accepted edit, and of each refusal, holds of a step that may be refused
 pub edit_either : (st : State) (P : Answer × State → Type 0) (rs : List (Option Refusal)) (a : Answer) (after : State)

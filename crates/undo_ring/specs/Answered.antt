@@ -1,15 +1,11 @@
 -- What a command makes of a map, whatever its history.
 use Rattle.std.specs.Prelude.{ℕ, ℤ, ◌≡◌, ◌+◌, ◌==◌, ◌⊎◌, not, if◌then◌else◌, Bool, true, false, List, ◌∷◌, take, MatchOption, MatchResult, Result, Ok, Err}
-use Rattle.ring_machine.specs.Document.{Document}
-use Rattle.ring_machine.specs.Command.{Command, Thin, Refusal, Refused}
-use Rattle.ring_machine.specs.Machine.{State, step}
-use Rattle.ring_machine.specs.Thin.{IsThinnedPart}
-use Rattle.edit_records.specs.Places.{grown}
-use Rattle.arc_store.specs.Outcomes.{IsSameMap}
-use Rattle.arc_store.specs.Recorded.{IsRecorded}
+use Rattle.ring_machine.specs.Common.{Document, Command, Thin, Refusal, Refused, State, step, IsThinnedPart}
+use Rattle.edit_records.specs.Common.{grown}
+use Rattle.arc_store.specs.Common.{IsSameMap, IsRecorded}
 use Rattle.arc_store.specs.State.{State as MapState}
 use Rattle.arc_store.specs.declared.fault.EditFault.{EditFault}
-use Rattle.edit_vertex.specs.Kept.{IsThinRecorded}
+use Rattle.edit_vertex.specs.Common.{IsThinRecorded}
 use Rattle.undo_ring.specs.Answers.{answer_of, refusal_of}
 use Rattle.undo_ring.specs.declared.answer.Answer.{Answer}
 use Rattle.undo_ring.specs.declared.answer.Answer.TheVariants as told

@@ -2,13 +2,11 @@
 -- changes, so that a change that is taken back needs none anew.
 use Rattle.std.specs.Prelude.{ℕ, suc, ◌≡◌, ◌≤◌, List, ◌∷◌, take, Option, None, Some, Contains, IfSome}
 use Rattle.std.specs.List.{AllByRecursion}
-use Rattle.grid_geometry.specs.Position.{Position}
-use Rattle.ring_machine.specs.Document.{Document}
-use Rattle.ring_machine.specs.Parts.{rings}
-use Rattle.ring_machine.specs.Command.{Command, Move, Insert, Split, Merge}
-use Rattle.segment_index.specs.Candidates.{SegmentSet}
-use Rattle.ring_boxes.specs.Covering.{Covers, IsCovered, Keeps}
-use Rattle.point_queries.specs.Covered.{CoversFeature}
+use Rattle.grid_geometry.specs.Common.{Position}
+use Rattle.ring_machine.specs.Common.{Document, rings, Command, Move, Insert, Split, Merge}
+use Rattle.segment_index.specs.Common.{SegmentSet}
+use Rattle.ring_boxes.specs.Common.{Covers, IsCovered, Keeps}
+use Rattle.point_queries.specs.Common.{CoversFeature}
 use Rattle.undo_ring.specs.declared.near.Near.{Near}
 
 -- each ring of these documents lies in one of the boxes

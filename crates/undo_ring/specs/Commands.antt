@@ -2,7 +2,7 @@
 use Rattle.std.specs.Prelude.{◌≤◌, length}
 use Rattle.ring_machine.specs.Command.{Command as Asked}
 use Rattle.ring_machine.specs.Command as machine
-use Rattle.map_text.specs.Strings.{string_text}
+use Rattle.map_text.specs.Common.{string_text}
 use Rattle.undo_ring.specs.declared.command.Command.{Command}
 use Rattle.undo_ring.specs.declared.command.Command.TheVariants.{Move, Insert, Remove, Thin, Split, Merge, Rename, Delete, Area, At, Neighbours}
 

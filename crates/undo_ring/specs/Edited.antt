@@ -1,10 +1,8 @@
 -- An editor as its callers see it, and what its calls make of it.
 use Rattle.std.specs.Prelude.{ℕ, ℤ, ◌≡◌, ◌≢◌, ◌⊎◌, List, [], None, MatchOption}
-use Rattle.ring_machine.specs.Document.{Document}
-use Rattle.ring_machine.specs.Command.{Command, Move, Insert, Remove, Thin, Undo, Refusal, Done, Refused}
+use Rattle.ring_machine.specs.Common.{Document, Command, Move, Insert, Remove, Thin, Undo, Refusal, Done, Refused}
+use Rattle.ring_machine.specs.Common.{State, step, changed, IsThinnedPart}
 use Rattle.ring_machine.specs.Command as machine
-use Rattle.ring_machine.specs.Machine.{State, step, changed}
-use Rattle.ring_machine.specs.Thin.{IsThinnedPart}
 use Rattle.arc_store.specs.State.{State as MapState}
 use Rattle.arc_store.specs.declared.fault.EditFault.{EditFault}
 use Rattle.undo_ring.specs.Answers.{answer_of, refusal_of}

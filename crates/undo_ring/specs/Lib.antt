@@ -4,3 +4,4 @@ pub mod Edited
 pub mod Answered
 pub mod Trails
 pub mod Boxed
+pub mod Common

@@ -2,9 +2,8 @@
 use Rattle.std.specs.Prelude.{◌≡◌, ◌∷◌, List, map, take, Option, None, Some}
 use Rattle.std.specs.List.{AllByRecursion}
 use Rattle.circular_buffer.specs.Buffer.{Buffer, buffer}
-use Rattle.edit_records.specs.Records.{Record}
-use Rattle.edit_records.specs.Histories.{documents, AreUndoing}
-use Rattle.topo_outline.specs.Kept.{KeepsTexts}
+use Rattle.edit_records.specs.Common.{Record, documents, AreUndoing}
+use Rattle.topo_outline.specs.Common.{KeepsTexts}
 use Rattle.arc_store.specs.State.{State as MapState}
 use Rattle.undo_ring.specs.Boxed.{IsKnown}
 use Rattle.undo_ring.specs.Edited.{Edited}

@@ -1,11 +1,9 @@
 // What a command makes of a map, whatever its history.
 ghost use Rattle.std.specs.Prelude.{◌≡◌, ◌≤◌, ◌∷◌, length, List, None, IfOk, IfSome, OnOk};
-ghost use Rattle.ring_machine.specs.Command.{Split, Rename, Thin, Area, At, Neighbours};
-ghost use Rattle.ring_machine.specs.Document.{Document};
-ghost use Rattle.ring_machine.specs.Parts.{rings};
-ghost use Rattle.ring_machine.specs.Query.{border_at, inside_at};
-ghost use Rattle.map_text.specs.Strings.{string_text};
-ghost use Rattle.ring_boxes.specs.Covering.{Covers};
+ghost use Rattle.ring_machine.specs.Common.{Split, Rename, Thin, Area, At, Neighbours, Document};
+ghost use Rattle.ring_machine.specs.Common.{rings, border_at, inside_at};
+ghost use Rattle.map_text.specs.Common.{string_text};
+ghost use Rattle.ring_boxes.specs.Common.{Covers};
 ghost use Rattle.undo_ring.specs.Boxed.{IsKnown, IsReady};
 ghost use Rattle.undo_ring.specs.Commands.{command_of, IsSound};
 ghost use Rattle.undo_ring.specs.Answered.{AnswersMap, done_of, made_of};

@@ -1,5 +1,5 @@
 ghost use Rattle.std.specs.Prelude.{◌≡◌, ◌≤◌, OnOk, IfOk, IfErr};
-ghost use Rattle.ring_machine.specs.Sides.{KeepsSides};
+ghost use Rattle.ring_machine.specs.Common.{KeepsSides};
 ghost use Rattle.undo_ring.specs.Commands.{command_of, IsSound};
 ghost use Rattle.undo_ring.specs.Edited.{begun, Applies, EditsVertices, Fails, IsUndone, StaysDone};
 ghost use Rattle.undo_ring.specs.Trails.{kept};

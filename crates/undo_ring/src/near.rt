@@ -1,7 +1,7 @@
 //! The boxes of a map's rings, kept beside its history, so that a position is asked for without a look
 //! along the whole map.
 ghost use Rattle.std.specs.Prelude.{◌≡◌, ◌∷◌, true, false, List, IfSome, OnOk};
-ghost use Rattle.ring_machine.specs.Document.{Document};
+ghost use Rattle.ring_machine.specs.Common.{Document};
 ghost use Rattle.undo_ring.specs.Boxed.{HasGrown, IsKnown, IsReady, Follows};
 ghost use Rattle.undo_ring.specs.Boxed as boxed;
 ghost use Rattle.undo_ring.specs.Commands.{command_of};

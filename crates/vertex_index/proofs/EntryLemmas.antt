@@ -1,5 +1,5 @@
 -- What an entry tells of the map that it is of.
-use Rattle.std.proofs.Common.{◌≡◌, subst}
+use Rattle.kit_words.proofs.Common.{◌≡◌, subst}
 use Rattle.std.specs.declared.cmp.PartialEq as eq
 use Rattle.std.specs.declared.hash.Hash as hash
 use Rattle.std.specs.declared.hash.Hasher as hasher

@@ -4,3 +4,4 @@ pub mod PlaceLemmas
 pub mod PlacementLemmas
 pub mod PutLemmas
 pub mod SlotLemmas
+pub mod Common

@@ -1,22 +1,14 @@
 -- Slots and keys that mirror each other, and what keeps them so.
-use Rattle.std.proofs.Common.{◌≡◌, ◌≢◌, ◌↔◌, ℕ, zero, suc, ◌<◌, Bool, true, false, cond, ◌&&◌, List}
-use Rattle.std.proofs.Common.{[], ◌∷◌, length, set, Option, Some, None, IfSome, IfNone, is_some}
-use Rattle.std.proofs.Common.{refl, sym, ap, ◌∙◌, subst, arith}
-use Rattle.std.specs.Ordering.{nat_cmp, int_eq, eq_by_cmp}
-use Rattle.std.specs.Cmp.{signed_Decides}
-use Rattle.std.specs.List.{AllZip}
-use Rattle.std.specs.Borrow.{Bor, MutBor}
-use Rattle.std.specs.Option.{option_copied, option_copied_mut}
+use Rattle.kit_words.proofs.Common.{◌≡◌, ◌≢◌, ◌↔◌, ℕ, zero, suc, ◌<◌, Bool, true, false, cond, ◌&&◌, List, [], ◌∷◌}
+use Rattle.kit_words.proofs.Common.{length, set, Option, Some, None, IfSome, IfNone, is_some, refl, sym, ap, ◌∙◌, subst}
+use Rattle.kit_words.proofs.Common.{arith, nat_cmp, int_eq, eq_by_cmp, signed_Decides, AllZip, Bor, MutBor}
+use Rattle.kit_words.proofs.Common.{option_copied, option_copied_mut, nat_tests, get_or-set_same, get_or-set_other}
+use Rattle.kit_words.proofs.Common.{same_from_all_zip, ℕ_discrete}
 use Rattle.std.specs.FinMap as map
-use Rattle.std.proofs.lemmas.Bool.Decides.{nat_tests}
-use Rattle.std.proofs.lemmas.List.{get_or-set_same, get_or-set_other}
-use Rattle.std.proofs.lemmas.List.Elements.{same_from_all_zip}
-use native.Mathlib.Decide.{ℕ_discrete}
 use Rattle.slab.specs.Slab as slab
-use Rattle.grid_geometry.specs.Position.{Position, InRange, position_eq}
-use Rattle.vertex_index.specs.Placement.{Placement, IsOccupied, AreDistinct, AreInRange}
-use Rattle.vertex_index.specs.declared.slot.Slot.{Slot}
-use Rattle.vertex_index.specs.Mirrors.{placement_of, in_slot, key_in, Mirrors}
+use Rattle.grid_geometry.specs.Common.{Position, InRange, position_eq}
+use Rattle.vertex_index.specs.Common.{Placement, IsOccupied, AreDistinct, AreInRange, Slot, placement_of, in_slot}
+use Rattle.vertex_index.specs.Common.{key_in, Mirrors}
 use Rattle.vertex_index.proofs.PlacementLemmas.{get-placement_of}
 
 -- ---- equal positions

@@ -1,17 +1,12 @@
 -- Slots that name the places of their positions, and what keeps them so.
-use Rattle.std.proofs.Common.{◌≡◌, ◌≢◌, ◌<◌, ◌≤◌, ◌+◌, ◌-◌, cond, ℕ, zero, suc, List, [], ◌∷◌, ◌++◌, length, set, get_or, Option, Some, None}
-use Rattle.std.proofs.Common.{IfSome, slice_get, sym, ap, ◌∙◌, subst, arith}
-use Rattle.std.specs.List.{swap_remove}
-use Rattle.std.proofs.Math.Seq.{get_or-append_seam}
-use Rattle.std.proofs.lemmas.List.{get_or-set_same, get_or-set_other, get_or-take, get_or_append_left}
-use Rattle.std.proofs.lemmas.List.{length-take-le, length-set, length-append}
-use Rattle.std.proofs.lemmas.Option.{slice_get_within, get_or_from_slice_get, slice_get-get_or}
+use Rattle.kit_words.proofs.Common.{◌≡◌, ◌≢◌, ◌<◌, ◌≤◌, ◌+◌, ◌-◌, cond, ℕ, zero, suc, List, [], ◌∷◌, ◌++◌, length, set}
+use Rattle.kit_words.proofs.Common.{get_or, Option, Some, None, IfSome, slice_get, sym, ap, ◌∙◌, subst, arith}
+use Rattle.kit_words.proofs.Common.{swap_remove, get_or-append_seam, get_or-set_same, get_or-set_other, get_or-take}
+use Rattle.kit_words.proofs.Common.{get_or_append_left, length-take-le, length-set, length-append, slice_get_within}
+use Rattle.kit_words.proofs.Common.{get_or_from_slice_get, slice_get-get_or, ℕ_discrete}
 use Rattle.indexmap.specs.IndexMap.{IndexMap, Updates}
-use native.Mathlib.Decide.{ℕ_discrete}
-use Rattle.grid_geometry.specs.Position.{Position, position_eq}
-use Rattle.vertex_index.specs.declared.slot.Slot.{Slot}
-use Rattle.vertex_index.specs.Mirrors.{key_in}
-use Rattle.vertex_index.specs.Places.{slot_at, AreInPlace}
+use Rattle.grid_geometry.specs.Common.{Position, position_eq}
+use Rattle.vertex_index.specs.Common.{Slot, key_in, slot_at, AreInPlace}
 use Rattle.vertex_index.proofs.SlotLemmas.{set_slot, other_slots}
 
 -- what is said of one that is there holds of the one that it is

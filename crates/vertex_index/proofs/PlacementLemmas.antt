@@ -1,17 +1,12 @@
 -- The slots as a map: what stands under a key, how many there are, what a change of a slot does.
-use Rattle.std.proofs.Common.{◌≡◌, ◌≢◌, ℕ, zero, suc, ◌+◌, ◌<◌, Bool, true, false, cond}
-use Rattle.std.proofs.Common.{List, [], ◌∷◌, Option, Some, None, is_some, count_by}
-use Rattle.std.proofs.Common.{refl, sym, ap, ◌∙◌, arith}
-use Rattle.std.specs.Ordering.{nat_cmp, eq_by_cmp}
-use Rattle.std.proofs.lemmas.Cmp.{nat_cmp_total}
-use Rattle.std.proofs.lemmas.Bool.Decides.{nat_tests}
-use Rattle.std.proofs.lemmas.List.Sums.{sum_by-cons}
+use Rattle.kit_words.proofs.Common.{◌≡◌, ◌≢◌, ℕ, zero, suc, ◌+◌, ◌<◌, Bool, true, false, cond, List, [], ◌∷◌, Option}
+use Rattle.kit_words.proofs.Common.{Some, None, is_some, refl, sym, ap, ◌∙◌, arith, nat_cmp, eq_by_cmp, nat_cmp_total}
+use Rattle.kit_words.proofs.Common.{nat_tests, sum_by-cons, same_map, nat_cmp-IsAntisymmetric}
+use Rattle.std.proofs.Common.{count_by}
 use Rattle.std.specs.FinMap as map
-use Rattle.std.specs.FinMap.{same_map, nat_cmp-IsAntisymmetric}
 use Rattle.slab.specs.Slab as slab
-use Rattle.grid_geometry.specs.Position.{Position}
-use Rattle.vertex_index.specs.Placement.{Placement}
-use Rattle.vertex_index.specs.Mirrors.{placement_of, in_slot}
+use Rattle.grid_geometry.specs.Common.{Position}
+use Rattle.vertex_index.specs.Common.{Placement, placement_of, in_slot}
 
 -- the entries of the slots, where the first slot has the number i
 abbrev entries : ℕ → List (Option Position) → List (ℕ × Position)

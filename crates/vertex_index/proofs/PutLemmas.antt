@@ -1,9 +1,9 @@
 -- What is known of a key that stood at a position or was put there.
-use Rattle.std.proofs.Common.{◌≡◌, ℕ, Bool, true, false, Some, None, Result, Ok, Err, OnErr}
-use Rattle.std.proofs.Common.{refl, sym, ap, ◌∙◌, subst}
+use Rattle.kit_words.proofs.Common.{◌≡◌, ℕ, Bool, true, false, Some, None, Result, Ok, Err, OnErr, refl, sym, ap, ◌∙◌}
+use Rattle.kit_words.proofs.Common.{subst}
 use Rattle.std.specs.FinMap as map
-use Rattle.grid_geometry.specs.Position.{Position}
-use Rattle.vertex_index.specs.Placement.{Placement, AreDistinct}
+use Rattle.grid_geometry.specs.Common.{Position}
+use Rattle.vertex_index.specs.Common.{Placement, AreDistinct}
 use Rattle.vertex_index.specs.Put.{IsHere, IsNew}
 use Rattle.vertex_index.proofs.PlacementLemmas.{get-inserted, insert-same}
 

@@ -1,15 +1,12 @@
 -- What is in a slot, and the position that it has.
-use Rattle.std.proofs.Common.{◌≡◌, ◌≢◌, ◌<◌, ◌+◌, ℕ, zero, suc, cond, List, [], ◌∷◌, length, set, Option, Some, None, is_some}
-use Rattle.std.proofs.Common.{count_by, refl, sym, ap, ◌∙◌, arith}
+use Rattle.kit_words.proofs.Common.{◌≡◌, ◌≢◌, ◌<◌, ◌+◌, ℕ, zero, suc, cond, List, [], ◌∷◌, length, set, Option, Some}
+use Rattle.kit_words.proofs.Common.{None, is_some, refl, sym, ap, ◌∙◌, arith, map-set_same, get_or-set_same}
+use Rattle.kit_words.proofs.Common.{get_or-set_other, map-set, sum_by-cons}
+use Rattle.std.proofs.Common.{count_by}
 use Rattle.std.specs.Option.{option_map}
 use Rattle.std.proofs.Math.ListN.{get_or-map}
-use Rattle.std.proofs.Math.Seq.{map-set_same}
-use Rattle.std.proofs.lemmas.List.{get_or-set_same, get_or-set_other, map-set}
-use Rattle.std.proofs.lemmas.List.Sums.{sum_by-cons}
-use Rattle.grid_geometry.specs.Position.{Position}
-use Rattle.vertex_index.specs.declared.slot.Slot.{Slot}
-use Rattle.vertex_index.specs.Mirrors.{in_slot, positions}
-use Rattle.vertex_index.specs.Places.{slot_at}
+use Rattle.grid_geometry.specs.Common.{Position}
+use Rattle.vertex_index.specs.Common.{Slot, in_slot, positions, slot_at}
 
 abbrev position_of : Option Slot → Option Position
 position_of o = option_map (λ (s : Slot). s.pos) o

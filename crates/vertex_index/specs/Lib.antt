@@ -2,3 +2,4 @@ pub mod Mirrors
 pub mod Places
 pub mod Placement
 pub mod Put
+pub mod Common

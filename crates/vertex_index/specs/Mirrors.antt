@@ -4,7 +4,7 @@ use Rattle.std.specs.Option.{option_map}
 use Rattle.std.specs.FinMap as table
 use Rattle.std.specs.Map as pairs
 use Rattle.slab.specs.Slab as slab
-use Rattle.grid_geometry.specs.Position.{Position, InRange, position_eq}
+use Rattle.grid_geometry.specs.Common.{Position, InRange, position_eq}
 use Rattle.vertex_index.specs.Placement.{Placement}
 use Rattle.vertex_index.specs.declared.slot.Slot.{Slot}
 

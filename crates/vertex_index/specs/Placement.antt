@@ -3,7 +3,7 @@ use Rattle.std.specs.Prelude.{◌≡◌, ℕ, ℤ, pos, Some, refl, unwrap_or}
 use Rattle.std.specs.Coded.{Coded, code_by, coded×, coded_ℤ}
 use Rattle.std.specs.Ordering.{nat_cmp}
 use Rattle.std.specs.FinMap as map
-use Rattle.grid_geometry.specs.Position.{Position, position, InRange}
+use Rattle.grid_geometry.specs.Common.{Position, position, InRange}
 
 -- which position stands under which key
 abbrev pub Placement : Type 0

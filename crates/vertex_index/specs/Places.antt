@@ -1,6 +1,6 @@
 -- Where the positions of the slots stand in the index.
 use Rattle.std.specs.Prelude.{◌≡◌, ℕ, List, Option, None, Some, slice_get, slice_index_or}
-use Rattle.grid_geometry.specs.Position.{Position}
+use Rattle.grid_geometry.specs.Common.{Position}
 use Rattle.vertex_index.specs.declared.slot.Slot.{Slot}
 
 -- what is in a slot

@@ -1,7 +1,7 @@
 -- What came of a position that is given a key.
 use Rattle.std.specs.Prelude.{◌≡◌, ◌≢◌, ℕ, Some, None}
 use Rattle.std.specs.FinMap as map
-use Rattle.grid_geometry.specs.Position.{Position}
+use Rattle.grid_geometry.specs.Common.{Position}
 use Rattle.vertex_index.specs.Placement.{Placement}
 
 -- a vertex stood there under this key, and nothing has changed

@@ -9,7 +9,7 @@ ghost use Rattle.std.specs.Prelude.{◌≡◌, ◌≢◌, ◌↔◌, ℕ, Some, 
 ghost use Rattle.std.specs.Prelude.{IfSome, IfNone, IfOk, OnOk, OnErr};
 ghost use Rattle.std.specs.Ordering.{nat_cmp};
 ghost use Rattle.std.specs.FinMap as map;
-ghost use Rattle.grid_geometry.specs.Position.{Position};
+ghost use Rattle.grid_geometry.specs.Common.{Position};
 ghost use Rattle.vertex_index.specs.Placement.{IsOccupied, AreDistinct, AreInRange};
 ghost use Rattle.vertex_index.specs.Put.{IsHere, IsNew};
 ghost use Rattle.vertex_index.specs.declared.fault.AddFault.{AddFault};

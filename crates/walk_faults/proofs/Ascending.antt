@@ -1,19 +1,12 @@
 -- Ascending lists, each element once: made of sorted ones, and the only lists of their elements.
-use Rattle.std.proofs.Common.{◌≡◌, ◌<◌, ℕ, zero, suc, Bool, true, refl, sym, ap₂, ◌∙◌, subst, List, [], ◌∷◌, length, take, get_or, inl, inr, Contains, arith}
-use Rattle.std.specs.List.{AllByRecursion, dedup}
-use Rattle.std.specs.List.Sorted.{IsPermutation, IsSorted, IsStrictlySortedBy}
-use Rattle.std.specs.List.Retain.{IsFiltered, DiffersFromLast}
-use Rattle.std.specs.Ordering.{eq_by_cmp}
-use Rattle.std.specs.declared.cmp.Ordering.{Ordering}
-use Rattle.std.specs.declared.cmp.Ordering.TheVariants.{Less, Equal}
-use Rattle.std.specs.Cmp.{IsTotalOrder, tied_itself}
-use Rattle.std.proofs.lemmas.List.Filters.{dedup_is}
-use Rattle.std.proofs.lemmas.List.Kept.{IsStrictlySortedBy-dedup}
-use Rattle.std.proofs.lemmas.List.Sorted.{IsPermutation-sym}
-use Rattle.ring_machine.proofs.First.{In}
-use Rattle.ring_machine.proofs.Members.{contains_in, in_contains}
-use Rattle.ring_machine.proofs.SortedOnce.{in_permuted, in_recursion, none_new, none_lost, in_at}
-use Rattle.walk_faults.specs.Findings.{ListsAll}
+use Rattle.kit_words.proofs.Common.{◌≡◌, ◌<◌, ℕ, zero, suc, Bool, true, refl, sym, ap₂, ◌∙◌, subst, List, [], ◌∷◌}
+use Rattle.kit_words.proofs.Common.{length, take, get_or, inl, inr, Contains, arith, AllByRecursion, dedup}
+use Rattle.kit_words.proofs.Common.{IsPermutation, IsSorted, IsStrictlySortedBy, IsFiltered, DiffersFromLast, eq_by_cmp}
+use Rattle.kit_words.proofs.Common.{Ordering, Less, Equal, IsTotalOrder, tied_itself, dedup_is}
+use Rattle.kit_words.proofs.Common.{IsStrictlySortedBy-dedup, IsPermutation-sym}
+use Rattle.ring_machine.proofs.Common.{In, contains_in, in_contains, in_permuted, in_recursion, none_new, none_lost}
+use Rattle.ring_machine.proofs.Common.{in_at}
+use Rattle.walk_faults.specs.Common.{ListsAll}
 
 module _ {X : Type 0} (cmp : X → X → Ordering) (total : IsTotalOrder cmp) where
   -- nothing is less than itself

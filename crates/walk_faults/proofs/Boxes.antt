@@ -1,15 +1,10 @@
 -- The box of a position, and of a segment, meets those of the segments that meet it.
-use Rattle.std.proofs.Common.{◌≡◌, ℤ, Bool, true, false, ◌&&◌, int_le, arith}
-use Rattle.std.specs.Prelude.{not}
-use Rattle.std.specs.Int.{int_min, int_max}
-use Rattle.std.proofs.lemmas.Bool.{false≢true}
-use Rattle.std.proofs.lemmas.Int.{ints, clamps}
-use Rattle.grid_geometry.specs.Conflict.{cross, is_within}
-use Rattle.grid_geometry.specs.Orientation.{is_on, is_between, is_in_box}
-use Rattle.grid_geometry.specs.Position.{Position}
-use Rattle.grid_geometry.specs.Segment.{Segment, Box, box_of, boxes_meet, is_end, segment_lt}
-use Rattle.grid_geometry.proofs.Boxes.{cross-boxes_meet, boxes_meet-comm}
-use Rattle.ring_machine.proofs.Order.{and_both}
+use Rattle.kit_words.proofs.Common.{◌≡◌, ℤ, Bool, true, false, ◌&&◌, int_le, arith, not, int_min, int_max, false≢true}
+use Rattle.kit_words.proofs.Common.{ints, clamps}
+use Rattle.grid_geometry.specs.Common.{cross, is_within, is_on, is_between, is_in_box, Position, Segment, Box, box_of}
+use Rattle.grid_geometry.specs.Common.{boxes_meet, is_end, segment_lt}
+use Rattle.grid_geometry.proofs.Common.{cross-boxes_meet, boxes_meet-comm}
+use Rattle.ring_machine.proofs.Common.{and_both}
 
 -- the box of one position
 abbrev pub box_at : Position → Box

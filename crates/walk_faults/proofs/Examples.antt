@@ -1,19 +1,12 @@
 -- Worked examples: what is found in small maps.
-use Rattle.std.proofs.Common.{◌≡◌, ℕ, true, false, refl, pos, List, [], ◌∷◌}
-use Rattle.std.specs.Prelude.{if◌then◌else◌}
-use Rattle.std.specs.List.{fold}
-use Rattle.grid_geometry.specs.Position.{Position, position}
-use Rattle.grid_geometry.specs.Segment.{Segment, segment, segment_eq, segment_lt}
-use Rattle.grid_geometry.specs.Conflict.{cross, is_within}
-use Rattle.grid_geometry.specs.Orientation.{is_on, are_split, orientation}
-use Rattle.ring_machine.specs.Query.{add_position}
+use Rattle.kit_words.proofs.Common.{◌≡◌, ℕ, true, false, refl, pos, List, [], ◌∷◌, if◌then◌else◌, fold}
+use Rattle.grid_geometry.specs.Common.{Position, position, Segment, segment, segment_eq, segment_lt, cross, is_within}
+use Rattle.grid_geometry.specs.Common.{is_on, are_split, orientation}
+use Rattle.ring_machine.specs.Common.{add_position}
 use Rattle.topo_outline.specs.declared.fault.RingAt.{RingAt}
-use Rattle.walk_faults.specs.declared.findings.Touch.{Touch}
-use Rattle.walk_faults.specs.declared.findings.Crossing.{Crossing}
-use Rattle.walk_faults.specs.Walks.{walks_of}
-use Rattle.walk_faults.specs.Findings.{is_short, repeated, repeat_at, short_walks, all_repeats, all_positions, all_segments, walk_segments, touch_at, crossing_at}
-use Rattle.walk_faults.specs.Meeting.{touches_among, crossings_among}
-use Rattle.walk_faults.specs.Opens.{is_closed_ring}
+use Rattle.walk_faults.specs.Common.{Touch, Crossing, walks_of, is_short, repeated, repeat_at, short_walks, all_repeats}
+use Rattle.walk_faults.specs.Common.{all_positions, all_segments, walk_segments, touch_at, crossing_at, touches_among}
+use Rattle.walk_faults.specs.Common.{crossings_among, is_closed_ring}
 
 abbrev at : ℕ → ℕ → Position
 at x y = position (pos x) (pos y)

@@ -1,17 +1,13 @@
 -- Ascending segments in an index: one after another, and what is given near a box.
-use Rattle.std.proofs.Common.{◌≡◌, ◌<◌, ◌+◌, ℕ, Bool, true, false, refl, sym, ap, ◌∙◌, subst, List, [], ◌++◌, length, take, get_or, ◌||◌, Contains}
+use Rattle.kit_words.proofs.Common.{◌≡◌, ◌<◌, ◌+◌, ℕ, Bool, true, false, refl, sym, ap, ◌∙◌, subst, List, [], ◌++◌}
+use Rattle.kit_words.proofs.Common.{length, take, get_or, ◌||◌, Contains, filter, list_any_more}
+use Rattle.kit_words.proofs.Common.{IsStrictlySortedBy-filter, IsStrictlySortedBy}
 use Rattle.std.specs.FinSet as set
-use Rattle.std.specs.List.{filter}
-use Rattle.std.proofs.lemmas.List.Folds.{list_any_more}
-use Rattle.std.proofs.lemmas.List.Kept.{IsStrictlySortedBy-filter}
-use Rattle.std.specs.List.Sorted.{IsStrictlySortedBy}
-use Rattle.grid_geometry.specs.Segment.{Segment, Box, box_of, boxes_meet, segment_cmp}
-use Rattle.ring_machine.proofs.First.{In, filter-in}
-use Rattle.ring_machine.proofs.Members.{contains_in, in_contains, in_filter}
-use Rattle.segment_index.specs.Candidates.{SegmentSet, Gives, has, segment_is}
-use Rattle.segment_index.proofs.Singles.{segment_total}
-use Rattle.walk_faults.specs.Findings.{ListsAll}
-use Rattle.walk_faults.specs.Meeting.{AreHeld}
+use Rattle.grid_geometry.specs.Common.{Segment, Box, box_of, boxes_meet, segment_cmp}
+use Rattle.ring_machine.proofs.Common.{In, filter-in, contains_in, in_contains, in_filter}
+use Rattle.segment_index.specs.Common.{SegmentSet, Gives, has, segment_is}
+use Rattle.segment_index.proofs.Common.{segment_total}
+use Rattle.walk_faults.specs.Common.{ListsAll, AreHeld}
 use Rattle.walk_faults.proofs.Ascending.{not_less, before_it, same_ascending}
 use Rattle.walk_faults.proofs.Lists.{in-has, has-in}
 

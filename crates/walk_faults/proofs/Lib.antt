@@ -8,3 +8,4 @@ pub mod Pairs
 pub mod RingEdges
 pub mod Opening
 mod Examples
+pub mod Common

@@ -1,14 +1,11 @@
 -- The elements of a list so far, and all of them.
-use Rattle.std.proofs.Common.{◌≡◌, ◌<◌, ◌≤◌, ◌+◌, ℕ, true, refl, sym, ap, ◌∙◌, List, [], ◌∷◌, ◌++◌, map, length, take, drop, get_or, inl, inr, ◌||◌, arith}
-use Rattle.std.specs.List.{flat_map}
-use Rattle.std.proofs.lemmas.Bool.{false≢true}
-use Rattle.std.proofs.lemmas.List.{drop_more}
-use Rattle.std.proofs.lemmas.List.Folds.{length-flat_map-take}
-use Rattle.grid_geometry.specs.Segment.{Segment}
-use Rattle.ring_machine.proofs.First.{In}
-use Rattle.ring_machine.proofs.Order.{or_true, or_right}
-use Rattle.segment_index.specs.Candidates.{has, segment_is}
-use Rattle.segment_index.proofs.Singles.{same_segment, is-itself}
+use Rattle.kit_words.proofs.Common.{◌≡◌, ◌<◌, ◌≤◌, ◌+◌, ℕ, true, refl, sym, ap, ◌∙◌, List, [], ◌∷◌, ◌++◌, map, length}
+use Rattle.kit_words.proofs.Common.{take, drop, get_or, inl, inr, ◌||◌, arith, flat_map, false≢true, drop_more}
+use Rattle.kit_words.proofs.Common.{length-flat_map-take}
+use Rattle.grid_geometry.specs.Common.{Segment}
+use Rattle.ring_machine.proofs.Common.{In, or_true, or_right}
+use Rattle.segment_index.specs.Common.{has, segment_is}
+use Rattle.segment_index.proofs.Common.{same_segment, is-itself}
 
 -- ---- the segments of a list
 

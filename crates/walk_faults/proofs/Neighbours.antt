@@ -1,24 +1,16 @@
 -- Equal neighbours of ascending positions, and the positions that stand more than once.
-use Rattle.std.proofs.Common.{◌≡◌, ◌≤◌, ◌+◌, ℕ, suc, Bool, true, false, refl, sym, ap, ◌∙◌, subst, cond, List, [], ◌∷◌, map, get_or, inl, inr, Contains, arith}
-use Rattle.std.specs.Prelude.{nat_le}
-use Rattle.std.specs.List.{AllByRecursion, filter, fold, count_by}
-use Rattle.std.specs.List.Sorted.{IsPermutation, IsSorted, IsStrictlySortedBy}
-use Rattle.std.specs.Ordering.{is_lt}
-use Rattle.std.specs.declared.cmp.Ordering.{Ordering}
-use Rattle.std.specs.declared.cmp.Ordering.TheVariants.{Less, Equal, Greater}
-use Rattle.std.proofs.lemmas.Bool.{false≢true}
-use Rattle.std.proofs.lemmas.Bool.Decides.{nat_tests}
-use Rattle.std.proofs.lemmas.List.Kept.{IsStrictlySortedBy-filter}
-use Rattle.std.proofs.lemmas.List.Sorted.{sum_by-IsPermutation}
-use Rattle.std.proofs.lemmas.List.Sums.{sum_by-cons}
-use Rattle.grid_geometry.specs.Position.{Position, position_cmp, position_eq, position_lt}
-use Rattle.grid_geometry.specs.Ring.{Edge, links}
-use Rattle.ring_machine.specs.Query.{add_position}
-use Rattle.ring_machine.proofs.First.{In, filter-in}
-use Rattle.ring_machine.proofs.Members.{contains_in, in_contains, in_filter}
-use Rattle.ring_machine.proofs.Order.{position_eq-true, position_eq-refl, position_lt-trans, position_lt-total}
-use Rattle.ring_machine.proofs.SortedOnce.{Rising, all_rise, all_in, position_total}
-use Rattle.walk_faults.specs.Findings.{ListsAll, is_repeated, repeated}
+use Rattle.kit_words.proofs.Common.{◌≡◌, ◌≤◌, ◌+◌, ℕ, suc, Bool, true, false, refl, sym, ap, ◌∙◌, subst, cond, List, []}
+use Rattle.kit_words.proofs.Common.{◌∷◌, map, get_or, inl, inr, Contains, arith, nat_le, AllByRecursion, filter, fold}
+use Rattle.kit_words.proofs.Common.{count_by, IsPermutation, IsSorted, IsStrictlySortedBy, is_lt, Ordering, Less, Equal}
+use Rattle.kit_words.proofs.Common.{Greater, false≢true, nat_tests, IsStrictlySortedBy-filter, sum_by-IsPermutation}
+use Rattle.kit_words.proofs.Common.{sum_by-cons}
+use Rattle.grid_geometry.specs.Common.{Position, position_cmp, position_eq, position_lt, Edge, links}
+use Rattle.ring_machine.specs.Common.{add_position}
+use Rattle.ring_machine.proofs.Common.{In, filter-in, contains_in, in_contains, in_filter, position_eq-true}
+use Rattle.ring_machine.proofs.Common.{position_eq-refl, position_lt-trans, position_lt-total, Rising, all_rise}
+use Rattle.ring_machine.proofs.Common.{position_total}
+use Rattle.ring_machine.proofs.SortedOnce.{all_in}
+use Rattle.walk_faults.specs.Common.{ListsAll, is_repeated, repeated}
 use Rattle.walk_faults.proofs.Ascending.{same_ascending}
 
 -- of each two equal neighbours one

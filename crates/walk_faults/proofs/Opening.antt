@@ -1,30 +1,19 @@
 -- The law that decides: nothing is found exactly where the map opens.
-use Rattle.std.proofs.Common.{◌≡◌, ◌↔◌, ◌≤◌, ℕ, suc, Bool, true, false, refl, sym, ap, ap₂, ◌∙◌, subst, List, [], ◌∷◌, ◌++◌, map, length, inl, inr, ◌⊎◌, ◌&&◌, ◌||◌, None, arith}
-use Rattle.std.specs.Prelude.{not, nat_le, nat_lt}
-use Rattle.std.specs.List.{filter, flat_map, list_all}
-use Rattle.std.proofs.lemmas.Bool.{false≢true}
-use Rattle.std.proofs.lemmas.Bool.Decides.{nat_tests}
-use Rattle.std.proofs.lemmas.List.{map-append}
-use Rattle.grid_geometry.specs.Conflict.{conflict, cross, is_within}
-use Rattle.grid_geometry.specs.Position.{Position, position_eq}
-use Rattle.grid_geometry.specs.Segment.{Segment, segment_lt}
-use Rattle.grid_geometry.proofs.Conflicts.{conflict-comm, conflict-same}
-use Rattle.ring_machine.specs.Planar.{least_conflict}
-use Rattle.ring_machine.specs.Ring.{has, is_distinct, segments}
-use Rattle.ring_machine.proofs.First.{In, filter-in, least_conflict_is, least_conflict_unique}
-use Rattle.ring_machine.proofs.Local.{Bad, IsLeast}
-use Rattle.ring_machine.specs.Planar.{pair_lt}
-use Rattle.ring_machine.proofs.Members.{contains_in, in_contains, in_filter, in_mapped, in_flat}
-use Rattle.ring_machine.proofs.Neighbours.{in-map, in-flat_map, in-has, has-in, all_in}
-use Rattle.ring_machine.proofs.Order.{and_both, or_true, or_right, position_eq-true, position_eq-refl}
-use Rattle.ring_machine.proofs.Orders.{segment_ordered}
-use Rattle.ring_machine.proofs.Removal.{not_true}
+use Rattle.kit_words.proofs.Common.{◌≡◌, ◌↔◌, ◌≤◌, ℕ, suc, Bool, true, false, refl, sym, ap, ap₂, ◌∙◌, subst, List, []}
+use Rattle.kit_words.proofs.Common.{◌∷◌, ◌++◌, map, length, inl, inr, ◌⊎◌, ◌&&◌, ◌||◌, None, arith, not, nat_le, nat_lt}
+use Rattle.kit_words.proofs.Common.{filter, flat_map, list_all, false≢true, nat_tests, map-append}
+use Rattle.grid_geometry.specs.Common.{conflict, cross, is_within, Position, position_eq, Segment, segment_lt}
+use Rattle.grid_geometry.proofs.Common.{conflict-comm, conflict-same}
+use Rattle.ring_machine.specs.Common.{least_conflict, has, is_distinct, segments, pair_lt}
+use Rattle.ring_machine.proofs.Common.{In, filter-in, least_conflict_is, least_conflict_unique, Bad, IsLeast}
+use Rattle.ring_machine.proofs.Common.{contains_in, in_contains, in_filter, in_mapped, in_flat, in-map, in-flat_map}
+use Rattle.ring_machine.proofs.Common.{in-has, has-in, all_in, and_both, or_true, or_right, position_eq-true}
+use Rattle.ring_machine.proofs.Common.{position_eq-refl, segment_ordered, not_true}
 use Rattle.walk_faults.specs.declared.findings.Findings.{Findings}
-use Rattle.walk_faults.specs.declared.findings.Touch.{Touch}
-use Rattle.walk_faults.specs.declared.findings.Crossing.{Crossing}
-use Rattle.walk_faults.specs.Walks.{Placed, each_at, placed, walks_in_polygon, walks_in_feature, walks_of}
-use Rattle.walk_faults.specs.Findings.{is_short, short_walks, repeated, repeat_at, all_repeats, all_positions, all_segments, walk_segments, IsTouch, IsCrossing, touch_at, crossing_at, Found}
-use Rattle.walk_faults.specs.Opens.{is_closed_ring, all_walks, Opens, IsNothing}
+use Rattle.walk_faults.specs.Common.{Touch, Crossing, Placed, each_at, placed, walks_in_polygon, walks_in_feature}
+use Rattle.walk_faults.specs.Common.{walks_of, is_short, short_walks, repeated, repeat_at, all_repeats, all_positions}
+use Rattle.walk_faults.specs.Common.{all_segments, walk_segments, IsTouch, IsCrossing, touch_at, crossing_at, Found}
+use Rattle.walk_faults.specs.Common.{is_closed_ring, all_walks, Opens, IsNothing}
 use Rattle.walk_faults.proofs.Neighbours.{times, in_times, times_in, times-same, times-other, times-le, in_repeated, repeated_in}
 use Rattle.walk_faults.proofs.RingEdges.{ring_segments, segment_ends, vertex_side}
 

@@ -1,24 +1,14 @@
 -- Lists of pairs, by the first and then by the second: all touches, and all crossings.
-use Rattle.std.proofs.Common.{◌≡◌, refl, ap, ap₂, subst, List, [], ◌∷◌, ◌++◌, ◌&&◌, map, inl, inr, Contains}
-use Rattle.std.specs.List.{flat_map}
-use Rattle.std.specs.List.Sorted.{IsStrictlySortedBy}
-use Rattle.std.specs.Ordering.{ordering_then}
-use Rattle.std.specs.Cmp.{IsTotalOrder, tied_itself}
-use Rattle.std.specs.declared.cmp.Ordering.{Ordering}
-use Rattle.std.specs.declared.cmp.Ordering.TheVariants.{Less}
-use Rattle.std.proofs.lemmas.List.Kept.{IsStrictlySortedBy-filter}
-use Rattle.grid_geometry.specs.Position.{Position, position_cmp}
-use Rattle.grid_geometry.specs.Segment.{Segment, segment_cmp, segment_lt}
-use Rattle.grid_geometry.specs.Conflict.{cross, is_within}
-use Rattle.ring_machine.proofs.First.{In, in-append, filter-in}
-use Rattle.ring_machine.proofs.Members.{contains_in, in_contains, in_filter, in_mapped, in_flat}
-use Rattle.ring_machine.proofs.Neighbours.{all_of, in-map, in-flat_map}
-use Rattle.ring_machine.proofs.Order.{and_both}
-use Rattle.ring_machine.proofs.SortedOnce.{in_recursion, position_total}
-use Rattle.segment_index.proofs.Singles.{segment_total}
-use Rattle.walk_faults.specs.Walks.{Placed}
-use Rattle.walk_faults.specs.Findings.{ListsAll, IsTouch, IsCrossing, touch_at, crossing_at, touch_cmp, crossing_cmp, all_positions, all_segments}
-use Rattle.walk_faults.specs.Meeting.{touching, crossing, touches_among, crossings_among}
+use Rattle.kit_words.proofs.Common.{◌≡◌, refl, ap, ap₂, subst, List, [], ◌∷◌, ◌++◌, ◌&&◌, map, inl, inr, Contains}
+use Rattle.kit_words.proofs.Common.{flat_map, IsStrictlySortedBy, ordering_then, IsTotalOrder, tied_itself, Ordering}
+use Rattle.kit_words.proofs.Common.{Less, IsStrictlySortedBy-filter}
+use Rattle.grid_geometry.specs.Common.{Position, position_cmp, Segment, segment_cmp, segment_lt, cross, is_within}
+use Rattle.ring_machine.proofs.Common.{In, in-append, filter-in, contains_in, in_contains, in_filter, in_mapped}
+use Rattle.ring_machine.proofs.Common.{in_flat, all_of, in-map, in-flat_map, and_both, in_recursion, position_total}
+use Rattle.segment_index.proofs.Common.{segment_total}
+use Rattle.walk_faults.specs.Common.{Placed, ListsAll, IsTouch, IsCrossing, touch_at, crossing_at, touch_cmp}
+use Rattle.walk_faults.specs.Common.{crossing_cmp, all_positions, all_segments, touching, crossing, touches_among}
+use Rattle.walk_faults.specs.Common.{crossings_among}
 
 append_ascends : {X : Type 0} (cmp : X → X → Ordering) (xs ys : List X) → IsStrictlySortedBy cmp xs → IsStrictlySortedBy cmp ys
     → ((a b : X) → In a xs → In b ys → cmp a b ≡ Less) → IsStrictlySortedBy cmp (xs ++ ys)

@@ -1,21 +1,11 @@
 -- The edges of a walk, and of one that is a ring.
-use Rattle.std.proofs.Common.{◌≡◌, ◌≤◌, ℕ, Bool, true, false, refl, sym, ap, ap₂, ◌∙◌, subst, cond, List, [], ◌∷◌, ◌++◌, map, length, inl, inr, ◌⊎◌, arith}
-use Rattle.std.specs.Prelude.{not, nat_le}
-use Rattle.std.specs.List.{flat_map}
-use Rattle.std.specs.Ordering.{is_gt}
-use Rattle.std.proofs.lemmas.Bool.Decides.{nat_tests}
-use Rattle.grid_geometry.specs.Position.{Position, position_eq, position_cmp}
-use Rattle.grid_geometry.specs.Ring.{Edge, edges}
-use Rattle.grid_geometry.specs.Segment.{Segment}
-use Rattle.ring_machine.specs.Ring.{has, is_distinct, segment_of, segments}
-use Rattle.ring_machine.proofs.Edges.{edges_to, edges_is, first_or}
-use Rattle.ring_machine.proofs.First.{In}
-use Rattle.ring_machine.proofs.Members.{in_flat}
-use Rattle.ring_machine.proofs.Neighbours.{in-flat_map}
-use Rattle.ring_machine.proofs.Order.{and_both}
-use Rattle.ring_machine.proofs.Removal.{none_parts, not_true, position_eq-sym}
-use Rattle.walk_faults.specs.Findings.{segment_at, walk_segments}
-use Rattle.walk_faults.specs.Opens.{is_closed_ring}
+use Rattle.kit_words.proofs.Common.{◌≡◌, ◌≤◌, ℕ, Bool, true, false, refl, sym, ap, ap₂, ◌∙◌, subst, cond, List, [], ◌∷◌}
+use Rattle.kit_words.proofs.Common.{◌++◌, map, length, inl, inr, ◌⊎◌, arith, not, nat_le, flat_map, is_gt, nat_tests}
+use Rattle.grid_geometry.specs.Common.{Position, position_eq, position_cmp, Edge, edges, Segment}
+use Rattle.ring_machine.specs.Common.{has, is_distinct, segment_of, segments}
+use Rattle.ring_machine.proofs.Common.{edges_to, edges_is, first_or, In, in_flat, in-flat_map, and_both, none_parts}
+use Rattle.ring_machine.proofs.Common.{not_true, position_eq-sym}
+use Rattle.walk_faults.specs.Common.{segment_at, walk_segments, is_closed_ring}
 
 -- ---- any walk
 

@@ -1,17 +1,14 @@
 -- The walks of a map, one after another.
-use Rattle.std.proofs.Common.{◌≡◌, ◌<◌, ◌≤◌, ◌+◌, ℕ, zero, suc, Bool, true, false, refl, sym, ap, ◌∙◌, cond, List, [], ◌∷◌, ◌++◌, map, length, take, get_or, arith, append_assoc, append-nil}
-use Rattle.std.specs.Prelude.{nat_lt}
-use Rattle.std.specs.List.{filter, flat_map}
-use Rattle.std.proofs.lemmas.Bool.Decides.{nat_tests}
-use Rattle.std.proofs.lemmas.List.{take_more, map-append}
+use Rattle.kit_words.proofs.Common.{◌≡◌, ◌<◌, ◌≤◌, ◌+◌, ℕ, zero, suc, Bool, true, false, refl, sym, ap, ◌∙◌, cond, List}
+use Rattle.kit_words.proofs.Common.{[], ◌∷◌, ◌++◌, map, length, take, get_or, arith, append_assoc, nat_lt, filter}
+use Rattle.kit_words.proofs.Common.{flat_map, nat_tests, take_more, map-append}
+use Rattle.std.proofs.Common.{append-nil}
 use Rattle.topo_outline.specs.declared.fault.RingAt.{RingAt}
-use Rattle.walk_faults.specs.declared.findings.FindFault.{FindFault}
+use Rattle.walk_faults.specs.Common.{FindFault, Placed, each_at, is_short, short_walks, repeat_at, repeated}
+use Rattle.walk_faults.specs.Common.{all_repeats, OnlyIfMany, walk_seen}
 use Rattle.walk_faults.specs.declared.findings.FindFault.TheVariants.{TooMany, OutOfMemory}
 use Rattle.walk_faults.specs.declared.findings.Repeat.{Repeat}
 use Rattle.walk_faults.specs.declared.walks.Walk.{Walk}
-use Rattle.walk_faults.specs.Walks.{Placed, each_at}
-use Rattle.walk_faults.specs.Findings.{is_short, short_walks, repeat_at, repeated, all_repeats, OnlyIfMany}
-use Rattle.walk_faults.specs.Seen.{walk_seen}
 use Rattle.walk_faults.proofs.Lists.{seen_among}
 
 -- ---- with their places

@@ -5,12 +5,9 @@ use Rattle.std.specs.List.{filter, flat_map, fold, count_by}
 use Rattle.std.specs.List.Sorted.{IsStrictlySortedBy}
 use Rattle.std.specs.Ordering.{ordering_then}
 use Rattle.std.specs.declared.cmp.Ordering.{Ordering}
-use Rattle.grid_geometry.specs.Position.{Position, position_eq, position_cmp}
-use Rattle.grid_geometry.specs.Segment.{Segment, segment_cmp, segment_lt}
-use Rattle.grid_geometry.specs.Conflict.{cross, is_within}
-use Rattle.grid_geometry.specs.Ring.{Edge, edges}
-use Rattle.ring_machine.specs.Ring.{segment_of}
-use Rattle.ring_machine.specs.Query.{add_position}
+use Rattle.grid_geometry.specs.Common.{Position, position_eq, position_cmp, Segment, segment_cmp, segment_lt, cross}
+use Rattle.grid_geometry.specs.Common.{is_within, Edge, edges}
+use Rattle.ring_machine.specs.Common.{segment_of, add_position}
 use Rattle.topo_outline.specs.declared.fault.RingAt.{RingAt}
 use Rattle.walk_faults.specs.declared.findings.Findings.{Findings}
 use Rattle.walk_faults.specs.declared.findings.Repeat.{Repeat}

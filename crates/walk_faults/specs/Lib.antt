@@ -3,3 +3,4 @@ pub mod Findings
 pub mod Seen
 pub mod Meeting
 pub mod Opens
+pub mod Common

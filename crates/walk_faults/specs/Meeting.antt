@@ -3,10 +3,8 @@ use Rattle.std.specs.Prelude.{◌≡◌, ◌&&◌, List, map}
 use Rattle.std.specs.FinSet as set
 use Rattle.std.specs.List.{filter, flat_map}
 use Rattle.std.specs.List.Sorted.{IsStrictlySortedBy}
-use Rattle.grid_geometry.specs.Position.{Position}
-use Rattle.grid_geometry.specs.Segment.{Segment, segment_cmp, segment_lt}
-use Rattle.grid_geometry.specs.Conflict.{cross, is_within}
-use Rattle.segment_index.specs.Candidates.{SegmentSet, has}
+use Rattle.grid_geometry.specs.Common.{Position, Segment, segment_cmp, segment_lt, cross, is_within}
+use Rattle.segment_index.specs.Common.{SegmentSet, has}
 use Rattle.walk_faults.specs.declared.findings.Touch.{Touch}
 use Rattle.walk_faults.specs.declared.findings.Crossing.{Crossing}
 use Rattle.walk_faults.specs.Findings.{touch_at, crossing_at}

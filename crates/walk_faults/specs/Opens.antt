@@ -1,9 +1,8 @@
 -- When a map of walks opens: its walks are linear rings, and no two of its segments conflict.
 use Rattle.std.specs.Prelude.{◌≡◌, Bool, ◌&&◌, nat_le, List, [], length, None, IsTrue}
 use Rattle.std.specs.List.{flat_map, list_all}
-use Rattle.grid_geometry.specs.Position.{Position}
-use Rattle.ring_machine.specs.Planar.{least_conflict}
-use Rattle.ring_machine.specs.Ring.{is_distinct, segments}
+use Rattle.grid_geometry.specs.Common.{Position}
+use Rattle.ring_machine.specs.Common.{least_conflict, is_distinct, segments}
 use Rattle.walk_faults.specs.declared.findings.Findings.{Findings}
 
 -- the walk is a linear ring, wherever it begins: at least three positions, no two equal

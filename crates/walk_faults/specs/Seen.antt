@@ -1,6 +1,6 @@
 -- What the code holds, seen as lists.
 use Rattle.std.specs.Prelude.{List, Vec, map}
-use Rattle.grid_geometry.specs.Position.{Position}
+use Rattle.grid_geometry.specs.Common.{Position}
 use Rattle.walk_faults.specs.declared.walks.Walk.{Walk}
 use Rattle.walk_faults.specs.Walks.{Placed}
 

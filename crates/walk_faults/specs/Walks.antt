@@ -1,6 +1,6 @@
 -- The walks of a map: closed lists of positions of any length, which stand in the place of its rings.
 use Rattle.std.specs.Prelude.{ℕ, suc, List, [], ◌∷◌, ◌++◌}
-use Rattle.grid_geometry.specs.Position.{Position}
+use Rattle.grid_geometry.specs.Common.{Position}
 use Rattle.topo_outline.specs.declared.fault.RingAt.{RingAt}
 
 -- where a walk stands in the map, and the walk

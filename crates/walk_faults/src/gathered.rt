@@ -2,8 +2,7 @@
 ghost use Rattle.std.specs.Prelude.{◌≡◌, ◌++◌, map, Contains, IfOk, OnOk};
 ghost use Rattle.std.specs.FinSet as set;
 ghost use Rattle.std.specs.List.Sorted.{IsStrictlySortedBy};
-ghost use Rattle.grid_geometry.specs.Position.{position_cmp};
-ghost use Rattle.grid_geometry.specs.Segment.{segment_cmp};
+ghost use Rattle.grid_geometry.specs.Common.{position_cmp, segment_cmp};
 ghost use Rattle.walk_faults.specs.Findings.{ListsAll, walk_segments, segment_at, all_positions};
 ghost use Rattle.walk_faults.specs.Findings.{all_segments};
 ghost use Rattle.walk_faults.specs.Seen.{walk_seen};

@@ -2,7 +2,7 @@
 ghost use Rattle.std.specs.Prelude.{◌≡◌, ◌<◌, ◌≤◌, ◌+◌, ◌++◌, ◌&&◌, List, map, length};
 ghost use Rattle.std.specs.Prelude.{IfOk, IfErr, OnOk};
 ghost use Rattle.grid_geometry.specs.Conflict as geometry;
-ghost use Rattle.grid_geometry.specs.Segment.{Segment, segment_lt};
+ghost use Rattle.grid_geometry.specs.Common.{Segment, segment_lt};
 ghost use Rattle.walk_faults.specs.Findings.{OnlyIfMany, touch_at, crossing_at};
 ghost use Rattle.walk_faults.specs.Meeting.{AreHeld, touching, crossing};
 ghost use Rattle.walk_faults.specs.Meeting.{touches_among, crossings_among};

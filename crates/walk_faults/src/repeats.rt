@@ -1,8 +1,7 @@
 // The walks that are short, and the positions that a walk passes more than once.
 ghost use Rattle.std.specs.Prelude.{◌≡◌, ◌<◌, ◌≤◌, ◌+◌, ◌++◌, map, length, IfOk, IfErr, OnOk};
 ghost use Rattle.std.specs.List.{filter};
-ghost use Rattle.grid_geometry.specs.Position.{position_eq};
-ghost use Rattle.grid_geometry.specs.Ring.{links};
+ghost use Rattle.grid_geometry.specs.Common.{position_eq, links};
 ghost use Rattle.walk_faults.specs.Findings as spec;
 ghost use Rattle.walk_faults.specs.Findings.{OnlyIfMany, repeat_at, short_walks, all_repeats};
 ghost use Rattle.walk_faults.specs.Seen.{walk_seen};

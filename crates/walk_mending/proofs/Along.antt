@@ -1,17 +1,11 @@
 -- Walks led along paths, one edge after another.
-use Rattle.std.proofs.Common.{◌≡◌, length, arith, true, false, refl, sym, subst, cond, List, [], ◌∷◌, ◌++◌, reverse}
-use Rattle.std.specs.List.{flat_map}
-use Rattle.std.specs.Ordering.{is_lt, is_gt}
-use Rattle.std.specs.declared.cmp.Ordering.{Ordering}
-use Rattle.std.specs.declared.cmp.Ordering.TheVariants.{Less, Equal, Greater}
-use Rattle.std.proofs.lemmas.Bool.{false≢true}
-use Rattle.grid_geometry.specs.Position.{Position, position_cmp, position_lt}
-use Rattle.grid_geometry.specs.Segment.{Segment, segment}
-use Rattle.grid_geometry.specs.Ring.{Edge}
-use Rattle.grid_geometry.proofs.Conflicts.{position_cmp-exact}
-use Rattle.ring_machine.proofs.Edges.{edges_to, edges_is}
-use Rattle.segment_paths.specs.Paths.{Path, inner_of}
-use Rattle.walk_mending.specs.Laid.{edge_along, laid, KeepsInOrder, ends, kept, between}
+use Rattle.kit_words.proofs.Common.{◌≡◌, length, arith, true, false, refl, sym, subst, cond, List, [], ◌∷◌, ◌++◌}
+use Rattle.kit_words.proofs.Common.{reverse, flat_map, is_lt, is_gt, Ordering, Less, Equal, Greater, false≢true}
+use Rattle.grid_geometry.specs.Common.{Position, position_cmp, position_lt, Segment, segment, Edge}
+use Rattle.grid_geometry.proofs.Common.{position_cmp-exact}
+use Rattle.ring_machine.proofs.Common.{edges_to, edges_is}
+use Rattle.segment_paths.specs.Common.{Path, inner_of}
+use Rattle.walk_mending.specs.Common.{edge_along, laid, KeepsInOrder, ends, kept, between}
 
 abbrev pub from_to : Position → Position → Segment
 from_to a b = record { lo = a; hi = b }

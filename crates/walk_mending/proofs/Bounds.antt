@@ -1,21 +1,15 @@
 -- Which segments bound: all of rings, the odd ones of other walks, and those of one polygon more.
-use Rattle.std.proofs.Common.{◌≡◌, ◌<◌, ◌+◌, ℕ, Bool, true, false, refl, sym, ap, ◌∙◌, cond, List, [], ◌∷◌, map, get_or, length, ◌||◌, Contains, arith}
-use Rattle.std.specs.Prelude.{nat_lt, IsTrue}
-use Rattle.std.specs.List.{count_by, flat_map, list_all, list_any}
-use Rattle.std.specs.List.Sorted.{IsPermutation}
-use Rattle.std.proofs.lemmas.Bool.Decides.{nat_tests}
-use Rattle.std.proofs.lemmas.List.Folds.{list_all-map, list_all_at}
-use Rattle.std.proofs.lemmas.List.Sorted.{sum_by-IsPermutation}
-use Rattle.std.proofs.lemmas.List.Sums.{sum_by-cons}
-use Rattle.grid_geometry.specs.Position.{Position}
-use Rattle.grid_geometry.specs.Segment.{Segment, segment_cmp, segment_eq}
-use Rattle.topo_reader.specs.Document.{is_simple}
-use Rattle.ring_machine.proofs.First.{In}
-use Rattle.ring_machine.proofs.Members.{contains_in, in_contains, in_any}
+use Rattle.kit_words.proofs.Common.{◌≡◌, ◌<◌, ◌+◌, ℕ, Bool, true, false, refl, sym, ap, ◌∙◌, cond, List, [], ◌∷◌, map}
+use Rattle.kit_words.proofs.Common.{get_or, length, ◌||◌, Contains, arith, nat_lt, IsTrue, count_by, flat_map, list_all}
+use Rattle.kit_words.proofs.Common.{list_any, IsPermutation, nat_tests, list_all-map, list_all_at, sum_by-IsPermutation}
+use Rattle.kit_words.proofs.Common.{sum_by-cons}
+use Rattle.grid_geometry.specs.Common.{Position, Segment, segment_cmp, segment_eq}
+use Rattle.topo_reader.specs.Common.{is_simple}
+use Rattle.ring_machine.proofs.Common.{In, contains_in, in_contains, in_any}
 use Rattle.ring_parts.proofs.Lists as lists
-use Rattle.ring_parts.proofs.Searching.{any_permuted}
-use Rattle.walk_faults.specs.Findings.{ListsAll, walk_segments}
-use Rattle.walk_mending.specs.Odd.{is_among, times_in, is_odd_in, is_bounding}
+use Rattle.ring_parts.proofs.Common.{any_permuted}
+use Rattle.walk_faults.specs.Common.{ListsAll, walk_segments}
+use Rattle.walk_mending.specs.Common.{is_among, times_in, is_odd_in, is_bounding}
 use Rattle.walk_mending.proofs.Cancelling.{times, is_odd, among-in, segment_eq-refl}
 
 -- ---- of one polygon

@@ -1,27 +1,17 @@
 -- Of ascending segments equal ones cancel in pairs, one segment after another.
-use Rattle.std.proofs.Common.{◌≡◌, ◌↔◌, ◌<◌, ◌≤◌, ◌+◌, ◌-◌, ◌%◌, ℕ, zero, suc, Bool, true, false, refl, sym, ap, ap₂, ◌∙◌, subst, cond, List, [], ◌∷◌, ◌++◌, length, take, get_or, inl, inr, ◌⊎◌, ◌||◌, ◌&&◌, arith}
-use Rattle.std.specs.Prelude.{not, ◌==◌, IsTrue}
-use Rattle.std.specs.List.{AllByRecursion, count_by}
-use Rattle.std.specs.List.Sorted.{IsSorted, IsStrictlySortedBy}
-use Rattle.std.specs.Ordering.{is_lt, ordering_reverse}
-use Rattle.std.specs.declared.cmp.Ordering.{Ordering}
-use Rattle.std.specs.declared.cmp.Ordering.TheVariants.{Less, Equal, Greater}
-use Rattle.std.proofs.lemmas.Bool.{false≢true}
-use Rattle.std.proofs.lemmas.Bool.Decides.{nat_tests}
-use Rattle.std.proofs.lemmas.List.{take_more, get_or-take, get_or_default, length-take-le, length-append, get_or_at, take_at}
-use Rattle.std.proofs.lemmas.List.Folds.{list_any-append}
-use Rattle.std.proofs.lemmas.List.Sorted.{ranks_by, sorted_far}
-use Rattle.std.proofs.lemmas.List.Sums.{sum_by-append, sum_by-cons}
-use Rattle.grid_geometry.specs.Ring.{xor}
-use Rattle.grid_geometry.specs.Segment.{Segment, segment_cmp, segment_eq, segment_lt}
-use Rattle.ring_machine.proofs.First.{In, in-append, in_left, in_right}
-use Rattle.ring_machine.proofs.Members.{any_in, in_contains}
-use Rattle.ring_machine.proofs.Order.{position_eq-refl}
-use Rattle.ring_machine.proofs.RingSegments.{segment_eq-true}
-use Rattle.segment_index.proofs.Singles.{segment_total, segment_exact}
-use Rattle.walk_faults.proofs.Ascending.{not_less}
-use Rattle.walk_mending.specs.Odd.{is_among}
-use Rattle.walk_mending.specs.Cancelled.{EndsIn, IsCancelled, taken, put}
+use Rattle.kit_words.proofs.Common.{◌≡◌, ◌↔◌, ◌<◌, ◌≤◌, ◌+◌, ◌-◌, ◌%◌, ℕ, zero, suc, Bool, true, false, refl, sym, ap}
+use Rattle.kit_words.proofs.Common.{ap₂, ◌∙◌, subst, cond, List, [], ◌∷◌, ◌++◌, length, take, get_or, inl, inr, ◌⊎◌}
+use Rattle.kit_words.proofs.Common.{◌||◌, ◌&&◌, arith, not, ◌==◌, IsTrue, AllByRecursion, count_by, IsSorted}
+use Rattle.kit_words.proofs.Common.{IsStrictlySortedBy, is_lt, ordering_reverse, Ordering, Less, Equal, Greater}
+use Rattle.kit_words.proofs.Common.{false≢true, nat_tests, take_more, get_or-take, get_or_default, length-take-le}
+use Rattle.kit_words.proofs.Common.{length-append, get_or_at, take_at, list_any-append, ranks_by, sorted_far}
+use Rattle.kit_words.proofs.Common.{sum_by-append, sum_by-cons}
+use Rattle.grid_geometry.specs.Common.{xor, Segment, segment_cmp, segment_eq, segment_lt}
+use Rattle.ring_machine.proofs.Common.{In, in-append, in_left, in_right, any_in, in_contains, position_eq-refl}
+use Rattle.ring_machine.proofs.Common.{segment_eq-true}
+use Rattle.segment_index.proofs.Common.{segment_total, segment_exact}
+use Rattle.walk_faults.proofs.Common.{not_less}
+use Rattle.walk_mending.specs.Common.{is_among, EndsIn, IsCancelled, taken, put}
 
 by_bool : {X : Type 0} (p : Bool) → (p ≡ true → X) → (p ≡ false → X) → X
 by_bool true f g = f refl

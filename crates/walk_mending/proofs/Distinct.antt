@@ -1,21 +1,12 @@
 -- Of sorted positions equal ones are neighbours.
-use Rattle.std.proofs.Common.{◌≡◌, ◌≤◌, ◌<◌, ◌+◌, ℕ, suc, Bool, true, false, refl, sym, ap, ap₂, ◌∙◌, subst, cond, List, [], ◌∷◌, length, drop, get_or, inl, ◌&&◌, ◌||◌, arith}
-use Rattle.std.specs.Prelude.{not}
-use Rattle.std.specs.List.{list_any}
-use Rattle.std.specs.List.Sorted.{IsPermutation, IsSorted}
-use Rattle.std.specs.Ordering.{is_lt}
-use Rattle.std.proofs.lemmas.Bool.{false≢true}
-use Rattle.std.proofs.lemmas.List.{drop_all}
-use Rattle.std.proofs.lemmas.List.Sorted.{ranks_by, sorted_far, sum_by-IsPermutation}
-use Rattle.grid_geometry.specs.Position.{Position, position_cmp, position_eq, position_lt}
-use Rattle.grid_geometry.specs.Ring.{Edge, links}
-use Rattle.ring_machine.specs.Ring.{has, is_distinct}
-use Rattle.ring_machine.proofs.First.{In}
-use Rattle.ring_machine.proofs.Members.{in_contains, same_answer}
-use Rattle.ring_machine.proofs.Neighbours.{in-has, has-in}
-use Rattle.ring_machine.proofs.Order.{and_both, position_eq-true, position_eq-refl, position_lt-total}
-use Rattle.ring_machine.proofs.Removal.{not_true}
-use Rattle.ring_machine.proofs.SortedOnce.{position_total}
+use Rattle.kit_words.proofs.Common.{◌≡◌, ◌≤◌, ◌<◌, ◌+◌, ℕ, suc, Bool, true, false, refl, sym, ap, ap₂, ◌∙◌, subst, cond}
+use Rattle.kit_words.proofs.Common.{List, [], ◌∷◌, length, drop, get_or, inl, ◌&&◌, ◌||◌, arith, not, list_any}
+use Rattle.kit_words.proofs.Common.{IsPermutation, IsSorted, is_lt, false≢true, drop_all, ranks_by, sorted_far}
+use Rattle.kit_words.proofs.Common.{sum_by-IsPermutation}
+use Rattle.grid_geometry.specs.Common.{Position, position_cmp, position_eq, position_lt, Edge, links}
+use Rattle.ring_machine.specs.Common.{has, is_distinct}
+use Rattle.ring_machine.proofs.Common.{In, in_contains, same_answer, in-has, has-in, and_both, position_eq-true}
+use Rattle.ring_machine.proofs.Common.{position_eq-refl, position_lt-total, not_true, position_total}
 use Rattle.walk_faults.proofs.Lists.{next_drop}
 use Rattle.walk_faults.proofs.Neighbours.{times, in_times, times_in, times-same, times-other, times-le}
 

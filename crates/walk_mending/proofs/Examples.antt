@@ -1,14 +1,10 @@
 -- Worked examples: walks led along paths, segments that bound, and what stands in the place of walks.
-use Rattle.std.proofs.Common.{◌≡◌, ℕ, true, false, refl, pos, List, [], ◌∷◌, map}
-use Rattle.std.specs.List.{list_all}
-use Rattle.grid_geometry.specs.Position.{Position, position}
-use Rattle.grid_geometry.specs.Segment.{Segment, segment}
-use Rattle.ring_machine.specs.Ring.{canonical, is_ring}
-use Rattle.topo_reader.specs.Document.{is_simple}
-use Rattle.segment_paths.specs.Paths.{Path}
-use Rattle.walk_mending.specs.Laid.{laid}
-use Rattle.walk_mending.specs.Odd.{times_in, is_odd_in, is_bounding, is_bounding_in}
-use Rattle.walk_mending.specs.Mended.{all_rings, has_ring}
+use Rattle.kit_words.proofs.Common.{◌≡◌, ℕ, true, false, refl, pos, List, [], ◌∷◌, map, list_all}
+use Rattle.grid_geometry.specs.Common.{Position, position, Segment, segment}
+use Rattle.ring_machine.specs.Common.{canonical, is_ring}
+use Rattle.topo_reader.specs.Common.{is_simple}
+use Rattle.segment_paths.specs.Common.{Path}
+use Rattle.walk_mending.specs.Common.{laid, times_in, is_odd_in, is_bounding, is_bounding_in, all_rings, has_ring}
 
 abbrev at : ℕ → ℕ → Position
 at x y = position (pos x) (pos y)

@@ -1,21 +1,14 @@
 -- A laid walk goes along each link of each of its segments.
-use Rattle.std.proofs.Common.{◌≡◌, Bool, true, false, refl, sym, ap, ap₂, ◌∙◌, subst, cond, List, [], ◌∷◌, ◌++◌, map, length, reverse, Contains, arith}
-use Rattle.std.specs.List.{flat_map}
-use Rattle.std.proofs.lemmas.List.{reverse-append, reverse-reverse}
-use Rattle.std.proofs.lemmas.List.Sorted.{IsPermutation-reverse}
-use Rattle.grid_geometry.specs.Position.{Position, position_lt}
-use Rattle.grid_geometry.specs.Ring.{Edge, links, edges}
-use Rattle.grid_geometry.proofs.Conflicts.{segment-comm}
-use Rattle.ring_machine.specs.Arcs.{Chain}
-use Rattle.ring_machine.specs.Ring.{segment_of, segments}
-use Rattle.ring_machine.proofs.Arcs.{flip, links-reverse}
-use Rattle.ring_machine.proofs.Edges.{starts, starts_of, closed, edited_chain, starts-flat_map}
-use Rattle.ring_machine.proofs.First.{In}
-use Rattle.ring_machine.proofs.Members.{contains_in, in_contains, in_mapped}
-use Rattle.ring_machine.proofs.Neighbours.{in-map, in-flat_map}
-use Rattle.ring_machine.proofs.SortedOnce.{in_permuted}
-use Rattle.segment_paths.specs.Paths.{Path, inner_of, links_of}
-use Rattle.walk_mending.specs.Laid.{edge_along, laid, GoesAlong}
+use Rattle.kit_words.proofs.Common.{◌≡◌, Bool, true, false, refl, sym, ap, ap₂, ◌∙◌, subst, cond, List, [], ◌∷◌, ◌++◌}
+use Rattle.kit_words.proofs.Common.{map, length, reverse, Contains, arith, flat_map, reverse-append, reverse-reverse}
+use Rattle.kit_words.proofs.Common.{IsPermutation-reverse}
+use Rattle.grid_geometry.specs.Common.{Position, position_lt, Edge, links, edges}
+use Rattle.grid_geometry.proofs.Common.{segment-comm}
+use Rattle.ring_machine.specs.Common.{Chain, segment_of, segments}
+use Rattle.ring_machine.proofs.Common.{flip, links-reverse, starts, starts_of, closed, edited_chain, starts-flat_map}
+use Rattle.ring_machine.proofs.Common.{In, contains_in, in_contains, in_mapped, in-map, in-flat_map, in_permuted}
+use Rattle.segment_paths.specs.Common.{Path, inner_of, links_of}
+use Rattle.walk_mending.specs.Common.{edge_along, laid, GoesAlong}
 use Rattle.walk_mending.proofs.Along.{up, down}
 
 -- ---- from one position over others to the next

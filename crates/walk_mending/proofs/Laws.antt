@@ -1,25 +1,18 @@
 -- What is kept of a polygon that is mended: its positions in order, and the ends of its odd segments.
-use Rattle.std.proofs.Common.{◌≡◌, ℕ, true, false, sym, ap, ◌∙◌, subst, cond, List, [], ◌∷◌, ◌++◌, map, arith}
-use Rattle.std.specs.Prelude.{nat_lt, Result, Ok, Err, IfOk, IfErr}
-use Rattle.std.proofs.lemmas.Result.{IfOk-weaker}
-use Rattle.std.specs.List.{flat_map, list_all, list_any}
-use Rattle.std.proofs.lemmas.Bool.Decides.{nat_tests}
-use Rattle.grid_geometry.specs.Position.{Position}
-use Rattle.grid_geometry.specs.Segment.{Segment, segment_eq}
-use Rattle.ring_machine.specs.Ring.{canonical, has}
-use Rattle.ring_machine.proofs.Canonical.{canonical_parts}
-use Rattle.ring_machine.proofs.First.{In, in_left}
-use Rattle.ring_machine.proofs.Members.{in_any, in_flat, in_swap}
-use Rattle.ring_machine.proofs.Neighbours.{in-map, in-has}
-use Rattle.segment_paths.specs.Paths.{Path}
-use Rattle.walk_faults.specs.Findings.{walk_segments}
-use Rattle.walk_faults.proofs.RingEdges.{segment_ends}
-use Rattle.topo_reader.specs.Document.{is_simple}
+use Rattle.kit_words.proofs.Common.{◌≡◌, ℕ, true, false, sym, ap, ◌∙◌, subst, cond, List, [], ◌∷◌, ◌++◌, map, arith}
+use Rattle.kit_words.proofs.Common.{nat_lt, Result, Ok, Err, IfOk, IfErr, IfOk-weaker, flat_map, list_all, list_any}
+use Rattle.kit_words.proofs.Common.{nat_tests}
+use Rattle.grid_geometry.specs.Common.{Position, Segment, segment_eq}
+use Rattle.ring_machine.specs.Common.{canonical, has}
+use Rattle.ring_machine.proofs.Common.{canonical_parts, In, in_left, in_any, in_flat, in_swap, in-map, in-has}
+use Rattle.segment_paths.specs.Common.{Path}
+use Rattle.walk_faults.specs.Common.{walk_segments}
+use Rattle.walk_faults.proofs.Common.{segment_ends}
+use Rattle.topo_reader.specs.Common.{is_simple}
 use Rattle.walk_mending.specs.declared.mending.PartFault.{PartFault}
 use Rattle.walk_mending.specs.declared.mending.PartFault.TheVariants.{Unparted, OutOfMemory}
-use Rattle.walk_mending.specs.Laid.{laid, KeepsInOrder}
-use Rattle.walk_mending.specs.Odd.{times_in}
-use Rattle.walk_mending.specs.Mended.{all_rings, IsMended, stays, parted, ArePartsOf, KeepsOddEnds, OnlyIfApart}
+use Rattle.walk_mending.specs.Common.{laid, KeepsInOrder, times_in, all_rings, IsMended, stays, parted, ArePartsOf}
+use Rattle.walk_mending.specs.Common.{KeepsOddEnds, OnlyIfApart}
 use Rattle.walk_mending.proofs.Along.{laid_keeps}
 use Rattle.walk_mending.proofs.Bounds.{any_counted}
 use Rattle.walk_mending.proofs.Cancelling.{among-in, is_odd}

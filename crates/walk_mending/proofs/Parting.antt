@@ -1,24 +1,16 @@
 -- Polygons as parts of one: their rings, and each odd segment once.
-use Rattle.std.proofs.Common.{◌≡◌, ◌<◌, ◌+◌, ℕ, zero, suc, ◌==◌, Bool, true, false, refl, sym, ap, ◌∙◌, subst, cond, List, [], ◌∷◌, length, ◌&&◌, ◌||◌, arith}
-use Rattle.std.specs.Bool.{Decides}
-use Rattle.std.specs.List.{flat_map, list_all}
-use Rattle.std.specs.List.Sorted.{IsPermutation, IsStrictlySortedBy}
-use Rattle.std.specs.declared.cmp.Ordering.TheVariants.{Less}
-use Rattle.std.proofs.lemmas.Bool.{and_parts, and_from}
-use Rattle.std.proofs.lemmas.Bool.Decides.{nat_tests}
-use Rattle.std.proofs.lemmas.List.Folds.{list_all-append}
-use Rattle.std.proofs.lemmas.List.Sums.{sum_by-cons}
-use Rattle.grid_geometry.specs.Position.{Position}
-use Rattle.grid_geometry.specs.Segment.{Segment, segment_cmp, segment_eq}
-use Rattle.ring_machine.specs.Ring.{is_ring}
-use Rattle.ring_machine.proofs.RingSegments.{segment_eq-true}
-use Rattle.ring_machine.proofs.SortedOnce.{in_recursion}
-use Rattle.segment_index.proofs.Singles.{segment_total}
+use Rattle.kit_words.proofs.Common.{◌≡◌, ◌<◌, ◌+◌, ℕ, zero, suc, ◌==◌, Bool, true, false, refl, sym, ap, ◌∙◌, subst}
+use Rattle.kit_words.proofs.Common.{cond, List, [], ◌∷◌, length, ◌&&◌, ◌||◌, arith, Decides, flat_map, list_all}
+use Rattle.kit_words.proofs.Common.{IsPermutation, IsStrictlySortedBy, Less, and_parts, and_from, nat_tests}
+use Rattle.kit_words.proofs.Common.{list_all-append, sum_by-cons}
+use Rattle.grid_geometry.specs.Common.{Position, Segment, segment_cmp, segment_eq}
+use Rattle.ring_machine.specs.Common.{is_ring}
+use Rattle.ring_machine.proofs.Common.{segment_eq-true, in_recursion}
+use Rattle.segment_index.proofs.Common.{segment_total}
 use Rattle.ring_parts.proofs.Lists as lists
-use Rattle.walk_faults.proofs.Ascending.{not_less}
-use Rattle.walk_faults.specs.Findings.{walk_segments}
-use Rattle.walk_mending.specs.Odd.{is_among, is_odd_in}
-use Rattle.walk_mending.specs.Mended.{all_rings, has_ring, ArePartsOf, HasOdd}
+use Rattle.walk_faults.proofs.Common.{not_less}
+use Rattle.walk_faults.specs.Common.{walk_segments}
+use Rattle.walk_mending.specs.Common.{is_among, is_odd_in, all_rings, has_ring, ArePartsOf, HasOdd}
 use Rattle.walk_mending.proofs.Cancelling.{times, among-in, segment_eq-refl}
 use Rattle.walk_mending.proofs.Bounds.{as_often}
 

@@ -1,6 +1,6 @@
 -- Ascending segments of which equal ones cancel in pairs.
 use Rattle.std.specs.Prelude.{◌≡◌, List, [], ◌∷◌, ◌++◌}
-use Rattle.grid_geometry.specs.Segment.{Segment}
+use Rattle.grid_geometry.specs.Common.{Segment}
 
 -- s is the last one of the list
 abbrev pub EndsIn : List Segment → Segment → Type 0

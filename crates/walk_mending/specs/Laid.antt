@@ -1,11 +1,9 @@
 -- Walks, led along the paths of their segments.
 use Rattle.std.specs.Prelude.{List, [], ◌∷◌, reverse, Contains, if◌then◌else◌}
 use Rattle.std.specs.List.{flat_map}
-use Rattle.grid_geometry.specs.Position.{Position, position_lt}
-use Rattle.grid_geometry.specs.Segment.{Segment}
-use Rattle.grid_geometry.specs.Ring.{Edge, edges}
-use Rattle.ring_machine.specs.Ring.{segment_of, segments}
-use Rattle.segment_paths.specs.Paths.{Path, inner_of, links_of}
+use Rattle.grid_geometry.specs.Common.{Position, position_lt, Segment, Edge, edges}
+use Rattle.ring_machine.specs.Common.{segment_of, segments}
+use Rattle.segment_paths.specs.Common.{Path, inner_of, links_of}
 
 -- from the edge's begin up to its end, which is left out, along the path of its segment
 abbrev pub edge_along : List Path → Edge → List Position

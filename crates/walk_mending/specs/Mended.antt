@@ -1,10 +1,9 @@
 -- What stands in the place of a polygon whose walks need not be rings.
 use Rattle.std.specs.Prelude.{◌≡◌, Bool, true, false, IsTrue, IsFalse, List, [], ◌∷◌, map, if◌then◌else◌}
 use Rattle.std.specs.List.{flat_map, list_all, list_any}
-use Rattle.grid_geometry.specs.Position.{Position}
-use Rattle.grid_geometry.specs.Segment.{Segment}
-use Rattle.ring_machine.specs.Ring.{canonical, has, is_ring}
-use Rattle.topo_reader.specs.Document.{is_simple}
+use Rattle.grid_geometry.specs.Common.{Position, Segment}
+use Rattle.ring_machine.specs.Common.{canonical, has, is_ring}
+use Rattle.topo_reader.specs.Common.{is_simple}
 use Rattle.walk_mending.specs.declared.mending.PartFault.{PartFault}
 use Rattle.walk_mending.specs.declared.mending.PartFault.TheVariants.{Unparted, OutOfMemory}
 use Rattle.walk_mending.specs.Odd.{times_in, is_odd_in}

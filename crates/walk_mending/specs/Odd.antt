@@ -1,10 +1,9 @@
 -- Which segments of walks bound something.
 use Rattle.std.specs.Prelude.{ℕ, ◌%◌, ◌==◌, nat_lt, Bool, List, if◌then◌else◌}
 use Rattle.std.specs.List.{count_by, flat_map, list_all, list_any}
-use Rattle.grid_geometry.specs.Position.{Position}
-use Rattle.grid_geometry.specs.Segment.{Segment, segment_eq}
-use Rattle.topo_reader.specs.Document.{is_simple}
-use Rattle.walk_faults.specs.Findings.{walk_segments}
+use Rattle.grid_geometry.specs.Common.{Position, Segment, segment_eq}
+use Rattle.topo_reader.specs.Common.{is_simple}
+use Rattle.walk_faults.specs.Common.{walk_segments}
 
 -- the segment is among these
 abbrev pub is_among : List Segment → Segment → Bool

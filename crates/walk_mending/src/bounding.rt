@@ -1,9 +1,8 @@
 // The segments that bound something in a map.
 ghost use Rattle.std.specs.Prelude.{◌≡◌, ◌||◌, IsTrue, IfOk, OnOk};
 ghost use Rattle.std.specs.List.{list_any};
-ghost use Rattle.grid_geometry.specs.Segment.{Segment, segment_cmp};
-ghost use Rattle.walk_faults.specs.Findings.{ListsAll};
-ghost use Rattle.walk_faults.specs.Seen.{rings_seen, polygons_seen, features_seen};
+ghost use Rattle.grid_geometry.specs.Common.{Segment, segment_cmp};
+ghost use Rattle.walk_faults.specs.Common.{ListsAll, rings_seen, polygons_seen, features_seen};
 ghost use Rattle.walk_mending.specs.Odd.{is_among, is_bounding, is_bounding_in};
 
 use crate::odd::odd_among;

@@ -1,8 +1,8 @@
 // Walks, led along the paths of their segments.
 ghost use Rattle.std.specs.Prelude.{◌≡◌, ◌++◌, map, reverse, IfOk, OnOk};
 ghost use Rattle.std.specs.List.Sorted.{IsStrictlySortedBy};
-ghost use Rattle.grid_geometry.specs.Segment.{segment_cmp};
-ghost use Rattle.segment_paths.specs.Seen.{path_seen};
+ghost use Rattle.grid_geometry.specs.Common.{segment_cmp};
+ghost use Rattle.segment_paths.specs.Common.{path_seen};
 ghost use Rattle.segment_paths.specs.Paths as spec;
 ghost use Rattle.walk_mending.specs.Laid.{edge_along, laid, KeepsInOrder, GoesAlong};
 

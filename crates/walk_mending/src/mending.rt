@@ -1,7 +1,7 @@
 // A polygon of walks, mended.
 ghost use Rattle.std.specs.Prelude.{◌≡◌, ◌∷◌, [], map, IfOk, IfErr};
 ghost use Rattle.ring_machine.specs.Ring as machine;
-ghost use Rattle.walk_faults.specs.Seen.{rings_seen, polygons_seen};
+ghost use Rattle.walk_faults.specs.Common.{rings_seen, polygons_seen};
 ghost use Rattle.walk_mending.specs.Mended.{ArePartsOf, IsMended, KeepsOddEnds};
 ghost use Rattle.walk_mending.specs.Mended.{HasOdd, AreApart, OnlyIfApart};
 

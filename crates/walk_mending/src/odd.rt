@@ -2,8 +2,8 @@
 ghost use Rattle.std.specs.Prelude.{◌≡◌, ◌↔◌, ◌%◌, ◌==◌, IfOk, IsTrue, OnOk};
 ghost use Rattle.std.specs.List.{count_by};
 ghost use Rattle.std.specs.List.Sorted.{IsSorted, IsStrictlySortedBy};
-ghost use Rattle.grid_geometry.specs.Segment.{Segment, segment_cmp, segment_eq};
-ghost use Rattle.walk_faults.specs.Seen.{rings_seen};
+ghost use Rattle.grid_geometry.specs.Common.{Segment, segment_cmp, segment_eq};
+ghost use Rattle.walk_faults.specs.Common.{rings_seen};
 ghost use Rattle.walk_mending.specs.Odd.{is_among, is_odd_in};
 ghost use Rattle.walk_mending.specs.Cancelled.{EndsIn, IsCancelled};
 

@@ -1,9 +1,8 @@
 // Whether polygons are parts of one with these odd segments.
 ghost use Rattle.std.specs.Prelude.{◌≡◌, ◌++◌, ◌&&◌, IsTrue, IfOk, OnOk};
 ghost use Rattle.std.specs.List.{flat_map, list_all};
-ghost use Rattle.ring_machine.specs.Ring.{is_ring};
-ghost use Rattle.walk_faults.specs.Findings.{walk_segments};
-ghost use Rattle.walk_faults.specs.Seen.{rings_seen, polygons_seen};
+ghost use Rattle.ring_machine.specs.Common.{is_ring};
+ghost use Rattle.walk_faults.specs.Common.{walk_segments, rings_seen, polygons_seen};
 ghost use Rattle.std.specs.List.Sorted.{IsPermutation};
 ghost use Rattle.walk_mending.specs.Mended.{all_rings, has_ring};
 

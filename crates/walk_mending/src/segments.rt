@@ -2,9 +2,8 @@
 ghost use Rattle.std.specs.Prelude.{◌≡◌, ◌++◌, Contains, IfOk, OnOk};
 ghost use Rattle.std.specs.List.{flat_map};
 ghost use Rattle.std.specs.List.Sorted.{IsPermutation, IsSorted};
-ghost use Rattle.grid_geometry.specs.Segment.{segment_cmp};
-ghost use Rattle.walk_faults.specs.Findings.{ListsAll, segment_at, walk_segments};
-ghost use Rattle.walk_faults.specs.Seen.{rings_seen};
+ghost use Rattle.grid_geometry.specs.Common.{segment_cmp};
+ghost use Rattle.walk_faults.specs.Common.{ListsAll, segment_at, walk_segments, rings_seen};
 
 use grid_geometry::{Pos, Seg};
 use std::alloc::{AllocError, Allocator};

@@ -1,11 +1,10 @@
 // Which walks are rings.
 ghost use Rattle.std.specs.Prelude.{◌≡◌, IfOk};
 ghost use Rattle.std.specs.List.{list_all, list_any};
-ghost use Rattle.grid_geometry.specs.Position.{position_eq};
-ghost use Rattle.grid_geometry.specs.Ring.{links};
+ghost use Rattle.grid_geometry.specs.Common.{position_eq, links};
 ghost use Rattle.ring_machine.specs.Ring as machine;
 ghost use Rattle.topo_reader.specs.Document as document;
-ghost use Rattle.walk_faults.specs.Seen.{rings_seen};
+ghost use Rattle.walk_faults.specs.Common.{rings_seen};
 
 use grid_geometry::Pos;
 use std::alloc::{AllocError, Allocator};

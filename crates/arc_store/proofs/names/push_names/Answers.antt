@@ -1,9 +1,6 @@
-use Rattle.std.proofs.Common.{◌≡◌, ◌<◌, subst, ap, ◌∙◌, arith, length, get_or, map, Some}
-use Rattle.std.specs.Prelude.{IfSome}
-use Rattle.std.proofs.lemmas.List.{take_all}
-use Rattle.ring_machine.proofs.Members.{in_contains}
-use Rattle.ring_machine.proofs.SortedOnce.{in_at}
-use Rattle.map_frame.specs.Named.{number_at}
+use Rattle.kit_words.proofs.Common.{◌≡◌, ◌<◌, subst, ap, ◌∙◌, arith, length, get_or, map, Some, IfSome, take_all}
+use Rattle.ring_machine.proofs.Common.{in_contains, in_at}
+use Rattle.map_frame.specs.Common.{number_at}
 use Rattle.arc_store.proofs.NamedRings.{names_begin, names_more}
 use Rattle.arc_store.proofs.names.push_names.Goals as goal
 use Rattle.arc_store.proofs.names.push_names.Goals.{in-Some+in_ok-push, in_default}

@@ -1,7 +1,5 @@
-use Rattle.std.proofs.Common.{◌∙◌, ap, [], ◌∷◌}
-use Rattle.std.specs.Prelude.{not}
-use Rattle.ring_machine.specs.Command.{Sweeps}
-use Rattle.ring_machine.specs.Refusals.{first_of, ◌unless◌}
+use Rattle.kit_words.proofs.Common.{◌∙◌, ap, [], ◌∷◌, not}
+use Rattle.ring_machine.specs.Common.{Sweeps, first_of, ◌unless◌}
 use Rattle.arc_store.proofs.RemovalJudged.{remove_refused, remove_decided}
 use Rattle.arc_store.proofs.raw_remove.test_remove.Goals as goal
 

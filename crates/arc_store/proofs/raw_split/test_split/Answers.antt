@@ -1,7 +1,5 @@
-use Rattle.std.proofs.Common.{sym, ap, ap₂, ◌∙◌, [], ◌∷◌}
-use Rattle.std.specs.Prelude.{not}
-use Rattle.ring_machine.specs.Command.{WrongSide, TooLarge}
-use Rattle.ring_machine.specs.Refusals.{first_of, ◌unless◌}
+use Rattle.kit_words.proofs.Common.{sym, ap, ap₂, ◌∙◌, [], ◌∷◌, not}
+use Rattle.ring_machine.specs.Common.{WrongSide, TooLarge, first_of, ◌unless◌}
 use Rattle.arc_store.proofs.CutDecided.{split_refused}
 use Rattle.arc_store.proofs.SplitPlan.{split_rest}
 use Rattle.arc_store.proofs.raw_split.test_split.Goals as goal

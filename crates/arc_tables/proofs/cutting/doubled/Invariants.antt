@@ -1,6 +1,5 @@
-use Rattle.std.proofs.Common.{◌≡◌, take}
-use Rattle.std.specs.List.{flat_map}
-use Rattle.arc_tables.specs.Ways.{both_parts}
+use Rattle.kit_words.proofs.Common.{◌≡◌, take, flat_map}
+use Rattle.arc_tables.specs.Common.{both_parts}
 use Rattle.arc_tables.proofs.cutting.doubled.Given as goal
 
 abbrev pub invariant-loop-u : goal.invariant-loop-u

@@ -1,9 +1,7 @@
-use Rattle.std.proofs.Common.{◌≡◌, Contains, subst, sym, ap, ◌∙◌, ◌++◌, [], ◌∷◌, inl, inr, get_or, refl, take_all}
-use Rattle.std.specs.List.{flat_map}
+use Rattle.kit_words.proofs.Common.{◌≡◌, Contains, subst, sym, ap, ◌∙◌, ◌++◌, [], ◌∷◌, inl, inr, get_or, refl, flat_map}
+use Rattle.std.proofs.Common.{take_all}
 use Rattle.slab.specs.Slab.{get}
-use Rattle.arc_tables.specs.Ways.{both_parts}
-use Rattle.arc_tables.specs.declared.arc.NewUses.{NewUses}
-use Rattle.arc_tables.specs.Stores.{HasRing, Doubles}
+use Rattle.arc_tables.specs.Common.{both_parts, NewUses, HasRing, Doubles}
 use Rattle.arc_tables.proofs.StoreLemmas.{has_more, taken_cases, pushed_each, doubles_there, not_there}
 use Rattle.arc_tables.proofs.cutting.plan_uses.Goals as goal
 use Rattle.arc_tables.proofs.cutting.plan_uses.Goals.{in-Some+in_ok-uses+in_ok-push, in_default}

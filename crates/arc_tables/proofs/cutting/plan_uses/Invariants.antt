@@ -1,7 +1,6 @@
-use Rattle.std.proofs.Common.{ℕ, take, Contains}
+use Rattle.kit_words.proofs.Common.{ℕ, take, Contains}
 use Rattle.slab.specs.Slab.{ContainsKey}
-use Rattle.arc_tables.specs.declared.arc.NewUses.{NewUses}
-use Rattle.arc_tables.specs.Stores.{HasRing, Doubles}
+use Rattle.arc_tables.specs.Common.{NewUses, HasRing, Doubles}
 use Rattle.arc_tables.proofs.cutting.plan_uses.Given as goal
 
 abbrev pub invariant-loop-r : goal.invariant-loop-r

@@ -1,11 +1,9 @@
-use Rattle.std.proofs.Common.{◌≡◌, List, [], ◌∷◌, ◌++◌, append_assoc, ap, ◌∙◌, sym, subst, Some, Contains, arith, refl, length}
-use Rattle.std.proofs.lemmas.List.{append-nil}
-use Rattle.std.proofs.lemmas.List.Elements.{Contains-append_left, Contains-append_right}
-use Rattle.std.specs.Option.{option_copied_mut}
+use Rattle.kit_words.proofs.Common.{◌≡◌, List, [], ◌∷◌, ◌++◌, append_assoc, ap, ◌∙◌, sym, subst, Some, Contains, arith}
+use Rattle.kit_words.proofs.Common.{refl, length, append-nil, Contains-append_left, Contains-append_right}
+use Rattle.kit_words.proofs.Common.{option_copied_mut}
 use Rattle.slab.specs.Slab.{get, Updates, with_value}
 use Rattle.slab.proofs.SlabLemmas.{Updates-with_value}
-use Rattle.arc_tables.specs.declared.arc.Ring.{Ring}
-use Rattle.arc_tables.specs.Stores.{uses_in, IsPut}
+use Rattle.arc_tables.specs.Common.{Ring, uses_in, IsPut}
 use Rattle.arc_tables.proofs.StoreLemmas.{put_more, not_there, none_put, still_there, still_held, uses_changed, uses_other}
 use Rattle.arc_tables.proofs.cutting.put_uses.Goals as goal
 

@@ -1,7 +1,6 @@
-use Rattle.std.proofs.Common.{◌≡◌, ℕ, List, ◌++◌, Contains, vec_len}
+use Rattle.kit_words.proofs.Common.{◌≡◌, ℕ, List, ◌++◌, Contains, vec_len}
 use Rattle.slab.specs.Slab.{get, ContainsKey}
-use Rattle.arc_tables.specs.declared.arc.NewUses.{NewUses}
-use Rattle.arc_tables.specs.Stores.{uses_in, IsPut, SameKeys}
+use Rattle.arc_tables.specs.Common.{NewUses, uses_in, IsPut, SameKeys}
 use Rattle.arc_tables.proofs.cutting.put_uses.Given as goal
 
 abbrev pub invariant-loop-new : goal.invariant-loop-new

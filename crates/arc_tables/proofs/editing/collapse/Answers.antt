@@ -1,6 +1,5 @@
-use Rattle.std.proofs.Common.{ap, ◌∙◌, length, map}
-use Rattle.arc_tables.specs.Edited.{onto}
-use Rattle.std.proofs.lemmas.List.{with_items_is, length-map}
+use Rattle.kit_words.proofs.Common.{ap, ◌∙◌, length, map, with_items_is, length-map}
+use Rattle.arc_tables.specs.Common.{onto}
 use Rattle.arc_tables.proofs.Removing.{collapses_by}
 use Rattle.arc_tables.proofs.editing.collapse.Goals as goal
 

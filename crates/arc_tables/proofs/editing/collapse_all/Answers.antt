@@ -1,7 +1,7 @@
-use Rattle.std.proofs.Common.{ap, subst, sym, take_all}
+use Rattle.kit_words.proofs.Common.{ap, subst, sym}
+use Rattle.std.proofs.Common.{take_all}
 use Rattle.slab.specs.Slab.{get}
-use Rattle.arc_tables.specs.Edited.{Collapses, CollapsesAmong}
-use Rattle.arc_tables.specs.Stores.{path_in}
+use Rattle.arc_tables.specs.Common.{Collapses, CollapsesAmong, path_in}
 use Rattle.arc_tables.proofs.Removing.{among_once, among_next, users_then}
 use Rattle.arc_tables.proofs.editing.collapse_all.Goals as goal
 

@@ -1,7 +1,6 @@
-use Rattle.std.proofs.Common.{ℕ, take}
+use Rattle.kit_words.proofs.Common.{ℕ, take}
 use Rattle.slab.specs.Slab.{get}
-use Rattle.arc_tables.specs.Edited.{CollapsesAmong}
-use Rattle.arc_tables.specs.Stores.{path_in, SameUsers}
+use Rattle.arc_tables.specs.Common.{CollapsesAmong, path_in, SameUsers}
 use Rattle.arc_tables.proofs.editing.collapse_all.Given as goal
 
 abbrev pub invariant-loop-i : goal.invariant-loop-i

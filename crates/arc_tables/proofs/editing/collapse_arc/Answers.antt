@@ -1,8 +1,7 @@
-use Rattle.std.proofs.Common.{sym, ap, subst, refl, IsSome}
+use Rattle.kit_words.proofs.Common.{sym, ap, subst, refl, IsSome}
 use Rattle.slab.specs.Slab.{get}
 use Rattle.slab.proofs.SlabLemmas.{Updates-with_value}
-use Rattle.arc_tables.specs.Edited.{Collapses}
-use Rattle.arc_tables.specs.Stores.{path_in}
+use Rattle.arc_tables.specs.Common.{Collapses, path_in}
 use Rattle.arc_tables.proofs.editing.collapse_arc.Goals as goal
 
 pub returns-in-Some-clause-here : goal.returns-in-Some-clause-here

@@ -1,7 +1,5 @@
-use Rattle.std.proofs.Common.{◌+◌, subst, sym, ap, ◌∙◌, Contains, map, length, true, false, arith}
-use Rattle.arc_tables.specs.Ways.{links, times}
-use Rattle.arc_tables.specs.Edited.{onto}
-use Rattle.arc_tables.specs.Stores.{IsPlace}
+use Rattle.kit_words.proofs.Common.{◌+◌, subst, sym, ap, ◌∙◌, Contains, map, length, true, false, arith}
+use Rattle.arc_tables.specs.Common.{links, times, onto, IsPlace}
 use Rattle.arc_tables.proofs.Removing.{removed_at, removed_after, in_removed, moved_links}
 use Rattle.arc_tables.proofs.editing.draw_in.Goals as goal
 

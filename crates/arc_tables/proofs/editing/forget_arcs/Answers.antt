@@ -1,4 +1,4 @@
-use Rattle.std.proofs.Common.{◌∙◌, sym, subst, Contains}
+use Rattle.kit_words.proofs.Common.{◌∙◌, sym, subst, Contains}
 use Rattle.arc_tables.proofs.StandLemmas.{stand_other}
 use Rattle.arc_tables.proofs.editing.forget_arcs.Goals as goal
 

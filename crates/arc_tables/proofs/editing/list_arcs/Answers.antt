@@ -1,5 +1,6 @@
-use Rattle.std.proofs.Common.{Contains, inl, inr, subst, sym, take_all}
-use Rattle.arc_tables.specs.Stores.{stand_at}
+use Rattle.kit_words.proofs.Common.{Contains, inl, inr, subst, sym}
+use Rattle.std.proofs.Common.{take_all}
+use Rattle.arc_tables.specs.Common.{stand_at}
 use Rattle.arc_tables.proofs.StoreLemmas.{taken_cases}
 use Rattle.arc_tables.proofs.editing.list_arcs.Goals as goal
 

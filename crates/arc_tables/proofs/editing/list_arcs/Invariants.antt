@@ -1,5 +1,5 @@
-use Rattle.std.proofs.Common.{ℕ, Contains, take}
-use Rattle.arc_tables.specs.Stores.{stand_at, ListsMore}
+use Rattle.kit_words.proofs.Common.{ℕ, Contains, take}
+use Rattle.arc_tables.specs.Common.{stand_at, ListsMore}
 use Rattle.arc_tables.proofs.editing.list_arcs.Given as goal
 
 abbrev pub invariant-loop-i : goal.invariant-loop-i

@@ -1,5 +1,5 @@
-use Rattle.std.proofs.Common.{◌<◌, length, arith}
-use Rattle.arc_tables.specs.Edited.{onto}
+use Rattle.kit_words.proofs.Common.{◌<◌, length, arith}
+use Rattle.arc_tables.specs.Common.{onto}
 use Rattle.arc_tables.proofs.Removing.{put_step}
 use Rattle.arc_tables.proofs.editing.move_keys.Goals as goal
 

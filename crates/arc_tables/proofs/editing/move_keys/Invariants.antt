@@ -1,5 +1,5 @@
-use Rattle.std.proofs.Common.{◌≡◌, map, take, drop, ◌++◌}
-use Rattle.arc_tables.specs.Edited.{onto}
+use Rattle.kit_words.proofs.Common.{◌≡◌, map, take, drop, ◌++◌}
+use Rattle.arc_tables.specs.Common.{onto}
 use Rattle.arc_tables.proofs.editing.move_keys.Given as goal
 
 abbrev pub invariant-loop-k : goal.invariant-loop-k

@@ -1,5 +1,5 @@
-use Rattle.std.proofs.Common.{◌≡◌, false, take}
-use Rattle.arc_tables.specs.Stores.{uses_arc}
+use Rattle.kit_words.proofs.Common.{◌≡◌, false, take}
+use Rattle.arc_tables.specs.Common.{uses_arc}
 use Rattle.arc_tables.proofs.laying.has_use.Given as goal
 
 -- no use so far is of the arc

@@ -1,6 +1,7 @@
-use Rattle.std.proofs.Common.{◌≡◌, sym, ap, ◌∙◌, Some, option_copied}
+use Rattle.kit_words.proofs.Common.{◌≡◌, sym, ap, ◌∙◌, Some}
+use Rattle.std.proofs.Common.{option_copied}
 use Rattle.slab.specs.Slab.{get}
-use Rattle.arc_tables.specs.Stores.{uses_in, uses_arc}
+use Rattle.arc_tables.specs.Common.{uses_in, uses_arc}
 use Rattle.arc_tables.proofs.Knowing.{known_by_uses}
 use Rattle.arc_tables.proofs.laying.is_known.Goals as goal
 

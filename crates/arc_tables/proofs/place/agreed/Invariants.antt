@@ -1,4 +1,4 @@
-use Rattle.std.proofs.Common.{◌≡◌, take, ◌≤◌, length, ◌-◌}
+use Rattle.kit_words.proofs.Common.{◌≡◌, take, ◌≤◌, length, ◌-◌}
 use Rattle.arc_tables.proofs.place.agreed.Given as goal
 
 abbrev pub invariant-loop-len : goal.invariant-loop-len

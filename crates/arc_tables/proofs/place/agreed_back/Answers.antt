@@ -1,5 +1,4 @@
-use Rattle.std.proofs.Common.{◌≡◌, ◌≤◌, ap, sym, ◌∙◌, subst, length, reverse, take, arith}
-use Rattle.std.proofs.lemmas.List.{length-reverse}
+use Rattle.kit_words.proofs.Common.{◌≡◌, ◌≤◌, ap, sym, ◌∙◌, subst, length, reverse, take, arith, length-reverse}
 use Rattle.arc_tables.proofs.place.agreed_back.Goals as goal
 
 pub returns-clause-all : goal.returns-clause-all

@@ -1,7 +1,7 @@
-use Rattle.std.proofs.Common.{◌≡◌, Contains, subst, sym, ap, ◌∙◌, inl, inr, refl, take_all, arith}
+use Rattle.kit_words.proofs.Common.{◌≡◌, Contains, subst, sym, ap, ◌∙◌, inl, inr, refl, arith}
+use Rattle.std.proofs.Common.{take_all}
 use Rattle.slab.specs.Slab.{get}
-use Rattle.arc_tables.specs.Ways.{times, links}
-use Rattle.arc_tables.specs.Stores.{path_in}
+use Rattle.arc_tables.specs.Common.{times, links, path_in}
 use Rattle.arc_tables.proofs.StoreLemmas.{taken_cases}
 use Rattle.arc_tables.proofs.place.find_among.Goals as goal
 use Rattle.arc_tables.proofs.place.find_among.Goals.{in-Some+in_default-place_in, in_default}

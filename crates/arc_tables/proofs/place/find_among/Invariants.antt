@@ -1,7 +1,6 @@
-use Rattle.std.proofs.Common.{ℕ, ◌≡◌, take, Contains}
+use Rattle.kit_words.proofs.Common.{ℕ, ◌≡◌, take, Contains}
 use Rattle.slab.specs.Slab.{get}
-use Rattle.arc_tables.specs.Ways.{times, links}
-use Rattle.arc_tables.specs.Stores.{path_in}
+use Rattle.arc_tables.specs.Common.{times, links, path_in}
 use Rattle.arc_tables.proofs.place.find_among.Given as goal
 
 abbrev pub invariant-loop-arc : goal.invariant-loop-arc

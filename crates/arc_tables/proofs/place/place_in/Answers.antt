@@ -1,5 +1,6 @@
-use Rattle.std.proofs.Common.{◌≡◌, arith, sym, subst, take_all}
-use Rattle.arc_tables.specs.Ways.{times, links}
+use Rattle.kit_words.proofs.Common.{◌≡◌, arith, sym, subst}
+use Rattle.std.proofs.Common.{take_all}
+use Rattle.arc_tables.specs.Common.{times, links}
 use Rattle.arc_tables.proofs.Finding.{none_begun, times_more}
 use Rattle.arc_tables.proofs.place.place_in.Goals as goal
 

@@ -1,5 +1,5 @@
-use Rattle.std.proofs.Common.{◌≡◌, ◌≤◌, take}
-use Rattle.arc_tables.specs.Ways.{times, links}
+use Rattle.kit_words.proofs.Common.{◌≡◌, ◌≤◌, take}
+use Rattle.arc_tables.specs.Common.{times, links}
 use Rattle.arc_tables.proofs.place.place_in.Given as goal
 
 -- from the first on, none of the edges so far is of the segment

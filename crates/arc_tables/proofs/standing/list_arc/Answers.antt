@@ -1,6 +1,6 @@
-use Rattle.std.proofs.Common.{◌≡◌, ◌<◌, ap, sym, ◌∙◌, subst, Contains, IfSome, length, arith}
-use Rattle.std.specs.Prelude.{slice_index_or, slice_set}
-use Rattle.arc_tables.specs.Stores.{stand_at, including}
+use Rattle.kit_words.proofs.Common.{◌≡◌, ◌<◌, ap, sym, ◌∙◌, subst, Contains, IfSome, length, arith, slice_index_or}
+use Rattle.kit_words.proofs.Common.{slice_set}
+use Rattle.arc_tables.specs.Common.{stand_at, including}
 use Rattle.arc_tables.proofs.Segments.{on_ok_map, either_result}
 use Rattle.arc_tables.proofs.StandLemmas.{stand_read, lists_same, lists_including, listed_including}
 use Rattle.arc_tables.proofs.standing.list_arc.Goals as goal

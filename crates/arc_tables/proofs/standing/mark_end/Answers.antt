@@ -1,5 +1,4 @@
-use Rattle.std.proofs.Common.{◌≡◌, ◌<◌, sym, subst, Contains, IfSome, length, arith, true}
-use Rattle.std.specs.Prelude.{slice_index_or}
+use Rattle.kit_words.proofs.Common.{◌≡◌, ◌<◌, sym, subst, Contains, IfSome, length, arith, true, slice_index_or}
 use Rattle.arc_tables.proofs.StandLemmas.{stand_read, lists_same}
 use Rattle.arc_tables.proofs.standing.mark_end.Goals as goal
 

@@ -1,5 +1,5 @@
-use Rattle.std.proofs.Common.{◌≡◌, ℕ, ◌+◌, ◌-◌, vec_len}
-use Rattle.arc_tables.specs.Stores.{stand_at}
+use Rattle.kit_words.proofs.Common.{◌≡◌, ℕ, ◌+◌, ◌-◌, vec_len}
+use Rattle.arc_tables.specs.Common.{stand_at}
 use Rattle.arc_tables.proofs.standing.reach.Given as goal
 
 abbrev pub invariant-loop-k : goal.invariant-loop-k

@@ -1,4 +1,4 @@
-use Rattle.std.proofs.Common.{◌<◌, sym, ◌∙◌, subst, Contains, length, arith, refl}
+use Rattle.kit_words.proofs.Common.{◌<◌, sym, ◌∙◌, subst, Contains, length, arith, refl}
 use Rattle.arc_tables.proofs.Different.{in_without}
 use Rattle.arc_tables.proofs.StandLemmas.{lists_less, stand_other, stand_read}
 use Rattle.arc_tables.proofs.standing.unlist.Goals as goal

@@ -1,4 +1,4 @@
-use Rattle.arc_tables.specs.Stores.{UnlistsOff}
+use Rattle.arc_tables.specs.Common.{UnlistsOff}
 use Rattle.arc_tables.proofs.standing.unlist_moved.Given as goal
 
 abbrev pub invariant-loop-k : goal.invariant-loop-k

@@ -1,4 +1,4 @@
-use Rattle.std.proofs.Common.{sym, ◌∙◌}
+use Rattle.kit_words.proofs.Common.{sym, ◌∙◌}
 use Rattle.arc_tables.proofs.StandLemmas.{unlists_off}
 use Rattle.arc_tables.proofs.standing.unlist_off.Goals as goal
 

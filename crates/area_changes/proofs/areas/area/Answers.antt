@@ -1,8 +1,6 @@
-use Rattle.std.proofs.Common.{◌≤◌, ◌+◌, sym, ap, ◌∙◌, subst, map, length, arith, pos, ◌+ℤ◌}
-use Rattle.std.specs.List.{sum_by}
-use Rattle.std.proofs.lemmas.Int.{ints}
+use Rattle.kit_words.proofs.Common.{◌≤◌, ◌+◌, sym, ap, ◌∙◌, subst, map, length, arith, pos, ◌+ℤ◌, sum_by, ints}
 use Rattle.ring_machine.specs.Query as query
-use Rattle.topo_reader.specs.Uses.{positions_of, polygon_positions}
+use Rattle.topo_reader.specs.Common.{positions_of, polygon_positions}
 use Rattle.area_changes.proofs.Summing.{sum_at, fold_more, sum_more, sum_front}
 use Rattle.area_changes.proofs.areas.area.Goals as goal
 

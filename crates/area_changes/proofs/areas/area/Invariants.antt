@@ -1,6 +1,7 @@
-use Rattle.std.proofs.Common.{◌≡◌, ◌≤◌, ◌*◌, unsigned_abs, map, take, length, sum_by}
-use Rattle.topo_reader.specs.Uses.{polygon_positions}
-use Rattle.area_changes.specs.Areas.{area_in}
+use Rattle.kit_words.proofs.Common.{◌≡◌, ◌≤◌, ◌*◌, unsigned_abs, map, take, length}
+use Rattle.std.proofs.Common.{sum_by}
+use Rattle.topo_reader.specs.Common.{polygon_positions}
+use Rattle.area_changes.specs.Common.{area_in}
 use Rattle.area_changes.proofs.areas.area.Given as goal
 
 -- the area so far, and how large it may be

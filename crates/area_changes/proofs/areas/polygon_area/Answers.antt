@@ -1,11 +1,7 @@
-use Rattle.std.proofs.Common.{◌≡◌, to_z, of_z, ◌+◌, ◌-◌, sym, ap, ◌∙◌, length, map, take, drop, arith, ◌-ℤ◌}
-use Rattle.std.specs.Int.{w128}
-use Rattle.std.specs.List.{sum_by, fold}
-use Rattle.std.proofs.lemmas.Int.{ints}
-use Rattle.std.proofs.lemmas.List.{take_all}
-use Rattle.std.proofs.lemmas.List.Sums.{sum_by-cons}
+use Rattle.kit_words.proofs.Common.{◌≡◌, to_z, of_z, ◌+◌, ◌-◌, sym, ap, ◌∙◌, length, map, take, drop, arith, ◌-ℤ◌, w128}
+use Rattle.kit_words.proofs.Common.{sum_by, fold, ints, take_all, sum_by-cons}
 use Rattle.ring_machine.specs.Query as query
-use Rattle.topo_reader.specs.Uses.{positions_of}
+use Rattle.topo_reader.specs.Common.{positions_of}
 use Rattle.area_changes.proofs.Summing.{list_is, fold_more, sum_more, sum_front}
 use Rattle.area_changes.proofs.areas.polygon_area.Goals as goal
 

@@ -1,7 +1,6 @@
-use Rattle.std.proofs.Common.{◌≡◌, ◌≤◌, ◌*◌, ◌+◌, ◌-ℤ◌, unsigned_abs, length, map, take}
-use Rattle.std.specs.List.{fold, sum_by}
-use Rattle.ring_machine.specs.Query.{absolute_area}
-use Rattle.topo_reader.specs.Uses.{positions_of}
+use Rattle.kit_words.proofs.Common.{◌≡◌, ◌≤◌, ◌*◌, ◌+◌, ◌-ℤ◌, unsigned_abs, length, map, take, fold, sum_by}
+use Rattle.ring_machine.specs.Common.{absolute_area}
+use Rattle.topo_reader.specs.Common.{positions_of}
 use Rattle.area_changes.proofs.areas.polygon_area.Given as goal
 
 -- the area less the holes so far, and how large it may be

@@ -1,12 +1,9 @@
-use Rattle.std.proofs.Common.{◌≡◌, ◌≤◌, ℕ, ℤ, arith, sym, ap, ap₂, ◌∙◌, map, length, subst, to_z, of_z}
-use Rattle.std.specs.Int.{w128}
-use Rattle.std.proofs.lemmas.Int.{ints}
+use Rattle.kit_words.proofs.Common.{◌≡◌, ◌≤◌, ℕ, ℤ, arith, sym, ap, ap₂, ◌∙◌, map, length, subst, to_z, of_z, w128}
+use Rattle.kit_words.proofs.Common.{ints}
 use Rattle.std.specs.Prelude.{sum_by}
-use Rattle.segment_paths.specs.Seen.{paths_seen}
-use Rattle.topo_reader.specs.Uses.{polygon_positions, feature_positions}
-use Rattle.area_changes.specs.declared.change.AreaChange.{AreaChange}
-use Rattle.area_changes.specs.Areas.{area_in, change_of}
-use Rattle.area_changes.specs.Swept.{swept_of}
+use Rattle.segment_paths.specs.Common.{paths_seen}
+use Rattle.topo_reader.specs.Common.{polygon_positions, feature_positions}
+use Rattle.area_changes.specs.Common.{AreaChange, area_in, change_of, swept_of}
 use Rattle.area_changes.proofs.Summing.{sum_at}
 use Rattle.area_changes.proofs.Told.{told_next, told_end}
 use Rattle.area_changes.proofs.changes.area_changes.Goals as goal

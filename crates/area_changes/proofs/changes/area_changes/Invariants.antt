@@ -1,7 +1,7 @@
-use Rattle.std.proofs.Common.{◌≡◌, ◌++◌, drop, map}
-use Rattle.segment_paths.specs.Seen.{paths_seen}
-use Rattle.topo_reader.specs.Uses.{feature_positions}
-use Rattle.area_changes.specs.Areas.{changes_from}
+use Rattle.kit_words.proofs.Common.{◌≡◌, ◌++◌, drop, map}
+use Rattle.segment_paths.specs.Common.{paths_seen}
+use Rattle.topo_reader.specs.Common.{feature_positions}
+use Rattle.area_changes.specs.Common.{changes_from}
 use Rattle.area_changes.proofs.changes.area_changes.Given as goal
 
 -- what is told so far and of the features that are left is all

@@ -1,6 +1,5 @@
-use Rattle.std.proofs.Common.{◌∙◌, ap, sym, rules}
-use Rattle.std.proofs.lemmas.List.Sorted.{answers_always}
-use Rattle.segment_paths.proofs.Searched.{found_at, not_found}
+use Rattle.kit_words.proofs.Common.{◌∙◌, ap, sym, rules, answers_always}
+use Rattle.segment_paths.proofs.Common.{found_at, not_found}
 use Rattle.area_changes.proofs.sweeping.inner_of.Goals as goal
 
 pub returns-in-Ok : goal.returns-in-Ok

@@ -1,9 +1,8 @@
-use Rattle.std.proofs.Common.{◌+◌, arith, ap, ◌∙◌, map, length}
+use Rattle.kit_words.proofs.Common.{◌+◌, arith, ap, ◌∙◌, map, length, take_all}
 use Rattle.std.specs.Prelude.{sum_by}
-use Rattle.std.proofs.lemmas.List.{take_all}
-use Rattle.segment_paths.specs.Seen.{paths_seen}
-use Rattle.topo_reader.specs.Uses.{positions_of, polygon_positions}
-use Rattle.area_changes.specs.Swept.{swept_walks, swept_of}
+use Rattle.segment_paths.specs.Common.{paths_seen}
+use Rattle.topo_reader.specs.Common.{positions_of, polygon_positions}
+use Rattle.area_changes.specs.Common.{swept_walks, swept_of}
 use Rattle.area_changes.proofs.Summing.{sum_more, sum_front, sum_at}
 use Rattle.area_changes.proofs.sweeping.swept.Goals as goal
 

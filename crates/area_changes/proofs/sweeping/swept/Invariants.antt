@@ -1,7 +1,8 @@
-use Rattle.std.proofs.Common.{◌≡◌, ◌≤◌, ◌*◌, map, take, length, sum_by}
-use Rattle.segment_paths.specs.Seen.{paths_seen}
-use Rattle.topo_reader.specs.Uses.{polygon_positions}
-use Rattle.area_changes.specs.Swept.{swept_of}
+use Rattle.kit_words.proofs.Common.{◌≡◌, ◌≤◌, ◌*◌, map, take, length}
+use Rattle.std.proofs.Common.{sum_by}
+use Rattle.segment_paths.specs.Common.{paths_seen}
+use Rattle.topo_reader.specs.Common.{polygon_positions}
+use Rattle.area_changes.specs.Common.{swept_of}
 use Rattle.area_changes.proofs.sweeping.swept.Given as goal
 
 -- what the polygons so far sweep over, and how much it may be

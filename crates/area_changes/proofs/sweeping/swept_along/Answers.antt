@@ -1,9 +1,7 @@
-use Rattle.std.proofs.Common.{◌+◌, ◌∷◌, ◌++◌, [], arith, sym, ap, ◌∙◌, subst}
+use Rattle.kit_words.proofs.Common.{◌+◌, ◌∷◌, ◌++◌, [], arith, sym, ap, ◌∙◌, subst, AllByRecursion}
 use Rattle.std.specs.Prelude.{sum_by}
-use Rattle.std.specs.List.{AllByRecursion}
-use Rattle.grid_geometry.specs.Ring.{links}
-use Rattle.grid_geometry.specs.Segment.{Segment}
-use Rattle.area_changes.specs.Swept.{triangle, IsBeside}
+use Rattle.grid_geometry.specs.Common.{links, Segment}
+use Rattle.area_changes.specs.Common.{triangle, IsBeside}
 use Rattle.area_changes.proofs.Beside.{way_beside}
 use Rattle.area_changes.proofs.StepByStep.{link_next, beside_next, along_end}
 use Rattle.area_changes.proofs.sweeping.swept_along.Goals as goal

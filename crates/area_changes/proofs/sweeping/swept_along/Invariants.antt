@@ -1,7 +1,7 @@
-use Rattle.std.proofs.Common.{◌≡◌, ◌≤◌, ◌<◌, ◌+◌, ◌*◌, ◌∷◌, ◌++◌, [], drop, length, sum_by}
-use Rattle.std.specs.List.{AllByRecursion}
-use Rattle.grid_geometry.specs.Ring.{links}
-use Rattle.area_changes.specs.Swept.{triangle, swept_along, IsBeside}
+use Rattle.kit_words.proofs.Common.{◌≡◌, ◌≤◌, ◌<◌, ◌+◌, ◌*◌, ◌∷◌, ◌++◌, [], drop, length, AllByRecursion}
+use Rattle.std.proofs.Common.{sum_by}
+use Rattle.grid_geometry.specs.Common.{links}
+use Rattle.area_changes.specs.Common.{triangle, swept_along, IsBeside}
 use Rattle.area_changes.proofs.sweeping.swept_along.Given as goal
 
 -- the triangles so far and those of the rest of the path are all, and they are small

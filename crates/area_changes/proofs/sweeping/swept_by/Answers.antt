@@ -1,9 +1,8 @@
-use Rattle.std.proofs.Common.{◌≡◌, ◌<◌, length, List, subst, sym, refl}
-use Rattle.grid_geometry.specs.Position.{Position}
-use Rattle.segment_paths.specs.Paths.{IsWay, inner_of}
-use Rattle.segment_paths.specs.Seen.{paths_seen}
+use Rattle.kit_words.proofs.Common.{◌≡◌, ◌<◌, length, List, subst, sym, refl}
+use Rattle.grid_geometry.specs.Common.{Position}
+use Rattle.segment_paths.specs.Common.{IsWay, inner_of, paths_seen}
 use Rattle.area_changes.proofs.Beside.{way_of}
-use Rattle.area_changes.specs.Swept.{swept_by}
+use Rattle.area_changes.specs.Common.{swept_by}
 use Rattle.area_changes.proofs.StepByStep.{path_found, nothing_swept}
 use Rattle.area_changes.proofs.sweeping.swept_by.Goals as goal
 

@@ -1,9 +1,9 @@
-use Rattle.std.proofs.Common.{◌+◌, ◌-◌, arith, ap, ◌∙◌, take, drop, length}
+use Rattle.kit_words.proofs.Common.{◌+◌, ◌-◌, arith, ap, ◌∙◌, take, drop, length}
 use Rattle.std.specs.Prelude.{sum_by}
-use Rattle.grid_geometry.specs.Ring.{edges}
-use Rattle.grid_geometry.proofs.RingLemmas.{ring_is}
-use Rattle.segment_paths.specs.Seen.{paths_seen}
-use Rattle.area_changes.specs.Swept.{swept_by}
+use Rattle.grid_geometry.specs.Common.{edges}
+use Rattle.grid_geometry.proofs.Common.{ring_is}
+use Rattle.segment_paths.specs.Common.{paths_seen}
+use Rattle.area_changes.specs.Common.{swept_by}
 use Rattle.area_changes.proofs.StepByStep.{link_next, link_last}
 use Rattle.area_changes.proofs.sweeping.swept_walk.Goals as goal
 

@@ -1,7 +1,8 @@
-use Rattle.std.proofs.Common.{◌≡◌, ◌≤◌, ◌+◌, ◌*◌, ◌∷◌, ◌++◌, [], drop, sum_by}
-use Rattle.grid_geometry.specs.Ring.{links}
-use Rattle.segment_paths.specs.Seen.{paths_seen}
-use Rattle.area_changes.specs.Swept.{swept_by}
+use Rattle.kit_words.proofs.Common.{◌≡◌, ◌≤◌, ◌+◌, ◌*◌, ◌∷◌, ◌++◌, [], drop}
+use Rattle.std.proofs.Common.{sum_by}
+use Rattle.grid_geometry.specs.Common.{links}
+use Rattle.segment_paths.specs.Common.{paths_seen}
+use Rattle.area_changes.specs.Common.{swept_by}
 use Rattle.area_changes.proofs.sweeping.swept_walk.Given as goal
 
 -- what is swept over so far and by the rest of the walk is all

@@ -1,10 +1,9 @@
-use Rattle.std.proofs.Common.{◌+◌, arith, ap, ◌∙◌, map, length}
+use Rattle.kit_words.proofs.Common.{◌+◌, arith, ap, ◌∙◌, map, length, take_all}
 use Rattle.std.specs.Prelude.{sum_by}
-use Rattle.std.proofs.lemmas.List.{take_all}
-use Rattle.grid_geometry.specs.Ring.{edges}
-use Rattle.segment_paths.specs.Seen.{paths_seen}
-use Rattle.topo_reader.specs.Uses.{positions_of}
-use Rattle.area_changes.specs.Swept.{swept_by, swept_walks}
+use Rattle.grid_geometry.specs.Common.{edges}
+use Rattle.segment_paths.specs.Common.{paths_seen}
+use Rattle.topo_reader.specs.Common.{positions_of}
+use Rattle.area_changes.specs.Common.{swept_by, swept_walks}
 use Rattle.area_changes.proofs.Summing.{sum_more, sum_front, sum_at}
 use Rattle.area_changes.proofs.sweeping.swept_walks.Goals as goal
 

@@ -1,7 +1,8 @@
-use Rattle.std.proofs.Common.{◌≡◌, ◌≤◌, ◌*◌, map, take, length, sum_by}
-use Rattle.segment_paths.specs.Seen.{paths_seen}
-use Rattle.topo_reader.specs.Uses.{positions_of}
-use Rattle.area_changes.specs.Swept.{swept_walks}
+use Rattle.kit_words.proofs.Common.{◌≡◌, ◌≤◌, ◌*◌, map, take, length}
+use Rattle.std.proofs.Common.{sum_by}
+use Rattle.segment_paths.specs.Common.{paths_seen}
+use Rattle.topo_reader.specs.Common.{positions_of}
+use Rattle.area_changes.specs.Common.{swept_walks}
 use Rattle.area_changes.proofs.sweeping.swept_walks.Given as goal
 
 -- what the walks so far sweep over, and how much it may be

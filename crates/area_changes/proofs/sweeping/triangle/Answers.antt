@@ -1,7 +1,5 @@
-use Rattle.std.proofs.Common.{◌≡◌, ◌≤◌, ◌+◌, ◌-ℤ◌, unsigned_abs, arith, sym, ap, subst}
-use Rattle.std.proofs.lemmas.Int.{ints}
-use Rattle.grid_geometry.specs.Segment.{Segment}
-use Rattle.grid_geometry.specs.Orientation.{orientation}
+use Rattle.kit_words.proofs.Common.{◌≡◌, ◌≤◌, ◌+◌, ◌-ℤ◌, unsigned_abs, arith, sym, ap, subst, ints}
+use Rattle.grid_geometry.specs.Common.{Segment, orientation}
 use Rattle.area_changes.proofs.Triangles.{triangle_small}
 use Rattle.area_changes.proofs.sweeping.triangle.Goals as goal
 

@@ -1,10 +1,10 @@
-use Rattle.std.proofs.Common.{◌≡◌, Bool, true, false, ap, ap₂, ◌∙◌, rules, List, Some, codes}
+use Rattle.kit_words.proofs.Common.{◌≡◌, Bool, true, false, ap, ap₂, ◌∙◌, rules, List, Some, codes}
 use Rattle.clap.specs.Simple.{app_of_fields}
 use Rattle.clap.specs.Words.{Rule, app_of, new_app, new_rule, rule_of, with_rule}
 use Rattle.clap.specs.declared.builder.action.ArgAction.TheVariants.{Set}
 use Rattle.clap.specs.declared.builder.arg.Arg.{Arg}
-use Rattle.border_mend.specs.Asked.{map_rule, option_rule}
-use Rattle.program_ends.specs.Words.{with_version}
+use Rattle.border_mend.specs.Common.{map_rule, option_rule}
+use Rattle.program_ends.specs.Common.{with_version}
 use Rattle.border_mend.proofs.command_line.command.Goals as goal
 
 -- what each setting changes of what a parse reads; the help changes nothing of it

@@ -1,6 +1,6 @@
-use Rattle.std.proofs.Common.{rules, codes, refl}
-use Rattle.program_ends.proofs.WordLemmas.{word_is}
-use Rattle.border_mend.specs.Asked.{program}
+use Rattle.kit_words.proofs.Common.{rules, codes, refl}
+use Rattle.program_ends.proofs.Common.{word_is}
+use Rattle.border_mend.specs.Common.{program}
 use Rattle.border_mend.proofs.WordLemmas.{asked_is, places_is, copies_apart, files_apart}
 use Rattle.border_mend.proofs.command_line.words.Goals as goal
 

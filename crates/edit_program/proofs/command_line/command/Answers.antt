@@ -1,11 +1,10 @@
-use Rattle.std.proofs.Common.{◌≡◌, Bool, true, false, ap, ap₂, ◌∙◌, rules, ℕ, List, Some, codes}
-use Rattle.std.specs.Borrow.{Bor}
+use Rattle.kit_words.proofs.Common.{◌≡◌, Bool, true, false, ap, ap₂, ◌∙◌, rules, ℕ, List, Some, codes, Bor}
 use Rattle.clap.specs.Simple.{app_of_fields}
 use Rattle.clap.specs.Words.{Rule, app_of, new_app, new_rule, rule_of, with_rule}
 use Rattle.clap.specs.declared.builder.action.ArgAction.TheVariants.{Set, SetTrue}
 use Rattle.clap.specs.declared.builder.arg.Arg.{Arg}
-use Rattle.edit_program.specs.Asked.{map_rule, script_rule, out_rule, undo_rule, refused_rule, progress_rule}
-use Rattle.program_ends.specs.Words.{with_version}
+use Rattle.edit_program.specs.Common.{map_rule, script_rule, out_rule, undo_rule, refused_rule, progress_rule}
+use Rattle.program_ends.specs.Common.{with_version}
 use Rattle.edit_program.proofs.command_line.command.Goals as goal
 
 -- what each setting changes of what a parse reads; the help changes nothing of it

@@ -1,6 +1,6 @@
-use Rattle.std.proofs.Common.{rules, codes, refl}
-use Rattle.program_ends.proofs.WordLemmas.{word_is}
-use Rattle.edit_program.specs.Asked.{program}
+use Rattle.kit_words.proofs.Common.{rules, codes, refl}
+use Rattle.program_ends.proofs.Common.{word_is}
+use Rattle.edit_program.specs.Common.{program}
 use Rattle.edit_program.proofs.WordLemmas.{depth_is, refused_is, copies_apart, flag_is}
 use Rattle.edit_program.proofs.command_line.words.Goals as goal
 

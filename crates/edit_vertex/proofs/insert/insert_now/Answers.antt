@@ -1,12 +1,9 @@
-use Rattle.std.proofs.Common.{◌≡◌, ◌-◌, ◌<◌, ◌≤◌, true, refl, sym, ap, ◌∙◌, length, arith}
-use Rattle.std.proofs.lemmas.Result.{IfErr-weaker}
-use Rattle.grid_geometry.specs.Segment.{segment}
-use Rattle.ring_machine.specs.Parts.{size, is_segment}
-use Rattle.ring_machine.specs.Refusals.{first_of, insert_refusals}
-use Rattle.arc_store.specs.Faults.{Refuses}
-use Rattle.arc_store.specs.Spots.{users}
-use Rattle.arc_store.proofs.Outcomes.{is_refused}
-use Rattle.edit_vertex.specs.Untested.{is_early}
+use Rattle.kit_words.proofs.Common.{◌≡◌, ◌-◌, ◌<◌, ◌≤◌, true, refl, sym, ap, ◌∙◌, length, arith, IfErr-weaker}
+use Rattle.grid_geometry.specs.Common.{segment}
+use Rattle.ring_machine.specs.Common.{size, is_segment, first_of, insert_refusals}
+use Rattle.arc_store.specs.Common.{Refuses, users}
+use Rattle.arc_store.proofs.Common.{is_refused}
+use Rattle.edit_vertex.specs.Common.{is_early}
 use Rattle.edit_vertex.proofs.Late.{not_early}
 use Rattle.edit_vertex.proofs.Inserting.{used_times, used_border, unused_border, no_loop, size_fits}
 use Rattle.edit_vertex.proofs.Inserting.{insert_no_segment, insert_occupied, insert_too_large, insert_late}

@@ -1,9 +1,8 @@
-use Rattle.std.proofs.Common.{◌≡◌, true, refl, sym, ◌∙◌}
-use Rattle.std.proofs.lemmas.Result.{IfErr-weaker}
-use Rattle.ring_machine.specs.Refusals.{first_of, move_refusals}
-use Rattle.arc_store.specs.Faults.{Refuses}
-use Rattle.arc_store.proofs.Outcomes.{is_refused}
-use Rattle.edit_vertex.specs.Untested.{is_early}
+use Rattle.kit_words.proofs.Common.{◌≡◌, true, refl, sym, ◌∙◌, IfErr-weaker}
+use Rattle.ring_machine.specs.Common.{first_of, move_refusals}
+use Rattle.arc_store.specs.Common.{Refuses}
+use Rattle.arc_store.proofs.Common.{is_refused}
+use Rattle.edit_vertex.specs.Common.{is_early}
 use Rattle.edit_vertex.proofs.Late.{not_early}
 use Rattle.edit_vertex.proofs.Moving.{move_no_vertex, move_occupied, move_late}
 use Rattle.edit_vertex.proofs.moved.move_now.Goals as goal

@@ -1,18 +1,13 @@
-use Rattle.std.proofs.Common.{◌≡◌, ◌≤◌, ◌+◌, true, Some, refl, ap, subst, arith}
-use Rattle.std.specs.Prelude.{OnOk, IfErr}
-use Rattle.ring_machine.specs.Refusals.{first_of, move_refusals}
-use Rattle.ring_machine.specs.Sides.{KeepsSides}
-use Rattle.ring_machine.specs.Vertices.{put}
-use Rattle.ring_machine.proofs.Accepted.{moved}
-use Rattle.segment_index.specs.Times.{times_by}
-use Rattle.local_planarity.specs.Tests.{most_for_move}
-use Rattle.arc_store.specs.Outcomes.{Edits}
-use Rattle.arc_store.specs.Recorded.{IsRecorded}
-use Rattle.arc_store.specs.State.{State}
-use Rattle.arc_store.proofs.Outcomes.{holds_made, keeps_last}
-use Rattle.edit_vertex.specs.Untested.{is_early}
-use Rattle.edit_records.specs.Records.{Moved}
-use Rattle.edit_records.proofs.Recorded.{move-recorded}
+use Rattle.kit_words.proofs.Common.{◌≡◌, ◌≤◌, ◌+◌, true, Some, refl, ap, subst, arith, OnOk, IfErr}
+use Rattle.ring_machine.specs.Common.{first_of, move_refusals, KeepsSides, put}
+use Rattle.ring_machine.proofs.Common.{moved}
+use Rattle.segment_index.specs.Common.{times_by}
+use Rattle.local_planarity.specs.Common.{most_for_move}
+use Rattle.arc_store.specs.Common.{Edits, IsRecorded, State}
+use Rattle.arc_store.proofs.Common.{holds_made, keeps_last}
+use Rattle.edit_vertex.specs.Common.{is_early}
+use Rattle.edit_records.specs.Common.{Moved}
+use Rattle.edit_records.proofs.Common.{move-recorded}
 use Rattle.edit_vertex.proofs.moved.move_vertex.Goals as goal
 
 -- the beginning of an edit changes the count of tests, and forgets what took the last one back

@@ -1,5 +1,5 @@
-use Rattle.std.proofs.Common.{sym, ap, ◌∙◌, subst, arith, Some}
-use Rattle.arc_store.specs.Spots.{IsSpot}
+use Rattle.kit_words.proofs.Common.{sym, ap, ◌∙◌, subst, arith, Some}
+use Rattle.arc_store.specs.Common.{IsSpot}
 use Rattle.edit_vertex.proofs.Removing.{ordered_differ, bridged_is, rings_long, ring_short, remove_no_vertex}
 use Rattle.edit_vertex.proofs.Removing.{remove_junction, remove_short, remove_bridged}
 use Rattle.edit_vertex.proofs.remove.check_removal.Goals as goal

@@ -1,6 +1,5 @@
-use Rattle.std.proofs.Common.{ap, ◌∙◌}
-use Rattle.std.specs.Prelude.{nat_lt}
-use Rattle.ring_machine.specs.Parts.{is_segment}
+use Rattle.kit_words.proofs.Common.{ap, ◌∙◌, nat_lt}
+use Rattle.ring_machine.specs.Common.{is_segment}
 use Rattle.edit_vertex.proofs.Inserting.{segment_used}
 use Rattle.edit_vertex.proofs.remove.is_joined.Goals as goal
 

@@ -1,8 +1,7 @@
-use Rattle.std.proofs.Common.{◌≡◌, true}
-use Rattle.std.proofs.lemmas.Result.{IfErr-weaker}
-use Rattle.ring_machine.specs.Refusals.{first_of, remove_refusals}
-use Rattle.arc_store.specs.Faults.{Refuses}
-use Rattle.edit_vertex.specs.Untested.{is_early}
+use Rattle.kit_words.proofs.Common.{◌≡◌, true, IfErr-weaker}
+use Rattle.ring_machine.specs.Common.{first_of, remove_refusals}
+use Rattle.arc_store.specs.Common.{Refuses}
+use Rattle.edit_vertex.specs.Common.{is_early}
 use Rattle.edit_vertex.proofs.Late.{not_early}
 use Rattle.edit_vertex.proofs.Removing.{remove_late}
 use Rattle.edit_vertex.proofs.remove.remove_now.Goals as goal

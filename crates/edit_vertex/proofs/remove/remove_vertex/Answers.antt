@@ -1,16 +1,11 @@
-use Rattle.std.proofs.Common.{◌≡◌, ◌≤◌, ◌+◌, true, ap, subst, arith}
-use Rattle.std.specs.Prelude.{OnOk, IfErr}
-use Rattle.ring_machine.specs.Refusals.{first_of, remove_refusals}
-use Rattle.ring_machine.specs.Sides.{KeepsSides}
-use Rattle.ring_machine.specs.Vertices.{del}
-use Rattle.ring_machine.proofs.Accepted.{removed}
-use Rattle.segment_index.specs.Times.{times_by}
-use Rattle.local_planarity.specs.Tests.{most_for}
-use Rattle.arc_store.specs.Outcomes.{Edits}
-use Rattle.arc_store.specs.Recorded.{IsRecorded}
-use Rattle.arc_store.specs.State.{State}
-use Rattle.arc_store.proofs.Outcomes.{holds_made, keeps_last}
-use Rattle.edit_vertex.specs.Untested.{is_early}
+use Rattle.kit_words.proofs.Common.{◌≡◌, ◌≤◌, ◌+◌, true, ap, subst, arith, OnOk, IfErr}
+use Rattle.ring_machine.specs.Common.{first_of, remove_refusals, KeepsSides, del}
+use Rattle.ring_machine.proofs.Common.{removed}
+use Rattle.segment_index.specs.Common.{times_by}
+use Rattle.local_planarity.specs.Common.{most_for}
+use Rattle.arc_store.specs.Common.{Edits, IsRecorded, State}
+use Rattle.arc_store.proofs.Common.{holds_made, keeps_last}
+use Rattle.edit_vertex.specs.Common.{is_early}
 use Rattle.edit_vertex.proofs.Recording.{removal_recorded}
 use Rattle.edit_vertex.proofs.remove.remove_vertex.Goals as goal
 

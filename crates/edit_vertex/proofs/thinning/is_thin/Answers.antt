@@ -1,9 +1,7 @@
-use Rattle.std.proofs.Common.{◌≡◌, pos, unsigned_abs, sym, ap, ◌∙◌, subst, to_z, of_z, arith, Some}
-use Rattle.std.specs.Prelude.{int_le}
-use Rattle.std.specs.Int.{w128}
-use Rattle.std.proofs.lemmas.Int.{ints}
-use Rattle.grid_geometry.specs.Orientation.{orientation}
-use Rattle.arc_store.specs.Spots.{IsSpot}
+use Rattle.kit_words.proofs.Common.{◌≡◌, pos, unsigned_abs, sym, ap, ◌∙◌, subst, to_z, of_z, arith, Some, int_le, w128}
+use Rattle.kit_words.proofs.Common.{ints}
+use Rattle.grid_geometry.specs.Common.{orientation}
+use Rattle.arc_store.specs.Common.{IsSpot}
 use Rattle.edit_vertex.proofs.Passing.{thin_none, thin_junction, thin_between}
 use Rattle.edit_vertex.proofs.thinning.is_thin.Goals as goal
 

@@ -1,17 +1,10 @@
-use Rattle.std.proofs.Common.{◌≡◌, ◌≤◌, ◌+◌, refl, sym, ap, ◌∙◌, subst, take, to_z, of_z, arith}
-use Rattle.std.specs.Int.{w128}
-use Rattle.std.proofs.lemmas.Int.{ints}
-use Rattle.std.specs.List.{fold}
-use Rattle.std.proofs.lemmas.Grind.{common_steps}
-use Rattle.std.proofs.lemmas.List.{take_all}
-use Rattle.ring_machine.specs.Planar.{Proper}
-use Rattle.ring_machine.specs.Query.{vertices}
-use Rattle.ring_machine.specs.Sides.{KeepsSides}
-use Rattle.ring_machine.specs.Thin.{Thinning, thin_at, thinned}
-use Rattle.ring_machine.proofs.Accepted.{thinned-keeps}
-use Rattle.segment_index.specs.Times.{times_by}
-use Rattle.arc_store.specs.State.{State}
-use Rattle.edit_vertex.specs.Tested.{most_at, most_over, most_for_thin}
+use Rattle.kit_words.proofs.Common.{◌≡◌, ◌≤◌, ◌+◌, refl, sym, ap, ◌∙◌, subst, take, to_z, of_z, arith, w128, ints, fold}
+use Rattle.kit_words.proofs.Common.{common_steps, take_all}
+use Rattle.ring_machine.specs.Common.{Proper, vertices, KeepsSides, Thinning, thin_at, thinned}
+use Rattle.ring_machine.proofs.Common.{thinned-keeps}
+use Rattle.segment_index.specs.Common.{times_by}
+use Rattle.arc_store.specs.Common.{State}
+use Rattle.edit_vertex.specs.Common.{most_at, most_over, most_for_thin}
 use Rattle.edit_vertex.proofs.Passing.{with_count, most_more, most_part}
 use Rattle.edit_vertex.proofs.SidesKept.{same_keeps, part_keeps}
 use Rattle.edit_vertex.proofs.ThinKept.{IsCount, none_left, thinning_kept, one_counted, as_counted}

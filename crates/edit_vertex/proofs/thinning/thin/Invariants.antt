@@ -1,10 +1,7 @@
-use Rattle.std.proofs.Common.{◌≡◌, ◌≤◌, take}
-use Rattle.std.specs.List.{fold}
-use Rattle.ring_machine.specs.Planar.{Proper}
-use Rattle.ring_machine.specs.Thin.{thin_at}
-use Rattle.segment_index.specs.Times.{times_by}
-use Rattle.edit_vertex.specs.Kept.{IsThinnedFrom}
-use Rattle.edit_vertex.specs.Tested.{most_over}
+use Rattle.kit_words.proofs.Common.{◌≡◌, ◌≤◌, take, fold}
+use Rattle.ring_machine.specs.Common.{Proper, thin_at}
+use Rattle.segment_index.specs.Common.{times_by}
+use Rattle.edit_vertex.specs.Common.{IsThinnedFrom, most_over}
 use Rattle.edit_vertex.proofs.Passing.{with_count}
 use Rattle.edit_vertex.proofs.ThinKept.{IsCount}
 use Rattle.edit_vertex.proofs.thinning.thin.Given as goal

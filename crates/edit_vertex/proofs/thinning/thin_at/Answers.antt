@@ -1,11 +1,8 @@
-use Rattle.std.proofs.Common.{◌≡◌, sym, ap, ◌∙◌, subst, to_z, of_z, arith}
-use Rattle.std.specs.Int.{w128}
-use Rattle.std.proofs.lemmas.Int.{ints}
-use Rattle.std.proofs.lemmas.Bool.{false≢true}
-use Rattle.ring_machine.specs.Planar.{Proper}
-use Rattle.ring_machine.proofs.Accepted.{removed}
-use Rattle.segment_index.specs.Times.{times_by}
-use Rattle.arc_store.specs.State.{State}
+use Rattle.kit_words.proofs.Common.{◌≡◌, sym, ap, ◌∙◌, subst, to_z, of_z, arith, w128, ints, false≢true}
+use Rattle.ring_machine.specs.Common.{Proper}
+use Rattle.ring_machine.proofs.Common.{removed}
+use Rattle.segment_index.specs.Common.{times_by}
+use Rattle.arc_store.specs.Common.{State}
 use Rattle.edit_vertex.proofs.Passing.{is_thin, thin_gone, thin_refused, thin_passed, most_thin}
 use Rattle.edit_vertex.proofs.ThinKept.{left_one, left_as_is}
 use Rattle.edit_vertex.proofs.thinning.thin_at.Goals as goal

@@ -1,4 +1,4 @@
-use Rattle.std.proofs.Common.{arith}
+use Rattle.kit_words.proofs.Common.{arith}
 use Rattle.exact_decimals.proofs.Powers.{power_mono}
 use Rattle.exact_decimals.proofs.digits.power_of_ten.Goals as goal
 

@@ -1,4 +1,4 @@
-use Rattle.std.proofs.Common.{◌≡◌, ◌+◌, ◌*◌, ◌-◌, get_or, arith}
+use Rattle.kit_words.proofs.Common.{◌≡◌, ◌+◌, ◌*◌, ◌-◌, get_or, arith}
 use Rattle.json_spans.proofs.Decimal.{value_turn, value_large, value_end}
 use Rattle.exact_decimals.proofs.digits.read_digits.Goals as goal
 

@@ -1,5 +1,5 @@
-use Rattle.std.proofs.Common.{◌≡◌, ◌<◌, ◌^◌, drop}
-use Rattle.json_spans.specs.Whole.{value_from}
+use Rattle.kit_words.proofs.Common.{◌≡◌, ◌<◌, ◌^◌, drop}
+use Rattle.json_spans.specs.Common.{value_from}
 use Rattle.exact_decimals.proofs.digits.read_digits.Given as goal
 
 abbrev pub invariant-loop-x : goal.invariant-loop-x

@@ -1,4 +1,4 @@
-use Rattle.std.proofs.Common.{◌+◌, ◌≤◌, arith}
+use Rattle.kit_words.proofs.Common.{◌+◌, ◌≤◌, arith}
 use Rattle.exact_decimals.proofs.Powers.{scaled_mono, scaled_more}
 use Rattle.exact_decimals.proofs.digits.with_zeros.Goals as goal
 

@@ -1,4 +1,4 @@
-use Rattle.std.proofs.Common.{◌≡◌, ◌<◌, ◌*◌, ◌^◌}
+use Rattle.kit_words.proofs.Common.{◌≡◌, ◌<◌, ◌*◌, ◌^◌}
 use Rattle.exact_decimals.proofs.digits.with_zeros.Given as goal
 
 abbrev pub invariant-loop : goal.invariant-loop

@@ -1,7 +1,6 @@
-use Rattle.std.proofs.Common.{◌≡◌, ℕ, ◌%◌, ◌^◌, sym, ap, ap₂, ◌∙◌, arith}
-use Rattle.std.specs.Prelude.{unsigned_abs}
+use Rattle.kit_words.proofs.Common.{◌≡◌, ℕ, ◌%◌, ◌^◌, sym, ap, ap₂, ◌∙◌, arith, unsigned_abs}
 use Rattle.std.proofs.Math.Facts.{to_z-of_z}
-use Rattle.exact_decimals.specs.Fine.{zeros_behind}
+use Rattle.exact_decimals.specs.Common.{zeros_behind}
 use Rattle.exact_decimals.proofs.Zeros.{zeros_step, zeros_none, zeros_all}
 use Rattle.exact_decimals.proofs.fine.decimals.Goals as goal
 

@@ -1,6 +1,5 @@
-use Rattle.std.proofs.Common.{◌≡◌, ◌+◌, ◌≤◌}
-use Rattle.std.specs.Prelude.{unsigned_abs}
-use Rattle.exact_decimals.specs.Fine.{zeros_behind}
+use Rattle.kit_words.proofs.Common.{◌≡◌, ◌+◌, ◌≤◌, unsigned_abs}
+use Rattle.exact_decimals.specs.Common.{zeros_behind}
 use Rattle.exact_decimals.proofs.fine.decimals.Given as goal
 
 -- what is taken off so far and what can still be are all zeros behind the number

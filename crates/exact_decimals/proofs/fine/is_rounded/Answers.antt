@@ -1,4 +1,4 @@
-use Rattle.std.proofs.Common.{◌-◌, arith}
+use Rattle.kit_words.proofs.Common.{◌-◌, arith}
 use Rattle.exact_decimals.proofs.Powers.{power_pos}
 use Rattle.exact_decimals.proofs.fine.is_rounded.Goals as goal
 

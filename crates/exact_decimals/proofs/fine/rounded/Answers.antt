@@ -1,4 +1,4 @@
-use Rattle.std.proofs.Common.{◌-◌, ◌∙◌, arith}
+use Rattle.kit_words.proofs.Common.{◌-◌, ◌∙◌, arith}
 use Rattle.exact_decimals.proofs.Rounding.{rounded_within, small_units, twice_is, doubled_fits, sum_fits, quotient_is, cast_fits, cast_is}
 use Rattle.exact_decimals.proofs.Powers.{power_pos}
 use Rattle.exact_decimals.proofs.fine.rounded.Goals as goal

@@ -1,5 +1,4 @@
-use Rattle.exact_decimals.specs.Decimal.{parts_of}
-use Rattle.exact_decimals.specs.Seen.{parts}
+use Rattle.exact_decimals.specs.Common.{parts_of, parts}
 use Rattle.exact_decimals.proofs.Numbers.{number_long, none_seen}
 use Rattle.exact_decimals.proofs.reading.decimal_of.Goals as goal
 

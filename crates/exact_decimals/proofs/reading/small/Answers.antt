@@ -1,5 +1,5 @@
-use Rattle.std.proofs.Common.{◌≡◌, ◌≤◌, length, arith}
-use Rattle.json_spans.specs.Whole.{digits_len}
+use Rattle.kit_words.proofs.Common.{◌≡◌, ◌≤◌, length, arith}
+use Rattle.json_spans.specs.Common.{digits_len}
 use Rattle.exact_decimals.proofs.Values.{small_value}
 use Rattle.exact_decimals.proofs.reading.small.Goals as goal
 

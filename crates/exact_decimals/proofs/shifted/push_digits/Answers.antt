@@ -1,6 +1,5 @@
-use Rattle.std.proofs.Common.{◌++◌, sym, ◌∙◌}
-use Rattle.std.specs.Prelude.{codes}
-use Rattle.exact_decimals.specs.Shifted.{without_zeros, or_zero}
+use Rattle.kit_words.proofs.Common.{◌++◌, sym, ◌∙◌, codes}
+use Rattle.exact_decimals.specs.Common.{without_zeros, or_zero}
 use Rattle.exact_decimals.proofs.Leading.{first_led, second_led, zeros_alone}
 use Rattle.exact_decimals.proofs.Appending.{last, last_of_two}
 use Rattle.exact_decimals.proofs.shifted.push_digits.Goals as goal

@@ -1,7 +1,5 @@
-use Rattle.std.proofs.Common.{rules, ◌++◌, ◌<◌, ◌^◌, length}
-use Rattle.std.specs.Prelude.{pos, ◌-ℤ◌, codes}
-use Rattle.std.specs.Fmt.{signed_decimal}
-use Rattle.exact_decimals.specs.Shifted.{sign_text, without_zeros, or_zero}
+use Rattle.kit_words.proofs.Common.{rules, ◌++◌, ◌<◌, ◌^◌, length, pos, ◌-ℤ◌, codes, signed_decimal}
+use Rattle.exact_decimals.specs.Common.{sign_text, without_zeros, or_zero}
 use Rattle.exact_decimals.proofs.Appending.{three}
 use Rattle.exact_decimals.proofs.Power.{power_text}
 use Rattle.exact_decimals.proofs.shifted.push_shifted.Goals as goal

@@ -1,6 +1,5 @@
-use Rattle.std.proofs.Common.{◌≡◌, ◌+◌, drop}
-use Rattle.std.specs.List.{prefix_len}
-use Rattle.json_spans.specs.Whole.{is_zero}
+use Rattle.kit_words.proofs.Common.{◌≡◌, ◌+◌, drop, prefix_len}
+use Rattle.json_spans.specs.Common.{is_zero}
 use Rattle.exact_decimals.proofs.shifted.without_zeros.Given as goal
 
 abbrev pub invariant-loop-i : goal.invariant-loop-i

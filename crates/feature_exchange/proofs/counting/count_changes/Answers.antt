@@ -1,7 +1,6 @@
-use Rattle.std.proofs.Common.{ap, ◌∙◌, arith}
-use Rattle.std.proofs.lemmas.List.{take_all}
-use Rattle.edit_records.specs.Sizes.{weights}
-use Rattle.feature_exchange.specs.Changed.{seen}
+use Rattle.kit_words.proofs.Common.{ap, ◌∙◌, arith, take_all}
+use Rattle.edit_records.specs.Common.{weights}
+use Rattle.feature_exchange.specs.Common.{seen}
 use Rattle.feature_exchange.proofs.ChangesCounted.{weight_any, seen_few, seen_more}
 use Rattle.feature_exchange.proofs.counting.count_changes.Goals as goal
 

@@ -1,6 +1,6 @@
-use Rattle.std.proofs.Common.{◌≡◌, take}
-use Rattle.edit_records.specs.Sizes.{weights}
-use Rattle.feature_exchange.specs.Changed.{seen}
+use Rattle.kit_words.proofs.Common.{◌≡◌, take}
+use Rattle.edit_records.specs.Common.{weights}
+use Rattle.feature_exchange.specs.Common.{seen}
 use Rattle.feature_exchange.proofs.counting.count_changes.Given as goal
 
 -- those of the changes so far

@@ -1,8 +1,7 @@
-use Rattle.std.proofs.Common.{sym, ap, ◌∙◌, length, option_map, arith}
-use Rattle.std.specs.List.{sum_by}
-use Rattle.ring_parts.specs.Seen.{polygons_seen}
-use Rattle.edit_records.specs.Sizes.{weight}
-use Rattle.feature_exchange.specs.Changed.{feature_seen}
+use Rattle.kit_words.proofs.Common.{sym, ap, ◌∙◌, length, option_map, arith, sum_by}
+use Rattle.ring_parts.specs.Common.{polygons_seen}
+use Rattle.edit_records.specs.Common.{weight}
+use Rattle.feature_exchange.specs.Common.{feature_seen}
 use Rattle.feature_exchange.proofs.ChangesCounted.{weight_polygons}
 use Rattle.feature_exchange.proofs.counting.count_feature.Goals as goal
 

@@ -1,7 +1,6 @@
-use Rattle.std.proofs.Common.{◌∷◌, [], sym, ap, ◌∙◌, subst}
-use Rattle.std.proofs.lemmas.List.{get_or_read}
-use Rattle.map_frame.specs.Numbers.{feature_numbers}
-use Rattle.feature_exchange.specs.Ready.{numbered, put_in, IsReady}
+use Rattle.kit_words.proofs.Common.{◌∷◌, [], sym, ap, ◌∙◌, subst, get_or_read}
+use Rattle.map_frame.specs.Common.{feature_numbers}
+use Rattle.feature_exchange.specs.Common.{numbered, put_in, IsReady}
 use Rattle.feature_exchange.proofs.exchanging.exchange_at.Goals as goal
 
 pub exchange_one-requires : goal.exchange_one-requires

@@ -1,5 +1,5 @@
-use Rattle.std.proofs.Common.{◌≡◌, ◌+◌, ◌-◌, ◌++◌, sym, ap, ◌∙◌, subst, refl, arith, option_to_list}
-use Rattle.feature_exchange.specs.Ready.{change_had}
+use Rattle.kit_words.proofs.Common.{◌≡◌, ◌+◌, ◌-◌, ◌++◌, sym, ap, ◌∙◌, subst, refl, arith, option_to_list}
+use Rattle.feature_exchange.specs.Common.{change_had}
 use Rattle.feature_exchange.proofs.EachExchanged.{Halfway, halfway_first, step_ready, halfway_step, change_is, last, halfway_frame, halfway_had}
 use Rattle.feature_exchange.proofs.exchanging.exchange_each.Goals as goal
 

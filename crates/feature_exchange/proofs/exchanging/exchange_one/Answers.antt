@@ -1,5 +1,5 @@
-use Rattle.std.proofs.Common.{◌<◌, sym, ap, ◌∙◌, subst}
-use Rattle.map_frame.specs.Framed.{Framed}
+use Rattle.kit_words.proofs.Common.{◌<◌, sym, ap, ◌∙◌, subst}
+use Rattle.map_frame.specs.Common.{Framed}
 use Rattle.feature_exchange.proofs.EachExchanged.{one_fits, one_room, one_put, one_taken, one_free}
 use Rattle.feature_exchange.proofs.exchanging.exchange_one.Goals as goal
 

@@ -1,6 +1,5 @@
-use Rattle.std.proofs.Common.{◌<◌, sym, ap, ◌∙◌, subst}
-use Rattle.map_frame.specs.Naming.{IsOf}
-use Rattle.map_frame.specs.Framed.{Framed}
+use Rattle.kit_words.proofs.Common.{◌<◌, sym, ap, ◌∙◌, subst}
+use Rattle.map_frame.specs.Common.{IsOf, Framed}
 use Rattle.feature_exchange.proofs.exchanging.make_room.Goals as goal
 
 pub returns-in-Ok-clause-room : goal.returns-in-Ok-clause-room

@@ -1,9 +1,8 @@
-use Rattle.std.proofs.Common.{◌≡◌, true, map, take, refl, sym, subst}
-use Rattle.std.specs.List.{flat_map, list_all}
-use Rattle.ring_machine.specs.Ring.{is_ring}
-use Rattle.map_frame.specs.Numbers.{feature_numbers}
-use Rattle.ring_store.proofs.Pushed.{map_more}
-use Rattle.feature_exchange.specs.Laying.{asked, asked_rings}
+use Rattle.kit_words.proofs.Common.{◌≡◌, true, map, take, refl, sym, subst, flat_map, list_all}
+use Rattle.ring_machine.specs.Common.{is_ring}
+use Rattle.map_frame.specs.Common.{feature_numbers}
+use Rattle.ring_store.proofs.Common.{map_more}
+use Rattle.feature_exchange.specs.Common.{asked, asked_rings}
 use Rattle.feature_exchange.proofs.LaidBeside.{laid_twice}
 use Rattle.feature_exchange.proofs.LaidSoFar.{so_far_first, so_far_more, feature_agree, all_here}
 use Rattle.feature_exchange.proofs.laying.lay_features.Goals as goal

@@ -1,7 +1,6 @@
-use Rattle.std.proofs.Common.{map, take}
-use Rattle.std.specs.List.{flat_map}
-use Rattle.map_frame.specs.Numbers.{feature_numbers}
-use Rattle.feature_exchange.specs.Laying.{asked}
+use Rattle.kit_words.proofs.Common.{map, take, flat_map}
+use Rattle.map_frame.specs.Common.{feature_numbers}
+use Rattle.feature_exchange.specs.Common.{asked}
 use Rattle.feature_exchange.proofs.LaidSoFar.{SoFar}
 use Rattle.feature_exchange.proofs.laying.lay_features.Given as goal
 

@@ -1,11 +1,8 @@
-use Rattle.std.proofs.Common.{◌≡◌, true, map, take, sym, ap, ◌∙◌, subst}
-use Rattle.std.specs.List.{list_all}
-use Rattle.std.proofs.lemmas.List.{map_push}
-use Rattle.std.proofs.lemmas.List.Folds.{flat_map-map}
-use Rattle.ring_machine.specs.Ring.{is_ring}
-use Rattle.map_frame.specs.Numbers.{polygon_numbers}
-use Rattle.ring_store.proofs.Pushed.{map_more}
-use Rattle.ring_parts.specs.Seen.{rings_seen, polygons_seen}
+use Rattle.kit_words.proofs.Common.{◌≡◌, true, map, take, sym, ap, ◌∙◌, subst, list_all, map_push, flat_map-map}
+use Rattle.ring_machine.specs.Common.{is_ring}
+use Rattle.map_frame.specs.Common.{polygon_numbers}
+use Rattle.ring_store.proofs.Common.{map_more}
+use Rattle.ring_parts.specs.Common.{rings_seen, polygons_seen}
 use Rattle.feature_exchange.proofs.LaidBeside.{laid_twice}
 use Rattle.feature_exchange.proofs.LaidSoFar.{so_far_more, polygon_agree, all_here}
 use Rattle.feature_exchange.proofs.laying.lay_polygons.Goals as goal

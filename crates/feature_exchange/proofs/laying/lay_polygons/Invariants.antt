@@ -1,6 +1,6 @@
-use Rattle.std.proofs.Common.{map, take}
-use Rattle.map_frame.specs.Numbers.{polygon_numbers}
-use Rattle.ring_parts.specs.Seen.{polygons_seen}
+use Rattle.kit_words.proofs.Common.{map, take}
+use Rattle.map_frame.specs.Common.{polygon_numbers}
+use Rattle.ring_parts.specs.Common.{polygons_seen}
 use Rattle.feature_exchange.proofs.LaidSoFar.{SoFar}
 use Rattle.feature_exchange.proofs.laying.lay_polygons.Given as goal
 

@@ -1,4 +1,4 @@
-use Rattle.std.proofs.Common.{sym, subst, Contains}
+use Rattle.kit_words.proofs.Common.{sym, subst, Contains}
 use Rattle.feature_exchange.proofs.RingAround.{among_cons}
 use Rattle.feature_exchange.proofs.MarkedRing.{keys_turned, start_within}
 use Rattle.feature_exchange.proofs.marked_ring.least_start.Goals as goal

@@ -1,6 +1,6 @@
-use Rattle.std.proofs.Common.{◌≡◌, ◌++◌, map, take}
-use Rattle.vertex_index.specs.Placement.{place}
-use Rattle.feature_exchange.specs.Marked.{meets}
+use Rattle.kit_words.proofs.Common.{◌≡◌, ◌++◌, map, take}
+use Rattle.vertex_index.specs.Common.{place}
+use Rattle.feature_exchange.specs.Common.{meets}
 use Rattle.feature_exchange.proofs.marked_ring.push_marked.Given as goal
 
 abbrev pub invariant-loop-k : goal.invariant-loop-k

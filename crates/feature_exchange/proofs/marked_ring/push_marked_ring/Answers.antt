@@ -1,10 +1,10 @@
-use Rattle.std.proofs.Common.{◌≡◌, List, ℕ, arith, sym, ap, ◌∙◌, subst, ◌++◌, map, take, drop, length, Contains, true}
+use Rattle.kit_words.proofs.Common.{◌≡◌, List, ℕ, arith, sym, ap, ◌∙◌, subst, ◌++◌, map, take, drop, length, Contains}
+use Rattle.kit_words.proofs.Common.{true}
 use Rattle.std.specs.FinMap as table
-use Rattle.ring_machine.specs.Ring.{canonical}
-use Rattle.vertex_index.specs.Placement.{place}
-use Rattle.arc_tables.specs.Rings.{begins}
-use Rattle.feature_exchange.specs.Marked.{meets}
-use Rattle.feature_exchange.specs.Stored.{edges_under}
+use Rattle.ring_machine.specs.Common.{canonical}
+use Rattle.vertex_index.specs.Common.{place}
+use Rattle.arc_tables.specs.Common.{begins}
+use Rattle.feature_exchange.specs.Common.{meets, edges_under}
 use Rattle.feature_exchange.proofs.PolygonsRead.{keys_found}
 use Rattle.feature_exchange.proofs.MarkedRing.{walk_found, walk_there, marked_parts}
 use Rattle.feature_exchange.proofs.marked_ring.push_marked_ring.Goals as goal

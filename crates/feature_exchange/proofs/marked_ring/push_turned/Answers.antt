@@ -1,5 +1,5 @@
-use Rattle.vertex_index.specs.Placement.{place}
-use Rattle.feature_exchange.specs.Marked.{meets}
+use Rattle.vertex_index.specs.Common.{place}
+use Rattle.feature_exchange.specs.Common.{meets}
 use Rattle.feature_exchange.proofs.MarkedRing.{appended_parts}
 use Rattle.feature_exchange.proofs.marked_ring.push_turned.Goals as goal
 

@@ -1,4 +1,4 @@
-use Rattle.std.proofs.Common.{◌≡◌, ◌++◌, subst, OnOk}
+use Rattle.kit_words.proofs.Common.{◌≡◌, ◌++◌, subst, OnOk}
 use Rattle.feature_exchange.proofs.Under.{numbers_read}
 use Rattle.feature_exchange.proofs.numbers.push_feature.Goals as goal
 

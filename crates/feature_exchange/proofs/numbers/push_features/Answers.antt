@@ -1,7 +1,5 @@
-use Rattle.std.proofs.Common.{◌++◌, ◌∙◌, ap}
-use Rattle.std.specs.List.{flat_map}
-use Rattle.std.proofs.lemmas.List.{take_all}
-use Rattle.feature_exchange.specs.Under.{rings_under}
+use Rattle.kit_words.proofs.Common.{◌++◌, ◌∙◌, ap, flat_map, take_all}
+use Rattle.feature_exchange.specs.Common.{rings_under}
 use Rattle.feature_exchange.proofs.numbers.push_features.Goals as goal
 
 pub returns : goal.returns

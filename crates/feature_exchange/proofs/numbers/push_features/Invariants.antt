@@ -1,6 +1,5 @@
-use Rattle.std.proofs.Common.{◌≡◌, ◌++◌, take}
-use Rattle.std.specs.List.{flat_map}
-use Rattle.feature_exchange.specs.Under.{rings_under}
+use Rattle.kit_words.proofs.Common.{◌≡◌, ◌++◌, take, flat_map}
+use Rattle.feature_exchange.specs.Common.{rings_under}
 use Rattle.feature_exchange.proofs.numbers.push_features.Given as goal
 
 -- the numbers of the features so far

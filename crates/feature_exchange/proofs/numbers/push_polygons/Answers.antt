@@ -1,7 +1,5 @@
-use Rattle.std.proofs.Common.{◌++◌, ◌∙◌, sym, ap, take, append_assoc}
-use Rattle.std.specs.List.{flat_map}
-use Rattle.std.proofs.lemmas.List.{append-nil, take_all}
-use Rattle.map_frame.specs.Numbers.{polygon_numbers}
+use Rattle.kit_words.proofs.Common.{◌++◌, ◌∙◌, sym, ap, take, append_assoc, flat_map, append-nil, take_all}
+use Rattle.map_frame.specs.Common.{polygon_numbers}
 use Rattle.feature_exchange.proofs.KeyLists.{flat_more}
 use Rattle.feature_exchange.proofs.numbers.push_polygons.Goals as goal
 

@@ -1,4 +1,4 @@
-use Rattle.map_frame.specs.Numbers.{polygon_numbers}
+use Rattle.map_frame.specs.Common.{polygon_numbers}
 use Rattle.feature_exchange.proofs.KeyLists.{part_held}
 use Rattle.feature_exchange.proofs.reading.feature_positions.Goals as goal
 

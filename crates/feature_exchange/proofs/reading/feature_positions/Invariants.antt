@@ -1,7 +1,7 @@
-use Rattle.std.proofs.Common.{◌≡◌, map, take}
-use Rattle.map_frame.specs.Numbers.{polygon_numbers}
-use Rattle.ring_parts.specs.Seen.{polygons_seen}
-use Rattle.feature_exchange.specs.Along.{ring_in}
+use Rattle.kit_words.proofs.Common.{◌≡◌, map, take}
+use Rattle.map_frame.specs.Common.{polygon_numbers}
+use Rattle.ring_parts.specs.Common.{polygons_seen}
+use Rattle.feature_exchange.specs.Common.{ring_in}
 use Rattle.feature_exchange.proofs.reading.feature_positions.Given as goal
 
 -- the polygons so far

@@ -1,6 +1,6 @@
-use Rattle.std.proofs.Common.{◌≡◌, map, take}
-use Rattle.ring_parts.specs.Seen.{rings_seen}
-use Rattle.feature_exchange.specs.Along.{ring_in}
+use Rattle.kit_words.proofs.Common.{◌≡◌, map, take}
+use Rattle.ring_parts.specs.Common.{rings_seen}
+use Rattle.feature_exchange.specs.Common.{ring_in}
 use Rattle.feature_exchange.proofs.reading.polygon_positions.Given as goal
 
 -- the rings so far

@@ -1,6 +1,5 @@
-use Rattle.std.proofs.Common.{◌≡◌, ◌≤◌, ◌+◌, length, map, take}
-use Rattle.std.specs.Prelude.{vec_len, vec_capacity}
-use Rattle.vertex_index.specs.Placement.{place}
+use Rattle.kit_words.proofs.Common.{◌≡◌, ◌≤◌, ◌+◌, length, map, take, vec_len, vec_capacity}
+use Rattle.vertex_index.specs.Common.{place}
 use Rattle.feature_exchange.proofs.reading.positions_under.Given as goal
 
 -- the positions so far, and there is room for the others

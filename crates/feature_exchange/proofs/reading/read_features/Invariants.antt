@@ -1,7 +1,7 @@
-use Rattle.std.proofs.Common.{◌≡◌, map, take}
-use Rattle.ring_machine.specs.Refusals.{feature_at}
-use Rattle.ring_parts.specs.Seen.{polygons_seen}
-use Rattle.feature_exchange.specs.Stored.{stored, document_of}
+use Rattle.kit_words.proofs.Common.{◌≡◌, map, take}
+use Rattle.ring_machine.specs.Common.{feature_at}
+use Rattle.ring_parts.specs.Common.{polygons_seen}
+use Rattle.feature_exchange.specs.Common.{stored, document_of}
 use Rattle.feature_exchange.proofs.reading.read_features.Given as goal
 
 -- the polygons of the features so far

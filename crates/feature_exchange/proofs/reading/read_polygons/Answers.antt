@@ -1,8 +1,7 @@
-use Rattle.std.proofs.Common.{◌≡◌, sym, ap, ◌∙◌, subst, map, option_map}
-use Rattle.std.specs.Prelude.{IfOk}
-use Rattle.map_frame.specs.Numbers.{polygon_numbers}
-use Rattle.ring_parts.specs.Seen.{polygons_seen}
-use Rattle.feature_exchange.specs.Stored.{stored}
+use Rattle.kit_words.proofs.Common.{◌≡◌, sym, ap, ◌∙◌, subst, map, option_map, IfOk}
+use Rattle.map_frame.specs.Common.{polygon_numbers}
+use Rattle.ring_parts.specs.Common.{polygons_seen}
+use Rattle.feature_exchange.specs.Common.{stored}
 use Rattle.feature_exchange.proofs.PolygonsRead.{along, numbers_held, polygons_read, no_polygons}
 use Rattle.feature_exchange.proofs.reading.read_polygons.Goals as goal
 

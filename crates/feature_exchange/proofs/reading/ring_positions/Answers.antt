@@ -1,8 +1,7 @@
-use Rattle.std.proofs.Common.{◌≡◌, ℕ, true, sym, ap, ◌∙◌, subst, map, Contains}
-use Rattle.std.specs.Prelude.{IfOk}
+use Rattle.kit_words.proofs.Common.{◌≡◌, ℕ, true, sym, ap, ◌∙◌, subst, map, Contains, IfOk}
 use Rattle.std.specs.FinMap as table
-use Rattle.ring_machine.specs.Ring.{canonical}
-use Rattle.vertex_index.specs.Placement.{place}
+use Rattle.ring_machine.specs.Common.{canonical}
+use Rattle.vertex_index.specs.Common.{place}
 use Rattle.feature_exchange.proofs.PolygonsRead.{keys_found}
 use Rattle.feature_exchange.proofs.reading.ring_positions.Goals as goal
 

@@ -1,6 +1,5 @@
-use Rattle.std.proofs.Common.{arith, refl, sym, ap, [], ◌∷◌, cond, length, true, false}
-use Rattle.std.proofs.lemmas.List.{length-append}
-use Rattle.ring_machine.proofs.Order.{position_eq-refl}
+use Rattle.kit_words.proofs.Common.{arith, refl, sym, ap, [], ◌∷◌, cond, length, true, false, length-append}
+use Rattle.ring_machine.proofs.Common.{position_eq-refl}
 use Rattle.feature_exchange.proofs.RingAround.{tested_lt, lower_key, no_lower_key}
 use Rattle.feature_exchange.proofs.ring_iter.least_place.Goals as goal
 use Rattle.feature_exchange.proofs.ring_iter.least_place.Goals.{then-lt, else-lt}

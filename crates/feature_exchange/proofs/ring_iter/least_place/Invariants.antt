@@ -1,4 +1,4 @@
-use Rattle.std.proofs.Common.{◌≡◌, ◌<◌, ◌+◌, length}
+use Rattle.kit_words.proofs.Common.{◌≡◌, ◌<◌, ◌+◌, length}
 use Rattle.feature_exchange.proofs.RingAround.{IsLowest}
 use Rattle.feature_exchange.proofs.ring_iter.least_place.Given as goal
 

@@ -1,4 +1,4 @@
-use Rattle.std.proofs.Common.{◌≡◌, drop}
+use Rattle.kit_words.proofs.Common.{◌≡◌, drop}
 use Rattle.feature_exchange.proofs.ring_iter.skip.Given as goal
 
 abbrev pub invariant-loop : goal.invariant-loop

@@ -1,5 +1,5 @@
-use Rattle.std.proofs.Common.{sym, ap, ◌∙◌, arith, map, option_map}
-use Rattle.map_frame.specs.Numbers.{polygon_numbers}
+use Rattle.kit_words.proofs.Common.{sym, ap, ◌∙◌, arith, map, option_map}
+use Rattle.map_frame.specs.Common.{polygon_numbers}
 use Rattle.feature_exchange.proofs.KeysByNumber.{feature_more, no_feature_more, at_held, all_along}
 use Rattle.feature_exchange.proofs.Under.{numbers_read}
 use Rattle.feature_exchange.proofs.vertex_list.all_keys.Goals as goal

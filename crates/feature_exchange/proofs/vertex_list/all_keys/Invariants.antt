@@ -1,5 +1,4 @@
-use Rattle.std.proofs.Common.{◌≡◌}
-use Rattle.std.specs.List.{flat_map}
+use Rattle.kit_words.proofs.Common.{◌≡◌, flat_map}
 use Rattle.feature_exchange.proofs.KeyLists.{keys_of}
 use Rattle.feature_exchange.proofs.KeysByNumber.{rings_below}
 use Rattle.feature_exchange.proofs.vertex_list.all_keys.Given as goal

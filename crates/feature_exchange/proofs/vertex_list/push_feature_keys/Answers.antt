@@ -1,4 +1,4 @@
-use Rattle.map_frame.specs.Numbers.{polygon_numbers}
+use Rattle.map_frame.specs.Common.{polygon_numbers}
 use Rattle.feature_exchange.proofs.KeyLists.{part_held, part_more}
 use Rattle.feature_exchange.proofs.vertex_list.push_feature_keys.Goals as goal
 

@@ -1,6 +1,5 @@
-use Rattle.std.proofs.Common.{◌≡◌, ◌++◌, take}
-use Rattle.std.specs.List.{flat_map}
-use Rattle.map_frame.specs.Numbers.{polygon_numbers}
+use Rattle.kit_words.proofs.Common.{◌≡◌, ◌++◌, take, flat_map}
+use Rattle.map_frame.specs.Common.{polygon_numbers}
 use Rattle.feature_exchange.proofs.KeyLists.{keys_of}
 use Rattle.feature_exchange.proofs.vertex_list.push_feature_keys.Given as goal
 

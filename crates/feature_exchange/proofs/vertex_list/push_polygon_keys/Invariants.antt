@@ -1,5 +1,4 @@
-use Rattle.std.proofs.Common.{◌≡◌, ◌++◌, take}
-use Rattle.std.specs.List.{flat_map}
+use Rattle.kit_words.proofs.Common.{◌≡◌, ◌++◌, take, flat_map}
 use Rattle.feature_exchange.proofs.KeyLists.{keys_of}
 use Rattle.feature_exchange.proofs.vertex_list.push_polygon_keys.Given as goal
 

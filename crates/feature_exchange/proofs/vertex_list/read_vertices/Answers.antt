@@ -1,7 +1,7 @@
-use Rattle.std.proofs.Common.{◌≡◌, ℕ, true, sym, ap, ◌∙◌, subst, map, Contains}
+use Rattle.kit_words.proofs.Common.{◌≡◌, ℕ, true, sym, ap, ◌∙◌, subst, map, Contains}
 use Rattle.std.specs.FinMap as table
-use Rattle.vertex_index.specs.Placement.{place}
-use Rattle.feature_exchange.specs.Stored.{stored}
+use Rattle.vertex_index.specs.Common.{place}
+use Rattle.feature_exchange.specs.Common.{stored}
 use Rattle.feature_exchange.proofs.VertexLists.{keys_placed, vertices_found}
 use Rattle.feature_exchange.proofs.vertex_list.read_vertices.Goals as goal
 

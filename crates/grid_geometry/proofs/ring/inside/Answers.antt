@@ -1,4 +1,4 @@
-use Rattle.std.proofs.Common.{take, drop, length, ◌-◌}
+use Rattle.kit_words.proofs.Common.{take, drop, length, ◌-◌}
 use Rattle.grid_geometry.proofs.RingLemmas.{parity_step}
 use Rattle.grid_geometry.proofs.ring.inside.Goals as goal
 

@@ -1,10 +1,8 @@
-use Rattle.std.proofs.Common.{◌≡◌, map}
-use Rattle.json_spans.specs.Left.{node}
-use Rattle.json_spans.specs.Walk.{items_left}
-use Rattle.topo_outline.specs.Faults.{each}
-use Rattle.topo_outline.proofs.Walking.{with_front}
-use Rattle.grid_reader.specs.Fine.{fine_arc, fine_arcs}
-use Rattle.grid_reader.specs.Seen.{arc_seen}
+use Rattle.kit_words.proofs.Common.{◌≡◌, map}
+use Rattle.json_spans.specs.Common.{node, items_left}
+use Rattle.topo_outline.specs.Common.{each}
+use Rattle.topo_outline.proofs.Common.{with_front}
+use Rattle.grid_reader.specs.Common.{fine_arc, fine_arcs, arc_seen}
 use Rattle.grid_reader.proofs.fine.fine_arcs.Given as goal
 
 abbrev pub invariant-loop-part : goal.invariant-loop-part

@@ -1,9 +1,7 @@
-use Rattle.std.proofs.Common.{◌≡◌, map}
-use Rattle.json_spans.specs.Left.{node}
-use Rattle.json_spans.specs.Walk.{items, items_left}
-use Rattle.topo_outline.proofs.Walking.{with_front}
-use Rattle.grid_reader.specs.Fine.{origin, fine_positions}
-use Rattle.grid_reader.specs.Seen.{fine_seen}
+use Rattle.kit_words.proofs.Common.{◌≡◌, map}
+use Rattle.json_spans.specs.Common.{node, items, items_left}
+use Rattle.topo_outline.proofs.Common.{with_front}
+use Rattle.grid_reader.specs.Common.{origin, fine_positions, fine_seen}
 use Rattle.grid_reader.proofs.fine.fine_positions.Given as goal
 
 abbrev pub invariant-loop-part : goal.invariant-loop-part

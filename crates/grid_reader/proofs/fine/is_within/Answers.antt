@@ -1,6 +1,5 @@
-use Rattle.std.proofs.Common.{arith}
-use Rattle.std.proofs.lemmas.Int.{to_z-of_z}
-use Rattle.topo_reader.proofs.Steps.{at_most}
+use Rattle.kit_words.proofs.Common.{arith, to_z-of_z}
+use Rattle.topo_reader.proofs.Common.{at_most}
 use Rattle.grid_reader.proofs.Reach.{power_fits}
 use Rattle.grid_reader.proofs.fine.is_within.Goals as goal
 use mir.Syntax.{w128}

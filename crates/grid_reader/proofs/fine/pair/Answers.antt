@@ -1,6 +1,6 @@
-use Rattle.std.proofs.lemmas.Int.{to_z-of_z}
-use Rattle.json_spans.specs.Left.{node}
-use Rattle.grid_reader.specs.Seen.{fine_seen}
+use Rattle.kit_words.proofs.Common.{to_z-of_z}
+use Rattle.json_spans.specs.Common.{node}
+use Rattle.grid_reader.specs.Common.{fine_seen}
 use Rattle.grid_reader.proofs.Reach.{near_fits}
 use Rattle.grid_reader.proofs.Summing.{pair_fails}
 use Rattle.grid_reader.proofs.fine.pair.Goals as goal

@@ -1,8 +1,6 @@
-use Rattle.std.proofs.Common.{◌≡◌}
-use Rattle.std.specs.List.{flat_map, list_all}
-use Rattle.json_spans.specs.Left.{node}
-use Rattle.json_spans.specs.Walk.{items, items_left}
-use Rattle.grid_reader.specs.Wholes.{has_wholes, all_whole}
+use Rattle.kit_words.proofs.Common.{◌≡◌, flat_map, list_all}
+use Rattle.json_spans.specs.Common.{node, items, items_left}
+use Rattle.grid_reader.specs.Common.{has_wholes, all_whole}
 use Rattle.grid_reader.proofs.grid.all_whole.Given as goal
 
 abbrev pub invariant-loop-arc : goal.invariant-loop-arc

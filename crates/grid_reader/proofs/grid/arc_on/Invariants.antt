@@ -1,8 +1,5 @@
-use Rattle.std.proofs.Common.{◌≡◌, ◌++◌, drop, map}
-use Rattle.std.specs.List.{AllByRecursion}
-use Rattle.grid_reader.specs.Grid.{on_grid}
-use Rattle.grid_reader.specs.Near.{IsNear}
-use Rattle.grid_reader.specs.Seen.{fine_seen}
+use Rattle.kit_words.proofs.Common.{◌≡◌, ◌++◌, drop, map, AllByRecursion}
+use Rattle.grid_reader.specs.Common.{on_grid, IsNear, fine_seen}
 use Rattle.grid_reader.proofs.grid.arc_on.Given as goal
 
 abbrev pub invariant-loop-pos : goal.invariant-loop-pos

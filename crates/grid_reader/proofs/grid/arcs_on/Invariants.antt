@@ -1,9 +1,6 @@
-use Rattle.std.proofs.Common.{◌≡◌, ◌++◌, drop, map}
-use Rattle.std.specs.List.{AllByRecursion}
-use Rattle.topo_reader.specs.Uses.{positions_of}
-use Rattle.grid_reader.specs.Grid.{on_grid}
-use Rattle.grid_reader.specs.Near.{IsNear}
-use Rattle.grid_reader.specs.Seen.{arcs_seen}
+use Rattle.kit_words.proofs.Common.{◌≡◌, ◌++◌, drop, map, AllByRecursion}
+use Rattle.topo_reader.specs.Common.{positions_of}
+use Rattle.grid_reader.specs.Common.{on_grid, IsNear, arcs_seen}
 use Rattle.grid_reader.proofs.grid.arcs_on.Given as goal
 
 abbrev pub invariant-loop-arc : goal.invariant-loop-arc

@@ -1,5 +1,5 @@
-use Rattle.std.proofs.Common.{◌≡◌, ◌≤◌}
-use Rattle.grid_reader.specs.Grid.{fitting}
+use Rattle.kit_words.proofs.Common.{◌≡◌, ◌≤◌}
+use Rattle.grid_reader.specs.Common.{fitting}
 use Rattle.grid_reader.proofs.grid.fitting.Given as goal
 
 abbrev pub invariant-loop-kept : goal.invariant-loop-kept

@@ -1,5 +1,4 @@
-use Rattle.std.proofs.Common.{◌≡◌, drop}
-use Rattle.std.specs.Prelude.{unsigned_abs}
+use Rattle.kit_words.proofs.Common.{◌≡◌, drop, unsigned_abs}
 use Rattle.grid_reader.proofs.Greatest.{greatest_in}
 use Rattle.grid_reader.proofs.grid.furthest.Given as goal
 

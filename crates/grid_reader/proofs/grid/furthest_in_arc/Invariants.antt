@@ -1,7 +1,5 @@
-use Rattle.std.proofs.Common.{◌≡◌, drop, map}
-use Rattle.std.specs.Prelude.{unsigned_abs}
-use Rattle.grid_reader.specs.Grid.{greatest_from}
-use Rattle.grid_reader.specs.Seen.{fine_seen}
+use Rattle.kit_words.proofs.Common.{◌≡◌, drop, map, unsigned_abs}
+use Rattle.grid_reader.specs.Common.{greatest_from, fine_seen}
 use Rattle.grid_reader.proofs.grid.furthest_in_arc.Given as goal
 
 abbrev pub invariant-loop-pos : goal.invariant-loop-pos

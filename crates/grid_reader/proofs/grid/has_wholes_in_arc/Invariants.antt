@@ -1,8 +1,6 @@
-use Rattle.std.proofs.Common.{◌≡◌}
-use Rattle.std.specs.List.{list_all}
-use Rattle.json_spans.specs.Left.{node}
-use Rattle.json_spans.specs.Walk.{items, items_left}
-use Rattle.grid_reader.specs.Wholes.{has_wholes}
+use Rattle.kit_words.proofs.Common.{◌≡◌, list_all}
+use Rattle.json_spans.specs.Common.{node, items, items_left}
+use Rattle.grid_reader.specs.Common.{has_wholes}
 use Rattle.grid_reader.proofs.grid.has_wholes_in_arc.Given as goal
 
 abbrev pub invariant-loop-part : goal.invariant-loop-part

@@ -1,8 +1,6 @@
-use Rattle.std.proofs.Common.{◌≡◌, ◌+◌, length}
-use Rattle.std.specs.List.{filter, flat_map}
-use Rattle.json_spans.specs.Left.{node}
-use Rattle.json_spans.specs.Walk.{items, items_left}
-use Rattle.grid_reader.specs.Grid.{has_further, heights}
+use Rattle.kit_words.proofs.Common.{◌≡◌, ◌+◌, length, filter, flat_map}
+use Rattle.json_spans.specs.Common.{node, items, items_left}
+use Rattle.grid_reader.specs.Common.{has_further, heights}
 use Rattle.grid_reader.proofs.grid.heights.Given as goal
 
 abbrev pub invariant-loop-arc : goal.invariant-loop-arc

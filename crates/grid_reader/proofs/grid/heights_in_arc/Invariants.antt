@@ -1,8 +1,6 @@
-use Rattle.std.proofs.Common.{◌≡◌, ◌+◌, length}
-use Rattle.std.specs.List.{filter}
-use Rattle.json_spans.specs.Left.{node}
-use Rattle.json_spans.specs.Walk.{items, items_left}
-use Rattle.grid_reader.specs.Grid.{has_further}
+use Rattle.kit_words.proofs.Common.{◌≡◌, ◌+◌, length, filter}
+use Rattle.json_spans.specs.Common.{node, items, items_left}
+use Rattle.grid_reader.specs.Common.{has_further}
 use Rattle.grid_reader.proofs.grid.heights_in_arc.Given as goal
 
 abbrev pub invariant-loop-part : goal.invariant-loop-part

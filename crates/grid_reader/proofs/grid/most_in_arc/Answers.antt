@@ -1,8 +1,6 @@
-use Rattle.std.proofs.Common.{◌≡◌, ◌+◌, drop, map, sym, ap, ap₂, ◌∙◌, arith, ℕ}
-use Rattle.std.proofs.lemmas.Int.{to_z-of_z}
-use Rattle.exact_decimals.specs.Fine.{decimals}
-use Rattle.grid_reader.specs.Grid.{greater, greatest_from}
-use Rattle.grid_reader.specs.Seen.{fine_seen}
+use Rattle.kit_words.proofs.Common.{◌≡◌, ◌+◌, drop, map, sym, ap, ap₂, ◌∙◌, arith, ℕ, to_z-of_z}
+use Rattle.exact_decimals.specs.Common.{decimals}
+use Rattle.grid_reader.specs.Common.{greater, greatest_from, fine_seen}
 use Rattle.grid_reader.proofs.Greatest.{step}
 use Rattle.grid_reader.proofs.Reach.{near_fits}
 use Rattle.grid_reader.proofs.grid.most_in_arc.Goals as goal

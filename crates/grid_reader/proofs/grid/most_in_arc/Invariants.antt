@@ -1,7 +1,6 @@
-use Rattle.std.proofs.Common.{◌≡◌, drop, map}
-use Rattle.exact_decimals.specs.Fine.{decimals}
-use Rattle.grid_reader.specs.Grid.{greatest_from}
-use Rattle.grid_reader.specs.Seen.{fine_seen}
+use Rattle.kit_words.proofs.Common.{◌≡◌, drop, map}
+use Rattle.exact_decimals.specs.Common.{decimals}
+use Rattle.grid_reader.specs.Common.{greatest_from, fine_seen}
 use Rattle.grid_reader.proofs.grid.most_in_arc.Given as goal
 
 abbrev pub invariant-loop-pos : goal.invariant-loop-pos

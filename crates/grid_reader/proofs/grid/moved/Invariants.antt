@@ -1,6 +1,5 @@
-use Rattle.std.proofs.Common.{◌≡◌, ◌+◌, drop}
-use Rattle.grid_reader.specs.Grid.{moved}
-use Rattle.grid_reader.specs.Seen.{arcs_seen}
+use Rattle.kit_words.proofs.Common.{◌≡◌, ◌+◌, drop}
+use Rattle.grid_reader.specs.Common.{moved, arcs_seen}
 use Rattle.grid_reader.proofs.grid.moved.Given as goal
 
 abbrev pub invariant-loop-arc : goal.invariant-loop-arc

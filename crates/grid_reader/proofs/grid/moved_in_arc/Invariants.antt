@@ -1,7 +1,5 @@
-use Rattle.std.proofs.Common.{◌≡◌, ◌+◌, drop, length, map}
-use Rattle.std.specs.List.{filter}
-use Rattle.grid_reader.specs.Grid.{is_moved}
-use Rattle.grid_reader.specs.Seen.{fine_seen}
+use Rattle.kit_words.proofs.Common.{◌≡◌, ◌+◌, drop, length, map, filter}
+use Rattle.grid_reader.specs.Common.{is_moved, fine_seen}
 use Rattle.grid_reader.proofs.grid.moved_in_arc.Given as goal
 
 abbrev pub invariant-loop-pos : goal.invariant-loop-pos

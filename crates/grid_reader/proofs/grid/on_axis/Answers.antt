@@ -1,7 +1,5 @@
-use Rattle.std.proofs.Common.{◌≡◌, ◌≤◌, ◌^◌, ap₂, ◌∙◌, arith, ℤ, pos}
-use Rattle.std.specs.Prelude.{◌*ℤ◌, unsigned_abs}
-use Rattle.std.proofs.lemmas.Int.{to_z-of_z}
-use Rattle.exact_decimals.specs.Fine.{rounded}
+use Rattle.kit_words.proofs.Common.{◌≡◌, ◌≤◌, ◌^◌, ap₂, ◌∙◌, arith, ℤ, pos, ◌*ℤ◌, unsigned_abs, to_z-of_z}
+use Rattle.exact_decimals.specs.Common.{rounded}
 use Rattle.grid_reader.proofs.Reach.{power_fits}
 use Rattle.grid_reader.proofs.Scaled.{axis_within, small_fits, scale_fits, product_is}
 use Rattle.grid_reader.proofs.grid.on_axis.Goals as goal

@@ -1,6 +1,6 @@
-use Rattle.std.proofs.Common.{sym, ◌∙◌, arith}
-use Rattle.topo_outline.specs.Views.{view_layer}
-use Rattle.grid_reader.specs.Opening.{has_text_in}
+use Rattle.kit_words.proofs.Common.{sym, ◌∙◌, arith}
+use Rattle.topo_outline.specs.Common.{view_layer}
+use Rattle.grid_reader.specs.Common.{has_text_in}
 use Rattle.grid_reader.proofs.Points.{found, passed, ended}
 use Rattle.grid_reader.proofs.reading.has_points.Goals as goal
 

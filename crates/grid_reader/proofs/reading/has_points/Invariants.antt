@@ -1,7 +1,6 @@
-use Rattle.std.proofs.Common.{◌≡◌, drop, map}
-use Rattle.std.specs.List.{list_any}
-use Rattle.topo_outline.specs.Views.{view_layer}
-use Rattle.grid_reader.specs.Opening.{has_text_in}
+use Rattle.kit_words.proofs.Common.{◌≡◌, drop, map, list_any}
+use Rattle.topo_outline.specs.Common.{view_layer}
+use Rattle.grid_reader.specs.Common.{has_text_in}
 use Rattle.grid_reader.proofs.reading.has_points.Given as goal
 
 abbrev pub invariant-loop-layer : goal.invariant-loop-layer

@@ -1,6 +1,6 @@
-use Rattle.std.proofs.Common.{sym, ◌∙◌, arith}
-use Rattle.topo_outline.specs.Views.{view_item}
-use Rattle.grid_reader.specs.Opening.{is_text}
+use Rattle.kit_words.proofs.Common.{sym, ◌∙◌, arith}
+use Rattle.topo_outline.specs.Common.{view_item}
+use Rattle.grid_reader.specs.Common.{is_text}
 use Rattle.grid_reader.proofs.Points.{found, passed, ended}
 use Rattle.grid_reader.proofs.reading.has_text.Goals as goal
 

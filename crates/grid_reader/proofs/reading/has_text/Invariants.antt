@@ -1,7 +1,6 @@
-use Rattle.std.proofs.Common.{◌≡◌, drop, map}
-use Rattle.std.specs.List.{list_any}
-use Rattle.topo_outline.specs.Views.{view_item}
-use Rattle.grid_reader.specs.Opening.{is_text}
+use Rattle.kit_words.proofs.Common.{◌≡◌, drop, map, list_any}
+use Rattle.topo_outline.specs.Common.{view_item}
+use Rattle.grid_reader.specs.Common.{is_text}
 use Rattle.grid_reader.proofs.reading.has_text.Given as goal
 
 abbrev pub invariant-loop-item : goal.invariant-loop-item

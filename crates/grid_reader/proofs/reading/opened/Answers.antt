@@ -1,5 +1,5 @@
-use Rattle.json_spans.specs.Left.{node}
-use Rattle.grid_reader.specs.Seen.{arcs_seen}
+use Rattle.json_spans.specs.Common.{node}
+use Rattle.grid_reader.specs.Common.{arcs_seen}
 use Rattle.grid_reader.proofs.NearAll.{all_near}
 use Rattle.grid_reader.proofs.reading.opened.Goals as goal
 

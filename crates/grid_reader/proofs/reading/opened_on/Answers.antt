@@ -1,5 +1,5 @@
-use Rattle.topo_outline.specs.OutlineView.{view_outline}
-use Rattle.grid_reader.specs.Seen.{arcs_seen}
+use Rattle.topo_outline.specs.Common.{view_outline}
+use Rattle.grid_reader.specs.Common.{arcs_seen}
 use Rattle.grid_reader.proofs.Opened.{goes_well, fails_late}
 use Rattle.grid_reader.proofs.reading.opened_on.Goals as goal
 

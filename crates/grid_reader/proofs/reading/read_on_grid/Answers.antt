@@ -1,6 +1,6 @@
-use Rattle.std.proofs.Common.{ap, ◌∙◌, arith}
-use Rattle.json_spans.specs.Left.{node}
-use Rattle.grid_reader.specs.OnGridView.{view_on_grid}
+use Rattle.kit_words.proofs.Common.{ap, ◌∙◌, arith}
+use Rattle.json_spans.specs.Common.{node}
+use Rattle.grid_reader.specs.Common.{view_on_grid}
 use Rattle.grid_reader.proofs.Opened.{gives_reading, gives_walks}
 use Rattle.grid_reader.proofs.reading.read_on_grid.Goals as goal
 

@@ -1,12 +1,8 @@
-use Rattle.std.proofs.Common.{◌≡◌, ap, sym, ◌∙◌}
-use Rattle.std.specs.Prelude.{Option, Result, Ok}
-use Rattle.json_spans.specs.Decoded.{decoded}
-use Rattle.json_spans.specs.Left.{node}
-use Rattle.json_spans.specs.Nodes.{Node}
-use Rattle.json_spans.specs.Pairs.{nodes}
-use Rattle.topo_outline.specs.Faults.{Fault}
-use Rattle.topo_reader.proofs.Steps.{ok_same}
-use Rattle.grid_reader.specs.Transform.{says}
+use Rattle.kit_words.proofs.Common.{◌≡◌, ap, sym, ◌∙◌, Option, Result, Ok}
+use Rattle.json_spans.specs.Common.{decoded, node, Node, nodes}
+use Rattle.topo_outline.specs.Common.{Fault}
+use Rattle.topo_reader.proofs.Common.{ok_same}
+use Rattle.grid_reader.specs.Common.{says}
 use Rattle.grid_reader.proofs.Naming.{found, passed, ended}
 use Rattle.grid_reader.proofs.transform.value_named.Goals as goal
 

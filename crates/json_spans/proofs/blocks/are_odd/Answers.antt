@@ -1,9 +1,7 @@
-use Rattle.std.proofs.Common.{◌≡◌, ◌≤◌, ◌*◌, ◌%◌, ◌^◌, take, ap, ap₂, ◌∙◌, arith}
-use Rattle.std.proofs.Math.Nat.{pow-le-pow_right}
+use Rattle.kit_words.proofs.Common.{◌≡◌, ◌≤◌, ◌*◌, ◌%◌, ◌^◌, take, ap, ap₂, ◌∙◌, arith, pow-le-pow_right, ones-mask_l}
+use Rattle.kit_words.proofs.Common.{◌==◌}
 use Rattle.std.specs.Int.RustNames.{count_ones}
-use Rattle.std.proofs.lemmas.Simd.{ones-mask_l}
-use Rattle.std.specs.Prelude.{◌==◌}
-use Rattle.json_spans.specs.Blocks.{is_quote}
+use Rattle.json_spans.specs.Common.{is_quote}
 use Rattle.json_spans.proofs.Lanes.{mask_take}
 use Rattle.json_spans.proofs.blocks.are_odd.Goals as goal
 

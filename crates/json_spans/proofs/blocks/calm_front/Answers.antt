@@ -1,8 +1,5 @@
-use Rattle.std.proofs.Common.{sym, ◌∙◌, drop, arith}
-use Rattle.std.proofs.lemmas.Simd.{chunk-drop, length-chunk}
-use Rattle.std.proofs.lemmas.List.Sums.{prefix_len-le-length}
-use lib.Lanes.{chunk}
-use Rattle.json_spans.specs.Blocks.{is_calm}
+use Rattle.kit_words.proofs.Common.{sym, ◌∙◌, drop, arith, chunk-drop, length-chunk, prefix_len-le-length, chunk}
+use Rattle.json_spans.specs.Common.{is_calm}
 use Rattle.json_spans.proofs.Calm.{calm_in}
 use Rattle.json_spans.proofs.blocks.calm_front.Goals as goal
 

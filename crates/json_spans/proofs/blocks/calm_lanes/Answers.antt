@@ -1,7 +1,5 @@
-use Rattle.std.proofs.Common.{sym, ap, ◌∙◌, arith}
-use Rattle.std.proofs.lemmas.Simd.{leading_from_mask_l}
-use lib.Count.{count_trailing_zeros}
-use Rattle.json_spans.specs.Blocks.{is_stop}
+use Rattle.kit_words.proofs.Common.{sym, ap, ◌∙◌, arith, leading_from_mask_l, count_trailing_zeros}
+use Rattle.json_spans.specs.Common.{is_stop}
 use Rattle.json_spans.proofs.Lanes.{before_first}
 use Rattle.json_spans.proofs.blocks.calm_lanes.Goals as goal
 

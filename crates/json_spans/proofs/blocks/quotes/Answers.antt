@@ -1,5 +1,4 @@
-use Rattle.std.proofs.Common.{eqb, w8, arith}
-use Rattle.std.proofs.lemmas.Simd.{bitmask_splat}
+use Rattle.kit_words.proofs.Common.{eqb, w8, arith, bitmask_splat}
 use Rattle.json_spans.proofs.blocks.quotes.Goals as goal
 
 pub returns : goal.returns

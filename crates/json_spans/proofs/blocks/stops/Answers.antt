@@ -1,7 +1,6 @@
-use Rattle.std.proofs.Common.{◌+◌, ◌-◌, ◌%◌, refl, arith}
-use Rattle.std.proofs.lemmas.Simd.{zip2_splat}
+use Rattle.kit_words.proofs.Common.{◌+◌, ◌-◌, ◌%◌, refl, arith, zip2_splat}
 use lib.Bits.{bit_or}
-use Rattle.json_spans.specs.Blocks.{is_stop}
+use Rattle.json_spans.specs.Common.{is_stop}
 use Rattle.json_spans.proofs.Lanes.{masked, after_splat, below}
 use Rattle.json_spans.proofs.blocks.stops.Goals as goal
 

@@ -1,7 +1,5 @@
-use Rattle.std.proofs.Common.{map, sym, ap, subst}
-use Rattle.json_spans.specs.Left.{node}
-use Rattle.json_spans.specs.Inside.{HasItems, OnlyItems, ItemsAreValues}
-use Rattle.json_spans.specs.Trimmed.{trimmed}
+use Rattle.kit_words.proofs.Common.{map, sym, ap, subst}
+use Rattle.json_spans.specs.Common.{node, HasItems, OnlyItems, ItemsAreValues, trimmed}
 use Rattle.json_spans.proofs.Itemized.{only_items}
 use Rattle.json_spans.proofs.Grouped.{has_items, items_are_values}
 use Rattle.json_spans.proofs.member.items.Goals as goal

@@ -1,7 +1,5 @@
-use Rattle.std.proofs.Common.{map, sym, ap, subst}
-use Rattle.json_spans.specs.Left.{node}
-use Rattle.json_spans.specs.Inside.{HasMembers, OnlyMembers, MembersAreValues}
-use Rattle.json_spans.specs.Walk.{member_of}
+use Rattle.kit_words.proofs.Common.{map, sym, ap, subst}
+use Rattle.json_spans.specs.Common.{node, HasMembers, OnlyMembers, MembersAreValues, member_of}
 use Rattle.json_spans.proofs.Itemized.{only_members}
 use Rattle.json_spans.proofs.Grouped.{has_members, members_are_values}
 use Rattle.json_spans.proofs.member.members.Goals as goal

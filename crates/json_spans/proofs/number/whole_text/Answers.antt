@@ -1,5 +1,5 @@
-use Rattle.std.proofs.Common.{sym, subst, ◌∙◌}
-use Rattle.json_spans.specs.Whole.{Means}
+use Rattle.kit_words.proofs.Common.{sym, subst, ◌∙◌}
+use Rattle.json_spans.specs.Common.{Means}
 use Rattle.json_spans.proofs.Meant.{means, whole_is}
 use Rattle.json_spans.proofs.number.whole_text.Goals as goal
 

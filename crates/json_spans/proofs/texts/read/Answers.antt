@@ -1,4 +1,4 @@
-use Rattle.std.proofs.Common.{rules, ◌∙◌}
+use Rattle.kit_words.proofs.Common.{rules, ◌∙◌}
 use Rattle.serde_json.specs.declared.value.Value.{the_lemmas}
 use Rattle.json_spans.proofs.Decoding.{decoded_as}
 use Rattle.json_spans.proofs.texts.read.Goals as goal

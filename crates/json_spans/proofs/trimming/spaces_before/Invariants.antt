@@ -1,6 +1,5 @@
-use Rattle.std.proofs.Common.{◌≡◌, ◌+◌, drop}
-use Rattle.std.specs.List.{prefix_len}
-use Rattle.json_spans.specs.Bytes.{is_space}
+use Rattle.kit_words.proofs.Common.{◌≡◌, ◌+◌, drop, prefix_len}
+use Rattle.json_spans.specs.Common.{is_space}
 use Rattle.json_spans.proofs.trimming.spaces_before.Given as goal
 
 abbrev pub invariant-loop-i : goal.invariant-loop-i

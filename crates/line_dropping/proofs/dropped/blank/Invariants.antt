@@ -1,6 +1,5 @@
-use Rattle.std.proofs.Common.{◌≡◌, ◌-◌}
-use Rattle.std.specs.Prelude.{replicate}
-use Rattle.line_dropping.specs.Dropped.{put}
+use Rattle.kit_words.proofs.Common.{◌≡◌, ◌-◌, replicate}
+use Rattle.line_dropping.specs.Common.{put}
 use Rattle.line_dropping.proofs.dropped.blank.Given as goal
 
 abbrev pub invariant-loop-place : goal.invariant-loop-place

@@ -1,5 +1,5 @@
-use Rattle.std.proofs.Common.{◌≡◌, ◌+◌, drop}
-use Rattle.line_dropping.specs.Dropped.{put}
+use Rattle.kit_words.proofs.Common.{◌≡◌, ◌+◌, drop}
+use Rattle.line_dropping.specs.Common.{put}
 use Rattle.line_dropping.proofs.dropped.put.Given as goal
 
 abbrev pub invariant-loop-i : goal.invariant-loop-i

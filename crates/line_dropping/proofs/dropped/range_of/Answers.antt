@@ -1,4 +1,4 @@
-use Rattle.json_spans.specs.Pairs.{nodes}
+use Rattle.json_spans.specs.Common.{nodes}
 use Rattle.line_dropping.proofs.Ranging.{no_member, member_here, member_later, last_here, last_other}
 use Rattle.line_dropping.proofs.dropped.range_of.Goals as goal
 

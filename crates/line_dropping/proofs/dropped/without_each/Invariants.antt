@@ -1,7 +1,6 @@
-use Rattle.std.proofs.Common.{◌≡◌, map, drop}
-use Rattle.std.specs.List.{fold}
-use Rattle.json_spans.specs.Left.{node}
-use Rattle.line_dropping.specs.Dropped.{without_line}
+use Rattle.kit_words.proofs.Common.{◌≡◌, map, drop, fold}
+use Rattle.json_spans.specs.Common.{node}
+use Rattle.line_dropping.specs.Common.{without_line}
 use Rattle.line_dropping.proofs.dropped.without_each.Given as goal
 
 abbrev pub invariant-loop-line : goal.invariant-loop-line

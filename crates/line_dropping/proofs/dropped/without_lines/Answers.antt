@@ -1,4 +1,4 @@
-use Rattle.std.specs.Prelude.{Result, Ok, Err, IfOk}
+use Rattle.kit_words.proofs.Common.{Result, Ok, Err, IfOk}
 use Rattle.line_dropping.proofs.dropped.without_lines.Goals as goal
 
 any_ok : {X E : Type 0} (r : Result X E) (P : X → Type 0) → ((x : X) → P x) → IfOk r P

@@ -1,6 +1,5 @@
-use Rattle.std.proofs.Common.{ap, ◌∙◌}
-use Rattle.json_spans.specs.Left.{node}
-use Rattle.json_spans.specs.Walk.{items_left}
+use Rattle.kit_words.proofs.Common.{ap, ◌∙◌}
+use Rattle.json_spans.specs.Common.{node, items_left}
 use Rattle.line_dropping.proofs.Walking.{lines_at_end, line_pushed, lines_of_none, lines_of_items}
 use Rattle.line_dropping.proofs.lines.+lines_in.Goals as goal
 

@@ -1,8 +1,6 @@
-use Rattle.std.proofs.Common.{◌≡◌, ◌-◌, ◌++◌, map}
-use Rattle.std.specs.List.{flat_map}
-use Rattle.json_spans.specs.Left.{node}
-use Rattle.json_spans.specs.Walk.{items_left}
-use Rattle.line_dropping.specs.Lines.{lines_in}
+use Rattle.kit_words.proofs.Common.{◌≡◌, ◌-◌, ◌++◌, map, flat_map}
+use Rattle.json_spans.specs.Common.{node, items_left}
+use Rattle.line_dropping.specs.Common.{lines_in}
 use Rattle.line_dropping.proofs.lines.+lines_in.Given as goal
 
 abbrev pub decreases-lines_in : goal.decreases-lines_in

@@ -1,8 +1,6 @@
-use Rattle.std.proofs.Common.{◌≡◌, ◌++◌, map}
-use Rattle.std.specs.List.{flat_map}
-use Rattle.json_spans.specs.Left.{node}
-use Rattle.json_spans.specs.Walk.{members_left}
-use Rattle.line_dropping.specs.Lines.{lines_in, all_lines}
+use Rattle.kit_words.proofs.Common.{◌≡◌, ◌++◌, map, flat_map}
+use Rattle.json_spans.specs.Common.{node, members_left}
+use Rattle.line_dropping.specs.Common.{lines_in, all_lines}
 use Rattle.line_dropping.proofs.lines.all_lines.Given as goal
 
 abbrev pub invariant-loop-member : goal.invariant-loop-member

@@ -1,4 +1,4 @@
-use Rattle.segment_index.specs.Times.{times_by}
+use Rattle.segment_index.specs.Common.{times_by}
 use Rattle.local_planarity.proofs.Searches.{IsSearched}
 use Rattle.local_planarity.proofs.conflicts.first_conflict.Given as goal
 

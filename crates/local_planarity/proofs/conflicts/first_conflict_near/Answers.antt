@@ -1,6 +1,6 @@
-use Rattle.std.proofs.Common.{None}
-use Rattle.segment_index.specs.Times.{times_by}
-use Rattle.local_planarity.specs.Pairs.{tried}
+use Rattle.kit_words.proofs.Common.{None}
+use Rattle.segment_index.specs.Common.{times_by}
+use Rattle.local_planarity.specs.Common.{tried}
 use Rattle.local_planarity.proofs.Nearby.{near_listed}
 use Rattle.local_planarity.proofs.Searches.{searched_none, searched_more, searched_few, searched_all, searched_counted}
 use Rattle.local_planarity.proofs.conflicts.first_conflict_near.Goals as goal

@@ -1,5 +1,5 @@
-use Rattle.std.proofs.Common.{None}
-use Rattle.segment_index.specs.Times.{times_by}
+use Rattle.kit_words.proofs.Common.{None}
+use Rattle.segment_index.specs.Common.{times_by}
 use Rattle.local_planarity.proofs.Searches.{IsSearched}
 use Rattle.local_planarity.proofs.conflicts.first_conflict_near.Given as goal
 

@@ -1,10 +1,7 @@
-use Rattle.std.proofs.Common.{◌≡◌, sym, ap, ◌∙◌, length, subst, true, arith}
-use Rattle.std.specs.List.{list_any}
-use Rattle.grid_geometry.specs.Segment.{segment_eq}
-use Rattle.segment_index.specs.Candidates.{Gives}
-use Rattle.segment_index.specs.Times.{times_by}
-use Rattle.local_planarity.specs.declared.leaving.Leaving.TheVariants.{Nothing}
-use Rattle.local_planarity.specs.Pairs.{first_against}
+use Rattle.kit_words.proofs.Common.{◌≡◌, sym, ap, ◌∙◌, length, subst, true, arith, list_any}
+use Rattle.grid_geometry.specs.Common.{segment_eq}
+use Rattle.segment_index.specs.Common.{Gives, times_by}
+use Rattle.local_planarity.specs.Common.{Nothing, first_against}
 use Rattle.local_planarity.proofs.Least.{first_with_is}
 use Rattle.local_planarity.proofs.Nearby.{stays_all, near_all, near_few, held_has}
 use Rattle.local_planarity.proofs.Filling.{held_near, filled_same, filled_more, on_ok}

@@ -1,9 +1,5 @@
-use Rattle.std.proofs.Common.{◌∙◌, ◌||◌, ap, ap₂, sym}
-use Rattle.std.specs.List.{list_any}
-use Rattle.std.proofs.lemmas.List.{take_all}
-use Rattle.std.proofs.lemmas.List.Folds.{list_any_at, list_any_more}
-use Rattle.ring_machine.specs.Parts.{all_segments}
-use Rattle.ring_machine.specs.Sweep.{edge_sweeps, crosses_on_way}
+use Rattle.kit_words.proofs.Common.{◌∙◌, ◌||◌, ap, ap₂, sym, list_any, take_all, list_any_at, list_any_more}
+use Rattle.ring_machine.specs.Common.{all_segments, edge_sweeps, crosses_on_way}
 use Rattle.local_planarity.proofs.NearMoves.{near_edge, near_way}
 use Rattle.local_planarity.proofs.moving.move_sweeps.Goals as goal
 

@@ -1,12 +1,8 @@
-use Rattle.std.proofs.Common.{◌≡◌, map, take, false}
-use Rattle.std.specs.List.{list_any}
-use Rattle.grid_geometry.specs.Segment.{segment}
-use Rattle.ring_machine.specs.Document.{Document}
-use Rattle.ring_machine.specs.Parts.{positions}
-use Rattle.ring_machine.specs.Sweep.{edge_sweeps}
-use Rattle.segment_index.specs.Candidates.{SegmentSet}
-use Rattle.local_planarity.specs.Edits.{IsEnds}
-use Rattle.local_planarity.specs.NearMove.{HasNearMove}
+use Rattle.kit_words.proofs.Common.{◌≡◌, map, take, false, list_any}
+use Rattle.grid_geometry.specs.Common.{segment}
+use Rattle.ring_machine.specs.Common.{Document, positions, edge_sweeps}
+use Rattle.segment_index.specs.Common.{SegmentSet}
+use Rattle.local_planarity.specs.Common.{IsEnds, HasNearMove}
 use Rattle.local_planarity.proofs.moving.move_sweeps.Given as goal
 
 -- no edge so far sweeps over a position

@@ -1,8 +1,6 @@
-use Rattle.std.proofs.Common.{◌∷◌, ◌∙◌, [], ap, arith, subst, sym}
-use Rattle.std.proofs.lemmas.List.{take_all}
-use Rattle.segment_index.specs.Bounds.{box_around}
-use Rattle.segment_index.specs.Trees.{LieIn}
-use Rattle.segment_index.proofs.Branches.{lie-one}
+use Rattle.kit_words.proofs.Common.{◌∷◌, ◌∙◌, [], ap, arith, subst, sym, take_all}
+use Rattle.segment_index.specs.Common.{box_around, LieIn}
+use Rattle.segment_index.proofs.Common.{lie-one}
 use Rattle.local_planarity.proofs.NearMoves.{reach_more}
 use Rattle.local_planarity.proofs.moving.reach.Goals as goal
 

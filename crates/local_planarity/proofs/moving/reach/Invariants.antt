@@ -1,5 +1,5 @@
-use Rattle.std.proofs.Common.{◌∷◌, take}
-use Rattle.segment_index.specs.Trees.{LieIn}
+use Rattle.kit_words.proofs.Common.{◌∷◌, take}
+use Rattle.segment_index.specs.Common.{LieIn}
 use Rattle.local_planarity.proofs.moving.reach.Given as goal
 
 -- the way, and the segments so far, lie in the box

@@ -1,8 +1,6 @@
-use Rattle.std.proofs.Common.{◌≡◌, ◌∙◌, ◌&&◌, ap, arith, length, not, rules, subst, sym, take, true}
-use Rattle.std.proofs.lemmas.List.{take_all}
-use Rattle.grid_geometry.specs.Segment.{box_of, boxes_meet}
-use Rattle.local_planarity.specs.Edits.{leaves}
-use Rattle.local_planarity.specs.Pairs.{is_tried, tests_to_conflict, tried}
+use Rattle.kit_words.proofs.Common.{◌≡◌, ◌∙◌, ◌&&◌, ap, arith, length, not, rules, subst, sym, take, true, take_all}
+use Rattle.grid_geometry.specs.Common.{box_of, boxes_meet}
+use Rattle.local_planarity.specs.Common.{leaves, is_tried, tests_to_conflict, tried}
 use Rattle.local_planarity.proofs.Counts.{any_found, all_tested, tested_up_to}
 use Rattle.local_planarity.proofs.pairs.conflicts_with.Goals as goal
 

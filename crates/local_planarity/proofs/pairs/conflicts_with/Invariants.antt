@@ -1,7 +1,6 @@
-use Rattle.std.proofs.Common.{◌≡◌, ◌+◌, ◌≤◌, length, min, take, false}
-use Rattle.std.specs.List.{list_any}
+use Rattle.kit_words.proofs.Common.{◌≡◌, ◌+◌, ◌≤◌, length, min, take, false, list_any}
 use Rattle.grid_geometry.specs.Conflict as geometry
-use Rattle.local_planarity.specs.Pairs.{tried}
+use Rattle.local_planarity.specs.Common.{tried}
 use Rattle.local_planarity.proofs.Counts.{greatest}
 use Rattle.local_planarity.proofs.pairs.conflicts_with.Given as goal
 

@@ -1,5 +1,5 @@
-use Rattle.std.proofs.Common.{◌≡◌, ◌+◌, ◌≤◌, min, take}
-use Rattle.local_planarity.specs.Pairs.{first_against}
+use Rattle.kit_words.proofs.Common.{◌≡◌, ◌+◌, ◌≤◌, min, take}
+use Rattle.local_planarity.specs.Common.{first_against}
 use Rattle.local_planarity.proofs.Counts.{greatest}
 use Rattle.local_planarity.proofs.pairs.first_against.Given as goal
 

@@ -1,5 +1,5 @@
-use Rattle.std.proofs.Common.{take}
-use Rattle.local_planarity.specs.Pairs.{tried}
+use Rattle.kit_words.proofs.Common.{take}
+use Rattle.local_planarity.specs.Common.{tried}
 use Rattle.local_planarity.proofs.Counts.{IsFound}
 use Rattle.local_planarity.proofs.pairs.first_staying.Given as goal
 

@@ -1,6 +1,4 @@
-use Rattle.std.proofs.Common.{◌≡◌, ap, ◌∙◌, w64, to_z, of_z, rules}
-use Rattle.std.specs.Int.{int_min, int_max}
-use Rattle.std.proofs.lemmas.Int.{to_z-of_z}
+use Rattle.kit_words.proofs.Common.{◌≡◌, ap, ◌∙◌, w64, to_z, of_z, rules, int_min, int_max, to_z-of_z}
 use Rattle.local_planarity.proofs.Spans.{box_in_place}
 use Rattle.local_planarity.proofs.span.box_of_three.Goals as goal
 

@@ -1,8 +1,7 @@
-use Rattle.std.proofs.Common.{◌≡◌, arith, None, sym}
-use Rattle.grid_geometry.specs.Segment.{segment}
-use Rattle.segment_index.specs.Times.{times_by}
-use Rattle.local_planarity.specs.declared.leaving.Leaving.TheVariants.{EndingAt}
-use Rattle.local_planarity.specs.Pairs.{tried}
+use Rattle.kit_words.proofs.Common.{◌≡◌, arith, None, sym}
+use Rattle.grid_geometry.specs.Common.{segment}
+use Rattle.segment_index.specs.Common.{times_by}
+use Rattle.local_planarity.specs.Common.{EndingAt, tried}
 use Rattle.local_planarity.proofs.Counts.{tests_to_conflict-le}
 use Rattle.local_planarity.proofs.Sweeping.{crosses_is}
 use Rattle.local_planarity.proofs.Nearby.{near_few, near_listed, held_has}

@@ -1,7 +1,5 @@
-use Rattle.std.proofs.Common.{◌≡◌, ◌∙◌, ◌&&◌, ◌||◌, ap, false, not, sym}
-use Rattle.std.proofs.lemmas.List.Folds.{list_any_more}
-use Rattle.grid_geometry.specs.Held.{is_held}
-use Rattle.grid_geometry.specs.Segment.{Segment, box_of, boxes_meet}
+use Rattle.kit_words.proofs.Common.{◌≡◌, ◌∙◌, ◌&&◌, ◌||◌, ap, false, not, sym, list_any_more}
+use Rattle.grid_geometry.specs.Common.{is_held, Segment, box_of, boxes_meet}
 use Rattle.ring_machine.specs.Ring as machine
 use Rattle.local_planarity.proofs.Spans.{none_held}
 use Rattle.local_planarity.proofs.sweeps.holds_end.Goals as goal

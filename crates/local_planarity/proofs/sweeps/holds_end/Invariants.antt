@@ -1,6 +1,5 @@
-use Rattle.std.proofs.Common.{◌≡◌, take, false, not, ◌&&◌, ◌||◌}
-use Rattle.std.specs.List.{list_any}
-use Rattle.grid_geometry.specs.Held.{is_held}
+use Rattle.kit_words.proofs.Common.{◌≡◌, take, false, not, ◌&&◌, ◌||◌, list_any}
+use Rattle.grid_geometry.specs.Common.{is_held}
 use Rattle.ring_machine.specs.Ring as machine
 use Rattle.local_planarity.proofs.sweeps.holds_end.Given as goal
 

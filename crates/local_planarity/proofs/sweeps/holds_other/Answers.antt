@@ -1,6 +1,5 @@
-use Rattle.std.proofs.Common.{◌∙◌, ◌++◌, ap, refl, subst, true}
-use Rattle.segment_index.specs.Candidates.{Gives}
-use Rattle.segment_index.specs.Times.{times_by}
+use Rattle.kit_words.proofs.Common.{◌∙◌, ◌++◌, ap, refl, subst, true}
+use Rattle.segment_index.specs.Common.{Gives, times_by}
 use Rattle.local_planarity.proofs.Sweeping.{ends_held}
 use Rattle.local_planarity.proofs.sweeps.holds_other.Goals as goal
 

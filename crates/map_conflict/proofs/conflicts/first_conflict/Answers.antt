@@ -1,9 +1,7 @@
-use Rattle.std.proofs.Common.{◌∙◌, sym, subst, Result, Ok, Err, IfErr, IfSome}
-use Rattle.std.specs.Result.{result_err}
-use Rattle.ring_machine.specs.Planar.{first_pair}
-use Rattle.topo_reader.specs.Document.{document_of}
-use Rattle.topo_reader.specs.DocumentView.{view_raw}
-use Rattle.arc_store.specs.Faults.{Names}
+use Rattle.kit_words.proofs.Common.{◌∙◌, sym, subst, Result, Ok, Err, IfErr, IfSome, result_err}
+use Rattle.ring_machine.specs.Common.{first_pair}
+use Rattle.topo_reader.specs.Common.{document_of, view_raw}
+use Rattle.arc_store.specs.Common.{Names}
 use Rattle.map_conflict.proofs.conflicts.first_conflict.Goals as goal
 
 -- what holds of the error holds of it as an option

@@ -1,5 +1,5 @@
-use Rattle.std.proofs.Common.{◌≡◌, take, map}
-use Rattle.topo_reader.specs.Uses.{polygon_positions}
+use Rattle.kit_words.proofs.Common.{◌≡◌, take, map}
+use Rattle.topo_reader.specs.Common.{polygon_positions}
 use Rattle.map_drawing.specs.Areas.{polygons_area}
 use Rattle.map_drawing.proofs.areas.area.Given as goal
 

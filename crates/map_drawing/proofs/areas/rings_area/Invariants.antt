@@ -1,7 +1,6 @@
-use Rattle.std.proofs.Common.{◌≡◌, ◌-ℤ◌, take, map}
-use Rattle.std.specs.List.{fold}
-use Rattle.ring_machine.specs.Query.{absolute_area}
-use Rattle.topo_reader.specs.Uses.{positions_of}
+use Rattle.kit_words.proofs.Common.{◌≡◌, ◌-ℤ◌, take, map, fold}
+use Rattle.ring_machine.specs.Common.{absolute_area}
+use Rattle.topo_reader.specs.Common.{positions_of}
 use Rattle.map_drawing.proofs.areas.rings_area.Given as goal
 
 -- the area less the holes so far

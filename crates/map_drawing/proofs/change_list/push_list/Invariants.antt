@@ -1,4 +1,4 @@
-use Rattle.std.proofs.Common.{◌≡◌, ◌+◌, ◌*◌, pos, ◌+ℤ◌}
+use Rattle.kit_words.proofs.Common.{◌≡◌, ◌+◌, ◌*◌, pos, ◌+ℤ◌}
 use Rattle.map_drawing.proofs.change_list.push_list.Given as goal
 
 -- each line is below the one above it

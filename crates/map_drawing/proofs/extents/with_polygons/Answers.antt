@@ -1,7 +1,5 @@
-use Rattle.std.proofs.Common.{subst, arith}
-use Rattle.std.specs.List.{All}
-use Rattle.std.proofs.lemmas.List.{take_all}
-use Rattle.map_drawing.specs.Windows.{RingIn, RingsIn, AreWithin}
+use Rattle.kit_words.proofs.Common.{subst, arith, All, take_all}
+use Rattle.map_drawing.specs.Common.{RingIn, RingsIn, AreWithin}
 use Rattle.map_drawing.proofs.WithinLemmas.{all_more, rings_stay}
 use Rattle.map_drawing.proofs.extents.with_polygons.Goals as goal
 

@@ -1,5 +1,5 @@
-use Rattle.std.proofs.Common.{take}
-use Rattle.map_drawing.specs.Windows.{AreWithin}
+use Rattle.kit_words.proofs.Common.{take}
+use Rattle.map_drawing.specs.Common.{AreWithin}
 use Rattle.map_drawing.proofs.WithinLemmas.{Wider}
 use Rattle.map_drawing.proofs.extents.with_polygons.Given as goal
 

@@ -1,7 +1,5 @@
-use Rattle.std.proofs.Common.{Some, subst, arith}
-use Rattle.std.specs.List.{All}
-use Rattle.std.proofs.lemmas.List.{take_all}
-use Rattle.map_drawing.specs.Windows.{IsWithin}
+use Rattle.kit_words.proofs.Common.{Some, subst, arith, All, take_all}
+use Rattle.map_drawing.specs.Common.{IsWithin}
 use Rattle.map_drawing.proofs.WithinLemmas.{all_more}
 use Rattle.map_drawing.proofs.extents.with_ring.Goals as goal
 

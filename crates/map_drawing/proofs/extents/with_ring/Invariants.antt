@@ -1,6 +1,5 @@
-use Rattle.std.proofs.Common.{take}
-use Rattle.std.specs.List.{All}
-use Rattle.map_drawing.specs.Windows.{IsWithin}
+use Rattle.kit_words.proofs.Common.{take, All}
+use Rattle.map_drawing.specs.Common.{IsWithin}
 use Rattle.map_drawing.proofs.WithinLemmas.{Wider}
 use Rattle.map_drawing.proofs.extents.with_ring.Given as goal
 

@@ -1,7 +1,5 @@
-use Rattle.std.proofs.Common.{subst, arith}
-use Rattle.std.specs.List.{All}
-use Rattle.std.proofs.lemmas.List.{take_all}
-use Rattle.map_drawing.specs.Windows.{IsWithin, RingIn}
+use Rattle.kit_words.proofs.Common.{subst, arith, All, take_all}
+use Rattle.map_drawing.specs.Common.{IsWithin, RingIn}
 use Rattle.map_drawing.proofs.WithinLemmas.{all_more, ring_stays}
 use Rattle.map_drawing.proofs.extents.with_rings.Goals as goal
 

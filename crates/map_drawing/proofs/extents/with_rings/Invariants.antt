@@ -1,6 +1,5 @@
-use Rattle.std.proofs.Common.{take}
-use Rattle.std.specs.List.{All}
-use Rattle.map_drawing.specs.Windows.{RingIn}
+use Rattle.kit_words.proofs.Common.{take, All}
+use Rattle.map_drawing.specs.Common.{RingIn}
 use Rattle.map_drawing.proofs.WithinLemmas.{Wider}
 use Rattle.map_drawing.proofs.extents.with_rings.Given as goal
 

@@ -1,4 +1,4 @@
-use Rattle.std.proofs.Common.{◌≤◌, length}
+use Rattle.kit_words.proofs.Common.{◌≤◌, length}
 use Rattle.map_drawing.proofs.names.front.Given as goal
 
 abbrev pub invariant-loop-end : goal.invariant-loop-end

@@ -1,8 +1,7 @@
 use mir.Syntax.{w64}
 use mir.Val.{SFits}
-use Rattle.std.proofs.Common.{rules, ◌++◌, ap₂, ◌∙◌}
-use Rattle.std.specs.Prelude.{ℤ, codes}
-use Rattle.svg_text.specs.Numbers.{pair_text}
+use Rattle.kit_words.proofs.Common.{rules, ◌++◌, ap₂, ◌∙◌, ℤ, codes}
+use Rattle.svg_text.specs.Common.{pair_text}
 use Rattle.svg_text.proofs.Appending.{two, both_whole}
 use Rattle.map_drawing.proofs.paths.push_point.Goals as goal
 

@@ -1,7 +1,7 @@
-use Rattle.std.proofs.Common.{◌++◌, ap, ap₂, ◌∙◌, sym, map, take, append_assoc, append-nil}
-use Rattle.std.proofs.lemmas.List.{take_all}
-use Rattle.topo_reader.specs.Uses.{positions_of, polygon_positions}
-use Rattle.map_drawing.specs.Paths.{rings_text, polygons_text}
+use Rattle.kit_words.proofs.Common.{◌++◌, ap, ap₂, ◌∙◌, sym, map, take, append_assoc, take_all}
+use Rattle.std.proofs.Common.{append-nil}
+use Rattle.topo_reader.specs.Common.{positions_of, polygon_positions}
+use Rattle.map_drawing.specs.Common.{rings_text, polygons_text}
 use Rattle.map_drawing.proofs.MappedLists.{flat_one_more}
 use Rattle.map_drawing.proofs.paths.push_polygons.Goals as goal
 

@@ -1,6 +1,6 @@
-use Rattle.std.proofs.Common.{◌≡◌, ◌++◌, take, map}
-use Rattle.topo_reader.specs.Uses.{polygon_positions}
-use Rattle.map_drawing.specs.Paths.{polygons_text}
+use Rattle.kit_words.proofs.Common.{◌≡◌, ◌++◌, take, map}
+use Rattle.topo_reader.specs.Common.{polygon_positions}
+use Rattle.map_drawing.specs.Common.{polygons_text}
 use Rattle.map_drawing.proofs.paths.push_polygons.Given as goal
 
 -- the polygons so far

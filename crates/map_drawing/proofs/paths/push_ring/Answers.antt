@@ -1,7 +1,7 @@
-use Rattle.std.proofs.Common.{◌++◌, ap, ◌∙◌, sym, take, append_assoc, append-nil}
-use Rattle.std.specs.Prelude.{codes, flat_map}
-use Rattle.std.proofs.lemmas.List.{take_all}
-use Rattle.map_drawing.specs.Paths.{point_text}
+use Rattle.kit_words.proofs.Common.{◌++◌, ap, ◌∙◌, sym, take, append_assoc, codes, take_all}
+use Rattle.std.proofs.Common.{append-nil}
+use Rattle.std.specs.Prelude.{flat_map}
+use Rattle.map_drawing.specs.Common.{point_text}
 use Rattle.map_drawing.proofs.MappedLists.{flat_more}
 use Rattle.map_drawing.proofs.paths.push_ring.Goals as goal
 

@@ -1,6 +1,6 @@
-use Rattle.std.proofs.Common.{◌≡◌, ◌++◌, take}
-use Rattle.std.specs.Prelude.{codes, flat_map}
-use Rattle.map_drawing.specs.Paths.{point_text}
+use Rattle.kit_words.proofs.Common.{◌≡◌, ◌++◌, take, codes}
+use Rattle.std.specs.Prelude.{flat_map}
+use Rattle.map_drawing.specs.Common.{point_text}
 use Rattle.map_drawing.proofs.paths.push_ring.Given as goal
 
 -- the positions so far

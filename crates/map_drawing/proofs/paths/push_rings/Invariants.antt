@@ -1,6 +1,6 @@
-use Rattle.std.proofs.Common.{◌≡◌, ◌++◌, take, map}
-use Rattle.topo_reader.specs.Uses.{positions_of}
-use Rattle.map_drawing.specs.Paths.{rings_text}
+use Rattle.kit_words.proofs.Common.{◌≡◌, ◌++◌, take, map}
+use Rattle.topo_reader.specs.Common.{positions_of}
+use Rattle.map_drawing.specs.Common.{rings_text}
 use Rattle.map_drawing.proofs.paths.push_rings.Given as goal
 
 -- the rings so far

@@ -1,7 +1,5 @@
-use Rattle.std.proofs.Common.{subst, arith}
-use Rattle.std.specs.List.{All}
-use Rattle.std.proofs.lemmas.List.{take_all}
-use Rattle.map_drawing.specs.Shapes.{ShapeIn}
+use Rattle.kit_words.proofs.Common.{subst, arith, All, take_all}
+use Rattle.map_drawing.specs.Common.{ShapeIn}
 use Rattle.map_drawing.proofs.WithinLemmas.{all_more, shape_stays}
 use Rattle.map_drawing.proofs.shapes.bounds_of.Goals as goal
 

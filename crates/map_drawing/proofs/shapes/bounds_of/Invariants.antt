@@ -1,6 +1,5 @@
-use Rattle.std.proofs.Common.{take}
-use Rattle.std.specs.List.{All}
-use Rattle.map_drawing.specs.Shapes.{ShapeIn}
+use Rattle.kit_words.proofs.Common.{take, All}
+use Rattle.map_drawing.specs.Common.{ShapeIn}
 use Rattle.map_drawing.proofs.WithinLemmas.{Wider}
 use Rattle.map_drawing.proofs.shapes.bounds_of.Given as goal
 

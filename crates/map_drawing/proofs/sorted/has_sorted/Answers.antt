@@ -1,5 +1,5 @@
-use Rattle.std.proofs.Common.{◌∙◌}
-use Rattle.ring_parts.proofs.Searching.{search_tells}
+use Rattle.kit_words.proofs.Common.{◌∙◌}
+use Rattle.ring_parts.proofs.Common.{search_tells}
 use Rattle.map_drawing.proofs.sorted.has_sorted.Goals as goal
 
 pub returns : goal.returns

@@ -1,8 +1,5 @@
-use Rattle.std.proofs.Common.{◌++◌, ◌∷◌, [], ap, ap₂, ◌∙◌, sym}
-use Rattle.std.specs.Prelude.{not}
-use Rattle.std.specs.List.{list_any}
-use Rattle.std.proofs.lemmas.List.{take_all}
-use Rattle.map_drawing.specs.Missing.{missing_flags}
+use Rattle.kit_words.proofs.Common.{◌++◌, ◌∷◌, [], ap, ap₂, ◌∙◌, sym, not, list_any, take_all}
+use Rattle.map_drawing.specs.Common.{missing_flags}
 use Rattle.map_drawing.proofs.MappedLists.{one_more}
 use Rattle.map_drawing.proofs.sorted.missing.Goals as goal
 

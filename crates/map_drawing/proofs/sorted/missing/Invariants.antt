@@ -1,5 +1,5 @@
-use Rattle.std.proofs.Common.{◌≡◌, take}
-use Rattle.map_drawing.specs.Missing.{missing_flags}
+use Rattle.kit_words.proofs.Common.{◌≡◌, take}
+use Rattle.map_drawing.specs.Common.{missing_flags}
 use Rattle.map_drawing.proofs.sorted.missing.Given as goal
 
 -- the flags so far

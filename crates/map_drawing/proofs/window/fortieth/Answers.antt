@@ -1,6 +1,5 @@
-use Rattle.std.proofs.Common.{◌≡◌, ◌/◌, ℤ, pos, ◌≤ℤ◌, unsigned_abs, ap, ◌∙◌, arith}
+use Rattle.kit_words.proofs.Common.{◌≡◌, ◌/◌, ℤ, pos, ◌≤ℤ◌, unsigned_abs, ap, ◌∙◌, arith, ints}
 use Rattle.std.proofs.Math.Facts.{to_z-of_z}
-use Rattle.std.proofs.lemmas.Int.{ints}
 use Rattle.map_drawing.proofs.window.fortieth.Goals as goal
 
 pub overflow_add-result : goal.overflow_add-result

@@ -1,6 +1,5 @@
-use Rattle.std.proofs.Common.{◌∙◌, sym, ap}
-use Rattle.std.specs.Vec.Iter.{into_iter_items}
-use Rattle.map_frame.specs.Building.{progress, lone}
+use Rattle.kit_words.proofs.Common.{◌∙◌, sym, ap, into_iter_items}
+use Rattle.map_frame.specs.Common.{progress, lone}
 use Rattle.map_frame.proofs.Built.{lone_some, lone_none}
 use Rattle.map_frame.proofs.building.build_geometry.Goals as goal
 

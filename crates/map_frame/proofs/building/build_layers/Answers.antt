@@ -1,6 +1,5 @@
-use Rattle.std.proofs.Common.{◌∙◌, refl, sym, ap, subst}
-use Rattle.std.specs.Vec.Iter.{into_iter_items, into_iter_len}
-use Rattle.map_frame.specs.Building.{progress, IsGeometry, AreLayers}
+use Rattle.kit_words.proofs.Common.{◌∙◌, refl, sym, ap, subst, into_iter_items, into_iter_len}
+use Rattle.map_frame.specs.Common.{progress, IsGeometry, AreLayers}
 use Rattle.map_frame.proofs.Built.{HasRoom, LayersSoFar, nothing_left, room_first, layers_begin, layers_more, layers_end, leaves_of, all_leaves, all_leaves-cons}
 use Rattle.map_frame.proofs.building.build_layers.Goals as goal
 

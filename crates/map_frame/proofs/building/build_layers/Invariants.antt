@@ -1,5 +1,5 @@
-use Rattle.std.specs.Vec.Iter.{into_iter_items}
-use Rattle.map_frame.specs.Building.{progress}
+use Rattle.kit_words.proofs.Common.{into_iter_items}
+use Rattle.map_frame.specs.Common.{progress}
 use Rattle.map_frame.proofs.Built.{LayersSoFar}
 use Rattle.map_frame.proofs.building.build_layers.Given as goal
 

@@ -1,6 +1,5 @@
-use Rattle.std.proofs.Common.{◌∙◌, refl, sym, ap, subst, arith, [], ◌∷◌, ◌++◌}
-use Rattle.std.specs.Vec.Iter.{into_iter_items}
-use Rattle.map_frame.specs.Building.{progress, IsSlot}
+use Rattle.kit_words.proofs.Common.{◌∙◌, refl, sym, ap, subst, arith, [], ◌∷◌, ◌++◌, into_iter_items}
+use Rattle.map_frame.specs.Common.{progress, IsSlot}
 use Rattle.map_frame.specs.declared.layers.Slot.TheVariants as slot
 use Rattle.map_frame.proofs.Built.{leaves_of, one_leaf}
 use Rattle.map_frame.proofs.building.build_slot.Goals as goal

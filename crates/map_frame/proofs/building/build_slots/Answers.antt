@@ -1,6 +1,5 @@
-use Rattle.std.proofs.Common.{◌∙◌, sym, ap, subst, [], ◌∷◌}
-use Rattle.std.specs.Vec.Iter.{into_iter_items, into_iter_len}
-use Rattle.map_frame.specs.Building.{progress, IsSlot, AreSlots}
+use Rattle.kit_words.proofs.Common.{◌∙◌, sym, ap, subst, [], ◌∷◌, into_iter_items, into_iter_len}
+use Rattle.map_frame.specs.Common.{progress, IsSlot, AreSlots}
 use Rattle.map_frame.proofs.Built.{HasRoom, SlotsSoFar, nothing_left, room_first, slots_begin, slots_more, slots_end, leaves_of, leaves_of-cons}
 use Rattle.map_frame.proofs.building.build_slots.Goals as goal
 

@@ -1,9 +1,6 @@
-use Rattle.std.proofs.Common.{◌≡◌, sym, ap, ap₂, ◌∙◌, [], map, is_some, true, false}
-use Rattle.ring_machine.proofs.Members.{is_some-mapped}
-use Rattle.map_frame.specs.Live.{live}
-use Rattle.map_frame.specs.Readers.{shown_item}
-use Rattle.map_frame.specs.Seen.{items_of}
-use Rattle.map_frame.specs.Shown.{shown_rest}
+use Rattle.kit_words.proofs.Common.{◌≡◌, sym, ap, ap₂, ◌∙◌, [], map, is_some, true, false}
+use Rattle.ring_machine.proofs.Common.{is_some-mapped}
+use Rattle.map_frame.specs.Common.{live, shown_item, items_of, shown_rest}
 use Rattle.map_frame.proofs.ReadItems.{alone_there, alone_gone}
 use Rattle.map_frame.proofs.frame_view.items_in.Goals as goal
 

@@ -1,4 +1,4 @@
-use Rattle.std.proofs.Common.{refl}
+use Rattle.kit_words.proofs.Common.{refl}
 use Rattle.map_frame.proofs.growing.put_numbers.Goals as goal
 
 pub returns-in-Items : goal.returns-in-Items

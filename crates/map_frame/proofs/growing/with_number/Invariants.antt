@@ -1,5 +1,5 @@
-use Rattle.std.proofs.Common.{◌≡◌, take}
-use Rattle.map_frame.specs.Growing.{with_new}
+use Rattle.kit_words.proofs.Common.{◌≡◌, take}
+use Rattle.map_frame.specs.Common.{with_new}
 use Rattle.map_frame.proofs.growing.with_number.Given as goal
 
 -- the numbers so far, the new one with them

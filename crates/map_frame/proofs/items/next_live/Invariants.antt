@@ -1,6 +1,5 @@
-use Rattle.std.proofs.Common.{◌≡◌}
-use Rattle.std.specs.Slice.Iter.{iter_rest}
-use Rattle.map_frame.specs.Shown.{shown_leaves}
+use Rattle.kit_words.proofs.Common.{◌≡◌, iter_rest}
+use Rattle.map_frame.specs.Common.{shown_leaves}
 use Rattle.map_frame.proofs.items.next_live.Given as goal
 
 -- no feature was passed over

@@ -1,8 +1,5 @@
-use Rattle.std.proofs.Common.{◌≡◌, ℕ, ◌<◌, length, map, Some}
-use Rattle.std.specs.Prelude.{slice_get}
-use Rattle.map_frame.specs.Numbers.{polygon_numbers}
-use Rattle.map_frame.specs.Naming.{Loss}
-use Rattle.map_frame.specs.Readers.{element}
+use Rattle.kit_words.proofs.Common.{◌≡◌, ℕ, ◌<◌, length, map, Some, slice_get}
+use Rattle.map_frame.specs.Common.{polygon_numbers, Loss, element}
 use Rattle.map_frame.proofs.names.forget_feature.Given as goal
 
 -- the rings of the polygons so far have no names

@@ -1,6 +1,5 @@
-use Rattle.std.proofs.Common.{◌≡◌, ℕ, ◌<◌, length, Some}
-use Rattle.std.specs.Prelude.{slice_get}
-use Rattle.map_frame.specs.Naming.{Loss}
+use Rattle.kit_words.proofs.Common.{◌≡◌, ℕ, ◌<◌, length, Some, slice_get}
+use Rattle.map_frame.specs.Common.{Loss}
 use Rattle.map_frame.proofs.names.forget_polygon.Given as goal
 
 -- the rings so far have no names

@@ -1,6 +1,5 @@
-use Rattle.std.proofs.Common.{◌≡◌, ℕ, ◌<◌, ◌≤◌, length, Some}
-use Rattle.std.specs.Prelude.{slice_get}
-use Rattle.map_frame.specs.Naming.{SameNames}
+use Rattle.kit_words.proofs.Common.{◌≡◌, ℕ, ◌<◌, ◌≤◌, length, Some, slice_get}
+use Rattle.map_frame.specs.Common.{SameNames}
 use Rattle.map_frame.proofs.names.make_room.Given as goal
 
 -- there is room for the rings so far

@@ -1,6 +1,5 @@
-use Rattle.std.proofs.Common.{arith, map, ap, []}
-use Rattle.std.proofs.lemmas.List.{length-map}
-use Rattle.map_frame.specs.Numbers.{feature_numbers, polygon_numbers}
+use Rattle.kit_words.proofs.Common.{arith, map, ap, [], length-map}
+use Rattle.map_frame.specs.Common.{feature_numbers, polygon_numbers}
 use Rattle.map_frame.proofs.BuiltNames.{feature_named, all_named}
 use Rattle.map_frame.proofs.ReadLists.{mapped_got}
 use Rattle.map_frame.proofs.names.name_all.Goals as goal

@@ -1,6 +1,5 @@
-use Rattle.std.proofs.Common.{◌<◌, map, []}
-use Rattle.map_frame.specs.Numbers.{feature_numbers}
-use Rattle.map_frame.specs.Naming.{Gain}
+use Rattle.kit_words.proofs.Common.{◌<◌, map, []}
+use Rattle.map_frame.specs.Common.{feature_numbers, Gain}
 use Rattle.map_frame.proofs.BuiltNames.{OfAll}
 use Rattle.map_frame.proofs.names.name_all.Given as goal
 

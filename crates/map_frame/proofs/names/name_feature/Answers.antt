@@ -1,6 +1,5 @@
-use Rattle.std.proofs.Common.{arith, map}
-use Rattle.std.proofs.lemmas.List.{length-map}
-use Rattle.map_frame.specs.Numbers.{polygon_numbers}
+use Rattle.kit_words.proofs.Common.{arith, map, length-map}
+use Rattle.map_frame.specs.Common.{polygon_numbers}
 use Rattle.map_frame.proofs.BuiltNames.{polygon_named, polygons_named, gain_after}
 use Rattle.map_frame.proofs.NamedLists.{OfPolygon}
 use Rattle.map_frame.proofs.ReadLists.{mapped_got}

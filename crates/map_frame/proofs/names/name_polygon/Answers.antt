@@ -1,5 +1,4 @@
-use Rattle.std.proofs.Common.{◌<◌, ◌≤◌, ◌∙◌, arith, length, get_or, refl}
-use Rattle.std.proofs.lemmas.Option.{slice_get-get_or}
+use Rattle.kit_words.proofs.Common.{◌<◌, ◌≤◌, ◌∙◌, arith, length, get_or, refl, slice_get-get_or}
 use Rattle.map_frame.proofs.NamedLists.{ring_named, rings_named, gain_none, OfPolygon}
 use Rattle.map_frame.proofs.names.name_polygon.Goals as goal
 

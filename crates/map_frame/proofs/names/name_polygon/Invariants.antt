@@ -1,5 +1,5 @@
-use Rattle.std.proofs.Common.{◌≡◌, ◌<◌, length}
-use Rattle.map_frame.specs.Naming.{Gain}
+use Rattle.kit_words.proofs.Common.{◌≡◌, ◌<◌, length}
+use Rattle.map_frame.specs.Common.{Gain}
 use Rattle.map_frame.proofs.NamedLists.{OfPolygon}
 use Rattle.map_frame.proofs.names.name_polygon.Given as goal
 

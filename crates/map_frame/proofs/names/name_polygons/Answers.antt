@@ -1,7 +1,5 @@
-use Rattle.std.proofs.Common.{◌∙◌, arith, map, refl, subst}
-use Rattle.std.proofs.lemmas.List.{length-map}
-use Rattle.map_frame.specs.Numbers.{polygon_numbers}
-use Rattle.map_frame.specs.Naming.{IsOf}
+use Rattle.kit_words.proofs.Common.{◌∙◌, arith, map, refl, subst, length-map}
+use Rattle.map_frame.specs.Common.{polygon_numbers, IsOf}
 use Rattle.map_frame.proofs.BuiltNames.{polygon_named, polygons_named}
 use Rattle.map_frame.proofs.NamedRoom.{of_part}
 use Rattle.map_frame.proofs.ReadLists.{got, mapped_got}

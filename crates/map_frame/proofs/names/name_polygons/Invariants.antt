@@ -1,6 +1,5 @@
-use Rattle.std.proofs.Common.{◌≡◌, ◌<◌, length, map}
-use Rattle.map_frame.specs.Numbers.{polygon_numbers}
-use Rattle.map_frame.specs.Naming.{Gain}
+use Rattle.kit_words.proofs.Common.{◌≡◌, ◌<◌, length, map}
+use Rattle.map_frame.specs.Common.{polygon_numbers, Gain}
 use Rattle.map_frame.proofs.BuiltNames.{OfFeature}
 use Rattle.map_frame.proofs.names.name_polygons.Given as goal
 

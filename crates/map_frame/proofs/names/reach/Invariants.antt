@@ -1,5 +1,5 @@
-use Rattle.std.proofs.Common.{◌≤◌, ◌+◌, ◌-◌, length}
-use Rattle.map_frame.specs.Naming.{SameNames}
+use Rattle.kit_words.proofs.Common.{◌≤◌, ◌+◌, ◌-◌, length}
+use Rattle.map_frame.specs.Common.{SameNames}
 use Rattle.map_frame.proofs.names.reach.Given as goal
 
 -- the same rings have the same names

@@ -1,8 +1,7 @@
-use Rattle.std.proofs.Common.{◌≡◌, ◌<◌, ◌≤◌, get_or, ap, sym, ◌∙◌, refl, length, arith}
-use Rattle.std.proofs.lemmas.List.{drop_all}
-use Rattle.topo_outline.specs.Views.{view_item}
-use Rattle.topo_reader.specs.Uses.{feature_positions}
-use Rattle.map_mending.specs.Seen.{features_at, piece_after, pieces_after}
+use Rattle.kit_words.proofs.Common.{◌≡◌, ◌<◌, ◌≤◌, get_or, ap, sym, ◌∙◌, refl, length, arith, drop_all}
+use Rattle.topo_outline.specs.Common.{view_item}
+use Rattle.topo_reader.specs.Common.{feature_positions}
+use Rattle.map_mending.specs.Common.{features_at, piece_after, pieces_after}
 use Rattle.map_mending.proofs.Settling.{ahead_of, settled_more, left_more, left_none}
 use Rattle.map_mending.proofs.forms.settle_items.Goals as goal
 

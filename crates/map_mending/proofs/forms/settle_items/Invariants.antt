@@ -1,8 +1,7 @@
-use Rattle.std.proofs.Common.{◌≡◌, ◌++◌, map, take, drop, length}
-use Rattle.topo_outline.specs.Layers.{leaves_in}
-use Rattle.topo_outline.specs.Views.{view_item}
-use Rattle.topo_reader.specs.Uses.{feature_positions}
-use Rattle.map_mending.specs.Seen.{pieces_after}
+use Rattle.kit_words.proofs.Common.{◌≡◌, ◌++◌, map, take, drop, length}
+use Rattle.topo_outline.specs.Common.{leaves_in, view_item}
+use Rattle.topo_reader.specs.Common.{feature_positions}
+use Rattle.map_mending.specs.Common.{pieces_after}
 use Rattle.map_mending.proofs.forms.settle_items.Given as goal
 
 -- those before the place are settled, and those from it on will be by what is left

@@ -1,10 +1,7 @@
-use Rattle.std.proofs.Common.{◌≡◌, ℕ, ◌<◌, List, ap, ◌∙◌, refl, length, map, drop, get_or, arith}
-use Rattle.std.proofs.lemmas.List.{with_items_is}
-use Rattle.topo_outline.specs.Layers.{LayerText, Piece, leaves_in}
-use Rattle.topo_outline.specs.Views.{view_item, view_layer}
-use Rattle.topo_reader.specs.Document.{Polygons}
-use Rattle.topo_reader.specs.Uses.{feature_positions}
-use Rattle.map_mending.specs.Seen.{pieces_after, layers_after}
+use Rattle.kit_words.proofs.Common.{◌≡◌, ℕ, ◌<◌, List, ap, ◌∙◌, refl, length, map, drop, get_or, arith, with_items_is}
+use Rattle.topo_outline.specs.Common.{LayerText, Piece, leaves_in, view_item, view_layer}
+use Rattle.topo_reader.specs.Common.{Polygons, feature_positions}
+use Rattle.map_mending.specs.Common.{pieces_after, layers_after}
 use Rattle.map_mending.proofs.Settling.{ahead_of, settled_more}
 use Rattle.map_mending.proofs.forms.settle_layers.Goals as goal
 

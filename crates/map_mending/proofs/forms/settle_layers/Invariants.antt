@@ -1,7 +1,7 @@
-use Rattle.std.proofs.Common.{◌≡◌, ◌++◌, map, take, drop}
-use Rattle.topo_outline.specs.Views.{view_layer}
-use Rattle.topo_reader.specs.Uses.{feature_positions}
-use Rattle.map_mending.specs.Seen.{layers_after}
+use Rattle.kit_words.proofs.Common.{◌≡◌, ◌++◌, map, take, drop}
+use Rattle.topo_outline.specs.Common.{view_layer}
+use Rattle.topo_reader.specs.Common.{feature_positions}
+use Rattle.map_mending.specs.Common.{layers_after}
 use Rattle.map_mending.proofs.forms.settle_layers.Given as goal
 
 -- those before the place are settled, and those from it on will be by what is left

@@ -1,17 +1,12 @@
-use Rattle.std.proofs.Common.{◌≡◌, true, false, map, sym, ap, ◌∙◌, subst}
-use Rattle.std.specs.Prelude.{nat_le, sum_by, length, IsTrue}
-use Rattle.grid_geometry.specs.Segment.{segment_cmp}
-use Rattle.topo_reader.specs.Document.{Opened, document_of, IsOfRings}
-use Rattle.topo_reader.specs.DocumentView.{view_raw}
-use Rattle.topo_reader.specs.Uses.{feature_positions}
-use Rattle.walk_faults.specs.Findings.{ListsAll}
-use Rattle.segment_paths.specs.Faults.{IsPathFault}
-use Rattle.segment_paths.specs.Seen.{paths_seen}
-use Rattle.walk_mending.specs.Odd.{is_bounding_in}
-use Rattle.map_mending.specs.Bounding.{MendedBy}
-use Rattle.map_mending.specs.Faults.{IsMendFault, AreUnparted, OnlyUnparted, without_paths}
-use Rattle.map_mending.specs.Mended.{Mended}
-use Rattle.map_mending.specs.Told.{TellsParted, Parts}
+use Rattle.kit_words.proofs.Common.{◌≡◌, true, false, map, sym, ap, ◌∙◌, subst, nat_le, length, IsTrue}
+use Rattle.std.specs.Prelude.{sum_by}
+use Rattle.grid_geometry.specs.Common.{segment_cmp}
+use Rattle.topo_reader.specs.Common.{Opened, document_of, IsOfRings, view_raw, feature_positions}
+use Rattle.walk_faults.specs.Common.{ListsAll}
+use Rattle.segment_paths.specs.Common.{IsPathFault, paths_seen}
+use Rattle.walk_mending.specs.Common.{is_bounding_in}
+use Rattle.map_mending.specs.Common.{MendedBy, IsMendFault, AreUnparted, OnlyUnparted, without_paths, Mended}
+use Rattle.map_mending.specs.Common.{TellsParted, Parts}
 use Rattle.map_mending.proofs.Pieces.{document_mended}
 use Rattle.map_mending.proofs.Whole.{mended_of_rings, mended_parts, are_bounding, polygons_read}
 use Rattle.map_mending.proofs.Failing.{handed, no_paths, in_document, mended_by, does_not_fit}

@@ -1,7 +1,7 @@
-use Rattle.std.proofs.Common.{◌≡◌, map, take}
-use Rattle.topo_reader.specs.Uses.{positions_of}
-use Rattle.segment_paths.specs.Seen.{paths_seen}
-use Rattle.walk_mending.specs.Laid.{laid}
+use Rattle.kit_words.proofs.Common.{◌≡◌, map, take}
+use Rattle.topo_reader.specs.Common.{positions_of}
+use Rattle.segment_paths.specs.Common.{paths_seen}
+use Rattle.walk_mending.specs.Common.{laid}
 use Rattle.map_mending.proofs.polygons.laid_walks.Given as goal
 
 -- the walks so far are led along the paths

@@ -1,13 +1,9 @@
-use Rattle.std.proofs.Common.{◌≡◌, ℕ, Bool, cond, ◌+◌, [], ◌∷◌, ◌++◌, map, length, take, sym, ap, ap₂, ◌∙◌, subst, arith}
-use Rattle.std.specs.List.{list_all}
-use Rattle.std.proofs.lemmas.List.{length-map, map-append}
-use Rattle.topo_reader.specs.Document.{Polygons, is_simple}
-use Rattle.topo_reader.specs.Uses.{positions_of, polygon_positions}
-use Rattle.segment_paths.specs.Seen.{paths_seen}
-use Rattle.walk_mending.specs.Laid.{laid}
-use Rattle.map_mending.specs.Mended.{MendsPolygon}
-use Rattle.map_mending.specs.Seen.{StandsFor}
-use Rattle.map_mending.specs.Told.{told_of}
+use Rattle.kit_words.proofs.Common.{◌≡◌, ℕ, Bool, cond, ◌+◌, [], ◌∷◌, ◌++◌, map, length, take, sym, ap, ap₂, ◌∙◌, subst}
+use Rattle.kit_words.proofs.Common.{arith, list_all, length-map, map-append}
+use Rattle.topo_reader.specs.Common.{Polygons, is_simple, positions_of, polygon_positions}
+use Rattle.segment_paths.specs.Common.{paths_seen}
+use Rattle.walk_mending.specs.Common.{laid}
+use Rattle.map_mending.specs.Common.{MendsPolygon, StandsFor, told_of}
 use Rattle.map_mending.proofs.Stands.{stands_step}
 use Rattle.map_mending.proofs.polygons.mended_feature.Goals as goal
 

@@ -1,7 +1,7 @@
-use Rattle.std.proofs.Common.{map, take}
-use Rattle.topo_reader.specs.Uses.{polygon_positions}
-use Rattle.segment_paths.specs.Seen.{paths_seen}
-use Rattle.map_mending.specs.Seen.{StandsFor}
+use Rattle.kit_words.proofs.Common.{map, take}
+use Rattle.topo_reader.specs.Common.{polygon_positions}
+use Rattle.segment_paths.specs.Common.{paths_seen}
+use Rattle.map_mending.specs.Common.{StandsFor}
 use Rattle.map_mending.proofs.polygons.mended_feature.Given as goal
 
 -- the polygons so far stand in the place of those before the place

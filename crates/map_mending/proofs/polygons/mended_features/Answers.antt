@@ -1,11 +1,7 @@
-use Rattle.std.proofs.Common.{◌≡◌, ◌+◌, [], ◌∷◌, ◌++◌, List, map, take, sym, ap, ◌∙◌, subst}
-use Rattle.std.proofs.lemmas.List.{map-append}
-use Rattle.topo_reader.specs.Document.{Polygons}
-use Rattle.topo_reader.specs.Uses.{polygon_positions, feature_positions}
-use Rattle.segment_paths.specs.Seen.{paths_seen}
-use Rattle.map_mending.specs.Seen.{StandsFor}
-use Rattle.map_mending.specs.Told.{TellsParted}
-use Rattle.map_mending.specs.Faults.{AreUnpartedIn, AreUnparted, OnlyUnparted}
+use Rattle.kit_words.proofs.Common.{◌≡◌, ◌+◌, [], ◌∷◌, ◌++◌, List, map, take, sym, ap, ◌∙◌, subst, map-append}
+use Rattle.topo_reader.specs.Common.{Polygons, polygon_positions, feature_positions}
+use Rattle.segment_paths.specs.Common.{paths_seen}
+use Rattle.map_mending.specs.Common.{StandsFor, TellsParted, AreUnpartedIn, AreUnparted, OnlyUnparted}
 use Rattle.map_mending.proofs.Failing.{handed, seen_at, in_feature}
 use Rattle.map_mending.proofs.Stands.{tells_step}
 use Rattle.map_mending.proofs.polygons.mended_features.Goals as goal

@@ -1,7 +1,7 @@
-use Rattle.std.proofs.Common.{map, take}
-use Rattle.topo_reader.specs.Uses.{feature_positions}
-use Rattle.segment_paths.specs.Seen.{paths_seen}
-use Rattle.map_mending.specs.Told.{TellsParted}
+use Rattle.kit_words.proofs.Common.{map, take}
+use Rattle.topo_reader.specs.Common.{feature_positions}
+use Rattle.segment_paths.specs.Common.{paths_seen}
+use Rattle.map_mending.specs.Common.{TellsParted}
 use Rattle.map_mending.proofs.polygons.mended_features.Given as goal
 
 -- the features so far are mended

@@ -1,12 +1,12 @@
-use Rattle.std.proofs.Common.{◌≡◌, ◌++◌, ◌∷◌, [], ◌∙◌, ◌+◌, refl, sym, ap, subst, take, IsTrue, arith}
+use Rattle.kit_words.proofs.Common.{◌≡◌, ◌++◌, ◌∷◌, [], ◌∙◌, ◌+◌, refl, sym, ap, subst, take, IsTrue, arith}
 use Rattle.std.specs.FinMap as table
-use Rattle.vertex_index.specs.Placement.{place}
-use Rattle.grid_geometry.specs.Segment.{segment}
-use Rattle.arc_tables.specs.Rings.{edges, users_of}
-use Rattle.ring_store.specs.Steps.{sides}
-use Rattle.ring_store.proofs.Edges.{length-edges, edge_joins}
+use Rattle.vertex_index.specs.Common.{place}
+use Rattle.grid_geometry.specs.Common.{segment}
+use Rattle.arc_tables.specs.Common.{edges, users_of}
+use Rattle.ring_store.specs.Common.{sides}
+use Rattle.ring_store.proofs.Common.{length-edges, edge_joins}
 use Rattle.ring_store.proofs.Used.{used_side}
-use Rattle.local_planarity.specs.Edits.{IsFilled}
+use Rattle.local_planarity.specs.Common.{IsFilled}
 use Rattle.map_opening.proofs.FilledLists.{sides_none, sides_more, sides_there, sides_all, still_held}
 use Rattle.map_opening.proofs.filling.fill_ring.Goals as goal
 use Rattle.map_opening.proofs.filling.fill_ring.Goals.{then-uses_along-eq0+in_ok-fill, else-uses_along-eq0}

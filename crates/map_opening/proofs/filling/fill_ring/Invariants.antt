@@ -1,9 +1,9 @@
-use Rattle.std.proofs.Common.{◌≡◌, List, ◌++◌, take}
-use Rattle.grid_geometry.specs.Segment.{Segment}
-use Rattle.arc_tables.specs.Rings.{edges}
-use Rattle.ring_store.specs.Steps.{sides}
-use Rattle.local_planarity.specs.Edits.{IsFilled}
-use Rattle.map_opening.specs.Laying.{HasSides}
+use Rattle.kit_words.proofs.Common.{◌≡◌, List, ◌++◌, take}
+use Rattle.grid_geometry.specs.Common.{Segment}
+use Rattle.arc_tables.specs.Common.{edges}
+use Rattle.ring_store.specs.Common.{sides}
+use Rattle.local_planarity.specs.Common.{IsFilled}
+use Rattle.map_opening.specs.Common.{HasSides}
 use Rattle.map_opening.proofs.filling.fill_ring.Given as goal
 
 -- the segments of the edges so far are held

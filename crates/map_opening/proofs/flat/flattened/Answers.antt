@@ -1,8 +1,6 @@
-use Rattle.std.proofs.Common.{◌++◌, ◌∷◌, [], ◌∙◌, sym, ap}
-use Rattle.std.specs.Vec.Iter.{into_iter_items, into_iter_len}
-use Rattle.std.proofs.lemmas.List.{map_push}
-use Rattle.ring_parts.specs.Seen.{rings_seen, polygons_seen}
-use Rattle.map_opening.specs.Flat.{joined, all_rings, shape_of, lists_seen, features_seen}
+use Rattle.kit_words.proofs.Common.{◌++◌, ◌∷◌, [], ◌∙◌, sym, ap, into_iter_items, into_iter_len, map_push}
+use Rattle.ring_parts.specs.Common.{rings_seen, polygons_seen}
+use Rattle.map_opening.specs.Common.{joined, all_rings, shape_of, lists_seen, features_seen}
 use Rattle.map_opening.proofs.FlatLists.{nothing_left, moved, all_moved}
 use Rattle.map_opening.proofs.flat.flattened.Goals as goal
 

@@ -1,7 +1,6 @@
-use Rattle.std.proofs.Common.{◌≡◌, ◌++◌}
-use Rattle.std.specs.Vec.Iter.{into_iter_items}
-use Rattle.ring_parts.specs.Seen.{rings_seen}
-use Rattle.map_opening.specs.Flat.{all_rings, shape_of, lists_seen, features_seen}
+use Rattle.kit_words.proofs.Common.{◌≡◌, ◌++◌, into_iter_items}
+use Rattle.ring_parts.specs.Common.{rings_seen}
+use Rattle.map_opening.specs.Common.{all_rings, shape_of, lists_seen, features_seen}
 use Rattle.map_opening.proofs.flat.flattened.Given as goal
 
 -- with those of the features that are left they are all

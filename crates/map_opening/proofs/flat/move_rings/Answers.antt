@@ -1,8 +1,7 @@
-use Rattle.std.proofs.Common.{◌++◌, ◌∷◌, [], ◌∙◌, refl, sym, ap, map, length}
-use Rattle.std.specs.Vec.Iter.{into_iter_items, into_iter_len}
-use Rattle.std.proofs.lemmas.List.{length-map, map-append}
-use Rattle.ring_parts.specs.Seen.{rings_seen, polygons_seen}
-use Rattle.map_opening.specs.Flat.{joined}
+use Rattle.kit_words.proofs.Common.{◌++◌, ◌∷◌, [], ◌∙◌, refl, sym, ap, map, length, into_iter_items, into_iter_len}
+use Rattle.kit_words.proofs.Common.{length-map, map-append}
+use Rattle.ring_parts.specs.Common.{rings_seen, polygons_seen}
+use Rattle.map_opening.specs.Common.{joined}
 use Rattle.map_opening.proofs.FlatLists.{nothing_left, moved, all_moved}
 use Rattle.map_opening.proofs.flat.move_rings.Goals as goal
 

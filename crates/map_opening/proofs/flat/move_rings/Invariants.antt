@@ -1,7 +1,6 @@
-use Rattle.std.proofs.Common.{◌≡◌, ◌++◌, map, length}
-use Rattle.std.specs.Vec.Iter.{into_iter_items}
-use Rattle.ring_parts.specs.Seen.{rings_seen, polygons_seen}
-use Rattle.map_opening.specs.Flat.{joined}
+use Rattle.kit_words.proofs.Common.{◌≡◌, ◌++◌, map, length, into_iter_items}
+use Rattle.ring_parts.specs.Common.{rings_seen, polygons_seen}
+use Rattle.map_opening.specs.Common.{joined}
 use Rattle.map_opening.proofs.flat.move_rings.Given as goal
 
 -- with those of the polygons that are left they are all

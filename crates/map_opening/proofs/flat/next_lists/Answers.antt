@@ -1,8 +1,6 @@
-use Rattle.std.proofs.Common.{◌+◌, ◌++◌, ◌∷◌, [], ◌∙◌, sym, ap, ap₂, map, length, drop, get_or, arith}
-use Rattle.std.specs.List.{sum}
-use Rattle.std.proofs.lemmas.List.{map_push, take_all, take_more}
-use Rattle.std.proofs.lemmas.List.Sums.{sum_by_more, sum_by_more_le}
-use Rattle.map_opening.specs.Flat.{joined, lists_seen}
+use Rattle.kit_words.proofs.Common.{◌+◌, ◌++◌, ◌∷◌, [], ◌∙◌, sym, ap, ap₂, map, length, drop, get_or, arith, sum}
+use Rattle.kit_words.proofs.Common.{map_push, take_all, take_more, sum_by_more, sum_by_more_le}
+use Rattle.map_opening.specs.Common.{joined, lists_seen}
 use Rattle.map_opening.proofs.FlatLists.{joined_next, length-range}
 use Rattle.map_opening.proofs.flat.next_lists.Goals as goal
 

@@ -1,6 +1,5 @@
-use Rattle.std.proofs.Common.{◌≡◌, ◌+◌, ◌++◌, map, length, take, drop}
-use Rattle.std.specs.List.{sum}
-use Rattle.map_opening.specs.Flat.{joined, lists_seen}
+use Rattle.kit_words.proofs.Common.{◌≡◌, ◌+◌, ◌++◌, map, length, take, drop, sum}
+use Rattle.map_opening.specs.Common.{joined, lists_seen}
 use Rattle.map_opening.proofs.flat.next_lists.Given as goal
 
 -- the lists so far

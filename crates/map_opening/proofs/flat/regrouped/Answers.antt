@@ -1,10 +1,7 @@
-use Rattle.std.proofs.Common.{◌+◌, ◌++◌, ◌∷◌, [], ◌∙◌, refl, sym, ap, ap₂, map, length, take, drop, arith}
-use Rattle.std.specs.List.{sum}
-use Rattle.std.proofs.lemmas.List.{map_push, take_all, drop_all}
-use Rattle.std.proofs.lemmas.List.Sums.{sum_by_more, sum_by_more_le}
-use Rattle.ring_store.proofs.Pushed.{map_more}
-use Rattle.ring_store.proofs.Sums.{sum_by-map}
-use Rattle.map_opening.specs.Flat.{all_rings, shape_of, ring_count, lists_seen, numbers_seen}
+use Rattle.kit_words.proofs.Common.{◌+◌, ◌++◌, ◌∷◌, [], ◌∙◌, refl, sym, ap, ap₂, map, length, take, drop, arith, sum}
+use Rattle.kit_words.proofs.Common.{map_push, take_all, drop_all, sum_by_more, sum_by_more_le}
+use Rattle.ring_store.proofs.Common.{map_more, sum_by-map}
+use Rattle.map_opening.specs.Common.{all_rings, shape_of, ring_count, lists_seen, numbers_seen}
 use Rattle.map_opening.proofs.FlatLists.{all_moved, all_next}
 use Rattle.map_opening.proofs.flat.regrouped.Goals as goal
 

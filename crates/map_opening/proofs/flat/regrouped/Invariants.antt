@@ -1,5 +1,5 @@
-use Rattle.std.proofs.Common.{◌≡◌, ◌++◌, take, drop}
-use Rattle.map_opening.specs.Flat.{all_rings, shape_of, ring_count, lists_seen, numbers_seen}
+use Rattle.kit_words.proofs.Common.{◌≡◌, ◌++◌, take, drop}
+use Rattle.map_opening.specs.Common.{all_rings, shape_of, ring_count, lists_seen, numbers_seen}
 use Rattle.map_opening.proofs.flat.regrouped.Given as goal
 
 -- the features so far

@@ -1,5 +1,4 @@
-use Rattle.std.proofs.Common.{◌+◌, ◌-◌, length}
-use Rattle.std.specs.Prelude.{⊤}
+use Rattle.kit_words.proofs.Common.{◌+◌, ◌-◌, length, ⊤}
 use Rattle.map_opening.proofs.junctions.reach.Given as goal
 
 abbrev pub invariant-loop-k : goal.invariant-loop-k

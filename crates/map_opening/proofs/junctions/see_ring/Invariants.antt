@@ -1,4 +1,4 @@
-use Rattle.std.proofs.Common.{◌≡◌}
+use Rattle.kit_words.proofs.Common.{◌≡◌}
 use Rattle.map_opening.proofs.junctions.see_ring.Given as goal
 
 -- no ring has changed

@@ -1,14 +1,9 @@
-use Rattle.std.proofs.Common.{◌+◌, ◌∙◌, ap, subst, take}
-use Rattle.std.proofs.lemmas.List.{take_all}
-use Rattle.ring_machine.specs.Ring.{is_ring}
-use Rattle.ring_machine.proofs.Members.{contains_in}
-use Rattle.ring_machine.proofs.Neighbours.{all_in}
-use Rattle.ring_machine.proofs.StaysProper.{ring_distinct}
-use Rattle.ring_parts.specs.Seen.{rings_seen}
-use Rattle.ring_store.proofs.KeyedLists.{read_next, keyed_at, ring_stays}
-use Rattle.ring_store.proofs.Pushed.{at_contains, map_more, map_pushed}
-use Rattle.map_opening.specs.Flat.{lists_seen}
-use Rattle.map_opening.specs.Keyed.{IsKeyed}
+use Rattle.kit_words.proofs.Common.{◌+◌, ◌∙◌, ap, subst, take, take_all}
+use Rattle.ring_machine.specs.Common.{is_ring}
+use Rattle.ring_machine.proofs.Common.{contains_in, all_in, ring_distinct}
+use Rattle.ring_parts.specs.Common.{rings_seen}
+use Rattle.ring_store.proofs.Common.{read_next, keyed_at, ring_stays, at_contains, map_more, map_pushed}
+use Rattle.map_opening.specs.Common.{lists_seen, IsKeyed}
 use Rattle.map_opening.proofs.KeyedRings.{none_distinct, none_read, read_keyed}
 use Rattle.map_opening.proofs.keyed.key_all.Goals as goal
 

@@ -1,8 +1,8 @@
-use Rattle.std.proofs.Common.{take}
-use Rattle.vertex_index.specs.Placement.{AreDistinct}
-use Rattle.ring_parts.specs.Seen.{rings_seen}
-use Rattle.ring_store.proofs.KeyedLists.{AreRead, keyed_at}
-use Rattle.map_opening.specs.Flat.{lists_seen}
+use Rattle.kit_words.proofs.Common.{take}
+use Rattle.vertex_index.specs.Common.{AreDistinct}
+use Rattle.ring_parts.specs.Common.{rings_seen}
+use Rattle.ring_store.proofs.Common.{AreRead, keyed_at}
+use Rattle.map_opening.specs.Common.{lists_seen}
 use Rattle.map_opening.proofs.keyed.key_all.Given as goal
 
 -- the rings so far

@@ -1,11 +1,8 @@
-use Rattle.std.proofs.Common.{◌∙◌, ◌++◌, ◌∷◌, [], refl, sym, ap, subst, length, take, arith}
-use Rattle.std.proofs.lemmas.List.{take_all}
-use Rattle.std.proofs.lemmas.List.Sums.{sum_by_more_le}
-use Rattle.ring_store.specs.Round.{IsRound}
-use Rattle.ring_store.proofs.Pushed.{at_contains, map_more}
-use Rattle.ring_store.proofs.Sums.{sum_by-map}
-use Rattle.map_opening.specs.Flat.{lists_seen}
-use Rattle.map_opening.specs.Laying.{AreLaid}
+use Rattle.kit_words.proofs.Common.{◌∙◌, ◌++◌, ◌∷◌, [], refl, sym, ap, subst, length, take, arith, take_all}
+use Rattle.kit_words.proofs.Common.{sum_by_more_le}
+use Rattle.ring_store.specs.Common.{IsRound}
+use Rattle.ring_store.proofs.Common.{at_contains, map_more, sum_by-map}
+use Rattle.map_opening.specs.Common.{lists_seen, AreLaid}
 use Rattle.map_opening.proofs.laying.lay_all.Goals as goal
 
 pub loop-keys-init : goal.loop-keys-init

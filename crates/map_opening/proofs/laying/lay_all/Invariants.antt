@@ -1,6 +1,5 @@
-use Rattle.std.proofs.Common.{◌≡◌, take}
-use Rattle.map_opening.specs.Flat.{lists_seen}
-use Rattle.map_opening.specs.Laying.{AreLaid}
+use Rattle.kit_words.proofs.Common.{◌≡◌, take}
+use Rattle.map_opening.specs.Common.{lists_seen, AreLaid}
 use Rattle.map_opening.proofs.laying.lay_all.Given as goal
 
 -- the rings so far are laid

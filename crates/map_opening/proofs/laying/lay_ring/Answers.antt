@@ -1,11 +1,10 @@
-use Rattle.std.proofs.Common.{ℕ, List, ◌++◌, ◌∷◌, [], Contains, sym, ap, ◌∙◌, subst, length, arith}
+use Rattle.kit_words.proofs.Common.{ℕ, List, ◌++◌, ◌∷◌, [], Contains, sym, ap, ◌∙◌, subst, length, arith, sum_by_push}
 use Rattle.std.specs.FinMap as table
-use Rattle.std.proofs.lemmas.List.Sums.{sum_by_push}
-use Rattle.ring_machine.proofs.Members.{in_contains}
-use Rattle.arc_tables.specs.Rings.{edges}
-use Rattle.ring_store.specs.Round.{IsRound}
-use Rattle.local_planarity.specs.Edits.{IsFilled}
-use Rattle.map_opening.specs.Laying.{IsLaid, HasSides, segments_along}
+use Rattle.ring_machine.proofs.Common.{in_contains}
+use Rattle.arc_tables.specs.Common.{edges}
+use Rattle.ring_store.specs.Common.{IsRound}
+use Rattle.local_planarity.specs.Common.{IsFilled}
+use Rattle.map_opening.specs.Common.{IsLaid, HasSides, segments_along}
 use Rattle.map_opening.proofs.LaidRings.{laid_more, along_more}
 use Rattle.map_opening.proofs.LaidSides.{side_held, each_more}
 use Rattle.map_opening.proofs.laying.lay_ring.Goals as goal

@@ -1,16 +1,13 @@
-use Rattle.std.proofs.Common.{◌∙◌, refl, sym, ap, subst, [], Contains, length, arith}
+use Rattle.kit_words.proofs.Common.{◌∙◌, refl, sym, ap, subst, [], Contains, length, arith, sum_by}
 use Rattle.std.specs.FinSet as set
-use Rattle.std.specs.List.{sum_by}
-use Rattle.grid_geometry.specs.Segment.{segment_cmp}
-use Rattle.ring_machine.specs.Planar.{least_conflict}
-use Rattle.ring_machine.proofs.Members.{contains_in}
-use Rattle.vertex_index.specs.Placement.{AreDistinct}
-use Rattle.ring_parts.specs.Seen.{rings_seen}
-use Rattle.map_opening.specs.Flat.{lists_seen}
-use Rattle.map_opening.specs.Keyed.{IsKeyed}
-use Rattle.map_opening.specs.Laying.{IsLaid, AreLaid}
+use Rattle.grid_geometry.specs.Common.{segment_cmp}
+use Rattle.ring_machine.specs.Common.{least_conflict}
+use Rattle.ring_machine.proofs.Common.{contains_in}
+use Rattle.vertex_index.specs.Common.{AreDistinct}
+use Rattle.ring_parts.specs.Common.{rings_seen}
+use Rattle.map_opening.specs.Common.{lists_seen, IsKeyed, IsLaid, AreLaid}
 use Rattle.map_opening.proofs.KeyedRings.{round_keyed, size_keyed, segments_keyed}
-use Rattle.local_planarity.proofs.Filling.{filled_none}
+use Rattle.local_planarity.proofs.Common.{filled_none}
 use Rattle.map_opening.proofs.LaidRings.{laid_none}
 use Rattle.map_opening.proofs.OpenedTables.{rings_at, laid_stands}
 use Rattle.map_opening.proofs.opening.lay.Goals as goal

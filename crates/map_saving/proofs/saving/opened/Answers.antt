@@ -1,8 +1,7 @@
-use Rattle.std.proofs.Common.{subst}
-use Rattle.ring_machine.specs.Planar.{first_pair}
-use Rattle.topo_reader.specs.Document.{document_of}
-use Rattle.topo_reader.specs.DocumentView.{view_raw}
-use Rattle.arc_store.specs.Faults.{Names}
+use Rattle.kit_words.proofs.Common.{subst}
+use Rattle.ring_machine.specs.Common.{first_pair}
+use Rattle.topo_reader.specs.Common.{document_of, view_raw}
+use Rattle.arc_store.specs.Common.{Names}
 use Rattle.map_saving.proofs.Reopened.{has_opened, in_conflict, never_read}
 use Rattle.map_saving.proofs.saving.opened.Goals as goal
 

@@ -1,7 +1,6 @@
-use Rattle.std.proofs.Common.{◌∙◌, subst}
-use Rattle.topo_reader.specs.Document.{document_of}
-use Rattle.topo_reader.specs.DocumentView.{view_raw}
-use Rattle.map_saving.specs.Opens.{HasOpened}
+use Rattle.kit_words.proofs.Common.{◌∙◌, subst}
+use Rattle.topo_reader.specs.Common.{document_of, view_raw}
+use Rattle.map_saving.specs.Common.{HasOpened}
 use Rattle.map_saving.proofs.Reopened.{opens_again, unsaved_fault}
 use Rattle.map_saving.proofs.saving.saved_text.Goals as goal
 

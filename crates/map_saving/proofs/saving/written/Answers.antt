@@ -1,7 +1,6 @@
-use Rattle.std.proofs.Common.{ap, ◌∙◌, subst, sym}
-use Rattle.topo_reader.specs.Document.{document_of}
-use Rattle.topo_reader.specs.DocumentView.{view_raw}
-use Rattle.map_saving.specs.Faults.{IsUnsaved}
+use Rattle.kit_words.proofs.Common.{ap, ◌∙◌, subst, sym}
+use Rattle.topo_reader.specs.Common.{document_of, view_raw}
+use Rattle.map_saving.specs.Common.{IsUnsaved}
 use Rattle.map_saving.proofs.Reopened.{unbuilt_fault, taken_text}
 use Rattle.map_saving.proofs.saving.written.Goals as goal
 

@@ -1,5 +1,5 @@
-use Rattle.std.proofs.Common.{◌≡◌, map, take}
-use Rattle.topo_reader.specs.Uses.{feature_positions}
+use Rattle.kit_words.proofs.Common.{◌≡◌, map, take}
+use Rattle.topo_reader.specs.Common.{feature_positions}
 use Rattle.mend_report.proofs.copying.copied.Given as goal
 
 -- the copy so far

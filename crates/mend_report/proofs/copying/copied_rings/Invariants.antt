@@ -1,5 +1,5 @@
-use Rattle.std.proofs.Common.{◌≡◌, map, take}
-use Rattle.topo_reader.specs.Uses.{positions_of}
+use Rattle.kit_words.proofs.Common.{◌≡◌, map, take}
+use Rattle.topo_reader.specs.Common.{positions_of}
 use Rattle.mend_report.proofs.copying.copied_rings.Given as goal
 
 -- the copy so far

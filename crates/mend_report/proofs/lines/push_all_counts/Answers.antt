@@ -1,5 +1,5 @@
-use Rattle.std.specs.Prelude.{codes, decimal}
-use Rattle.mend_report.specs.Report.{found_text}
+use Rattle.kit_words.proofs.Common.{codes, decimal}
+use Rattle.mend_report.specs.Common.{found_text}
 use Rattle.mend_report.proofs.Appending.{eight}
 use Rattle.mend_report.proofs.lines.push_all_counts.Goals as goal
 

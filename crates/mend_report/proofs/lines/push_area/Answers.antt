@@ -1,8 +1,4 @@
-use Rattle.std.proofs.Common.{ap, ◌∙◌, ◌++◌, rules, FitsSigned}
-use Rattle.std.specs.Int.{w128}
-use Rattle.std.specs.Prelude.{codes, decimal}
-use Rattle.std.specs.Fmt.{signed_decimal}
-use Rattle.std.proofs.lemmas.Int.{to_z-of_z}
+use Rattle.kit_words.proofs.Common.{ap, ◌∙◌, ◌++◌, rules, FitsSigned, w128, codes, decimal, signed_decimal, to_z-of_z}
 use Rattle.mend_report.proofs.Appending.{nine}
 use Rattle.mend_report.proofs.lines.push_area.Goals as goal
 

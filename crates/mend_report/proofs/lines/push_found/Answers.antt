@@ -1,5 +1,4 @@
-use Rattle.std.proofs.Common.{◌++◌}
-use Rattle.std.specs.Prelude.{codes, decimal}
+use Rattle.kit_words.proofs.Common.{◌++◌, codes, decimal}
 use Rattle.mend_report.proofs.Appending.{three, six}
 use Rattle.mend_report.proofs.lines.push_found.Goals as goal
 

@@ -1,4 +1,4 @@
-use Rattle.std.specs.Prelude.{codes, decimal}
+use Rattle.kit_words.proofs.Common.{codes, decimal}
 use Rattle.mend_report.proofs.Appending.{seven}
 use Rattle.mend_report.proofs.lines.push_parts.Goals as goal
 

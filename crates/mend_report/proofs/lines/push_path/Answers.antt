@@ -1,6 +1,6 @@
-use Rattle.std.proofs.Common.{◌++◌}
-use Rattle.std.specs.Prelude.{codes, flat_map}
-use Rattle.grid_geometry.specs.Text.{position_text}
+use Rattle.kit_words.proofs.Common.{◌++◌, codes}
+use Rattle.std.specs.Prelude.{flat_map}
+use Rattle.grid_geometry.specs.Common.{position_text}
 use Rattle.mend_report.proofs.Appending.{six}
 use Rattle.mend_report.proofs.ReportLemmas.{begins, ends, goes_along}
 use Rattle.mend_report.proofs.lines.push_path.Goals as goal

@@ -1,6 +1,6 @@
-use Rattle.std.proofs.Common.{◌≡◌, ◌++◌, take}
-use Rattle.std.specs.Prelude.{codes, flat_map}
-use Rattle.grid_geometry.specs.Text.{position_text}
+use Rattle.kit_words.proofs.Common.{◌≡◌, ◌++◌, take, codes}
+use Rattle.std.specs.Prelude.{flat_map}
+use Rattle.grid_geometry.specs.Common.{position_text}
 use Rattle.mend_report.proofs.lines.push_positions.Given as goal
 
 -- the positions so far, each behind a space

@@ -1,6 +1,5 @@
-use Rattle.std.proofs.Common.{subst}
-use Rattle.walk_faults.specs.Findings.{Found, Tells}
-use Rattle.walk_faults.specs.Seen.{features_seen}
+use Rattle.kit_words.proofs.Common.{subst}
+use Rattle.walk_faults.specs.Common.{Found, Tells, features_seen}
 use Rattle.walk_faults.specs.declared.findings.FindFault.TheVariants as fault
 use Rattle.mend_report.proofs.looking.look.Goals as goal
 

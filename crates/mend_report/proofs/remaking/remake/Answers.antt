@@ -1,11 +1,8 @@
-use Rattle.std.proofs.Common.{◌≡◌, ◌≤◌, map, length, sym, ap, ◌∙◌, subst}
+use Rattle.kit_words.proofs.Common.{◌≡◌, ◌≤◌, map, length, sym, ap, ◌∙◌, subst, length-map}
 use Rattle.std.specs.Prelude.{sum_by}
-use Rattle.std.proofs.lemmas.List.{length-map}
-use Rattle.topo_reader.specs.Document.{document_of}
-use Rattle.topo_reader.specs.DocumentView.{view_raw}
-use Rattle.topo_reader.specs.Uses.{feature_positions}
-use Rattle.segment_paths.specs.Seen.{paths_seen}
-use Rattle.area_changes.specs.Areas.{changes_from}
+use Rattle.topo_reader.specs.Common.{document_of, view_raw, feature_positions}
+use Rattle.segment_paths.specs.Common.{paths_seen}
+use Rattle.area_changes.specs.Common.{changes_from}
 use Rattle.mend_report.proofs.AreaLemmas.{opened_small, read_as_many, areas_read}
 use Rattle.mend_report.proofs.remaking.remake.Goals as goal
 

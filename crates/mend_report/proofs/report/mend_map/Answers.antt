@@ -1,6 +1,6 @@
-use Rattle.std.proofs.Common.{sym, subst}
-use Rattle.grid_reader.specs.OnGridView.{view_on_grid}
-use Rattle.mend_report.specs.Looking.{under, OpensOn}
+use Rattle.kit_words.proofs.Common.{sym, subst}
+use Rattle.grid_reader.specs.Common.{view_on_grid}
+use Rattle.mend_report.specs.Common.{under, OpensOn}
 use Rattle.mend_report.proofs.WholeLemmas.{answer_whole}
 use Rattle.mend_report.proofs.report.mend_map.Goals as goal
 

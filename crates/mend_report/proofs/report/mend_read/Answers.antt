@@ -1,10 +1,8 @@
-use Rattle.std.proofs.Common.{sym, subst, ap, ◌∙◌}
-use Rattle.std.specs.Prelude.{Some, option_map}
-use Rattle.mend_report.specs.Looking.{under}
-use Rattle.topo_reader.specs.DocumentView.{view_raw}
-use Rattle.segment_paths.specs.Seen.{paths_seen}
-use Rattle.walk_faults.specs.Findings.{Found}
-use Rattle.walk_faults.specs.Seen.{features_seen}
+use Rattle.kit_words.proofs.Common.{sym, subst, ap, ◌∙◌, Some, option_map}
+use Rattle.mend_report.specs.Common.{under}
+use Rattle.topo_reader.specs.Common.{view_raw}
+use Rattle.segment_paths.specs.Common.{paths_seen}
+use Rattle.walk_faults.specs.Common.{Found, features_seen}
 use Rattle.mend_report.proofs.PlaceLemmas.{remade_placed, walks_same}
 use Rattle.mend_report.proofs.report.mend_read.Goals as goal
 

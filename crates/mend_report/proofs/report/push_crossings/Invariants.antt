@@ -1,6 +1,6 @@
-use Rattle.std.proofs.Common.{◌≡◌, ◌++◌, take}
+use Rattle.kit_words.proofs.Common.{◌≡◌, ◌++◌, take}
 use Rattle.std.specs.Prelude.{flat_map}
-use Rattle.mend_report.specs.Report.{crossing_line}
+use Rattle.mend_report.specs.Common.{crossing_line}
 use Rattle.mend_report.proofs.report.push_crossings.Given as goal
 
 -- the lines so far

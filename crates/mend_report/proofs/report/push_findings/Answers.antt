@@ -1,5 +1,6 @@
-use Rattle.std.proofs.Common.{◌&&◌, ◌==◌}
-use Rattle.mend_report.specs.Report.{is_plain, is_clear, opens_line, grid_text, short_line, repeat_line, touch_line, crossing_line, lines}
+use Rattle.kit_words.proofs.Common.{◌&&◌, ◌==◌}
+use Rattle.mend_report.specs.Common.{is_plain, is_clear, opens_line, grid_text, short_line, repeat_line, touch_line}
+use Rattle.mend_report.specs.Common.{crossing_line, lines}
 use Rattle.mend_report.proofs.Appending.{six}
 use Rattle.mend_report.proofs.ReportLemmas.{opened, told}
 use Rattle.mend_report.proofs.report.push_findings.Goals as goal

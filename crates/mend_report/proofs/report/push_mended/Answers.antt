@@ -1,6 +1,6 @@
-use Rattle.std.proofs.Common.{◌∙◌, length}
-use Rattle.segment_paths.specs.Seen.{paths_seen}
-use Rattle.mend_report.specs.Report.{findings_text, lines, path_line, parts_line, area_line, all_counts_line}
+use Rattle.kit_words.proofs.Common.{◌∙◌, length}
+use Rattle.segment_paths.specs.Common.{paths_seen}
+use Rattle.mend_report.specs.Common.{findings_text, lines, path_line, parts_line, area_line, all_counts_line}
 use Rattle.mend_report.proofs.Appending.{five}
 use Rattle.mend_report.proofs.ReportLemmas.{told, led, all_counted}
 use Rattle.mend_report.proofs.report.push_mended.Goals as goal

@@ -1,6 +1,6 @@
-use Rattle.std.proofs.Common.{◌≡◌, ◌++◌, take}
+use Rattle.kit_words.proofs.Common.{◌≡◌, ◌++◌, take}
 use Rattle.std.specs.Prelude.{flat_map}
-use Rattle.mend_report.specs.Report.{parts_line}
+use Rattle.mend_report.specs.Common.{parts_line}
 use Rattle.mend_report.proofs.report.push_parted.Given as goal
 
 -- the lines so far

@@ -1,7 +1,7 @@
-use Rattle.std.proofs.Common.{◌≡◌, ◌++◌, take}
+use Rattle.kit_words.proofs.Common.{◌≡◌, ◌++◌, take}
 use Rattle.std.specs.Prelude.{flat_map}
-use Rattle.segment_paths.specs.Seen.{paths_seen}
-use Rattle.mend_report.specs.Report.{path_line}
+use Rattle.segment_paths.specs.Common.{paths_seen}
+use Rattle.mend_report.specs.Common.{path_line}
 use Rattle.mend_report.proofs.report.push_paths.Given as goal
 
 -- the lines so far

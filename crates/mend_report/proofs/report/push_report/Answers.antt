@@ -1,5 +1,5 @@
-use Rattle.std.proofs.Common.{length}
-use Rattle.mend_report.specs.Report.{findings_text, counts_line}
+use Rattle.kit_words.proofs.Common.{length}
+use Rattle.mend_report.specs.Common.{findings_text, counts_line}
 use Rattle.mend_report.proofs.Appending.{two}
 use Rattle.mend_report.proofs.ReportLemmas.{counted}
 use Rattle.mend_report.proofs.report.push_report.Goals as goal

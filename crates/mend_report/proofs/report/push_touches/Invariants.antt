@@ -1,6 +1,6 @@
-use Rattle.std.proofs.Common.{◌≡◌, ◌++◌, take}
+use Rattle.kit_words.proofs.Common.{◌≡◌, ◌++◌, take}
 use Rattle.std.specs.Prelude.{flat_map}
-use Rattle.mend_report.specs.Report.{touch_line}
+use Rattle.mend_report.specs.Common.{touch_line}
 use Rattle.mend_report.proofs.report.push_touches.Given as goal
 
 -- the lines so far

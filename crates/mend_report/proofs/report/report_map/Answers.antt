@@ -1,4 +1,4 @@
-use Rattle.grid_reader.specs.OnGridView.{view_on_grid}
+use Rattle.grid_reader.specs.Common.{view_on_grid}
 use Rattle.mend_report.proofs.OpeningLemmas.{answer_opens}
 use Rattle.mend_report.proofs.WholeLemmas.{answer_editor}
 use Rattle.mend_report.proofs.report.report_map.Goals as goal

@@ -1,9 +1,7 @@
-use Rattle.std.proofs.Common.{refl, sym, subst, ap}
-use Rattle.std.specs.Prelude.{None, option_map}
-use Rattle.mend_report.specs.Looking.{under}
-use Rattle.topo_reader.specs.DocumentView.{view_raw}
-use Rattle.walk_faults.specs.Findings.{Found}
-use Rattle.walk_faults.specs.Seen.{features_seen}
+use Rattle.kit_words.proofs.Common.{refl, sym, subst, ap, None, option_map}
+use Rattle.mend_report.specs.Common.{under}
+use Rattle.topo_reader.specs.Common.{view_raw}
+use Rattle.walk_faults.specs.Common.{Found, features_seen}
 use Rattle.mend_report.proofs.PlaceLemmas.{walks_same}
 use Rattle.mend_report.proofs.report.report_read.Goals as goal
 

@@ -1,8 +1,7 @@
-use Rattle.std.proofs.Common.{ap, ◌∙◌, ◌++◌}
-use Rattle.std.specs.Prelude.{codes}
-use Rattle.grid_geometry.specs.Segment.{Segment}
-use Rattle.map_text.specs.Text.{arc_text, pair_text}
-use Rattle.place_text.specs.Sides.{ends, pair_behind}
+use Rattle.kit_words.proofs.Common.{ap, ◌∙◌, ◌++◌, codes}
+use Rattle.grid_geometry.specs.Common.{Segment}
+use Rattle.map_text.specs.Common.{arc_text, pair_text}
+use Rattle.place_text.specs.Common.{ends, pair_behind}
 use Rattle.place_text.proofs.Appending.{five}
 use Rattle.place_text.proofs.Assembled.{arc_is}
 use Rattle.place_text.proofs.objects.push_arc.Goals as goal

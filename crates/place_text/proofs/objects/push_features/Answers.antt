@@ -1,7 +1,7 @@
-use Rattle.std.proofs.Common.{arith, refl, sym, ap, ◌∙◌, ◌++◌, append-nil, map, get_or}
-use Rattle.std.specs.Prelude.{codes, decimal}
-use Rattle.std.proofs.lemmas.List.{take_all, get_or_default}
-use Rattle.map_text.specs.Text.{commas}
+use Rattle.kit_words.proofs.Common.{arith, refl, sym, ap, ◌∙◌, ◌++◌, map, get_or, codes, decimal, take_all}
+use Rattle.kit_words.proofs.Common.{get_or_default}
+use Rattle.std.proofs.Common.{append-nil}
+use Rattle.map_text.specs.Common.{commas}
 use Rattle.place_text.proofs.Appending.{three}
 use Rattle.place_text.proofs.Listed.{map_step}
 use Rattle.place_text.proofs.objects.push_features.Goals as goal

@@ -1,6 +1,5 @@
-use Rattle.std.proofs.Common.{◌≡◌, ◌++◌, map, take}
-use Rattle.std.specs.Prelude.{codes, decimal}
-use Rattle.map_text.specs.Text.{commas}
+use Rattle.kit_words.proofs.Common.{◌≡◌, ◌++◌, map, take, codes, decimal}
+use Rattle.map_text.specs.Common.{commas}
 use Rattle.place_text.proofs.objects.push_features.Given as goal
 
 -- the numbers so far

@@ -1,8 +1,6 @@
-use Rattle.std.proofs.Common.{ap, ◌∙◌, ◌++◌}
-use Rattle.std.specs.Prelude.{codes, decimal}
-use Rattle.segment_paths.specs.Seen.{path_seen}
-use Rattle.place_text.specs.Tables.{told_by}
-use Rattle.place_text.specs.Text.{features_text}
+use Rattle.kit_words.proofs.Common.{ap, ◌∙◌, ◌++◌, codes, decimal}
+use Rattle.segment_paths.specs.Common.{path_seen}
+use Rattle.place_text.specs.Common.{told_by, features_text}
 use Rattle.place_text.proofs.Appending.{six}
 use Rattle.place_text.proofs.objects.push_path.Goals as goal
 

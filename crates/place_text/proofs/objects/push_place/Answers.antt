@@ -1,7 +1,6 @@
-use Rattle.std.specs.Prelude.{codes}
-use Rattle.map_text.specs.Text.{pair_text}
-use Rattle.place_text.specs.Tables.{told_by}
-use Rattle.place_text.specs.Text.{finding_text, whose_text}
+use Rattle.kit_words.proofs.Common.{codes}
+use Rattle.map_text.specs.Common.{pair_text}
+use Rattle.place_text.specs.Common.{told_by, finding_text, whose_text}
 use Rattle.place_text.proofs.Appending.{six}
 use Rattle.place_text.proofs.objects.push_place.Goals as goal
 

@@ -1,6 +1,5 @@
-use Rattle.std.proofs.Common.{sym, ap, ◌∙◌, ◌++◌}
-use Rattle.std.specs.Prelude.{codes, decimal}
-use Rattle.place_text.specs.Text.{ring_text}
+use Rattle.kit_words.proofs.Common.{sym, ap, ◌∙◌, ◌++◌, codes, decimal}
+use Rattle.place_text.specs.Common.{ring_text}
 use Rattle.place_text.proofs.Appending.{six}
 use Rattle.place_text.proofs.objects.push_ring.Goals as goal
 

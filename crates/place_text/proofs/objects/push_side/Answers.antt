@@ -1,7 +1,5 @@
-use Rattle.std.proofs.Common.{ap, ◌∙◌, ◌++◌}
-use Rattle.std.specs.Prelude.{codes, decimal}
-use Rattle.place_text.specs.Tables.{told_by}
-use Rattle.place_text.specs.Text.{finding_text, features_text}
+use Rattle.kit_words.proofs.Common.{ap, ◌∙◌, ◌++◌, codes, decimal}
+use Rattle.place_text.specs.Common.{told_by, finding_text, features_text}
 use Rattle.place_text.proofs.Appending.{six}
 use Rattle.place_text.proofs.objects.push_side.Goals as goal
 

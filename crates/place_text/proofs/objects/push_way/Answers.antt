@@ -1,5 +1,4 @@
-use Rattle.std.proofs.Common.{◌++◌, ◌∷◌, [], sym, ap, ◌∙◌}
-use Rattle.std.proofs.lemmas.List.{drop_all}
+use Rattle.kit_words.proofs.Common.{◌++◌, ◌∷◌, [], sym, ap, ◌∙◌, drop_all}
 use Rattle.place_text.proofs.Ways.{rest_text, begin_is, step_is, end_is, whole_way}
 use Rattle.place_text.proofs.objects.push_way.Goals as goal
 

@@ -1,5 +1,5 @@
-use Rattle.std.proofs.Common.{◌≡◌, ◌++◌, ◌∷◌, [], drop}
-use Rattle.map_text.specs.Text.{arc_text}
+use Rattle.kit_words.proofs.Common.{◌≡◌, ◌++◌, ◌∷◌, [], drop}
+use Rattle.map_text.specs.Common.{arc_text}
 use Rattle.place_text.proofs.Ways.{rest_text}
 use Rattle.place_text.proofs.objects.push_way.Given as goal
 

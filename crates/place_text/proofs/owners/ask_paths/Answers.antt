@@ -1,9 +1,7 @@
-use Rattle.std.proofs.Common.{sym, ap, ◌∙◌, map}
-use Rattle.std.specs.Prelude.{option_map}
-use Rattle.std.proofs.lemmas.List.{take_all}
-use Rattle.grid_geometry.specs.Segment.{segment_cmp}
-use Rattle.segment_paths.specs.Seen.{path_seen, paths_seen}
-use Rattle.place_text.specs.Tables.{numbers_in, asked_with, path_segment, told_paths}
+use Rattle.kit_words.proofs.Common.{sym, ap, ◌∙◌, map, option_map, take_all}
+use Rattle.grid_geometry.specs.Common.{segment_cmp}
+use Rattle.segment_paths.specs.Common.{path_seen, paths_seen}
+use Rattle.place_text.specs.Common.{numbers_in, asked_with, path_segment, told_paths}
 use Rattle.place_text.proofs.Asking.{asked_next}
 use Rattle.place_text.proofs.Listed.{map_twice}
 use Rattle.place_text.proofs.owners.ask_paths.Goals as goal

@@ -1,7 +1,7 @@
-use Rattle.std.proofs.Common.{◌≡◌, map, take}
-use Rattle.grid_geometry.specs.Segment.{Segment, segment_cmp}
-use Rattle.segment_paths.specs.Seen.{path_seen}
-use Rattle.place_text.specs.Tables.{numbers_in, asked_with, path_segment}
+use Rattle.kit_words.proofs.Common.{◌≡◌, map, take}
+use Rattle.grid_geometry.specs.Common.{Segment, segment_cmp}
+use Rattle.segment_paths.specs.Common.{path_seen}
+use Rattle.place_text.specs.Common.{numbers_in, asked_with, path_segment}
 use Rattle.place_text.proofs.owners.ask_paths.Given as goal
 
 -- the segments so far are asked for

@@ -1,5 +1,5 @@
-use Rattle.grid_geometry.specs.Segment.{segment_cmp}
-use Rattle.place_text.specs.Tables.{numbers_in, side_segment}
+use Rattle.grid_geometry.specs.Common.{segment_cmp}
+use Rattle.place_text.specs.Common.{numbers_in, side_segment}
 use Rattle.place_text.proofs.Asking.{asked_next}
 use Rattle.place_text.proofs.owners.ask_sides.Goals as goal
 

@@ -1,6 +1,6 @@
-use Rattle.std.proofs.Common.{◌≡◌, map, take}
-use Rattle.grid_geometry.specs.Segment.{Segment, segment_cmp}
-use Rattle.place_text.specs.Tables.{numbers_in, asked_with, side_segment}
+use Rattle.kit_words.proofs.Common.{◌≡◌, map, take}
+use Rattle.grid_geometry.specs.Common.{Segment, segment_cmp}
+use Rattle.place_text.specs.Common.{numbers_in, asked_with, side_segment}
 use Rattle.place_text.proofs.owners.ask_sides.Given as goal
 
 -- the segments so far are asked for

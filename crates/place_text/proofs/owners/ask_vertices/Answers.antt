@@ -1,5 +1,5 @@
-use Rattle.grid_geometry.specs.Position.{position_cmp}
-use Rattle.place_text.specs.Tables.{numbers_in, touch_pos}
+use Rattle.grid_geometry.specs.Common.{position_cmp}
+use Rattle.place_text.specs.Common.{numbers_in, touch_pos}
 use Rattle.place_text.proofs.Asking.{asked_next}
 use Rattle.place_text.proofs.owners.ask_vertices.Goals as goal
 

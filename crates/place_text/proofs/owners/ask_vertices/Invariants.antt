@@ -1,6 +1,6 @@
-use Rattle.std.proofs.Common.{◌≡◌, map, take}
-use Rattle.grid_geometry.specs.Position.{Position, position_cmp}
-use Rattle.place_text.specs.Tables.{numbers_in, asked_with, touch_pos}
+use Rattle.kit_words.proofs.Common.{◌≡◌, map, take}
+use Rattle.grid_geometry.specs.Common.{Position, position_cmp}
+use Rattle.place_text.specs.Common.{numbers_in, asked_with, touch_pos}
 use Rattle.place_text.proofs.owners.ask_vertices.Given as goal
 
 -- the vertices so far are asked for

@@ -1,9 +1,8 @@
-use Rattle.std.proofs.Common.{◌≡◌, sym, subst, map}
+use Rattle.kit_words.proofs.Common.{◌≡◌, sym, subst, map}
 use Rattle.std.specs.Prelude.{All}
-use Rattle.grid_geometry.specs.Segment.{segment_cmp}
-use Rattle.walk_faults.specs.Seen.{features_seen}
-use Rattle.place_text.specs.Owners.{segment_features, pair_features}
-use Rattle.place_text.specs.Tables.{numbers_at, numbers_of, AnswersBoth}
+use Rattle.grid_geometry.specs.Common.{segment_cmp}
+use Rattle.walk_faults.specs.Common.{features_seen}
+use Rattle.place_text.specs.Common.{segment_features, pair_features, numbers_at, numbers_of, AnswersBoth}
 use Rattle.place_text.proofs.Asking.{pairs_among}
 use Rattle.place_text.proofs.owners.owners_of.Goals as goal
 

@@ -1,7 +1,5 @@
-use Rattle.std.proofs.Common.{sym, ap, ◌∙◌, subst, map}
-use Rattle.std.proofs.lemmas.List.{take_all}
-use Rattle.place_text.specs.Owners.{pair_features}
-use Rattle.place_text.specs.Tables.{numbers_of, AnswersBoth}
+use Rattle.kit_words.proofs.Common.{sym, ap, ◌∙◌, subst, map, take_all}
+use Rattle.place_text.specs.Common.{pair_features, numbers_of, AnswersBoth}
 use Rattle.place_text.proofs.Unions.{pair_step}
 use Rattle.place_text.proofs.owners.pairs.Goals as goal
 

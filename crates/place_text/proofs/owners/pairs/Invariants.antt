@@ -1,8 +1,7 @@
-use Rattle.std.proofs.Common.{◌≡◌, List, map, take}
+use Rattle.kit_words.proofs.Common.{◌≡◌, List, map, take}
 use Rattle.std.specs.Prelude.{All}
-use Rattle.grid_geometry.specs.Position.{Position}
-use Rattle.place_text.specs.Owners.{pair_features}
-use Rattle.place_text.specs.Tables.{numbers_of, AnswersBoth}
+use Rattle.grid_geometry.specs.Common.{Position}
+use Rattle.place_text.specs.Common.{pair_features, numbers_of, AnswersBoth}
 use Rattle.place_text.proofs.owners.pairs.Given as goal
 
 -- the pairs so far

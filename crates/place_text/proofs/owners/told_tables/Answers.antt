@@ -1,7 +1,7 @@
-use Rattle.std.specs.Prelude.{option_map}
-use Rattle.segment_paths.specs.Seen.{paths_seen}
-use Rattle.walk_faults.specs.Seen.{features_seen}
-use Rattle.place_text.specs.Tables.{told_paths}
+use Rattle.kit_words.proofs.Common.{option_map}
+use Rattle.segment_paths.specs.Common.{paths_seen}
+use Rattle.walk_faults.specs.Common.{features_seen}
+use Rattle.place_text.specs.Common.{told_paths}
 use Rattle.place_text.proofs.Asking.{answers, empty_yet}
 use Rattle.place_text.proofs.owners.told_tables.Goals as goal
 

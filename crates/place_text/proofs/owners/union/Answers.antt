@@ -1,10 +1,7 @@
-use Rattle.std.proofs.Common.{◌++◌, sym, ap, ◌∙◌, subst, Contains}
-use Rattle.std.specs.Cmp.{unsigned_tied}
-use Rattle.std.specs.Ordering.{nat_cmp}
+use Rattle.kit_words.proofs.Common.{◌++◌, sym, ap, ◌∙◌, subst, Contains, unsigned_tied, nat_cmp, nat_cmp_total}
 use Rattle.std.proofs.lemmas.Bool.{eqb-true}
-use Rattle.std.proofs.lemmas.Cmp.{nat_cmp_total}
-use Rattle.walk_faults.specs.Findings.{ListsAll}
-use Rattle.walk_faults.proofs.Ascending.{sorted_once}
+use Rattle.walk_faults.specs.Common.{ListsAll}
+use Rattle.walk_faults.proofs.Common.{sorted_once}
 use Rattle.place_text.proofs.owners.union.Goals as goal
 
 pub returns : goal.returns

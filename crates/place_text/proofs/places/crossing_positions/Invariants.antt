@@ -1,5 +1,5 @@
-use Rattle.std.proofs.Common.{take}
-use Rattle.place_text.specs.Places.{AreCrossings}
+use Rattle.kit_words.proofs.Common.{take}
+use Rattle.place_text.specs.Common.{AreCrossings}
 use Rattle.place_text.proofs.places.crossing_positions.Given as goal
 
 -- the positions so far

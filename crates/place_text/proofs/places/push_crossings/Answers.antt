@@ -1,4 +1,4 @@
-use Rattle.place_text.specs.Places.{crossing_place}
+use Rattle.place_text.specs.Common.{crossing_place}
 use Rattle.place_text.proofs.Numbered.{one_more}
 use Rattle.place_text.proofs.places.push_crossings.Goals as goal
 

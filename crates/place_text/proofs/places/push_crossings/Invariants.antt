@@ -1,6 +1,6 @@
-use Rattle.std.proofs.Common.{◌≡◌, ◌++◌, take}
-use Rattle.walk_faults.specs.Walks.{each_at}
-use Rattle.place_text.specs.Places.{crossing_place}
+use Rattle.kit_words.proofs.Common.{◌≡◌, ◌++◌, take}
+use Rattle.walk_faults.specs.Common.{each_at}
+use Rattle.place_text.specs.Common.{crossing_place}
 use Rattle.place_text.proofs.places.push_crossings.Given as goal
 
 -- the places so far

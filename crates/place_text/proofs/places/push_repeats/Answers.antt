@@ -1,4 +1,4 @@
-use Rattle.place_text.specs.Places.{repeat_place}
+use Rattle.place_text.specs.Common.{repeat_place}
 use Rattle.place_text.proofs.Numbered.{one_more}
 use Rattle.place_text.proofs.places.push_repeats.Goals as goal
 

@@ -1,9 +1,8 @@
-use Rattle.std.proofs.Common.{sym, ap, ◌∙◌, ◌++◌, append-nil, get_or, map, Some}
-use Rattle.std.specs.Prelude.{option_to_list}
+use Rattle.kit_words.proofs.Common.{sym, ap, ◌∙◌, ◌++◌, get_or, map, Some, option_to_list}
+use Rattle.std.proofs.Common.{append-nil}
 use Rattle.topo_outline.specs.declared.fault.RingAt.{RingAt}
-use Rattle.walk_faults.specs.Seen.{features_seen}
-use Rattle.place_text.specs.Places.{place_at}
-use Rattle.place_text.specs.declared.places.Kind.TheVariants.{Short}
+use Rattle.walk_faults.specs.Common.{features_seen}
+use Rattle.place_text.specs.Common.{place_at, Short}
 use Rattle.place_text.proofs.ShortWalks.{short_more}
 use Rattle.place_text.proofs.places.push_short.Goals as goal
 use Rattle.place_text.proofs.places.push_short.Goals.{in-Some+in_ok-push, in_default}

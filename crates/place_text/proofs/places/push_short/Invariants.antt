@@ -1,7 +1,6 @@
-use Rattle.std.proofs.Common.{◌≡◌, ◌++◌, take}
-use Rattle.walk_faults.specs.Walks.{each_at}
-use Rattle.walk_faults.specs.Seen.{features_seen}
-use Rattle.place_text.specs.Places.{short_place}
+use Rattle.kit_words.proofs.Common.{◌≡◌, ◌++◌, take}
+use Rattle.walk_faults.specs.Common.{each_at, features_seen}
+use Rattle.place_text.specs.Common.{short_place}
 use Rattle.place_text.proofs.places.push_short.Given as goal
 
 -- the places so far

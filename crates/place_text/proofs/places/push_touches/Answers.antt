@@ -1,4 +1,4 @@
-use Rattle.place_text.specs.Places.{touch_place}
+use Rattle.place_text.specs.Common.{touch_place}
 use Rattle.place_text.proofs.Numbered.{one_more}
 use Rattle.place_text.proofs.places.push_touches.Goals as goal
 

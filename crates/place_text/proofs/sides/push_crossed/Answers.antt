@@ -1,4 +1,4 @@
-use Rattle.place_text.specs.Sides.{crossing_sides}
+use Rattle.place_text.specs.Common.{crossing_sides}
 use Rattle.place_text.proofs.Numbered.{one_more}
 use Rattle.place_text.proofs.sides.push_crossed.Goals as goal
 

@@ -1,4 +1,4 @@
-use Rattle.place_text.specs.Sides.{touch_side}
+use Rattle.place_text.specs.Common.{touch_side}
 use Rattle.place_text.proofs.Numbered.{one_more}
 use Rattle.place_text.proofs.sides.push_touched.Goals as goal
 

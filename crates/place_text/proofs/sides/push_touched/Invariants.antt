@@ -1,6 +1,6 @@
-use Rattle.std.proofs.Common.{◌≡◌, ◌++◌, take}
-use Rattle.walk_faults.specs.Walks.{each_at}
-use Rattle.place_text.specs.Sides.{touch_side}
+use Rattle.kit_words.proofs.Common.{◌≡◌, ◌++◌, take}
+use Rattle.walk_faults.specs.Common.{each_at}
+use Rattle.place_text.specs.Common.{touch_side}
 use Rattle.place_text.proofs.sides.push_touched.Given as goal
 
 -- the segments so far

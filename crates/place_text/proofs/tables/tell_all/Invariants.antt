@@ -1,6 +1,6 @@
-use Rattle.std.proofs.Common.{take}
-use Rattle.walk_faults.specs.Seen.{features_seen}
-use Rattle.place_text.specs.Tables.{TellsAll}
+use Rattle.kit_words.proofs.Common.{take}
+use Rattle.walk_faults.specs.Common.{features_seen}
+use Rattle.place_text.specs.Common.{TellsAll}
 use Rattle.place_text.proofs.tables.tell_all.Given as goal
 
 -- the features so far are told

@@ -1,8 +1,6 @@
-use Rattle.std.proofs.Common.{sym, ap, ◌∙◌}
-use Rattle.std.specs.Prelude.{option_map}
-use Rattle.std.proofs.lemmas.Bool.{false≢true}
-use Rattle.grid_geometry.specs.Segment.{segment_cmp}
-use Rattle.place_text.specs.Tables.{once_if, numbers_in}
+use Rattle.kit_words.proofs.Common.{sym, ap, ◌∙◌, option_map, false≢true}
+use Rattle.grid_geometry.specs.Common.{segment_cmp}
+use Rattle.place_text.specs.Common.{once_if, numbers_in}
 use Rattle.place_text.proofs.Telling.{segment_there}
 use Rattle.place_text.proofs.tables.tell_edge.Goals as goal
 

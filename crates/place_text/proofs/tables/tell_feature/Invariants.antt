@@ -1,7 +1,6 @@
-use Rattle.std.proofs.Common.{take}
-use Rattle.walk_faults.specs.Seen.{polygons_seen}
-use Rattle.place_text.specs.Owners.{feature_positions, feature_segments}
-use Rattle.place_text.specs.Tables.{Tells}
+use Rattle.kit_words.proofs.Common.{take}
+use Rattle.walk_faults.specs.Common.{polygons_seen}
+use Rattle.place_text.specs.Common.{feature_positions, feature_segments, Tells}
 use Rattle.place_text.proofs.tables.tell_feature.Given as goal
 
 -- the polygons so far are told

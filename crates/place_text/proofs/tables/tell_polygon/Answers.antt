@@ -1,6 +1,6 @@
-use Rattle.std.proofs.Common.{subst}
-use Rattle.walk_faults.specs.Findings.{walk_segments}
-use Rattle.place_text.specs.Tables.{Tells}
+use Rattle.kit_words.proofs.Common.{subst}
+use Rattle.walk_faults.specs.Common.{walk_segments}
+use Rattle.place_text.specs.Common.{Tells}
 use Rattle.place_text.proofs.Telling.{level_step}
 use Rattle.place_text.proofs.tables.tell_polygon.Goals as goal
 

@@ -1,8 +1,6 @@
-use Rattle.std.proofs.Common.{take}
-use Rattle.std.specs.List.{flat_map}
-use Rattle.walk_faults.specs.Findings.{walk_segments}
-use Rattle.walk_faults.specs.Seen.{rings_seen}
-use Rattle.place_text.specs.Tables.{Tells}
+use Rattle.kit_words.proofs.Common.{take, flat_map}
+use Rattle.walk_faults.specs.Common.{walk_segments, rings_seen}
+use Rattle.place_text.specs.Common.{Tells}
 use Rattle.place_text.proofs.tables.tell_polygon.Given as goal
 
 -- the walks so far are told

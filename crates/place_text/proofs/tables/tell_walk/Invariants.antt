@@ -1,9 +1,7 @@
-use Rattle.std.proofs.Common.{◌++◌, ◌∷◌, [], drop}
-use Rattle.std.specs.List.{flat_map}
-use Rattle.grid_geometry.specs.Ring.{links}
-use Rattle.walk_faults.specs.Findings.{segment_at}
-use Rattle.place_text.specs.declared.tables.Tables.{Tables}
-use Rattle.place_text.specs.Tables.{Tells}
+use Rattle.kit_words.proofs.Common.{◌++◌, ◌∷◌, [], drop, flat_map}
+use Rattle.grid_geometry.specs.Common.{links}
+use Rattle.walk_faults.specs.Common.{segment_at}
+use Rattle.place_text.specs.Common.{Tables, Tells}
 use Rattle.place_text.proofs.tables.tell_walk.Given as goal
 
 -- once what is left is told, the whole walk is

@@ -1,10 +1,7 @@
-use Rattle.std.proofs.Common.{◌==◌, not, sym, ap, ◌∙◌, map}
-use Rattle.std.specs.Prelude.{option_map}
-use Rattle.std.proofs.lemmas.List.{length-map}
-use Rattle.map_text.specs.Text.{arc_text}
-use Rattle.segment_paths.specs.Seen.{paths_seen}
-use Rattle.place_text.specs.Sides.{side_ends}
-use Rattle.place_text.specs.Text.{ways}
+use Rattle.kit_words.proofs.Common.{◌==◌, not, sym, ap, ◌∙◌, map, option_map, length-map}
+use Rattle.map_text.specs.Common.{arc_text}
+use Rattle.segment_paths.specs.Common.{paths_seen}
+use Rattle.place_text.specs.Common.{side_ends, ways}
 use Rattle.place_text.proofs.Ways.{arcs_both}
 use Rattle.place_text.proofs.topology.push_arcs.Goals as goal
 

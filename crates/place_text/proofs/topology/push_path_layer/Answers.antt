@@ -1,9 +1,7 @@
-use Rattle.std.proofs.Common.{sym, ap, ◌∙◌, ◌++◌}
-use Rattle.std.specs.Prelude.{codes, option_map}
-use Rattle.map_text.specs.Text.{list_text}
-use Rattle.segment_paths.specs.Seen.{paths_seen}
-use Rattle.place_text.specs.Tables.{told_by}
-use Rattle.place_text.specs.Text.{path_layer, paths_text}
+use Rattle.kit_words.proofs.Common.{sym, ap, ◌∙◌, ◌++◌, codes, option_map}
+use Rattle.map_text.specs.Common.{list_text}
+use Rattle.segment_paths.specs.Common.{paths_seen}
+use Rattle.place_text.specs.Common.{told_by, path_layer, paths_text}
 use Rattle.place_text.proofs.Appending.{three}
 use Rattle.place_text.proofs.topology.push_path_layer.Goals as goal
 

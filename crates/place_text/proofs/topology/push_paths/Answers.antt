@@ -1,10 +1,8 @@
-use Rattle.std.proofs.Common.{arith, refl, sym, ap, ◌∙◌, ◌+◌, ◌++◌, append-nil, take}
-use Rattle.std.specs.Prelude.{codes}
-use Rattle.std.proofs.lemmas.List.{take_all}
-use Rattle.map_text.specs.Text.{commas}
-use Rattle.segment_paths.specs.Seen.{path_seen, paths_seen}
-use Rattle.place_text.specs.Tables.{told_by}
-use Rattle.place_text.specs.Text.{path_text, paths_text}
+use Rattle.kit_words.proofs.Common.{arith, refl, sym, ap, ◌∙◌, ◌+◌, ◌++◌, take, codes, take_all}
+use Rattle.std.proofs.Common.{append-nil}
+use Rattle.map_text.specs.Common.{commas}
+use Rattle.segment_paths.specs.Common.{path_seen, paths_seen}
+use Rattle.place_text.specs.Common.{told_by, path_text, paths_text}
 use Rattle.place_text.proofs.Listed.{bracketed, each_step, each_map}
 use Rattle.place_text.proofs.topology.push_paths.Goals as goal
 

@@ -1,9 +1,7 @@
-use Rattle.std.proofs.Common.{◌≡◌, ◌++◌, take}
-use Rattle.std.specs.Prelude.{codes}
-use Rattle.map_text.specs.Text.{commas}
-use Rattle.segment_paths.specs.Seen.{paths_seen}
-use Rattle.place_text.specs.Tables.{told_by}
-use Rattle.place_text.specs.Text.{paths_text}
+use Rattle.kit_words.proofs.Common.{◌≡◌, ◌++◌, take, codes}
+use Rattle.map_text.specs.Common.{commas}
+use Rattle.segment_paths.specs.Common.{paths_seen}
+use Rattle.place_text.specs.Common.{told_by, paths_text}
 use Rattle.place_text.proofs.topology.push_paths.Given as goal
 
 -- the lines so far

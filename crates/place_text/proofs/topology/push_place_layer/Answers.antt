@@ -1,8 +1,6 @@
-use Rattle.std.proofs.Common.{map}
-use Rattle.std.specs.Prelude.{codes}
-use Rattle.map_text.specs.Text.{list_text}
-use Rattle.place_text.specs.Tables.{told_by}
-use Rattle.place_text.specs.Text.{place_text}
+use Rattle.kit_words.proofs.Common.{map, codes}
+use Rattle.map_text.specs.Common.{list_text}
+use Rattle.place_text.specs.Common.{told_by, place_text}
 use Rattle.place_text.proofs.Appending.{three}
 use Rattle.place_text.proofs.topology.push_place_layer.Goals as goal
 

@@ -1,8 +1,6 @@
-use Rattle.std.proofs.Common.{◌≡◌, ◌++◌, map, take}
-use Rattle.std.specs.Prelude.{codes}
-use Rattle.map_text.specs.Text.{commas}
-use Rattle.place_text.specs.Tables.{told_by}
-use Rattle.place_text.specs.Text.{place_text}
+use Rattle.kit_words.proofs.Common.{◌≡◌, ◌++◌, map, take, codes}
+use Rattle.map_text.specs.Common.{commas}
+use Rattle.place_text.specs.Common.{told_by, place_text}
 use Rattle.place_text.proofs.topology.push_places.Given as goal
 
 -- the points so far

@@ -1,7 +1,7 @@
-use Rattle.std.proofs.Common.{arith, sym, ap, ◌∙◌, ◌+◌, ◌++◌, append-nil, map, take}
-use Rattle.std.proofs.lemmas.List.{take_all}
-use Rattle.map_text.specs.Text.{arc_text, commas}
-use Rattle.place_text.specs.Sides.{side_ends}
+use Rattle.kit_words.proofs.Common.{arith, sym, ap, ◌∙◌, ◌+◌, ◌++◌, map, take, take_all}
+use Rattle.std.proofs.Common.{append-nil}
+use Rattle.map_text.specs.Common.{arc_text, commas}
+use Rattle.place_text.specs.Common.{side_ends}
 use Rattle.place_text.proofs.Listed.{map_twice, map_step}
 use Rattle.place_text.proofs.topology.push_side_arcs.Goals as goal
 

@@ -1,6 +1,6 @@
-use Rattle.std.proofs.Common.{◌≡◌, ◌++◌, map, take}
-use Rattle.map_text.specs.Text.{arc_text, commas}
-use Rattle.place_text.specs.Sides.{side_ends}
+use Rattle.kit_words.proofs.Common.{◌≡◌, ◌++◌, map, take}
+use Rattle.map_text.specs.Common.{arc_text, commas}
+use Rattle.place_text.specs.Common.{side_ends}
 use Rattle.place_text.proofs.topology.push_side_arcs.Given as goal
 
 -- the arcs so far

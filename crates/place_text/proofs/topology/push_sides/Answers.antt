@@ -1,9 +1,7 @@
-use Rattle.std.proofs.Common.{arith, refl, sym, ap, ◌∙◌, ◌++◌, append-nil}
-use Rattle.std.specs.Prelude.{codes}
-use Rattle.std.proofs.lemmas.List.{take_all}
-use Rattle.map_text.specs.Text.{commas}
-use Rattle.place_text.specs.Tables.{told_by}
-use Rattle.place_text.specs.Text.{side_text, sides_text}
+use Rattle.kit_words.proofs.Common.{arith, refl, sym, ap, ◌∙◌, ◌++◌, codes, take_all}
+use Rattle.std.proofs.Common.{append-nil}
+use Rattle.map_text.specs.Common.{commas}
+use Rattle.place_text.specs.Common.{told_by, side_text, sides_text}
 use Rattle.place_text.proofs.Listed.{bracketed, each_step}
 use Rattle.place_text.proofs.topology.push_sides.Goals as goal
 

@@ -1,10 +1,8 @@
-use Rattle.std.proofs.Common.{ap, ◌∙◌, ◌++◌, map}
-use Rattle.std.specs.Prelude.{codes, is_some, option_map, length}
-use Rattle.map_text.specs.Text.{arcs_text}
-use Rattle.segment_paths.specs.Seen.{paths_seen}
-use Rattle.place_text.specs.Sides.{side_ends}
-use Rattle.place_text.specs.Tables.{told_by}
-use Rattle.place_text.specs.Text.{place_text, sides_text, collection_text, path_layer, transform_text, ways}
+use Rattle.kit_words.proofs.Common.{ap, ◌∙◌, ◌++◌, map, codes, is_some, option_map, length}
+use Rattle.map_text.specs.Common.{arcs_text}
+use Rattle.segment_paths.specs.Common.{paths_seen}
+use Rattle.place_text.specs.Common.{side_ends, told_by, place_text, sides_text, collection_text, path_layer}
+use Rattle.place_text.specs.Common.{transform_text, ways}
 use Rattle.place_text.proofs.Assembled.{ten, some_there}
 use Rattle.place_text.proofs.topology.push_topology.Goals as goal
 

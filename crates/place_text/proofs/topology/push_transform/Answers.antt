@@ -1,6 +1,5 @@
-use Rattle.std.proofs.Common.{sym, ap, ◌∙◌, ◌++◌}
-use Rattle.std.specs.Prelude.{codes, option_map}
-use Rattle.place_text.specs.Text.{transform_text}
+use Rattle.kit_words.proofs.Common.{sym, ap, ◌∙◌, ◌++◌, codes, option_map}
+use Rattle.place_text.specs.Common.{transform_text}
 use Rattle.place_text.proofs.Appending.{two}
 use Rattle.place_text.proofs.topology.push_transform.Goals as goal
 

@@ -1,9 +1,7 @@
-use Rattle.std.proofs.Common.{arith, sym, ap, ◌∙◌, ◌++◌, map}
-use Rattle.std.proofs.lemmas.List.{take_all}
-use Rattle.map_text.specs.Text.{arc_text, comma_if}
-use Rattle.segment_paths.specs.Seen.{path_seen, paths_seen}
-use Rattle.place_text.specs.Sides.{way}
-use Rattle.place_text.specs.Text.{behind_if}
+use Rattle.kit_words.proofs.Common.{arith, sym, ap, ◌∙◌, ◌++◌, map, take_all}
+use Rattle.map_text.specs.Common.{arc_text, comma_if}
+use Rattle.segment_paths.specs.Common.{path_seen, paths_seen}
+use Rattle.place_text.specs.Common.{way, behind_if}
 use Rattle.place_text.proofs.Ways.{way_step, nothing_behind}
 use Rattle.place_text.proofs.topology.push_way_arcs.Goals as goal
 

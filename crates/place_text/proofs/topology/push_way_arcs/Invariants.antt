@@ -1,8 +1,7 @@
-use Rattle.std.proofs.Common.{◌≡◌, ◌++◌, map, take}
-use Rattle.map_text.specs.Text.{arc_text}
-use Rattle.segment_paths.specs.Seen.{paths_seen}
-use Rattle.place_text.specs.Sides.{way}
-use Rattle.place_text.specs.Text.{behind_if}
+use Rattle.kit_words.proofs.Common.{◌≡◌, ◌++◌, map, take}
+use Rattle.map_text.specs.Common.{arc_text}
+use Rattle.segment_paths.specs.Common.{paths_seen}
+use Rattle.place_text.specs.Common.{way, behind_if}
 use Rattle.place_text.proofs.topology.push_way_arcs.Given as goal
 
 -- the arcs so far

@@ -1,11 +1,7 @@
-use Rattle.std.proofs.Common.{ap, ap₂, ◌∙◌, ◌++◌, subst, List}
-use Rattle.std.specs.Prelude.{option_map}
-use Rattle.segment_paths.specs.Seen.{paths_seen}
-use Rattle.walk_faults.specs.Seen.{features_seen}
-use Rattle.place_text.specs.declared.places.Place.{Place}
-use Rattle.place_text.specs.declared.sides.Side.{Side}
-use Rattle.place_text.specs.Tables.{told_by, told_paths, Answers}
-use Rattle.place_text.specs.Text.{topology_text}
+use Rattle.kit_words.proofs.Common.{ap, ap₂, ◌∙◌, ◌++◌, subst, List, option_map}
+use Rattle.segment_paths.specs.Common.{paths_seen}
+use Rattle.walk_faults.specs.Common.{features_seen}
+use Rattle.place_text.specs.Common.{Place, Side, told_by, told_paths, Answers, topology_text}
 use Rattle.place_text.proofs.SameText.{text_is}
 use Rattle.place_text.proofs.topology.text_of_places.Goals as goal
 

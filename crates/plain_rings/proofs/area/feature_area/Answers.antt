@@ -1,8 +1,6 @@
-use Rattle.std.proofs.Common.{◌≤◌, ◌+◌, sym, ap, ◌∙◌, subst, length, arith, pos, ◌+ℤ◌}
-use Rattle.std.specs.List.{sum_by}
-use Rattle.std.proofs.lemmas.Int.{ints}
+use Rattle.kit_words.proofs.Common.{◌≤◌, ◌+◌, sym, ap, ◌∙◌, subst, length, arith, pos, ◌+ℤ◌, sum_by, ints}
 use Rattle.ring_machine.specs.Query as query
-use Rattle.plain_rings.specs.Rings.{held_polygon}
+use Rattle.plain_rings.specs.Common.{held_polygon}
 use Rattle.plain_rings.proofs.RingLists.{sum_at, fold_more}
 use Rattle.plain_rings.proofs.Summing.{sum_more, sum_front}
 use Rattle.plain_rings.proofs.area.feature_area.Goals as goal

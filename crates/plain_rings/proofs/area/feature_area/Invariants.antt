@@ -1,6 +1,5 @@
-use Rattle.std.proofs.Common.{◌≡◌, ◌≤◌, ◌*◌, unsigned_abs, take}
-use Rattle.plain_rings.specs.Rings.{held_feature}
-use Rattle.plain_rings.specs.Areas.{areas, positions_in}
+use Rattle.kit_words.proofs.Common.{◌≡◌, ◌≤◌, ◌*◌, unsigned_abs, take}
+use Rattle.plain_rings.specs.Common.{held_feature, areas, positions_in}
 use Rattle.plain_rings.proofs.area.feature_area.Given as goal
 
 -- the area so far, and how large it may be

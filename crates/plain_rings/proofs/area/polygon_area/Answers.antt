@@ -1,12 +1,8 @@
-use Rattle.std.proofs.Common.{◌≡◌, to_z, of_z, ◌+◌, ◌-◌, sym, ap, ◌∙◌, length, take, drop, arith, ◌-ℤ◌}
-use Rattle.std.specs.Int.{w128}
-use Rattle.std.specs.List.{sum_by, fold}
-use Rattle.std.proofs.lemmas.Int.{ints}
-use Rattle.std.proofs.lemmas.List.{take_all}
-use Rattle.std.proofs.lemmas.List.Sums.{sum_by-cons}
+use Rattle.kit_words.proofs.Common.{◌≡◌, to_z, of_z, ◌+◌, ◌-◌, sym, ap, ◌∙◌, length, take, drop, arith, ◌-ℤ◌, w128}
+use Rattle.kit_words.proofs.Common.{sum_by, fold, ints, take_all, sum_by-cons}
 use Rattle.ring_machine.specs.Query as query
-use Rattle.plain_rings.specs.Rings.{held_polygon}
-use Rattle.ring_parts.proofs.Lists.{list_is}
+use Rattle.plain_rings.specs.Common.{held_polygon}
+use Rattle.ring_parts.proofs.Common.{list_is}
 use Rattle.plain_rings.proofs.RingLists.{fold_more}
 use Rattle.plain_rings.proofs.Summing.{sum_more, sum_front}
 use Rattle.plain_rings.proofs.area.polygon_area.Goals as goal

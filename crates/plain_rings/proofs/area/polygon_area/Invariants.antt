@@ -1,7 +1,6 @@
-use Rattle.std.proofs.Common.{◌≡◌, ◌≤◌, ◌*◌, ◌+◌, ◌-ℤ◌, unsigned_abs, length, take}
-use Rattle.std.specs.List.{fold, sum_by}
-use Rattle.ring_machine.specs.Query.{absolute_area}
-use Rattle.plain_rings.specs.Rings.{held_polygon}
+use Rattle.kit_words.proofs.Common.{◌≡◌, ◌≤◌, ◌*◌, ◌+◌, ◌-ℤ◌, unsigned_abs, length, take, fold, sum_by}
+use Rattle.ring_machine.specs.Common.{absolute_area}
+use Rattle.plain_rings.specs.Common.{held_polygon}
 use Rattle.plain_rings.proofs.area.polygon_area.Given as goal
 
 -- the area less the holes so far, and how large it may be

@@ -1,6 +1,5 @@
-use Rattle.std.proofs.Common.{◌≡◌, take, true}
-use Rattle.std.specs.List.{list_all}
-use Rattle.grid_geometry.specs.Segment.{segment_eq}
+use Rattle.kit_words.proofs.Common.{◌≡◌, take, true, list_all}
+use Rattle.grid_geometry.specs.Common.{segment_eq}
 use Rattle.plain_rings.proofs.around.all_equal.Given as goal
 
 abbrev pub invariant-loop-s : goal.invariant-loop-s

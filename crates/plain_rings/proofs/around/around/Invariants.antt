@@ -1,5 +1,5 @@
-use Rattle.std.proofs.Common.{◌≡◌, map, take}
-use Rattle.plain_rings.specs.Edits.{around}
+use Rattle.kit_words.proofs.Common.{◌≡◌, map, take}
+use Rattle.plain_rings.specs.Common.{around}
 use Rattle.plain_rings.proofs.around.around.Given as goal
 
 abbrev pub invariant-loop-ring : goal.invariant-loop-ring

@@ -1,5 +1,5 @@
-use Rattle.std.proofs.Common.{sym, ap, subst, take, ◌++◌}
-use Rattle.plain_rings.specs.Edits.{around_ring}
+use Rattle.kit_words.proofs.Common.{sym, ap, subst, take, ◌++◌}
+use Rattle.plain_rings.specs.Common.{around_ring}
 use Rattle.plain_rings.proofs.RingLists.{list_of_two}
 use Rattle.plain_rings.proofs.Places.{Apart, ring_apart}
 use Rattle.plain_rings.proofs.around.push_around.Goals as goal

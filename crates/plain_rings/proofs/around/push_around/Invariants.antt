@@ -1,7 +1,6 @@
-use Rattle.std.proofs.Common.{◌≡◌, [], ◌∷◌, ◌++◌, drop}
-use Rattle.std.specs.List.{flat_map}
-use Rattle.ring_machine.specs.Ring.{between_each}
-use Rattle.plain_rings.specs.Edits.{around_spot, around_ring}
+use Rattle.kit_words.proofs.Common.{◌≡◌, [], ◌∷◌, ◌++◌, drop, flat_map}
+use Rattle.ring_machine.specs.Common.{between_each}
+use Rattle.plain_rings.specs.Common.{around_spot, around_ring}
 use Rattle.plain_rings.proofs.Places.{Apart}
 use Rattle.plain_rings.proofs.around.push_around.Given as goal
 

@@ -1,5 +1,5 @@
-use Rattle.std.proofs.Common.{sym, ap, ◌∙◌, ◌||◌, ◌&&◌}
-use Rattle.grid_geometry.specs.Position.{position_eq}
+use Rattle.kit_words.proofs.Common.{sym, ap, ◌∙◌, ◌||◌, ◌&&◌}
+use Rattle.grid_geometry.specs.Common.{position_eq}
 use Rattle.plain_rings.proofs.EditedRings.{ends_are}
 use Rattle.plain_rings.proofs.edit.are_ends.Goals as goal
 

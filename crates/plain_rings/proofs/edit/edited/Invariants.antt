@@ -1,6 +1,5 @@
-use Rattle.std.proofs.Common.{◌≡◌, map, take}
-use Rattle.plain_rings.specs.Edits.{edited_ring}
-use Rattle.plain_rings.specs.Rings.{held}
+use Rattle.kit_words.proofs.Common.{◌≡◌, map, take}
+use Rattle.plain_rings.specs.Common.{edited_ring, held}
 use Rattle.plain_rings.proofs.edit.edited.Given as goal
 
 abbrev pub invariant-loop-polygons : goal.invariant-loop-polygons

@@ -1,6 +1,5 @@
-use Rattle.std.proofs.Common.{◌≡◌, map, take}
-use Rattle.plain_rings.specs.Edits.{edited_ring}
-use Rattle.plain_rings.specs.Rings.{held_feature}
+use Rattle.kit_words.proofs.Common.{◌≡◌, map, take}
+use Rattle.plain_rings.specs.Common.{edited_ring, held_feature}
 use Rattle.plain_rings.proofs.edit.edited_feature.Given as goal
 
 abbrev pub invariant-loop-polygon : goal.invariant-loop-polygon

@@ -1,6 +1,5 @@
-use Rattle.std.proofs.Common.{◌≡◌, map, take}
-use Rattle.plain_rings.specs.Edits.{edited_ring}
-use Rattle.plain_rings.specs.Rings.{held_polygon}
+use Rattle.kit_words.proofs.Common.{◌≡◌, map, take}
+use Rattle.plain_rings.specs.Common.{edited_ring, held_polygon}
 use Rattle.plain_rings.proofs.edit.edited_polygon.Given as goal
 
 abbrev pub invariant-loop-ring : goal.invariant-loop-ring

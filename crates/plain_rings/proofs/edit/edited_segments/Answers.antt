@@ -1,7 +1,6 @@
-use Rattle.std.proofs.Common.{ap, sym, ◌∙◌, map}
-use Rattle.std.proofs.lemmas.List.Folds.{list_all-map}
-use Rattle.ring_machine.specs.Ring.{is_ring}
-use Rattle.plain_rings.specs.Edits.{edited_ring}
+use Rattle.kit_words.proofs.Common.{ap, sym, ◌∙◌, map, list_all-map}
+use Rattle.ring_machine.specs.Common.{is_ring}
+use Rattle.plain_rings.specs.Common.{edited_ring}
 use Rattle.plain_rings.proofs.RingLists.{passes_at}
 use Rattle.plain_rings.proofs.edit.edited_segments.Goals as goal
 

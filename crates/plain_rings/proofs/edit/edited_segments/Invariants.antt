@@ -1,7 +1,6 @@
-use Rattle.std.proofs.Common.{◌≡◌, map, take}
-use Rattle.std.specs.List.{flat_map}
-use Rattle.ring_machine.specs.Ring.{segments}
-use Rattle.plain_rings.specs.Edits.{edited_ring}
+use Rattle.kit_words.proofs.Common.{◌≡◌, map, take, flat_map}
+use Rattle.ring_machine.specs.Common.{segments}
+use Rattle.plain_rings.specs.Common.{edited_ring}
 use Rattle.plain_rings.proofs.edit.edited_segments.Given as goal
 
 abbrev pub invariant-loop-ring : goal.invariant-loop-ring

@@ -1,8 +1,6 @@
-use Rattle.std.proofs.Common.{◌≡◌, ◌++◌, drop}
-use Rattle.std.specs.List.{flat_map}
-use Rattle.grid_geometry.specs.Ring.{edges}
-use Rattle.grid_geometry.specs.Segment.{segment}
-use Rattle.plain_rings.specs.Edits.{begin_of}
+use Rattle.kit_words.proofs.Common.{◌≡◌, ◌++◌, drop, flat_map}
+use Rattle.grid_geometry.specs.Common.{edges, segment}
+use Rattle.plain_rings.specs.Common.{begin_of}
 use Rattle.plain_rings.proofs.RingSteps.{walk}
 use Rattle.plain_rings.proofs.edit.inserted_ring.Given as goal
 

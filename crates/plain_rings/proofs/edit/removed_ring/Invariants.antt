@@ -1,7 +1,5 @@
-use Rattle.std.proofs.Common.{◌≡◌, take}
-use Rattle.std.specs.Prelude.{not}
-use Rattle.std.specs.List.{filter}
-use Rattle.grid_geometry.specs.Position.{position_eq}
+use Rattle.kit_words.proofs.Common.{◌≡◌, take, not, filter}
+use Rattle.grid_geometry.specs.Common.{position_eq}
 use Rattle.plain_rings.proofs.edit.removed_ring.Given as goal
 
 abbrev pub invariant-loop-r : goal.invariant-loop-r

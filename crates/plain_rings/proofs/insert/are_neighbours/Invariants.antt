@@ -1,7 +1,6 @@
-use Rattle.std.proofs.Common.{◌≡◌, map, drop}
-use Rattle.std.specs.List.{list_any}
-use Rattle.grid_geometry.specs.Segment.{segment, segment_eq}
-use Rattle.ring_machine.specs.Ring.{segment_of, segments}
+use Rattle.kit_words.proofs.Common.{◌≡◌, map, drop, list_any}
+use Rattle.grid_geometry.specs.Common.{segment, segment_eq}
+use Rattle.ring_machine.specs.Common.{segment_of, segments}
 use Rattle.plain_rings.proofs.RingSteps.{walk}
 use Rattle.plain_rings.proofs.insert.are_neighbours.Given as goal
 

@@ -1,8 +1,7 @@
-use Rattle.std.proofs.Common.{sym, ◌∙◌}
-use Rattle.std.specs.List.{list_any}
-use Rattle.grid_geometry.specs.Segment.{segment, segment_eq}
-use Rattle.ring_machine.specs.Ring.{segments}
-use Rattle.ring_parts.proofs.Lists.{none_more, some_here, none_at_all}
+use Rattle.kit_words.proofs.Common.{sym, ◌∙◌, list_any}
+use Rattle.grid_geometry.specs.Common.{segment, segment_eq}
+use Rattle.ring_machine.specs.Common.{segments}
+use Rattle.ring_parts.proofs.Common.{none_more, some_here, none_at_all}
 use Rattle.plain_rings.proofs.insert.has_segment.Goals as goal
 
 pub returns-then-are_neighbours : goal.returns-then-are_neighbours

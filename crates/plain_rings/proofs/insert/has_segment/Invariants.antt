@@ -1,7 +1,6 @@
-use Rattle.std.proofs.Common.{◌≡◌, map, take, false}
-use Rattle.std.specs.List.{list_any}
-use Rattle.grid_geometry.specs.Segment.{segment, segment_eq}
-use Rattle.ring_machine.specs.Ring.{segments}
+use Rattle.kit_words.proofs.Common.{◌≡◌, map, take, false, list_any}
+use Rattle.grid_geometry.specs.Common.{segment, segment_eq}
+use Rattle.ring_machine.specs.Common.{segments}
 use Rattle.plain_rings.proofs.insert.has_segment.Given as goal
 
 -- none so far

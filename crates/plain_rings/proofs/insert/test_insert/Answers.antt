@@ -1,9 +1,6 @@
-use Rattle.std.proofs.Common.{◌≡◌, ◌≤◌, ◌<◌, ℕ, true, false, ap, sym, ◌∙◌, subst, map, length, arith}
-use Rattle.std.specs.Prelude.{nat_le}
-use Rattle.std.specs.List.{All}
-use Rattle.grid_geometry.specs.Segment.{IsSegment}
-use Rattle.ring_machine.specs.Planar.{least_conflict}
-use Rattle.ring_machine.specs.Vertices.{ins_ring}
+use Rattle.kit_words.proofs.Common.{◌≡◌, ◌≤◌, ◌<◌, ℕ, true, false, ap, sym, ◌∙◌, subst, map, length, arith, nat_le, All}
+use Rattle.grid_geometry.specs.Common.{IsSegment}
+use Rattle.ring_machine.specs.Common.{least_conflict, ins_ring}
 use Rattle.plain_rings.proofs.EditedRings.{ins_are_rings}
 use Rattle.plain_rings.proofs.RefusingEdits.{too_large, insert_conflict, insert_sweeps, insert_passes}
 use Rattle.plain_rings.proofs.RingSteps.{all_are_segments}

@@ -1,8 +1,7 @@
-use Rattle.std.proofs.Common.{sym, ap, ◌∙◌, subst, map}
-use Rattle.std.specs.List.{All, list_all}
-use Rattle.grid_geometry.specs.Segment.{IsSegment}
-use Rattle.ring_machine.specs.Ring.{is_ring}
-use Rattle.plain_rings.specs.Rings.{all_rings}
+use Rattle.kit_words.proofs.Common.{sym, ap, ◌∙◌, subst, map, All, list_all}
+use Rattle.grid_geometry.specs.Common.{IsSegment}
+use Rattle.ring_machine.specs.Common.{is_ring}
+use Rattle.plain_rings.specs.Common.{all_rings}
 use Rattle.plain_rings.proofs.RingLists.{held_same}
 use Rattle.plain_rings.proofs.RingSteps.{all_are_segments}
 use Rattle.plain_rings.proofs.map.test_planar.Goals as goal

@@ -1,5 +1,5 @@
-use Rattle.std.proofs.lemmas.List.Sorted.{All-permutation}
-use Rattle.grid_geometry.specs.Segment.{IsSegment}
+use Rattle.kit_words.proofs.Common.{All-permutation}
+use Rattle.grid_geometry.specs.Common.{IsSegment}
 use Rattle.plain_rings.proofs.planarity.first_conflict.Goals as goal
 
 -- sorting keeps each segment

@@ -1,5 +1,4 @@
-use Rattle.std.proofs.Common.{◌≡◌, drop}
-use Rattle.std.specs.List.{find}
+use Rattle.kit_words.proofs.Common.{◌≡◌, drop, find}
 use Rattle.grid_geometry.specs.Conflict as geometry
 use Rattle.plain_rings.proofs.planarity.first_met.Given as goal
 

@@ -1,5 +1,5 @@
-use Rattle.std.proofs.Common.{◌≡◌, drop}
-use Rattle.plain_rings.specs.Pairs.{first_in}
+use Rattle.kit_words.proofs.Common.{◌≡◌, drop}
+use Rattle.plain_rings.specs.Common.{first_in}
 use Rattle.plain_rings.proofs.planarity.first_pair.Given as goal
 
 -- no segment so far is in conflict with one after it

@@ -1,6 +1,6 @@
-use Rattle.std.proofs.Common.{◌∙◌, map}
-use Rattle.ring_machine.specs.Vertices.{put_ring}
-use Rattle.plain_rings.specs.Rings.{held_polygon, held_feature}
+use Rattle.kit_words.proofs.Common.{◌∙◌, map}
+use Rattle.ring_machine.specs.Common.{put_ring}
+use Rattle.plain_rings.specs.Common.{held_polygon, held_feature}
 use Rattle.plain_rings.proofs.Placing.{held_step}
 use Rattle.plain_rings.proofs.RingLists.{lengths_same}
 use Rattle.plain_rings.proofs.put.put_all.Goals as goal

@@ -1,6 +1,6 @@
-use Rattle.std.proofs.Common.{◌≡◌, map, take, drop, ◌++◌}
-use Rattle.ring_machine.specs.Vertices.{put_ring}
-use Rattle.plain_rings.specs.Rings.{held_feature}
+use Rattle.kit_words.proofs.Common.{◌≡◌, map, take, drop, ◌++◌}
+use Rattle.ring_machine.specs.Common.{put_ring}
+use Rattle.plain_rings.specs.Common.{held_feature}
 use Rattle.plain_rings.proofs.put.put_feature.Given as goal
 
 -- those before the place are changed

@@ -1,5 +1,5 @@
-use Rattle.std.proofs.Common.{ap, ◌∙◌, length}
-use Rattle.ring_machine.specs.Vertices.{put_ring}
+use Rattle.kit_words.proofs.Common.{ap, ◌∙◌, length}
+use Rattle.ring_machine.specs.Common.{put_ring}
 use Rattle.plain_rings.proofs.Placing.{held_step}
 use Rattle.plain_rings.proofs.StaysPlain.{put_length}
 use Rattle.plain_rings.proofs.put.put_polygon.Goals as goal

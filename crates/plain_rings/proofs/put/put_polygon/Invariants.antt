@@ -1,6 +1,6 @@
-use Rattle.std.proofs.Common.{◌≡◌, map, take, drop, ◌++◌}
-use Rattle.ring_machine.specs.Vertices.{put_ring}
-use Rattle.plain_rings.specs.Rings.{held_polygon}
+use Rattle.kit_words.proofs.Common.{◌≡◌, map, take, drop, ◌++◌}
+use Rattle.ring_machine.specs.Common.{put_ring}
+use Rattle.plain_rings.specs.Common.{held_polygon}
 use Rattle.plain_rings.proofs.put.put_polygon.Given as goal
 
 -- those before the place are changed

@@ -1,5 +1,5 @@
-use Rattle.std.proofs.Common.{cond, ◌<◌, length, arith}
-use Rattle.grid_geometry.specs.Position.{position_eq}
+use Rattle.kit_words.proofs.Common.{cond, ◌<◌, length, arith}
+use Rattle.grid_geometry.specs.Common.{position_eq}
 use Rattle.plain_rings.proofs.Placing.{put_step}
 use Rattle.plain_rings.proofs.put.put_positions.Goals as goal
 

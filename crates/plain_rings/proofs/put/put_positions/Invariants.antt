@@ -1,5 +1,5 @@
-use Rattle.std.proofs.Common.{◌≡◌, map, take, drop, ◌++◌, cond}
-use Rattle.grid_geometry.specs.Position.{position_eq}
+use Rattle.kit_words.proofs.Common.{◌≡◌, map, take, drop, ◌++◌, cond}
+use Rattle.grid_geometry.specs.Common.{position_eq}
 use Rattle.plain_rings.proofs.put.put_positions.Given as goal
 
 -- the part before the place is moved

@@ -1,6 +1,5 @@
-use Rattle.std.proofs.Common.{◌≡◌, ◌≤◌, ℕ, false, sym, ap₂, ◌∙◌, length, arith, ◌||◌}
-use Rattle.std.specs.Prelude.{not, nat_lt}
-use Rattle.ring_machine.specs.Ring.{has}
+use Rattle.kit_words.proofs.Common.{◌≡◌, ◌≤◌, ℕ, false, sym, ap₂, ◌∙◌, length, arith, ◌||◌, not, nat_lt}
+use Rattle.ring_machine.specs.Common.{has}
 use Rattle.plain_rings.proofs.RingLists.{not_all}
 use Rattle.plain_rings.proofs.remove.are_long.Goals as goal
 

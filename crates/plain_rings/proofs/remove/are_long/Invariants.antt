@@ -1,5 +1,5 @@
-use Rattle.std.proofs.Common.{◌≡◌, map, take, true}
-use Rattle.plain_rings.specs.Edits.{are_long}
+use Rattle.kit_words.proofs.Common.{◌≡◌, map, take, true}
+use Rattle.plain_rings.specs.Common.{are_long}
 use Rattle.plain_rings.proofs.remove.are_long.Given as goal
 
 abbrev pub invariant-loop-ring : goal.invariant-loop-ring

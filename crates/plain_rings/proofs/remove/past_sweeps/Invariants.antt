@@ -1,6 +1,5 @@
-use Rattle.std.proofs.Common.{◌≡◌, map, take, false}
-use Rattle.std.specs.List.{list_any}
-use Rattle.plain_rings.specs.Edits.{past_sweeps}
+use Rattle.kit_words.proofs.Common.{◌≡◌, map, take, false, list_any}
+use Rattle.plain_rings.specs.Common.{past_sweeps}
 use Rattle.plain_rings.proofs.remove.past_sweeps.Given as goal
 
 -- none so far

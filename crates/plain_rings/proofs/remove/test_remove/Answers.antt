@@ -1,7 +1,6 @@
-use Rattle.std.proofs.Common.{sym, ◌∙◌, subst, map}
-use Rattle.std.specs.List.{All}
-use Rattle.grid_geometry.specs.Segment.{IsSegment}
-use Rattle.ring_machine.specs.Vertices.{del_ring}
+use Rattle.kit_words.proofs.Common.{sym, ◌∙◌, subst, map, All}
+use Rattle.grid_geometry.specs.Common.{IsSegment}
+use Rattle.ring_machine.specs.Common.{del_ring}
 use Rattle.plain_rings.proofs.EditedRings.{del_are_rings}
 use Rattle.plain_rings.proofs.RingSteps.{all_are_segments}
 use Rattle.plain_rings.proofs.remove.test_remove.Goals as goal

@@ -1,5 +1,5 @@
-use Rattle.std.proofs.Common.{◌≡◌, map, take}
-use Rattle.plain_rings.specs.Rings.{all_rings}
+use Rattle.kit_words.proofs.Common.{◌≡◌, map, take}
+use Rattle.plain_rings.specs.Common.{all_rings}
 use Rattle.plain_rings.proofs.rings.all_rings.Given as goal
 
 abbrev pub invariant-loop-polygons : goal.invariant-loop-polygons

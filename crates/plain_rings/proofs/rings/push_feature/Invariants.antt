@@ -1,5 +1,5 @@
-use Rattle.std.proofs.Common.{◌≡◌, ◌++◌, map, take}
-use Rattle.plain_rings.specs.Rings.{rings_in}
+use Rattle.kit_words.proofs.Common.{◌≡◌, ◌++◌, map, take}
+use Rattle.plain_rings.specs.Common.{rings_in}
 use Rattle.plain_rings.proofs.rings.push_feature.Given as goal
 
 abbrev pub invariant-loop-polygon : goal.invariant-loop-polygon

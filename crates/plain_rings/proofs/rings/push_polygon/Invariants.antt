@@ -1,4 +1,4 @@
-use Rattle.std.proofs.Common.{◌≡◌, ◌++◌, map, take}
+use Rattle.kit_words.proofs.Common.{◌≡◌, ◌++◌, map, take}
 use Rattle.plain_rings.proofs.rings.push_polygon.Given as goal
 
 abbrev pub invariant-loop-ring : goal.invariant-loop-ring

@@ -1,5 +1,5 @@
-use Rattle.std.proofs.Common.{ap, ◌∙◌}
-use Rattle.ring_machine.specs.Ring.{is_ring}
+use Rattle.kit_words.proofs.Common.{ap, ◌∙◌}
+use Rattle.ring_machine.specs.Common.{is_ring}
 use Rattle.plain_rings.proofs.MovedRings.{moved_is_ring}
 use Rattle.plain_rings.proofs.segments.moved_segments.Goals as goal
 

@@ -1,6 +1,5 @@
-use Rattle.std.proofs.Common.{◌≡◌, ◌++◌, map, drop}
-use Rattle.std.specs.List.{AllByRecursion}
-use Rattle.ring_machine.specs.Ring.{segment_of, segments}
+use Rattle.kit_words.proofs.Common.{◌≡◌, ◌++◌, map, drop, AllByRecursion}
+use Rattle.ring_machine.specs.Common.{segment_of, segments}
 use Rattle.plain_rings.proofs.RingSteps.{Differ, walk}
 use Rattle.plain_rings.proofs.segments.push_ring.Given as goal
 

@@ -1,6 +1,5 @@
-use Rattle.std.proofs.Common.{◌≡◌, take, false}
-use Rattle.std.specs.List.{list_any}
-use Rattle.plain_rings.specs.Rings.{is_crossed}
+use Rattle.kit_words.proofs.Common.{◌≡◌, take, false, list_any}
+use Rattle.plain_rings.specs.Common.{is_crossed}
 use Rattle.plain_rings.proofs.sweeps.crosses.Given as goal
 
 -- none so far

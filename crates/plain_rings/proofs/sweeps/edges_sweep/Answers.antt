@@ -1,6 +1,6 @@
-use Rattle.std.proofs.Common.{sym, ◌∙◌, map}
-use Rattle.plain_rings.specs.Rings.{ring_sweeps}
-use Rattle.ring_parts.proofs.Lists.{none_more, some_here, none_at_all}
+use Rattle.kit_words.proofs.Common.{sym, ◌∙◌, map}
+use Rattle.plain_rings.specs.Common.{ring_sweeps}
+use Rattle.ring_parts.proofs.Common.{none_more, some_here, none_at_all}
 use Rattle.plain_rings.proofs.sweeps.edges_sweep.Goals as goal
 
 pub returns-then-ring_sweeps : goal.returns-then-ring_sweeps

@@ -1,6 +1,5 @@
-use Rattle.std.proofs.Common.{◌≡◌, map, take, false}
-use Rattle.std.specs.List.{list_any}
-use Rattle.plain_rings.specs.Rings.{ring_sweeps}
+use Rattle.kit_words.proofs.Common.{◌≡◌, map, take, false, list_any}
+use Rattle.plain_rings.specs.Common.{ring_sweeps}
 use Rattle.plain_rings.proofs.sweeps.edges_sweep.Given as goal
 
 -- none so far

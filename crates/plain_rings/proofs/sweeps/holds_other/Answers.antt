@@ -1,7 +1,6 @@
-use Rattle.std.proofs.Common.{sym, ◌∙◌}
-use Rattle.std.specs.List.{list_any}
-use Rattle.plain_rings.specs.Rings.{is_other}
-use Rattle.ring_parts.proofs.Lists.{none_more, some_here, none_at_all}
+use Rattle.kit_words.proofs.Common.{sym, ◌∙◌, list_any}
+use Rattle.plain_rings.specs.Common.{is_other}
+use Rattle.ring_parts.proofs.Common.{none_more, some_here, none_at_all}
 use Rattle.plain_rings.proofs.sweeps.holds_other.Goals as goal
 
 pub returns-then-ring_holds : goal.returns-then-ring_holds

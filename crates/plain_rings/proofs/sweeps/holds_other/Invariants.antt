@@ -1,6 +1,5 @@
-use Rattle.std.proofs.Common.{◌≡◌, map, take, false}
-use Rattle.std.specs.List.{list_any}
-use Rattle.plain_rings.specs.Rings.{is_other}
+use Rattle.kit_words.proofs.Common.{◌≡◌, map, take, false, list_any}
+use Rattle.plain_rings.specs.Common.{is_other}
 use Rattle.plain_rings.proofs.sweeps.holds_other.Given as goal
 
 -- none so far

@@ -1,6 +1,6 @@
-use Rattle.std.proofs.Common.{sym, ◌∙◌}
-use Rattle.ring_machine.specs.Ring.{has}
-use Rattle.ring_parts.proofs.Lists.{none_more, some_here, none_at_all}
+use Rattle.kit_words.proofs.Common.{sym, ◌∙◌}
+use Rattle.ring_machine.specs.Common.{has}
+use Rattle.ring_parts.proofs.Common.{none_more, some_here, none_at_all}
 use Rattle.plain_rings.proofs.sweeps.is_vertex.Goals as goal
 
 pub returns-then-has : goal.returns-then-has

@@ -1,6 +1,5 @@
-use Rattle.std.proofs.Common.{◌≡◌, map, take, false}
-use Rattle.std.specs.List.{list_any}
-use Rattle.ring_machine.specs.Ring.{has}
+use Rattle.kit_words.proofs.Common.{◌≡◌, map, take, false, list_any}
+use Rattle.ring_machine.specs.Common.{has}
 use Rattle.plain_rings.proofs.sweeps.is_vertex.Given as goal
 
 -- none so far

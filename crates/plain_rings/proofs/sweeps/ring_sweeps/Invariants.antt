@@ -1,7 +1,6 @@
-use Rattle.std.proofs.Common.{◌≡◌, [], ◌∷◌, ◌++◌, map, drop}
-use Rattle.std.specs.List.{list_any}
-use Rattle.ring_machine.specs.Ring.{between_each}
-use Rattle.plain_rings.specs.Rings.{spot_sweeps, ring_sweeps}
+use Rattle.kit_words.proofs.Common.{◌≡◌, [], ◌∷◌, ◌++◌, map, drop, list_any}
+use Rattle.ring_machine.specs.Common.{between_each}
+use Rattle.plain_rings.specs.Common.{spot_sweeps, ring_sweeps}
 use Rattle.plain_rings.proofs.sweeps.ring_sweeps.Given as goal
 
 -- no place so far sweeps, so those that are left decide

@@ -1,6 +1,5 @@
-use Rattle.std.proofs.Common.{◌≡◌, take, true}
-use Rattle.std.specs.List.{list_all}
-use Rattle.plain_rings.specs.Thin.{is_flat_side}
+use Rattle.kit_words.proofs.Common.{◌≡◌, take, true, list_all}
+use Rattle.plain_rings.specs.Common.{is_flat_side}
 use Rattle.plain_rings.proofs.thin.are_flat.Given as goal
 
 abbrev pub invariant-loop-s : goal.invariant-loop-s

@@ -1,5 +1,4 @@
-use Rattle.std.proofs.Common.{◌≡◌, map, take}
-use Rattle.std.specs.List.{flat_map}
+use Rattle.kit_words.proofs.Common.{◌≡◌, map, take, flat_map}
 use Rattle.plain_rings.proofs.thin.positions.Given as goal
 
 abbrev pub invariant-loop-ring : goal.invariant-loop-ring

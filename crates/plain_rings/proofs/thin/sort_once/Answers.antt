@@ -1,4 +1,4 @@
-use Rattle.ring_machine.proofs.SortedOnce.{sorted_once}
+use Rattle.ring_machine.proofs.Common.{sorted_once}
 use Rattle.plain_rings.proofs.thin.sort_once.Goals as goal
 
 pub returns : goal.returns

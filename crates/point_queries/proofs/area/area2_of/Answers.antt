@@ -1,13 +1,7 @@
-use Rattle.std.proofs.Common.{◌≡◌, ◌∙◌, ◌<◌, ◌≤◌, ◌+◌, ◌+ℤ◌, false, true, refl, sym, ap, [], length, get_or, drop, to_z, of_z, arith}
-use Rattle.std.specs.Prelude.{is_some}
-use Rattle.std.specs.Int.{w128}
-use Rattle.std.specs.List.{fold, sum_by}
-use Rattle.std.proofs.lemmas.Bool.{false≢true}
-use Rattle.std.proofs.lemmas.Int.{ints}
-use Rattle.std.proofs.lemmas.List.{drop_all}
-use Rattle.ring_machine.specs.Parts.{has_feature}
+use Rattle.kit_words.proofs.Common.{◌≡◌, ◌∙◌, ◌<◌, ◌≤◌, ◌+◌, ◌+ℤ◌, false, true, refl, sym, ap, [], length, get_or, drop}
+use Rattle.kit_words.proofs.Common.{to_z, of_z, arith, is_some, w128, fold, sum_by, false≢true, ints, drop_all}
+use Rattle.ring_machine.specs.Common.{has_feature, feature_at}
 use Rattle.ring_machine.specs.Query as query
-use Rattle.ring_machine.specs.Refusals.{feature_at}
 use Rattle.point_queries.proofs.Shows.{length_shown, count_shown, is_shown, one_of, feature-le-size}
 use Rattle.point_queries.proofs.Rest.{fold_rest, sum_rest}
 use Rattle.point_queries.proofs.area.area2_of.Goals as goal

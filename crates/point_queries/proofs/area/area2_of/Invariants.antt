@@ -1,7 +1,5 @@
-use Rattle.std.proofs.Common.{◌≡◌, ◌≤◌, ◌*◌, ◌+◌, ◌+ℤ◌, unsigned_abs, length, drop}
-use Rattle.std.specs.List.{fold, sum_by}
-use Rattle.ring_machine.specs.Query.{area_of, polygon_area}
-use Rattle.ring_machine.specs.Refusals.{feature_at}
+use Rattle.kit_words.proofs.Common.{◌≡◌, ◌≤◌, ◌*◌, ◌+◌, ◌+ℤ◌, unsigned_abs, length, drop, fold, sum_by}
+use Rattle.ring_machine.specs.Common.{area_of, polygon_area, feature_at}
 use Rattle.point_queries.proofs.area.area2_of.Given as goal
 
 -- with the polygons that are left it is the feature's area, and it is bounded

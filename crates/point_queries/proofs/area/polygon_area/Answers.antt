@@ -1,10 +1,6 @@
-use Rattle.std.proofs.Common.{◌≡◌, ◌∙◌, ◌<◌, ◌≤◌, ◌+◌, ◌-ℤ◌, refl, sym, ap, [], length, get_or, drop, to_z, of_z, arith}
-use Rattle.std.specs.Int.{w128}
-use Rattle.std.specs.List.{fold}
-use Rattle.std.proofs.lemmas.Int.{ints}
-use Rattle.std.proofs.lemmas.List.{drop_all}
-use Rattle.ring_machine.specs.Query.{absolute_area}
-use Rattle.ring_machine.specs.Refusals.{feature_at}
+use Rattle.kit_words.proofs.Common.{◌≡◌, ◌∙◌, ◌<◌, ◌≤◌, ◌+◌, ◌-ℤ◌, refl, sym, ap, [], length, get_or, drop, to_z, of_z}
+use Rattle.kit_words.proofs.Common.{arith, w128, fold, ints, drop_all}
+use Rattle.ring_machine.specs.Common.{absolute_area, feature_at}
 use Rattle.point_queries.proofs.Shows.{one_of}
 use Rattle.point_queries.proofs.Rest.{fold_rest, sum_rest, outer_first, sum_outer_first}
 use Rattle.point_queries.proofs.area.polygon_area.Goals as goal

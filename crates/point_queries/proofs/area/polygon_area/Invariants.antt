@@ -1,7 +1,5 @@
-use Rattle.std.proofs.Common.{◌≡◌, ◌≤◌, ◌*◌, ◌+◌, ◌-ℤ◌, unsigned_abs, [], length, get_or, drop}
-use Rattle.std.specs.List.{fold, sum_by}
-use Rattle.ring_machine.specs.Query.{absolute_area, polygon_area}
-use Rattle.ring_machine.specs.Refusals.{feature_at}
+use Rattle.kit_words.proofs.Common.{◌≡◌, ◌≤◌, ◌*◌, ◌+◌, ◌-ℤ◌, unsigned_abs, [], length, get_or, drop, fold, sum_by}
+use Rattle.ring_machine.specs.Common.{absolute_area, polygon_area, feature_at}
 use Rattle.point_queries.proofs.area.polygon_area.Given as goal
 
 -- less the holes that are left it is the polygon's area, and it is bounded

@@ -1,8 +1,6 @@
-use Rattle.std.proofs.Common.{◌≡◌, ◌∙◌, sym, ap, [], ◌∷◌, ◌++◌, length, get_or, arith}
-use Rattle.std.proofs.lemmas.Int.{ints}
-use Rattle.grid_geometry.specs.Ring.{links, total_area, signed_area}
-use Rattle.ring_machine.specs.Query.{absolute_area}
-use Rattle.ring_machine.specs.Refusals.{feature_at}
+use Rattle.kit_words.proofs.Common.{◌≡◌, ◌∙◌, sym, ap, [], ◌∷◌, ◌++◌, length, get_or, arith, ints}
+use Rattle.grid_geometry.specs.Common.{links, total_area, signed_area}
+use Rattle.ring_machine.specs.Common.{absolute_area, feature_at}
 use Rattle.point_queries.proofs.Shows.{ring_read, no_ring_read}
 use Rattle.point_queries.proofs.area.ring_area.Goals as goal
 

@@ -1,5 +1,5 @@
-use Rattle.std.proofs.Common.{◌≡◌, ◌≤◌, ◌*◌, ◌+◌, ◌+ℤ◌, unsigned_abs, [], ◌∷◌, ◌++◌, length}
-use Rattle.grid_geometry.specs.Ring.{links, total_area}
+use Rattle.kit_words.proofs.Common.{◌≡◌, ◌≤◌, ◌*◌, ◌+◌, ◌+ℤ◌, unsigned_abs, [], ◌∷◌, ◌++◌, length}
+use Rattle.grid_geometry.specs.Common.{links, total_area}
 use Rattle.point_queries.proofs.area.ring_area.Given as goal
 
 -- the sum so far and that of the rest are the whole sum, and the sum so far is bounded

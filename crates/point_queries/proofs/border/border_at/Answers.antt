@@ -1,8 +1,6 @@
-use Rattle.std.proofs.Common.{◌∙◌, ap, subst, [], map}
-use Rattle.std.specs.List.{flat_map}
-use Rattle.arc_store.specs.Near.{ListsNear}
-use Rattle.arc_store.specs.Users.{ListsUsers}
-use Rattle.point_queries.specs.Users.{on_edge}
+use Rattle.kit_words.proofs.Common.{◌∙◌, ap, subst, [], map, flat_map}
+use Rattle.arc_store.specs.Common.{ListsNear, ListsUsers}
+use Rattle.point_queries.specs.Common.{on_edge}
 use Rattle.point_queries.proofs.OnBorders.{box_at, border_are}
 use Rattle.point_queries.proofs.border.border_at.Goals as goal
 

@@ -1,4 +1,4 @@
-use Rattle.std.proofs.Common.{◌≡◌, map, take}
+use Rattle.kit_words.proofs.Common.{◌≡◌, map, take}
 use Rattle.point_queries.proofs.border.numbers_of.Given as goal
 
 -- the numbers so far

@@ -1,8 +1,7 @@
-use Rattle.std.proofs.Common.{◌∙◌, ◌<◌, sym, ap, subst, length, arith}
-use Rattle.grid_geometry.specs.Segment.{Segment, segment}
-use Rattle.arc_store.specs.Named.{ListsRings}
-use Rattle.arc_store.specs.Users.{ListsUsers}
-use Rattle.point_queries.specs.Users.{on_edge}
+use Rattle.kit_words.proofs.Common.{◌∙◌, ◌<◌, sym, ap, subst, length, arith}
+use Rattle.grid_geometry.specs.Common.{Segment, segment}
+use Rattle.arc_store.specs.Common.{ListsRings, ListsUsers}
+use Rattle.point_queries.specs.Common.{on_edge}
 use Rattle.point_queries.proofs.Sharers.{users_more, on_listed, off_listed}
 use Rattle.point_queries.proofs.border.push_on.Goals as goal
 use Rattle.point_queries.proofs.border.push_on.Goals.{then-on+in_ok-push_users, else-on}

@@ -1,7 +1,6 @@
-use Rattle.std.proofs.Common.{take}
-use Rattle.std.specs.List.{flat_map}
-use Rattle.arc_store.specs.Users.{ListsUsers}
-use Rattle.point_queries.specs.Users.{on_edge}
+use Rattle.kit_words.proofs.Common.{take, flat_map}
+use Rattle.arc_store.specs.Common.{ListsUsers}
+use Rattle.point_queries.specs.Common.{on_edge}
 use Rattle.point_queries.proofs.border.push_on.Given as goal
 
 -- the rings of the segments so far

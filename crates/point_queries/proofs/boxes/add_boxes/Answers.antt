@@ -1,6 +1,5 @@
-use Rattle.std.proofs.Common.{ap, ◌∙◌}
-use Rattle.std.proofs.lemmas.Result.{on_ok_weaker}
-use Rattle.ring_parts.specs.Seen.{polygons_seen}
+use Rattle.kit_words.proofs.Common.{ap, ◌∙◌, on_ok_weaker}
+use Rattle.ring_parts.specs.Common.{polygons_seen}
 use Rattle.point_queries.proofs.RingsCovered.{feature_rings, feature_covered}
 use Rattle.point_queries.proofs.boxes.add_boxes.Goals as goal
 

@@ -1,4 +1,4 @@
-use Rattle.std.proofs.Common.{arith}
+use Rattle.kit_words.proofs.Common.{arith}
 use Rattle.point_queries.proofs.RingsCovered.{next_number, all_covered}
 use Rattle.point_queries.proofs.boxes.boxes_of.Goals as goal
 

@@ -1,5 +1,5 @@
-use Rattle.std.proofs.Common.{ℕ, ◌<◌}
-use Rattle.point_queries.specs.Covered.{CoversFeature}
+use Rattle.kit_words.proofs.Common.{ℕ, ◌<◌}
+use Rattle.point_queries.specs.Common.{CoversFeature}
 use Rattle.point_queries.proofs.boxes.boxes_of.Given as goal
 
 -- the features of the numbers so far lie in the boxes

@@ -1,6 +1,6 @@
-use Rattle.std.proofs.Common.{◌<◌, ◌∙◌, sym, ap, [], ◌∷◌, ◌++◌, length, get_or, arith}
+use Rattle.kit_words.proofs.Common.{◌<◌, ◌∙◌, sym, ap, [], ◌∷◌, ◌++◌, length, get_or, arith}
 use Rattle.map_frame.specs.declared.names.RingName.{RingName}
-use Rattle.point_queries.specs.Odd.{is_held}
+use Rattle.point_queries.specs.Common.{is_held}
 use Rattle.point_queries.proofs.Odds.{filter_yes, filter_no}
 use Rattle.point_queries.proofs.inside.held.Goals as goal
 use Rattle.point_queries.proofs.inside.held.Goals.{then-is_held+in_ok-push, else-is_held}

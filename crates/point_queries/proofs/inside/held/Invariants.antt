@@ -1,6 +1,5 @@
-use Rattle.std.proofs.Common.{◌≡◌, take}
-use Rattle.std.specs.List.{filter}
-use Rattle.point_queries.specs.Odd.{is_held}
+use Rattle.kit_words.proofs.Common.{◌≡◌, take, filter}
+use Rattle.point_queries.specs.Common.{is_held}
 use Rattle.point_queries.proofs.inside.held.Given as goal
 
 -- those so far

@@ -1,4 +1,4 @@
-use Rattle.std.proofs.Common.{◌∙◌, ap, map}
+use Rattle.kit_words.proofs.Common.{◌∙◌, ap, map}
 use Rattle.point_queries.proofs.HeldFeatures.{inside_are}
 use Rattle.point_queries.proofs.inside.inside_of.Goals as goal
 

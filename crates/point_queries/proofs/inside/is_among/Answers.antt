@@ -1,4 +1,4 @@
-use Rattle.std.proofs.Common.{◌∙◌}
+use Rattle.kit_words.proofs.Common.{◌∙◌}
 use Rattle.point_queries.proofs.Ascending.{among}
 use Rattle.point_queries.proofs.inside.is_among.Goals as goal
 

@@ -1,6 +1,6 @@
-use Rattle.std.proofs.Common.{◌≡◌, ◌++◌, ◌∷◌, [], sym, ap, ◌∙◌}
+use Rattle.kit_words.proofs.Common.{◌≡◌, ◌++◌, ◌∷◌, [], sym, ap, ◌∙◌}
 use Rattle.map_frame.specs.declared.names.RingName.{RingName}
-use Rattle.point_queries.specs.Odd.{odd, is_name}
+use Rattle.point_queries.specs.Common.{odd, is_name}
 use Rattle.point_queries.proofs.Odds.{odd-pushed, odd-popped}
 use Rattle.point_queries.proofs.OddRings.{is_name-true}
 use Rattle.point_queries.proofs.near.cancel.Goals as goal

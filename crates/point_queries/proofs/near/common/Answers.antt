@@ -1,7 +1,6 @@
-use Rattle.std.proofs.Common.{◌<◌, ◌∙◌, sym, ap, [], ◌∷◌, ◌++◌, length, get_or, arith}
-use Rattle.std.specs.List.{list_any}
+use Rattle.kit_words.proofs.Common.{◌<◌, ◌∙◌, sym, ap, [], ◌∷◌, ◌++◌, length, get_or, arith, list_any}
 use Rattle.map_frame.specs.declared.names.RingName.{RingName}
-use Rattle.point_queries.specs.Odd.{is_name}
+use Rattle.point_queries.specs.Common.{is_name}
 use Rattle.point_queries.proofs.Odds.{filter_yes, filter_no}
 use Rattle.point_queries.proofs.near.common.Goals as goal
 use Rattle.point_queries.proofs.near.common.Goals.{then-contains+in_ok-push, else-contains}

@@ -1,6 +1,5 @@
-use Rattle.std.proofs.Common.{◌≡◌, take}
-use Rattle.std.specs.List.{filter, list_any}
-use Rattle.point_queries.specs.Odd.{is_name}
+use Rattle.kit_words.proofs.Common.{◌≡◌, take, filter, list_any}
+use Rattle.point_queries.specs.Common.{is_name}
 use Rattle.point_queries.proofs.near.common.Given as goal
 
 -- those so far

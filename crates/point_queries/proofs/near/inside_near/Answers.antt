@@ -1,7 +1,6 @@
-use Rattle.std.proofs.Common.{sym, subst}
-use Rattle.ring_machine.specs.Parts.{features}
-use Rattle.ring_machine.specs.Query.{is_on_border}
-use Rattle.point_queries.specs.Users.{Rises}
+use Rattle.kit_words.proofs.Common.{sym, subst}
+use Rattle.ring_machine.specs.Common.{features, is_on_border}
+use Rattle.point_queries.specs.Common.{Rises}
 use Rattle.point_queries.proofs.Ascending.{numbers_rise}
 use Rattle.point_queries.proofs.near.inside_near.Goals as goal
 

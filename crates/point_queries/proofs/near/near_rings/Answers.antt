@@ -1,11 +1,9 @@
-use Rattle.std.proofs.Common.{◌≡◌, ◌∙◌, ap, ap₂, sym, subst, []}
-use Rattle.std.specs.List.{filter, list_any}
-use Rattle.grid_geometry.specs.Segment.{Box}
-use Rattle.ring_machine.proofs.SortedOnce.{in_permuted}
-use Rattle.ring_boxes.specs.Covering.{IsAround}
-use Rattle.arc_store.specs.Near.{ListsNear}
-use Rattle.point_queries.specs.Near.{AreBehind, HaveOdd, ray_back, ray_to}
-use Rattle.point_queries.specs.Odd.{HavePassed, is_name}
+use Rattle.kit_words.proofs.Common.{◌≡◌, ◌∙◌, ap, ap₂, sym, subst, [], filter, list_any}
+use Rattle.grid_geometry.specs.Common.{Box}
+use Rattle.ring_machine.proofs.Common.{in_permuted}
+use Rattle.ring_boxes.specs.Common.{IsAround}
+use Rattle.arc_store.specs.Common.{ListsNear}
+use Rattle.point_queries.specs.Common.{AreBehind, HaveOdd, ray_back, ray_to, HavePassed, is_name}
 use Rattle.point_queries.proofs.NearRings.{in_back, in_front, read_back, tells_near}
 use Rattle.point_queries.proofs.Odds.{odd-permuted}
 use Rattle.point_queries.proofs.near.near_rings.Goals as goal

@@ -1,6 +1,7 @@
-use Rattle.std.proofs.Common.{◌<◌, ◌≤◌, subst, length, take_all, arith}
+use Rattle.kit_words.proofs.Common.{◌<◌, ◌≤◌, subst, length, arith}
+use Rattle.std.proofs.Common.{take_all}
 use Rattle.map_frame.specs.declared.names.RingName.{RingName}
-use Rattle.point_queries.specs.Near.{HaveOdd}
+use Rattle.point_queries.specs.Common.{HaveOdd}
 use Rattle.point_queries.proofs.Cancelling.{have_more}
 use Rattle.point_queries.proofs.near.odd_names.Goals as goal
 

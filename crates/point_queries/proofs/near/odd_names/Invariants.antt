@@ -1,5 +1,5 @@
-use Rattle.std.proofs.Common.{take}
-use Rattle.point_queries.specs.Near.{HaveOdd}
+use Rattle.kit_words.proofs.Common.{take}
+use Rattle.point_queries.specs.Common.{HaveOdd}
 use Rattle.point_queries.proofs.near.odd_names.Given as goal
 
 -- those of the names so far

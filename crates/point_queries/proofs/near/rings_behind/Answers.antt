@@ -1,6 +1,7 @@
-use Rattle.std.proofs.Common.{◌<◌, ◌≤◌, ◌∙◌, sym, subst, length, take_all, arith}
-use Rattle.grid_geometry.specs.Segment.{Segment}
-use Rattle.point_queries.specs.Near.{AreBehind}
+use Rattle.kit_words.proofs.Common.{◌<◌, ◌≤◌, ◌∙◌, sym, subst, length, arith}
+use Rattle.std.proofs.Common.{take_all}
+use Rattle.grid_geometry.specs.Common.{Segment}
+use Rattle.point_queries.specs.Common.{AreBehind}
 use Rattle.point_queries.proofs.Behind.{behind_none, behind_more, behind_same}
 use Rattle.point_queries.proofs.near.rings_behind.Goals as goal
 use Rattle.point_queries.proofs.near.rings_behind.Goals.{then-is_behind+in_ok-push_users, else-is_behind}

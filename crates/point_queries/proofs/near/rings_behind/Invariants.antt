@@ -1,5 +1,5 @@
-use Rattle.std.proofs.Common.{take}
-use Rattle.point_queries.specs.Near.{AreBehind}
+use Rattle.kit_words.proofs.Common.{take}
+use Rattle.point_queries.specs.Common.{AreBehind}
 use Rattle.point_queries.proofs.near.rings_behind.Given as goal
 
 -- the rings of those so far

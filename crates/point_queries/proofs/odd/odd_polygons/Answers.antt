@@ -1,7 +1,7 @@
-use Rattle.std.proofs.Common.{◌<◌, ◌∙◌, sym, ap, length, get_or, arith}
-use Rattle.grid_geometry.specs.Ring.{xor}
+use Rattle.kit_words.proofs.Common.{◌<◌, ◌∙◌, sym, ap, length, get_or, arith}
+use Rattle.grid_geometry.specs.Common.{xor}
 use Rattle.map_frame.specs.declared.names.RingName.{RingName}
-use Rattle.point_queries.specs.Odd.{is_polygon, polygon_of}
+use Rattle.point_queries.specs.Common.{is_polygon, polygon_of}
 use Rattle.point_queries.proofs.Odds.{odd_more}
 use Rattle.point_queries.proofs.odd.odd_polygons.Goals as goal
 

@@ -1,5 +1,5 @@
-use Rattle.std.proofs.Common.{take}
-use Rattle.point_queries.specs.Odd.{AreOdd}
+use Rattle.kit_words.proofs.Common.{take}
+use Rattle.point_queries.specs.Common.{AreOdd}
 use Rattle.point_queries.proofs.odd.odd_polygons.Given as goal
 
 -- the polygons of the rings so far

@@ -1,5 +1,5 @@
-use Rattle.std.proofs.Common.{subst, []}
-use Rattle.point_queries.specs.Odd.{ListsOdd}
+use Rattle.kit_words.proofs.Common.{subst, []}
+use Rattle.point_queries.specs.Common.{ListsOdd}
 use Rattle.point_queries.proofs.odd.passed_rings.Goals as goal
 
 pub returns : goal.returns

@@ -1,6 +1,7 @@
-use Rattle.std.proofs.Common.{◌<◌, ◌≤◌, ◌∙◌, subst, [], ◌∷◌, length, arith, take_all}
-use Rattle.grid_geometry.specs.Segment.{Segment}
-use Rattle.point_queries.specs.Odd.{ListsOdd}
+use Rattle.kit_words.proofs.Common.{◌<◌, ◌≤◌, ◌∙◌, subst, [], ◌∷◌, length, arith}
+use Rattle.std.proofs.Common.{take_all}
+use Rattle.grid_geometry.specs.Common.{Segment}
+use Rattle.point_queries.specs.Common.{ListsOdd}
 use Rattle.point_queries.proofs.OddRings.{odd_none_listed, odd_one_listed, odd_more_listed}
 use Rattle.point_queries.proofs.odd.push_rings.Goals as goal
 

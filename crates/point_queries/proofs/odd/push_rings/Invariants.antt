@@ -1,5 +1,5 @@
-use Rattle.std.proofs.Common.{take}
-use Rattle.point_queries.specs.Odd.{ListsOdd}
+use Rattle.kit_words.proofs.Common.{take}
+use Rattle.point_queries.specs.Common.{ListsOdd}
 use Rattle.point_queries.proofs.odd.push_rings.Given as goal
 
 -- the rings of the segments so far

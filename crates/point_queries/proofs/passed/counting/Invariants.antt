@@ -1,6 +1,5 @@
-use Rattle.std.proofs.Common.{◌≡◌, take}
-use Rattle.std.specs.List.{filter}
-use Rattle.point_queries.specs.Odd.{is_passed}
+use Rattle.kit_words.proofs.Common.{◌≡◌, take, filter}
+use Rattle.point_queries.specs.Common.{is_passed}
 use Rattle.point_queries.proofs.passed.counting.Given as goal
 
 -- those so far

@@ -1,7 +1,6 @@
-use Rattle.std.proofs.Common.{◌∙◌, ap, subst, []}
-use Rattle.std.specs.List.{filter}
-use Rattle.arc_store.specs.Near.{ListsNear}
-use Rattle.point_queries.specs.Odd.{is_passed}
+use Rattle.kit_words.proofs.Common.{◌∙◌, ap, subst, [], filter}
+use Rattle.arc_store.specs.Common.{ListsNear}
+use Rattle.point_queries.specs.Common.{is_passed}
 use Rattle.point_queries.proofs.PassedSegments.{passed_are}
 use Rattle.point_queries.proofs.passed.passed.Goals as goal
 

@@ -1,12 +1,10 @@
-use Rattle.std.proofs.Common.{◌≡◌, ◌<◌, ◌≤◌, ◌∙◌, sym, ap, subst, true, [], length, arith, take_all, map, IfErr}
-use Rattle.std.specs.Prelude.{is_some, not, ◌==◌}
-use Rattle.std.specs.List.{filter, flat_map}
-use Rattle.std.proofs.lemmas.Result.{err_from_is_err_and}
-use Rattle.grid_geometry.specs.Ring.{edges}
-use Rattle.ring_machine.specs.Parts.{has_feature}
-use Rattle.ring_machine.specs.Refusals.{feature_at}
-use Rattle.point_queries.specs.Told.{Tells}
-use Rattle.arc_store.specs.Users.{ListsUsers}
+use Rattle.kit_words.proofs.Common.{◌≡◌, ◌<◌, ◌≤◌, ◌∙◌, sym, ap, subst, true, [], length, arith, map, IfErr, is_some}
+use Rattle.kit_words.proofs.Common.{not, ◌==◌, filter, flat_map, err_from_is_err_and}
+use Rattle.std.proofs.Common.{take_all}
+use Rattle.grid_geometry.specs.Common.{edges}
+use Rattle.ring_machine.specs.Common.{has_feature, feature_at}
+use Rattle.point_queries.specs.Common.{Tells}
+use Rattle.arc_store.specs.Common.{ListsUsers}
 use Rattle.point_queries.proofs.SharedBorders.{edges_of, shown_number, neighbours_are}
 use Rattle.point_queries.proofs.Sharers.{users_more}
 use Rattle.point_queries.proofs.Shows.{length_shown, count_shown, is_shown}

@@ -1,8 +1,7 @@
-use Rattle.std.proofs.Common.{[], take}
-use Rattle.std.specs.List.{flat_map}
-use Rattle.grid_geometry.specs.Ring.{edges}
-use Rattle.ring_machine.specs.Refusals.{feature_at}
-use Rattle.arc_store.specs.Users.{ListsUsers}
+use Rattle.kit_words.proofs.Common.{[], take, flat_map}
+use Rattle.grid_geometry.specs.Common.{edges}
+use Rattle.ring_machine.specs.Common.{feature_at}
+use Rattle.arc_store.specs.Common.{ListsUsers}
 use Rattle.point_queries.proofs.sharing.neighbours.Given as goal
 
 -- the rings that have a segment of the polygons so far

@@ -1,6 +1,4 @@
-use Rattle.std.proofs.Common.{◌≡◌, map, take}
-use Rattle.std.specs.Prelude.{not, ◌==◌}
-use Rattle.std.specs.List.{filter}
+use Rattle.kit_words.proofs.Common.{◌≡◌, map, take, not, ◌==◌, filter}
 use Rattle.point_queries.proofs.sharing.others.Given as goal
 
 -- the numbers so far

@@ -1,8 +1,8 @@
-use Rattle.std.proofs.Common.{◌<◌, ◌≤◌, subst, [], length, get_or, arith, take_all}
-use Rattle.std.specs.List.{flat_map}
-use Rattle.grid_geometry.specs.Ring.{edges}
-use Rattle.ring_machine.specs.Refusals.{feature_at}
-use Rattle.arc_store.specs.Users.{ListsUsers}
+use Rattle.kit_words.proofs.Common.{◌<◌, ◌≤◌, subst, [], length, get_or, arith, flat_map}
+use Rattle.std.proofs.Common.{take_all}
+use Rattle.grid_geometry.specs.Common.{edges}
+use Rattle.ring_machine.specs.Common.{feature_at}
+use Rattle.arc_store.specs.Common.{ListsUsers}
 use Rattle.point_queries.proofs.Sharers.{users_more}
 use Rattle.point_queries.proofs.Shows.{ring_is}
 use Rattle.point_queries.proofs.sharing.push_polygon.Goals as goal

@@ -1,6 +1,5 @@
-use Rattle.std.proofs.Common.{ap, ◌∙◌}
-use Rattle.json_spans.specs.Left.{node}
-use Rattle.json_spans.specs.Walk.{items_left}
+use Rattle.kit_words.proofs.Common.{ap, ◌∙◌}
+use Rattle.json_spans.specs.Common.{node, items_left}
 use Rattle.point_rounding.proofs.Finding.{none_at_end, of_none, of_items}
 use Rattle.point_rounding.proofs.points.+coordinates_in.Goals as goal
 

@@ -1,8 +1,6 @@
-use Rattle.std.proofs.Common.{◌≡◌, ◌-◌, ◌++◌, map}
-use Rattle.std.specs.List.{flat_map}
-use Rattle.json_spans.specs.Left.{node}
-use Rattle.json_spans.specs.Walk.{items_left}
-use Rattle.point_rounding.specs.Points.{coordinates_in}
+use Rattle.kit_words.proofs.Common.{◌≡◌, ◌-◌, ◌++◌, map, flat_map}
+use Rattle.json_spans.specs.Common.{node, items_left}
+use Rattle.point_rounding.specs.Common.{coordinates_in}
 use Rattle.point_rounding.proofs.points.+coordinates_in.Given as goal
 
 abbrev pub decreases-coordinates_in : goal.decreases-coordinates_in

@@ -1,8 +1,6 @@
-use Rattle.std.proofs.Common.{◌≡◌, ◌++◌, map}
-use Rattle.std.specs.List.{flat_map}
-use Rattle.json_spans.specs.Left.{node}
-use Rattle.json_spans.specs.Walk.{members_left}
-use Rattle.point_rounding.specs.Points.{coordinates_in, all_coordinates}
+use Rattle.kit_words.proofs.Common.{◌≡◌, ◌++◌, map, flat_map}
+use Rattle.json_spans.specs.Common.{node, members_left}
+use Rattle.point_rounding.specs.Common.{coordinates_in, all_coordinates}
 use Rattle.point_rounding.proofs.points.all_coordinates.Given as goal
 
 abbrev pub invariant-loop-member : goal.invariant-loop-member

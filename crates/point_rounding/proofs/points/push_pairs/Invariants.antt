@@ -1,8 +1,6 @@
-use Rattle.std.proofs.Common.{◌≡◌, ◌++◌, map}
-use Rattle.std.specs.List.{flat_map}
-use Rattle.json_spans.specs.Left.{node}
-use Rattle.json_spans.specs.Walk.{items, items_left}
-use Rattle.point_rounding.specs.Points.{pair}
+use Rattle.kit_words.proofs.Common.{◌≡◌, ◌++◌, map, flat_map}
+use Rattle.json_spans.specs.Common.{node, items, items_left}
+use Rattle.point_rounding.specs.Common.{pair}
 use Rattle.point_rounding.proofs.points.push_pairs.Given as goal
 
 abbrev pub invariant-loop-position : goal.invariant-loop-position

@@ -1,4 +1,4 @@
-use Rattle.json_spans.specs.Left.{node}
+use Rattle.json_spans.specs.Common.{node}
 use Rattle.point_rounding.proofs.Finding.{no_position, one_position}
 use Rattle.point_rounding.proofs.points.push_point.Goals as goal
 

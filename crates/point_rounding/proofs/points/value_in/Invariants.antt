@@ -1,7 +1,6 @@
-use Rattle.std.proofs.Common.{◌≡◌}
-use Rattle.json_spans.specs.Left.{node}
-use Rattle.json_spans.specs.Walk.{members, members_left}
-use Rattle.point_rounding.specs.Points.{value_named}
+use Rattle.kit_words.proofs.Common.{◌≡◌}
+use Rattle.json_spans.specs.Common.{node, members, members_left}
+use Rattle.point_rounding.specs.Common.{value_named}
 use Rattle.point_rounding.proofs.points.value_in.Given as goal
 
 abbrev pub invariant-loop-member : goal.invariant-loop-member

@@ -1,6 +1,5 @@
-use Rattle.std.proofs.Common.{rules}
-use Rattle.std.proofs.lemmas.Int.{to_z-of_z}
-use Rattle.json_spans.specs.Left.{node}
+use Rattle.kit_words.proofs.Common.{rules, to_z-of_z}
+use Rattle.json_spans.specs.Common.{node}
 use Rattle.point_rounding.proofs.Changing.{new_is, new_fails}
 use Rattle.point_rounding.proofs.rounding.change_of.Goals as goal
 use mir.Syntax.{w128}

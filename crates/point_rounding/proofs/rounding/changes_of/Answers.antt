@@ -1,6 +1,5 @@
-use Rattle.std.proofs.Common.{arith}
-use Rattle.std.proofs.lemmas.List.{map-append}
-use Rattle.point_rounding.specs.Rounded.{new_text}
+use Rattle.kit_words.proofs.Common.{arith, map-append}
+use Rattle.point_rounding.specs.Common.{new_text}
 use Rattle.point_rounding.proofs.Changing.{each_turn, each_stop, each_end}
 use Rattle.point_rounding.proofs.rounding.changes_of.Goals as goal
 

@@ -1,7 +1,6 @@
-use Rattle.std.proofs.Common.{◌≡◌, map, drop}
-use Rattle.json_spans.specs.Left.{node}
-use Rattle.point_rounding.specs.Changes.{change}
-use Rattle.point_rounding.specs.Rounded.{each, new_text}
+use Rattle.kit_words.proofs.Common.{◌≡◌, map, drop}
+use Rattle.json_spans.specs.Common.{node}
+use Rattle.point_rounding.specs.Common.{change, each, new_text}
 use Rattle.point_rounding.proofs.Changing.{with_front}
 use Rattle.point_rounding.proofs.rounding.changes_of.Given as goal
 

@@ -1,4 +1,4 @@
-use Rattle.std.proofs.Common.{arith}
+use Rattle.kit_words.proofs.Common.{arith}
 use Rattle.point_rounding.proofs.Fits.{power_fits}
 use Rattle.point_rounding.proofs.rounding.is_within.Goals as goal
 

@@ -1,7 +1,5 @@
-use Rattle.std.proofs.Common.{◌≡◌, ◌≤◌, ◌^◌, ap, ap₂, ◌∙◌, ℤ, pos}
-use Rattle.std.specs.Prelude.{◌*ℤ◌}
-use Rattle.std.proofs.lemmas.Int.{to_z-of_z}
-use Rattle.exact_decimals.specs.Fine.{rounded}
+use Rattle.kit_words.proofs.Common.{◌≡◌, ◌≤◌, ◌^◌, ap, ap₂, ◌∙◌, ℤ, pos, ◌*ℤ◌, to_z-of_z}
+use Rattle.exact_decimals.specs.Common.{rounded}
 use Rattle.point_rounding.proofs.Fits.{scaled_fits, scale_within, product_is, product_fits}
 use Rattle.point_rounding.proofs.rounding.on_axis.Goals as goal
 use mir.Syntax.{w128}

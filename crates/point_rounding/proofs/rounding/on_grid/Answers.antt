@@ -1,5 +1,4 @@
-use Rattle.exact_decimals.specs.Fine.{fine}
-use Rattle.exact_decimals.specs.Seen.{parts}
+use Rattle.exact_decimals.specs.Common.{fine, parts}
 use Rattle.point_rounding.proofs.Fits.{beyond}
 use Rattle.point_rounding.proofs.rounding.on_grid.Goals as goal
 

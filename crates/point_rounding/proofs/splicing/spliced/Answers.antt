@@ -1,4 +1,4 @@
-use Rattle.std.proofs.Common.{arith}
+use Rattle.kit_words.proofs.Common.{arith}
 use Rattle.point_rounding.proofs.NewTexts.{spliced_turn}
 use Rattle.point_rounding.proofs.splicing.spliced.Goals as goal
 

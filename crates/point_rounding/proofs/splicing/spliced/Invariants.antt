@@ -1,6 +1,5 @@
-use Rattle.std.proofs.Common.{◌≡◌, ◌++◌, map, drop}
-use Rattle.point_rounding.specs.Changes.{change}
-use Rattle.point_rounding.specs.Rounded.{spliced}
+use Rattle.kit_words.proofs.Common.{◌≡◌, ◌++◌, map, drop}
+use Rattle.point_rounding.specs.Common.{change, spliced}
 use Rattle.point_rounding.proofs.splicing.spliced.Given as goal
 
 abbrev pub invariant-loop-change : goal.invariant-loop-change

@@ -1,5 +1,5 @@
-use Rattle.std.proofs.Common.{ap, ◌∙◌}
-use Rattle.json_spans.specs.Left.{node}
+use Rattle.kit_words.proofs.Common.{ap, ◌∙◌}
+use Rattle.json_spans.specs.Common.{node}
 use Rattle.point_rounding.proofs.Changing.{at_root}
 use Rattle.point_rounding.proofs.whole.rounded_points.Goals as goal
 

@@ -1,5 +1,5 @@
-use Rattle.std.proofs.Common.{ap, ◌∙◌, map}
-use Rattle.json_spans.specs.Left.{node}
+use Rattle.kit_words.proofs.Common.{ap, ◌∙◌, map}
+use Rattle.json_spans.specs.Common.{node}
 use Rattle.point_rounding.proofs.Changing.{all_change, one_fails}
 use Rattle.point_rounding.proofs.whole.rounded_under.Goals as goal
 

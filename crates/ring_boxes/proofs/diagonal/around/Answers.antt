@@ -1,8 +1,7 @@
-use Rattle.std.proofs.Common.{◌∙◌, ap, subst}
-use Rattle.grid_geometry.specs.Segment.{box_of}
-use Rattle.segment_index.specs.Bounds.{box_around}
-use Rattle.ring_boxes.specs.Covering.{box_at}
-use Rattle.ring_boxes.specs.Held.{IsLeast}
+use Rattle.kit_words.proofs.Common.{◌∙◌, ap, subst}
+use Rattle.grid_geometry.specs.Common.{box_of}
+use Rattle.segment_index.specs.Common.{box_around}
+use Rattle.ring_boxes.specs.Common.{box_at, IsLeast}
 use Rattle.ring_boxes.proofs.Around.{least_none, least_more}
 use Rattle.ring_boxes.proofs.diagonal.around.Goals as goal
 

@@ -1,6 +1,5 @@
-use Rattle.std.proofs.Common.{take}
-use Rattle.ring_boxes.specs.Covering.{box_at}
-use Rattle.ring_boxes.specs.Held.{IsLeast}
+use Rattle.kit_words.proofs.Common.{take}
+use Rattle.ring_boxes.specs.Common.{box_at, IsLeast}
 use Rattle.ring_boxes.proofs.diagonal.around.Given as goal
 
 -- the least box for those so far

@@ -1,5 +1,6 @@
-use Rattle.std.proofs.Common.{subst, sym, ap, ◌∙◌, unwrap_or}
-use Rattle.ring_boxes.specs.Held.{IsWider}
+use Rattle.kit_words.proofs.Common.{subst, sym, ap, ◌∙◌}
+use Rattle.std.proofs.Common.{unwrap_or}
+use Rattle.ring_boxes.specs.Common.{IsWider}
 use Rattle.ring_boxes.proofs.Widening.{wider_is}
 use Rattle.ring_boxes.proofs.diagonal.widened.Goals as goal
 

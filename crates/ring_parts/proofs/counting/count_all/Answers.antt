@@ -1,8 +1,6 @@
-use Rattle.std.proofs.Common.{ap, length, arith}
-use Rattle.std.specs.List.{sum_by}
-use Rattle.std.specs.Prelude.{Vec}
-use Rattle.grid_geometry.specs.Position.{Position}
-use Rattle.ring_parts.specs.Seen.{rings_seen}
+use Rattle.kit_words.proofs.Common.{ap, length, arith, sum_by, Vec}
+use Rattle.grid_geometry.specs.Common.{Position}
+use Rattle.ring_parts.specs.Common.{rings_seen}
 use Rattle.ring_parts.proofs.CountedFew.{counted_few}
 use Rattle.ring_parts.proofs.counting.count_all.Goals as goal
 

@@ -1,6 +1,5 @@
-use Rattle.std.proofs.Common.{◌≡◌, length, take}
-use Rattle.std.specs.List.{sum_by}
-use Rattle.ring_parts.specs.Seen.{polygons_seen}
+use Rattle.kit_words.proofs.Common.{◌≡◌, length, take, sum_by}
+use Rattle.ring_parts.specs.Common.{polygons_seen}
 use Rattle.ring_parts.proofs.counting.count_all.Given as goal
 
 -- those of the polygons so far

@@ -1,6 +1,5 @@
-use Rattle.std.proofs.Common.{length, arith}
-use Rattle.std.specs.Prelude.{Vec}
-use Rattle.grid_geometry.specs.Position.{Position}
+use Rattle.kit_words.proofs.Common.{length, arith, Vec}
+use Rattle.grid_geometry.specs.Common.{Position}
 use Rattle.ring_parts.proofs.CountedFew.{counted_few}
 use Rattle.ring_parts.proofs.counting.count_positions.Goals as goal
 

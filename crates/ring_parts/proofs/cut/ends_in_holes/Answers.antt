@@ -1,5 +1,5 @@
-use Rattle.std.proofs.Common.{sym, ap, ◌∙◌, ◌||◌}
-use Rattle.ring_machine.specs.Ring.{has}
+use Rattle.kit_words.proofs.Common.{sym, ap, ◌∙◌, ◌||◌}
+use Rattle.ring_machine.specs.Common.{has}
 use Rattle.ring_parts.proofs.Lists.{some_here}
 use Rattle.ring_parts.proofs.cut.ends_in_holes.Goals as goal
 

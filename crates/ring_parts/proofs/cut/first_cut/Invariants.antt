@@ -1,7 +1,6 @@
-use Rattle.std.proofs.Common.{◌≡◌, map, take, false}
-use Rattle.std.specs.List.{list_any}
-use Rattle.ring_machine.specs.Cut.{is_cut_by}
-use Rattle.ring_parts.specs.Seen.{path_seen, rings_seen}
+use Rattle.kit_words.proofs.Common.{◌≡◌, map, take, false, list_any}
+use Rattle.ring_machine.specs.Common.{is_cut_by}
+use Rattle.ring_parts.specs.Common.{path_seen, rings_seen}
 use Rattle.ring_parts.proofs.cut.first_cut.Given as goal
 
 -- none so far

@@ -1,8 +1,7 @@
-use Rattle.std.proofs.Common.{◌∙◌, ◌&&◌, ap, ap₂, sym, arith, length}
-use Rattle.std.specs.Prelude.{not}
-use Rattle.grid_geometry.specs.Ring.{signed_area}
-use Rattle.ring_machine.specs.Cut.{first_part, second_part, same_sign}
-use Rattle.ring_parts.specs.Seen.{path_seen}
+use Rattle.kit_words.proofs.Common.{◌∙◌, ◌&&◌, ap, ap₂, sym, arith, length, not}
+use Rattle.grid_geometry.specs.Common.{signed_area}
+use Rattle.ring_machine.specs.Common.{first_part, second_part, same_sign}
+use Rattle.ring_parts.specs.Common.{path_seen}
 use Rattle.ring_parts.proofs.Lengths.{first_few, second_few, outer_is, sides_of}
 use Rattle.ring_parts.proofs.cut.is_wrong_side.Goals as goal
 

@@ -1,6 +1,5 @@
-use Rattle.std.proofs.Common.{◌≡◌, ◌≤◌, ◌+◌, length, map, take}
-use Rattle.std.specs.Prelude.{vec_len, vec_capacity}
-use Rattle.ring_parts.specs.Borders.{ends_of}
+use Rattle.kit_words.proofs.Common.{◌≡◌, ◌≤◌, ◌+◌, length, map, take, vec_len, vec_capacity}
+use Rattle.ring_parts.specs.Common.{ends_of}
 use Rattle.ring_parts.proofs.edges.all_ends.Given as goal
 
 -- of the edges so far, and there is room for the others

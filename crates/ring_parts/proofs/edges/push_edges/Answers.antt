@@ -1,5 +1,5 @@
-use Rattle.std.proofs.Common.{ap, ◌++◌, arith}
-use Rattle.grid_geometry.specs.Ring.{edges}
+use Rattle.kit_words.proofs.Common.{ap, ◌++◌, arith}
+use Rattle.grid_geometry.specs.Common.{edges}
 use Rattle.ring_parts.proofs.Lists.{list_is}
 use Rattle.ring_parts.proofs.edges.push_edges.Goals as goal
 

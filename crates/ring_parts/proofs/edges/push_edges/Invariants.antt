@@ -1,6 +1,5 @@
-use Rattle.std.proofs.Common.{◌≡◌, ◌≤◌, ◌+◌, ◌++◌, drop, length}
-use Rattle.std.specs.Prelude.{vec_len, vec_capacity}
-use Rattle.grid_geometry.specs.Ring.{edges}
+use Rattle.kit_words.proofs.Common.{◌≡◌, ◌≤◌, ◌+◌, ◌++◌, drop, length, vec_len, vec_capacity}
+use Rattle.grid_geometry.specs.Common.{edges}
 use Rattle.ring_parts.proofs.Ways.{walk}
 use Rattle.ring_parts.proofs.edges.push_edges.Given as goal
 

@@ -1,10 +1,7 @@
-use Rattle.std.proofs.Common.{◌∙◌, ◌≡◌, ap, ◌&&◌}
-use Rattle.std.specs.Prelude.{not}
-use Rattle.grid_geometry.specs.Ring.{edges}
-use Rattle.ring_machine.specs.Ring.{has}
-use Rattle.ring_machine.specs.Join.{is_common}
-use Rattle.ring_parts.specs.Borders.{run_ends}
-use Rattle.ring_parts.specs.Seen.{least_that}
+use Rattle.kit_words.proofs.Common.{◌∙◌, ◌≡◌, ap, ◌&&◌, not}
+use Rattle.grid_geometry.specs.Common.{edges}
+use Rattle.ring_machine.specs.Common.{has, is_common}
+use Rattle.ring_parts.specs.Common.{run_ends, least_that}
 use Rattle.ring_parts.proofs.RunEnds.{common_else_is}
 use Rattle.ring_parts.proofs.elsewhere.common_else.Goals as goal
 

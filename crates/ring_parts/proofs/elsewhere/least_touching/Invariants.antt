@@ -1,7 +1,6 @@
-use Rattle.std.proofs.Common.{◌≡◌, drop, ◌&&◌}
-use Rattle.std.specs.Prelude.{not}
-use Rattle.ring_machine.specs.Ring.{has}
-use Rattle.ring_parts.specs.Seen.{least_that}
+use Rattle.kit_words.proofs.Common.{◌≡◌, drop, ◌&&◌, not}
+use Rattle.ring_machine.specs.Common.{has}
+use Rattle.ring_parts.specs.Common.{least_that}
 use Rattle.ring_parts.proofs.LeastOff.{least_with}
 use Rattle.ring_parts.proofs.elsewhere.least_touching.Given as goal
 

@@ -1,6 +1,6 @@
-use Rattle.std.proofs.Common.{◌≡◌, ◌++◌, drop}
-use Rattle.ring_machine.specs.Join.{is_common}
-use Rattle.ring_parts.specs.Borders.{run_ends}
+use Rattle.kit_words.proofs.Common.{◌≡◌, ◌++◌, drop}
+use Rattle.ring_machine.specs.Common.{is_common}
+use Rattle.ring_parts.specs.Common.{run_ends}
 use Rattle.ring_parts.proofs.elsewhere.run_ends.Given as goal
 
 -- the ends so far and those of the edges that are left are all

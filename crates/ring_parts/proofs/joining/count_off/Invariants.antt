@@ -1,6 +1,4 @@
-use Rattle.std.proofs.Common.{◌≡◌, ◌+◌, drop}
-use Rattle.std.specs.Prelude.{not}
-use Rattle.std.specs.List.{prefix_len}
+use Rattle.kit_words.proofs.Common.{◌≡◌, ◌+◌, drop, not, prefix_len}
 use Rattle.ring_parts.proofs.joining.count_off.Given as goal
 
 abbrev pub invariant-loop-one : goal.invariant-loop-one

@@ -1,5 +1,5 @@
-use Rattle.std.proofs.Common.{◌≡◌, ◌++◌, drop}
-use Rattle.ring_parts.specs.Borders.{off_ones}
+use Rattle.kit_words.proofs.Common.{◌≡◌, ◌++◌, drop}
+use Rattle.ring_parts.specs.Common.{off_ones}
 use Rattle.ring_parts.proofs.joining.push_off.Given as goal
 
 -- those so far and those that are left are all

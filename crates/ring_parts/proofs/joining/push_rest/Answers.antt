@@ -1,8 +1,6 @@
-use Rattle.std.proofs.Common.{◌∙◌, ◌++◌, ap, ap₂, arith, length, take, drop}
-use Rattle.std.specs.Prelude.{not}
-use Rattle.std.specs.List.{prefix_len}
-use Rattle.ring_machine.specs.Join.{is_common}
-use Rattle.ring_parts.specs.Borders.{off_ones}
+use Rattle.kit_words.proofs.Common.{◌∙◌, ◌++◌, ap, ap₂, arith, length, take, drop, not, prefix_len}
+use Rattle.ring_machine.specs.Common.{is_common}
+use Rattle.ring_parts.specs.Common.{off_ones}
 use Rattle.ring_parts.proofs.Rests.{rest_is, as_many}
 use Rattle.ring_parts.proofs.joining.push_rest.Goals as goal
 

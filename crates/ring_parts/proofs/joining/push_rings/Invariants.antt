@@ -1,5 +1,5 @@
-use Rattle.std.proofs.Common.{◌≡◌, ◌++◌, take}
-use Rattle.ring_parts.specs.Seen.{rings_seen}
+use Rattle.kit_words.proofs.Common.{◌≡◌, ◌++◌, take}
+use Rattle.ring_parts.specs.Common.{rings_seen}
 use Rattle.ring_parts.proofs.joining.push_rings.Given as goal
 
 -- the rings so far

@@ -1,5 +1,5 @@
-use Rattle.std.proofs.Common.{◌≡◌, drop}
-use Rattle.ring_machine.specs.Ring.{is_distinct}
+use Rattle.kit_words.proofs.Common.{◌≡◌, drop}
+use Rattle.ring_machine.specs.Common.{is_distinct}
 use Rattle.ring_parts.proofs.paths.has_twice.Given as goal
 
 -- none so far stands there again

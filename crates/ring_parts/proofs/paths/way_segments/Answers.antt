@@ -1,5 +1,5 @@
-use Rattle.std.proofs.Common.{refl, ap, ap₂, ◌∙◌, ◌++◌, ◌∷◌, []}
-use Rattle.ring_machine.specs.Ring.{is_distinct}
+use Rattle.kit_words.proofs.Common.{refl, ap, ap₂, ◌∙◌, ◌++◌, ◌∷◌, []}
+use Rattle.ring_machine.specs.Common.{is_distinct}
 use Rattle.ring_parts.proofs.Lists.{list_is}
 use Rattle.ring_parts.proofs.WaySegments.{segments_along, way_more, way_on, way_apart}
 use Rattle.ring_parts.proofs.paths.way_segments.Goals as goal

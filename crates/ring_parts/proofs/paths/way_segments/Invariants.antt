@@ -1,5 +1,5 @@
-use Rattle.std.proofs.Common.{◌≡◌, ◌∷◌, ◌++◌, true, drop}
-use Rattle.ring_machine.specs.Ring.{is_distinct}
+use Rattle.kit_words.proofs.Common.{◌≡◌, ◌∷◌, ◌++◌, true, drop}
+use Rattle.ring_machine.specs.Common.{is_distinct}
 use Rattle.ring_parts.proofs.WaySegments.{segments_along}
 use Rattle.ring_parts.proofs.paths.way_segments.Given as goal
 

@@ -1,6 +1,5 @@
-use Rattle.std.proofs.Common.{◌≡◌, ◌++◌, take}
-use Rattle.std.specs.List.{filter}
-use Rattle.ring_parts.specs.Seen.{rings_seen, goes_to}
+use Rattle.kit_words.proofs.Common.{◌≡◌, ◌++◌, take, filter}
+use Rattle.ring_parts.specs.Common.{rings_seen, goes_to}
 use Rattle.ring_parts.proofs.polygons.push_holes.Given as goal
 
 -- of the holes so far

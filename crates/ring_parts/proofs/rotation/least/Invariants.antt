@@ -1,5 +1,5 @@
-use Rattle.std.proofs.Common.{◌≡◌, drop}
-use Rattle.ring_machine.specs.Ring.{least}
+use Rattle.kit_words.proofs.Common.{◌≡◌, drop}
+use Rattle.ring_machine.specs.Common.{least}
 use Rattle.ring_parts.proofs.rotation.least.Given as goal
 
 abbrev pub invariant-loop-pos : goal.invariant-loop-pos

@@ -1,6 +1,5 @@
-use Rattle.std.proofs.Common.{◌≡◌, take, false}
-use Rattle.std.specs.List.{list_any}
-use Rattle.ring_machine.specs.Ring.{edge_eq}
+use Rattle.kit_words.proofs.Common.{◌≡◌, take, false, list_any}
+use Rattle.ring_machine.specs.Common.{edge_eq}
 use Rattle.ring_parts.proofs.same_sides.any_edge.Given as goal
 
 -- none so far

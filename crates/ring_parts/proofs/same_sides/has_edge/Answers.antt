@@ -1,4 +1,4 @@
-use Rattle.std.proofs.Common.{◌∙◌}
+use Rattle.kit_words.proofs.Common.{◌∙◌}
 use Rattle.ring_parts.proofs.Ways.{edge_turned}
 use Rattle.ring_parts.proofs.same_sides.has_edge.Goals as goal
 

@@ -1,9 +1,7 @@
-use Rattle.std.proofs.Common.{◌∙◌, sym, subst}
-use Rattle.std.specs.List.{list_any}
-use Rattle.std.specs.List.Sorted.{IsSorted}
-use Rattle.ring_machine.specs.Ring.{edge_eq}
-use Rattle.ring_parts.specs.Borders.{edge_cmp}
-use Rattle.grid_geometry.specs.Ring.{edges}
+use Rattle.kit_words.proofs.Common.{◌∙◌, sym, subst, list_any, IsSorted}
+use Rattle.ring_machine.specs.Common.{edge_eq}
+use Rattle.ring_parts.specs.Common.{edge_cmp}
+use Rattle.grid_geometry.specs.Common.{edges}
 use Rattle.ring_parts.proofs.same_sides.passed_alike.Goals as goal
 
 pub any_edge-requires : goal.any_edge-requires

@@ -1,6 +1,5 @@
-use Rattle.std.proofs.Common.{◌∙◌, ap}
-use Rattle.std.specs.List.{list_any}
-use Rattle.ring_machine.specs.Ring.{edge_eq}
+use Rattle.kit_words.proofs.Common.{◌∙◌, ap, list_any}
+use Rattle.ring_machine.specs.Common.{edge_eq}
 use Rattle.ring_parts.proofs.Searching.{any_permuted}
 use Rattle.ring_parts.proofs.same_sides.sorted_edges.Goals as goal
 

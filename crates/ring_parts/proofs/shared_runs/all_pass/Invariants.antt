@@ -1,5 +1,4 @@
-use Rattle.std.proofs.Common.{◌≡◌, take, true}
-use Rattle.std.specs.List.{list_all}
+use Rattle.kit_words.proofs.Common.{◌≡◌, take, true, list_all}
 use Rattle.ring_parts.proofs.shared_runs.all_pass.Given as goal
 
 -- all so far

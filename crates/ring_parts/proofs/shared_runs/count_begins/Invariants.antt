@@ -1,5 +1,5 @@
-use Rattle.std.proofs.Common.{◌≡◌, ◌+◌, ◌≤◌, drop}
-use Rattle.ring_parts.specs.Borders.{begins}
+use Rattle.kit_words.proofs.Common.{◌≡◌, ◌+◌, ◌≤◌, drop}
+use Rattle.ring_parts.specs.Common.{begins}
 use Rattle.ring_parts.proofs.Counted.{left_begins}
 use Rattle.ring_parts.proofs.shared_runs.count_begins.Given as goal
 

@@ -1,6 +1,5 @@
-use Rattle.std.proofs.Common.{◌≡◌, take, true}
-use Rattle.std.specs.List.{list_all}
-use Rattle.ring_machine.specs.Join.{is_common}
+use Rattle.kit_words.proofs.Common.{◌≡◌, take, true, list_all}
+use Rattle.ring_machine.specs.Common.{is_common}
 use Rattle.ring_parts.proofs.shared_runs.has_all.Given as goal
 
 -- all so far

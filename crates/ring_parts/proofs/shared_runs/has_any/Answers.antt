@@ -1,6 +1,5 @@
-use Rattle.std.proofs.Common.{◌∙◌, ap, sym}
-use Rattle.std.proofs.lemmas.List.Folds.{list_any_at}
-use Rattle.ring_machine.specs.Join.{is_common}
+use Rattle.kit_words.proofs.Common.{◌∙◌, ap, sym, list_any_at}
+use Rattle.ring_machine.specs.Common.{is_common}
 use Rattle.ring_parts.proofs.shared_runs.has_any.Goals as goal
 
 pub returns-then-has : goal.returns-then-has

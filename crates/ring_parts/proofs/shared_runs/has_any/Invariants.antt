@@ -1,6 +1,5 @@
-use Rattle.std.proofs.Common.{◌≡◌, take, false}
-use Rattle.std.specs.List.{list_any}
-use Rattle.ring_machine.specs.Join.{is_common}
+use Rattle.kit_words.proofs.Common.{◌≡◌, take, false, list_any}
+use Rattle.ring_machine.specs.Common.{is_common}
 use Rattle.ring_parts.proofs.shared_runs.has_any.Given as goal
 
 -- none so far

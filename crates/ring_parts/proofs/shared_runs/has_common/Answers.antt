@@ -1,7 +1,6 @@
-use Rattle.std.proofs.Common.{◌∙◌, ap}
-use Rattle.std.specs.List.{list_any}
-use Rattle.grid_geometry.specs.Ring.{edges}
-use Rattle.ring_machine.specs.Join.{is_common}
+use Rattle.kit_words.proofs.Common.{◌∙◌, ap, list_any}
+use Rattle.grid_geometry.specs.Common.{edges}
+use Rattle.ring_machine.specs.Common.{is_common}
 use Rattle.ring_parts.proofs.shared_runs.has_common.Goals as goal
 
 pub returns : goal.returns

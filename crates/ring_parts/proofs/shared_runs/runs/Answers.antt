@@ -1,8 +1,7 @@
-use Rattle.std.proofs.Common.{◌∙◌, ap, sym, map}
-use Rattle.std.specs.List.{list_all}
-use Rattle.grid_geometry.specs.Ring.{edges}
-use Rattle.ring_machine.specs.Join.{is_common}
-use Rattle.ring_parts.specs.Borders.{begins}
+use Rattle.kit_words.proofs.Common.{◌∙◌, ap, sym, map, list_all}
+use Rattle.grid_geometry.specs.Common.{edges}
+use Rattle.ring_machine.specs.Common.{is_common}
+use Rattle.ring_parts.specs.Common.{begins}
 use Rattle.ring_parts.proofs.Counted.{one_run, some_runs}
 use Rattle.ring_parts.proofs.shared_runs.runs.Goals as goal
 

@@ -1,4 +1,4 @@
-use Rattle.std.proofs.Common.{◌∙◌}
+use Rattle.kit_words.proofs.Common.{◌∙◌}
 use Rattle.ring_parts.proofs.Searching.{search_tells}
 use Rattle.ring_parts.proofs.sorted.has_sorted.Goals as goal
 

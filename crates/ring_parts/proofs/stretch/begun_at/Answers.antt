@@ -1,5 +1,5 @@
-use Rattle.std.proofs.Common.{◌≡◌, ◌∙◌, ◌++◌, ◌-◌, ap, arith, drop, take, length, length-drop}
-use Rattle.std.proofs.lemmas.List.{take_all}
+use Rattle.kit_words.proofs.Common.{◌≡◌, ◌∙◌, ◌++◌, ◌-◌, ap, arith, drop, take, length, take_all}
+use Rattle.std.proofs.Common.{length-drop}
 use Rattle.ring_parts.proofs.Turning.{turned_at}
 use Rattle.ring_parts.proofs.stretch.begun_at.Goals as goal
 

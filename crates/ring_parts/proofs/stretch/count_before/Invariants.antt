@@ -1,5 +1,5 @@
-use Rattle.std.proofs.Common.{◌≡◌, ◌+◌, drop, length}
-use Rattle.ring_machine.specs.Ring.{before}
+use Rattle.kit_words.proofs.Common.{◌≡◌, ◌+◌, drop, length}
+use Rattle.ring_machine.specs.Common.{before}
 use Rattle.ring_parts.proofs.stretch.count_before.Given as goal
 
 abbrev pub invariant-loop-one : goal.invariant-loop-one

@@ -1,4 +1,4 @@
-use Rattle.std.proofs.Common.{◌≡◌, ◌++◌, map}
+use Rattle.kit_words.proofs.Common.{◌≡◌, ◌++◌, map}
 use Rattle.ring_parts.proofs.stretch.first_part.Given as goal
 
 -- those of the path so far

@@ -1,5 +1,5 @@
-use Rattle.std.proofs.Common.{◌∙◌, ap, take, length}
-use Rattle.ring_machine.specs.Ring.{before}
+use Rattle.kit_words.proofs.Common.{◌∙◌, ap, take, length}
+use Rattle.ring_machine.specs.Common.{before}
 use Rattle.ring_parts.proofs.Turning.{take_before}
 use Rattle.ring_parts.proofs.stretch.keep_before.Goals as goal
 

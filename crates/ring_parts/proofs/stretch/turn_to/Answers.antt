@@ -1,4 +1,4 @@
-use Rattle.std.proofs.Common.{◌∙◌, ◌++◌, ap, drop, take}
+use Rattle.kit_words.proofs.Common.{◌∙◌, ◌++◌, ap, drop, take}
 use Rattle.ring_parts.proofs.Turning.{turned_at}
 use Rattle.ring_parts.proofs.stretch.turn_to.Goals as goal
 

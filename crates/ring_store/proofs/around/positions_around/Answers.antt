@@ -1,6 +1,5 @@
-use Rattle.std.proofs.Common.{◌∙◌, ap, map, get_or, length, arith}
-use Rattle.std.proofs.lemmas.List.{take_all}
-use Rattle.vertex_index.specs.Placement.{place}
+use Rattle.kit_words.proofs.Common.{◌∙◌, ap, map, get_or, length, arith, take_all}
+use Rattle.vertex_index.specs.Common.{place}
 use Rattle.ring_store.proofs.AroundPlan.{key_placed, around_is}
 use Rattle.ring_store.proofs.around.positions_around.Goals as goal
 

@@ -1,5 +1,5 @@
-use Rattle.std.proofs.Common.{◌≡◌, take, map}
-use Rattle.vertex_index.specs.Placement.{place}
+use Rattle.kit_words.proofs.Common.{◌≡◌, take, map}
+use Rattle.vertex_index.specs.Common.{place}
 use Rattle.ring_store.proofs.around.positions_around.Given as goal
 
 -- the positions so far

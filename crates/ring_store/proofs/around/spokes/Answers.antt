@@ -1,8 +1,6 @@
-use Rattle.std.proofs.Common.{◌∙◌, refl, sym, ap, ap₂, ◌++◌, ◌∷◌, []}
-use Rattle.std.proofs.lemmas.Bool.{false≢true}
-use Rattle.grid_geometry.specs.Segment.{segment}
-use Rattle.grid_geometry.specs.Position.{position_eq}
-use Rattle.ring_machine.proofs.Order.{position_eq-refl}
+use Rattle.kit_words.proofs.Common.{◌∙◌, refl, sym, ap, ap₂, ◌++◌, ◌∷◌, [], false≢true}
+use Rattle.grid_geometry.specs.Common.{segment, position_eq}
+use Rattle.ring_machine.proofs.Common.{position_eq-refl}
 use Rattle.ring_store.proofs.Pushed.{map_more}
 use Rattle.ring_store.proofs.Planned.{any_at}
 use Rattle.ring_store.proofs.around.spokes.Goals as goal

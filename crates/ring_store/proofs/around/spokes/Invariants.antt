@@ -1,5 +1,5 @@
-use Rattle.std.proofs.Common.{◌≡◌, take}
-use Rattle.ring_store.specs.Planned.{spokes}
+use Rattle.kit_words.proofs.Common.{◌≡◌, take}
+use Rattle.ring_store.specs.Common.{spokes}
 use Rattle.ring_store.proofs.around.spokes.Given as goal
 
 -- the segments so far

@@ -1,4 +1,4 @@
-use Rattle.std.proofs.Common.{inl, inr, refl}
+use Rattle.kit_words.proofs.Common.{inl, inr, refl}
 use Rattle.ring_store.proofs.AroundPlan.{off_two}
 use Rattle.ring_store.proofs.bridging.read_bridging.Goals as goal
 

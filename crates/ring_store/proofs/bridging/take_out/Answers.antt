@@ -1,5 +1,5 @@
-use Rattle.std.proofs.Common.{◌∙◌}
-use Rattle.segment_index.proofs.Singles.{contains_inserted}
+use Rattle.kit_words.proofs.Common.{◌∙◌}
+use Rattle.segment_index.proofs.Common.{contains_inserted}
 use Rattle.ring_store.proofs.CountLemmas.{same_index}
 use Rattle.ring_store.proofs.TableLemmas.{still_among, one_came, one_back}
 use Rattle.ring_store.proofs.bridging.take_out.Goals as goal

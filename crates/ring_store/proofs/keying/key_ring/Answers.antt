@@ -1,7 +1,6 @@
-use Rattle.std.proofs.Common.{◌∷◌, [], ◌++◌, ◌+◌, ◌∙◌, sym, ap, subst, take, arith}
-use Rattle.std.proofs.lemmas.List.{take_all, take_more}
-use Rattle.vertex_index.specs.Placement.{place}
-use Rattle.ring_store.specs.Keyed.{ArePut}
+use Rattle.kit_words.proofs.Common.{◌∷◌, [], ◌++◌, ◌+◌, ◌∙◌, sym, ap, subst, take, arith, take_all, take_more}
+use Rattle.vertex_index.specs.Common.{place}
+use Rattle.ring_store.specs.Common.{ArePut}
 use Rattle.ring_store.proofs.KeyedLists.{read_next, place_stays, put_at}
 use Rattle.ring_store.proofs.Places.{place_is}
 use Rattle.ring_store.proofs.Keys.{read_none, read_put, read_different}

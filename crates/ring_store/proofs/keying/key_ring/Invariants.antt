@@ -1,6 +1,5 @@
-use Rattle.std.proofs.Common.{◌≤◌, ◌+◌, take, length}
-use Rattle.std.specs.Prelude.{vec_len, vec_capacity}
-use Rattle.vertex_index.specs.Placement.{AreDistinct}
+use Rattle.kit_words.proofs.Common.{◌≤◌, ◌+◌, take, length, vec_len, vec_capacity}
+use Rattle.vertex_index.specs.Common.{AreDistinct}
 use Rattle.ring_store.proofs.Keys.{IsRead}
 use Rattle.ring_store.proofs.keying.key_ring.Given as goal
 

@@ -1,7 +1,7 @@
-use Rattle.std.proofs.Common.{◌≡◌, take, map, Some}
+use Rattle.kit_words.proofs.Common.{◌≡◌, take, map, Some}
 use Rattle.std.specs.FinMap as table
-use Rattle.arc_tables.specs.Rings.{edges}
-use Rattle.ring_store.specs.Laid.{numbers_of}
+use Rattle.arc_tables.specs.Common.{edges}
+use Rattle.ring_store.specs.Common.{numbers_of}
 use Rattle.ring_store.proofs.laid.gather_rings.Given as goal
 
 -- the rings so far

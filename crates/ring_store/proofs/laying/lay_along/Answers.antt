@@ -1,7 +1,7 @@
-use Rattle.std.proofs.Common.{sym, subst, take, length, arith}
-use Rattle.std.proofs.lemmas.List.{take_all}
-use Rattle.arc_tables.specs.Rings.{edges}
-use Rattle.ring_store.specs.Steps.{AreKeyed, HoldsWith}
+use Rattle.kit_words.proofs.Common.{sym, subst, take, length, arith, take_all}
+use Rattle.arc_tables.specs.Common.{edges}
+use Rattle.ring_store.specs.Common.{HoldsWith}
+use Rattle.ring_store.specs.Steps.{AreKeyed}
 use Rattle.ring_store.proofs.Edges.{length-edges}
 use Rattle.ring_store.proofs.Exchanged.{holds_added}
 use Rattle.ring_store.proofs.laying.lay_along.Goals as goal

@@ -1,9 +1,7 @@
-use Rattle.std.proofs.Common.{◌+◌, ◌∙◌, refl, ap, take, map, arith}
-use Rattle.std.proofs.lemmas.List.{take_all}
-use Rattle.vertex_index.specs.Placement.{place}
-use Rattle.ring_machine.specs.Ring.{is_ring}
-use Rattle.ring_machine.proofs.Members.{contains_in}
-use Rattle.ring_machine.proofs.Neighbours.{all_in}
+use Rattle.kit_words.proofs.Common.{◌+◌, ◌∙◌, refl, ap, take, map, arith, take_all}
+use Rattle.vertex_index.specs.Common.{place}
+use Rattle.ring_machine.specs.Common.{is_ring}
+use Rattle.ring_machine.proofs.Common.{contains_in, all_in}
 use Rattle.ring_store.proofs.Pushed.{at_contains, map_more}
 use Rattle.ring_store.proofs.Series.{there_none, added_first, there_more, added_more, at_more}
 use Rattle.ring_store.proofs.laying.lay_each.Goals as goal

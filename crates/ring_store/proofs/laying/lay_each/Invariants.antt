@@ -1,8 +1,6 @@
-use Rattle.std.proofs.Common.{◌≡◌, ◌≤◌, ◌+◌, take, length, map, vec_len}
-use Rattle.std.specs.Prelude.{vec_capacity}
-use Rattle.vertex_index.specs.Placement.{place}
-use Rattle.ring_store.specs.Laid.{numbers_of, AreThere, AreAdded, KeepsPlaces}
-use Rattle.ring_store.specs.Standing.{Stands}
+use Rattle.kit_words.proofs.Common.{◌≡◌, ◌≤◌, ◌+◌, take, length, map, vec_len, vec_capacity}
+use Rattle.vertex_index.specs.Common.{place}
+use Rattle.ring_store.specs.Common.{numbers_of, AreThere, AreAdded, KeepsPlaces, Stands}
 use Rattle.ring_store.proofs.laying.lay_each.Given as goal
 
 -- the rings so far are laid

@@ -1,8 +1,8 @@
-use Rattle.std.proofs.Common.{◌≡◌, sym, subst}
+use Rattle.kit_words.proofs.Common.{◌≡◌, sym, subst}
 use Rattle.std.specs.FinMap as table
-use Rattle.arc_tables.specs.Rings.{edges}
-use Rattle.ring_store.specs.Round.{IsRound}
-use Rattle.ring_machine.proofs.StaysProper.{ring_distinct}
+use Rattle.arc_tables.specs.Common.{edges}
+use Rattle.ring_store.specs.Common.{IsRound}
+use Rattle.ring_machine.proofs.Common.{ring_distinct}
 use Rattle.ring_store.proofs.Exchanged.{keyed_with, holds_with, stands_with}
 use Rattle.ring_store.proofs.Keys.{keys_round}
 use Rattle.ring_store.proofs.laying.lay_new.Goals as goal

@@ -1,8 +1,7 @@
-use Rattle.std.proofs.Common.{sym, ap, ◌∙◌, subst}
+use Rattle.kit_words.proofs.Common.{sym, ap, ◌∙◌, subst, Contains}
 use Rattle.std.specs.FinMap as table
-use Rattle.std.specs.Prelude.{Contains}
-use Rattle.ring_machine.specs.WellFormed.{are_distinct}
-use Rattle.ring_store.specs.Steps.{AllRound, LeavesVisited}
+use Rattle.ring_machine.specs.Common.{are_distinct}
+use Rattle.ring_store.specs.Common.{AllRound, LeavesVisited}
 use Rattle.ring_store.proofs.Exchanged.{stands_back}
 use Rattle.ring_store.proofs.laying.lay_ring.Goals as goal
 

@@ -1,6 +1,6 @@
-use Rattle.std.proofs.Common.{◌∙◌, sym, ap, subst}
+use Rattle.kit_words.proofs.Common.{◌∙◌, sym, ap, subst}
 use Rattle.std.specs.FinMap as table
-use Rattle.ring_store.specs.Laid.{AreThere, numbers_of}
+use Rattle.ring_store.specs.Common.{AreThere, numbers_of}
 use Rattle.ring_store.proofs.CountLemmas.{same_index}
 use Rattle.ring_store.proofs.Series.{rings_at, back_again}
 use Rattle.ring_store.proofs.laying.lay_rings.Goals as goal

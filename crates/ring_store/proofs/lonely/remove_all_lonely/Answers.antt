@@ -1,4 +1,4 @@
-use Rattle.std.proofs.Common.{sym}
+use Rattle.kit_words.proofs.Common.{sym}
 use Rattle.ring_store.proofs.Unvisited.{leaves_more, next_placed}
 use Rattle.ring_store.proofs.lonely.remove_all_lonely.Goals as goal
 

@@ -1,5 +1,5 @@
-use Rattle.std.proofs.Common.{take}
-use Rattle.ring_store.specs.Steps.{LeavesVisited}
+use Rattle.kit_words.proofs.Common.{take}
+use Rattle.ring_store.specs.Common.{LeavesVisited}
 use Rattle.ring_store.proofs.lonely.remove_all_lonely.Given as goal
 
 -- of the keys so far those that a ring visits are left

@@ -1,4 +1,4 @@
-use Rattle.std.proofs.Common.{inl, inr, refl}
+use Rattle.kit_words.proofs.Common.{inl, inr, refl}
 use Rattle.ring_store.proofs.Visited.{none_lonely, some_visited}
 use Rattle.ring_store.proofs.lonely.remove_lonely.Goals as goal
 

@@ -1,4 +1,4 @@
-use Rattle.std.proofs.Common.{inl, refl, ◌∙◌}
+use Rattle.kit_words.proofs.Common.{inl, refl, ◌∙◌}
 use Rattle.ring_store.proofs.Visited.{used_visited}
 use Rattle.ring_store.proofs.lonely.remove_unused.Goals as goal
 

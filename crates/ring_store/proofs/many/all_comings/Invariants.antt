@@ -1,5 +1,5 @@
-use Rattle.std.proofs.Common.{◌≡◌, take}
-use Rattle.ring_store.specs.Many.{comings}
+use Rattle.kit_words.proofs.Common.{◌≡◌, take}
+use Rattle.ring_store.specs.Common.{comings}
 use Rattle.ring_store.proofs.many.all_comings.Given as goal
 
 -- the segments so far

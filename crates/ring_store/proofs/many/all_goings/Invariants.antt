@@ -1,5 +1,5 @@
-use Rattle.std.proofs.Common.{◌≡◌, take}
-use Rattle.ring_store.specs.Many.{goings}
+use Rattle.kit_words.proofs.Common.{◌≡◌, take}
+use Rattle.ring_store.specs.Common.{goings}
 use Rattle.ring_store.proofs.many.all_goings.Given as goal
 
 -- the segments so far

@@ -1,7 +1,6 @@
-use Rattle.std.proofs.Common.{◌∙◌, sym, ap, subst, arith, length}
-use Rattle.std.proofs.lemmas.List.{take_all}
+use Rattle.kit_words.proofs.Common.{◌∙◌, sym, ap, subst, arith, length, take_all}
 use Rattle.std.specs.FinMap as table
-use Rattle.ring_store.specs.Many.{AreKeyed}
+use Rattle.ring_store.specs.Common.{AreKeyed}
 use Rattle.ring_store.proofs.PuttingBack.{last_kept, placed_but_last, none_placed}
 use Rattle.ring_store.proofs.many.forget_all.Goals as goal
 

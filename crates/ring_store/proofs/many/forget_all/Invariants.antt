@@ -1,7 +1,6 @@
-use Rattle.std.proofs.Common.{◌≤◌, List, length, take}
-use Rattle.vertex_index.specs.Placement.{Placement}
-use Rattle.ring_store.specs.declared.removal.Removal.{Removal}
-use Rattle.ring_store.specs.Many.{AreKeyed}
+use Rattle.kit_words.proofs.Common.{◌≤◌, List, length, take}
+use Rattle.vertex_index.specs.Common.{Placement}
+use Rattle.ring_store.specs.Common.{Removal, AreKeyed}
 use Rattle.ring_store.proofs.PuttingBack.{WerePlaced}
 use Rattle.ring_store.proofs.many.forget_all.Given as goal
 

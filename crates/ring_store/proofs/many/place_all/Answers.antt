@@ -1,5 +1,5 @@
-use Rattle.std.proofs.Common.{sym, subst, take, drop, ◌+◌, arith}
-use Rattle.ring_store.specs.Many.{AreKeyed}
+use Rattle.kit_words.proofs.Common.{sym, subst, take, drop, ◌+◌, arith}
+use Rattle.ring_store.specs.Common.{AreKeyed}
 use Rattle.ring_store.proofs.PuttingBack.{one_more_keyed, next_placeable, placeable_after}
 use Rattle.ring_store.proofs.many.place_all.Goals as goal
 

@@ -1,6 +1,5 @@
-use Rattle.std.proofs.Common.{◌≤◌, ◌+◌, length, take, drop}
-use Rattle.std.specs.Prelude.{vec_len, vec_capacity}
-use Rattle.ring_store.specs.Many.{ArePlaceable, AreKeyed}
+use Rattle.kit_words.proofs.Common.{◌≤◌, ◌+◌, length, take, drop, vec_len, vec_capacity}
+use Rattle.ring_store.specs.Common.{ArePlaceable, AreKeyed}
 use Rattle.ring_store.proofs.many.place_all.Given as goal
 
 -- so many are placed, and the others can be

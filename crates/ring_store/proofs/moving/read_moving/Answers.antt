@@ -1,6 +1,6 @@
-use Rattle.std.proofs.Common.{◌∙◌, ap}
-use Rattle.ring_machine.specs.Ring.{has}
-use Rattle.ring_store.specs.Planned.{spokes}
+use Rattle.kit_words.proofs.Common.{◌∙◌, ap}
+use Rattle.ring_machine.specs.Common.{has}
+use Rattle.ring_store.specs.Common.{spokes}
 use Rattle.ring_store.proofs.AroundPlan.{not_around}
 use Rattle.ring_store.proofs.moving.read_moving.Goals as goal
 

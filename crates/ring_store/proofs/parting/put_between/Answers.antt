@@ -1,4 +1,4 @@
-use Rattle.std.proofs.Common.{◌∙◌, ap}
+use Rattle.kit_words.proofs.Common.{◌∙◌, ap}
 use Rattle.std.specs.FinMap as table
 use Rattle.ring_store.proofs.TableLemmas.{place_back}
 use Rattle.ring_store.proofs.parting.put_between.Goals as goal

@@ -1,4 +1,4 @@
-use Rattle.std.proofs.Common.{◌∙◌}
+use Rattle.kit_words.proofs.Common.{◌∙◌}
 use Rattle.ring_store.proofs.CountLemmas.{same_index}
 use Rattle.ring_store.proofs.Planned.{came_and_went}
 use Rattle.ring_store.proofs.TableLemmas.{one_went}

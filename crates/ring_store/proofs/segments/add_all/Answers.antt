@@ -1,7 +1,6 @@
-use Rattle.std.proofs.Common.{◌∙◌, refl, subst, take, sym}
-use Rattle.std.proofs.lemmas.List.{take_all}
-use Rattle.segment_index.specs.Candidates.{AreAmong}
-use Rattle.ring_store.specs.Planned.{Gains}
+use Rattle.kit_words.proofs.Common.{◌∙◌, refl, subst, take, sym, take_all}
+use Rattle.segment_index.specs.Common.{AreAmong}
+use Rattle.ring_store.specs.Common.{Gains}
 use Rattle.ring_store.proofs.Planned.{gains_none, next_new, gained_more, gained_among, single_take, new_taken, came_and_went}
 use Rattle.ring_store.proofs.segments.add_all.Goals as goal
 

@@ -1,5 +1,5 @@
-use Rattle.std.proofs.Common.{◌≡◌, take}
-use Rattle.ring_store.specs.Planned.{Gains}
+use Rattle.kit_words.proofs.Common.{◌≡◌, take}
+use Rattle.ring_store.specs.Common.{Gains}
 use Rattle.ring_store.proofs.segments.add_all.Given as goal
 
 -- the segments so far came

@@ -1,6 +1,5 @@
-use Rattle.std.proofs.Common.{◌∙◌, refl, subst}
-use Rattle.std.proofs.lemmas.List.{take_all}
-use Rattle.ring_store.specs.Planned.{Drops}
+use Rattle.kit_words.proofs.Common.{◌∙◌, refl, subst, take_all}
+use Rattle.ring_store.specs.Common.{Drops}
 use Rattle.ring_store.proofs.Planned.{drops_none, next_held, dropped_more}
 use Rattle.ring_store.proofs.segments.discard_all.Goals as goal
 

@@ -1,5 +1,5 @@
-use Rattle.std.proofs.Common.{◌≡◌, take}
-use Rattle.ring_store.specs.Planned.{Drops}
+use Rattle.kit_words.proofs.Common.{◌≡◌, take}
+use Rattle.ring_store.specs.Common.{Drops}
 use Rattle.ring_store.proofs.segments.discard_all.Given as goal
 
 -- the segments so far went

@@ -1,7 +1,6 @@
-use Rattle.std.proofs.Common.{subst, arith}
-use Rattle.std.proofs.lemmas.List.{take_all}
-use Rattle.arc_tables.specs.Rings.{edges}
-use Rattle.ring_store.specs.Steps.{HoldsWith}
+use Rattle.kit_words.proofs.Common.{subst, arith, take_all}
+use Rattle.arc_tables.specs.Common.{edges}
+use Rattle.ring_store.specs.Common.{HoldsWith}
 use Rattle.ring_store.proofs.Edges.{length-edges}
 use Rattle.ring_store.proofs.sides.add_sides.Goals as goal
 

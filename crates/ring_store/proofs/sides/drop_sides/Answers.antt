@@ -1,6 +1,6 @@
-use Rattle.std.proofs.Common.{◌≡◌, ◌+◌, ◌-◌, subst, take, arith}
-use Rattle.arc_tables.specs.Rings.{edges}
-use Rattle.ring_store.specs.Steps.{HoldsWith}
+use Rattle.kit_words.proofs.Common.{◌≡◌, ◌+◌, ◌-◌, subst, take, arith}
+use Rattle.arc_tables.specs.Common.{edges}
+use Rattle.ring_store.specs.Common.{HoldsWith}
 use Rattle.ring_store.proofs.sides.drop_sides.Goals as goal
 
 pub drop_side-requires-clause-holds : goal.drop_side-requires-clause-holds

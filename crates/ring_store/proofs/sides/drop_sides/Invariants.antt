@@ -1,6 +1,6 @@
-use Rattle.std.proofs.Common.{◌≡◌, ◌≤◌, length, take}
-use Rattle.arc_tables.specs.Rings.{edges}
-use Rattle.ring_store.specs.Steps.{HoldsWith}
+use Rattle.kit_words.proofs.Common.{◌≡◌, ◌≤◌, length, take}
+use Rattle.arc_tables.specs.Common.{edges}
+use Rattle.ring_store.specs.Common.{HoldsWith}
 use Rattle.ring_store.proofs.sides.drop_sides.Given as goal
 
 -- the first edges' segments are held still

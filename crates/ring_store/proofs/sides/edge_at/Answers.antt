@@ -1,4 +1,4 @@
-use Rattle.std.proofs.Common.{sym, subst, ◌≡◌, get_or, ◌+◌}
+use Rattle.kit_words.proofs.Common.{sym, subst, ◌≡◌, get_or, ◌+◌}
 use Rattle.ring_store.proofs.Edges.{edge_next, edge_last}
 use Rattle.ring_store.proofs.sides.edge_at.Goals as goal
 use Rattle.ring_store.proofs.sides.edge_at.Goals.{then-at-keys, else-at-keys}

@@ -1,6 +1,5 @@
-use Rattle.std.proofs.Common.{refl, ◌∙◌, subst}
-use Rattle.std.proofs.lemmas.List.{take_all}
-use Rattle.ring_store.specs.Laid.{numbers_of, AreGone}
+use Rattle.kit_words.proofs.Common.{refl, ◌∙◌, subst, take_all}
+use Rattle.ring_store.specs.Common.{numbers_of, AreGone}
 use Rattle.ring_store.proofs.Numbered.{still_there, gone_none, gone_more}
 use Rattle.ring_store.proofs.taking.take_out_each.Goals as goal
 

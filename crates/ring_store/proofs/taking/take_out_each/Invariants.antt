@@ -1,6 +1,5 @@
-use Rattle.std.proofs.Common.{◌≡◌, take}
-use Rattle.ring_store.specs.Laid.{numbers_of, AreGone, KeepsPlaces}
-use Rattle.ring_store.specs.Standing.{Stands}
+use Rattle.kit_words.proofs.Common.{◌≡◌, take}
+use Rattle.ring_store.specs.Common.{numbers_of, AreGone, KeepsPlaces, Stands}
 use Rattle.ring_store.proofs.taking.take_out_each.Given as goal
 
 -- the rings so far are gone

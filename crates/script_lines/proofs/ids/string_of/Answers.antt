@@ -1,6 +1,5 @@
-use Rattle.std.proofs.Common.{sym, ap, ◌∙◌, subst, rules}
-use Rattle.json_spans.specs.Inside.{IsValue}
-use Rattle.json_spans.specs.Left.{node}
+use Rattle.kit_words.proofs.Common.{sym, ap, ◌∙◌, subst, rules}
+use Rattle.json_spans.specs.Common.{IsValue, node}
 use Rattle.json_spans.specs.Parts.{Node}
 use Rattle.script_lines.proofs.IdLemmas.{string_found, text_json}
 use Rattle.script_lines.proofs.ids.string_of.Goals as goal

@@ -1,7 +1,5 @@
-use Rattle.std.proofs.Common.{rules, ◌<◌, ◌≤◌, ◌^◌, ℕ, length, get_or, arith}
-use Rattle.std.proofs.lemmas.Grind.{common_steps}
-use Rattle.std.specs.Int.{IsInRange}
-use Rattle.std.proofs.lemmas.Int.Digits.{digits_more}
+use Rattle.kit_words.proofs.Common.{rules, ◌<◌, ◌≤◌, ◌^◌, ℕ, length, get_or, arith, common_steps, IsInRange}
+use Rattle.kit_words.proofs.Common.{digits_more}
 use Rattle.script_lines.proofs.NumberLemmas.{front_small, one_more, digit_below}
 use Rattle.script_lines.proofs.numbers.digits.Goals as goal
 

@@ -1,5 +1,4 @@
-use Rattle.std.proofs.Common.{◌≡◌, ◌≤◌, ◌-◌, take}
-use Rattle.std.specs.Str.Parse.{AllDigits, digits_value}
+use Rattle.kit_words.proofs.Common.{◌≡◌, ◌≤◌, ◌-◌, take, AllDigits, digits_value}
 use Rattle.script_lines.proofs.numbers.digits.Given as goal
 
 abbrev pub invariant-loop-len : goal.invariant-loop-len

@@ -1,4 +1,4 @@
-use Rattle.std.proofs.Common.{arith}
+use Rattle.kit_words.proofs.Common.{arith}
 use Rattle.script_lines.proofs.CommandLemmas.{bound_none, bound_odd, bound_far}
 use Rattle.script_lines.proofs.parsing.bound_behind.Goals as goal
 

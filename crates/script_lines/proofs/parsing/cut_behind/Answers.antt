@@ -1,8 +1,6 @@
-use Rattle.std.proofs.Common.{rules, subst}
-use Rattle.map_text.specs.Strings.{string_text}
-use Rattle.script_lines.specs.Commands.{Finds}
-use Rattle.script_lines.specs.Lines.{spaced_path}
-use Rattle.script_lines.specs.Words.{IsPathTail}
+use Rattle.kit_words.proofs.Common.{rules, subst}
+use Rattle.map_text.specs.Common.{string_text}
+use Rattle.script_lines.specs.Common.{Finds, spaced_path, IsPathTail}
 use Rattle.script_lines.proofs.TokenLemmas.{path_unmarked}
 use Rattle.script_lines.proofs.CommandLemmas.{naming_none, naming_no_token, naming_rest, naming_no_name}
 use Rattle.script_lines.proofs.parsing.cut_behind.Goals as goal

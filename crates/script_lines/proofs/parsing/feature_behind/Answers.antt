@@ -1,4 +1,4 @@
-use Rattle.std.proofs.Common.{sym, ◌∙◌, []}
+use Rattle.kit_words.proofs.Common.{sym, ◌∙◌, []}
 use Rattle.script_lines.proofs.WordLemmas.{is_nil}
 use Rattle.script_lines.proofs.CommandLemmas.{not_empty, features_none, features_rest, features_more}
 use Rattle.script_lines.proofs.parsing.feature_behind.Goals as goal

@@ -1,4 +1,4 @@
-use Rattle.std.proofs.Common.{[], ◌∷◌}
+use Rattle.kit_words.proofs.Common.{[], ◌∷◌}
 use Rattle.script_lines.proofs.CommandLemmas.{features_none, features_rest, features_more}
 use Rattle.script_lines.proofs.parsing.features_behind.Goals as goal
 

@@ -1,4 +1,4 @@
-use Rattle.std.proofs.Common.{[], ◌∷◌}
+use Rattle.kit_words.proofs.Common.{[], ◌∷◌}
 use Rattle.script_lines.proofs.CommandLemmas.{positions_none, positions_rest, positions_more}
 use Rattle.script_lines.proofs.parsing.pair_behind.Goals as goal
 

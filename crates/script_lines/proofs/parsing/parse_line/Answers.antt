@@ -1,5 +1,5 @@
-use Rattle.std.proofs.Common.{rules, arith, length, ◌≤◌}
-use Rattle.script_lines.specs.Commands.{says_of}
+use Rattle.kit_words.proofs.Common.{rules, arith, length, ◌≤◌}
+use Rattle.script_lines.specs.Common.{says_of}
 use Rattle.script_lines.proofs.CommandLemmas.{said_utf8, said_asked}
 use Rattle.script_lines.proofs.parsing.parse_line.Goals as goal
 

@@ -1,4 +1,4 @@
-use Rattle.std.proofs.Common.{sym, ◌∙◌, []}
+use Rattle.kit_words.proofs.Common.{sym, ◌∙◌, []}
 use Rattle.script_lines.proofs.WordLemmas.{is_nil}
 use Rattle.script_lines.proofs.CommandLemmas.{not_empty, positions_none, positions_rest, positions_more}
 use Rattle.script_lines.proofs.parsing.position_behind.Goals as goal

@@ -1,4 +1,4 @@
-use Rattle.std.proofs.Common.{sym, ◌∙◌, subst, arith, length, ◌≢◌}
+use Rattle.kit_words.proofs.Common.{sym, ◌∙◌, subst, arith, length, ◌≢◌}
 use Rattle.script_lines.proofs.WordLemmas.{is_nil}
 use Rattle.script_lines.proofs.CommandLemmas.{not_empty}
 use Rattle.script_lines.proofs.PathLemmas.{Read, read_none, read_more, read_all, too_many, whole_path, place_shorter}

@@ -1,4 +1,4 @@
-use Rattle.std.proofs.Common.{length}
+use Rattle.kit_words.proofs.Common.{length}
 use Rattle.script_lines.proofs.PathLemmas.{Read}
 use Rattle.script_lines.proofs.paths.read_path.Given as goal
 

@@ -1,5 +1,4 @@
-use Rattle.std.proofs.Common.{sym, ◌∙◌, rules}
-use Rattle.std.proofs.lemmas.Int.{to_z-of_z}
+use Rattle.kit_words.proofs.Common.{sym, ◌∙◌, rules, to_z-of_z}
 use Rattle.script_lines.proofs.WordLemmas.{not_whole, not_written}
 use Rattle.script_lines.proofs.words.number.Goals as goal
 

@@ -1,5 +1,4 @@
-use Rattle.std.proofs.Common.{pos, rules}
-use Rattle.std.proofs.lemmas.Int.{to_z-of_z}
+use Rattle.kit_words.proofs.Common.{pos, rules, to_z-of_z}
 use Rattle.script_lines.proofs.WordLemmas.{feature_spaced, feature_huge, fits_along}
 use Rattle.script_lines.proofs.words.spaced_feature.Goals as goal
 

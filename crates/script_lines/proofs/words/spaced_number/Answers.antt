@@ -1,5 +1,4 @@
-use Rattle.std.proofs.Common.{rules}
-use Rattle.std.proofs.lemmas.Int.{to_z-of_z}
+use Rattle.kit_words.proofs.Common.{rules, to_z-of_z}
 use Rattle.script_lines.proofs.WordLemmas.{spaced_here, spaced_word_is}
 use Rattle.script_lines.proofs.words.spaced_number.Goals as goal
 

@@ -1,6 +1,4 @@
-use Rattle.std.proofs.Common.{rules}
-use Rattle.std.proofs.lemmas.Int.{to_z-of_z}
-use Rattle.std.proofs.lemmas.Bool.{false≢true}
+use Rattle.kit_words.proofs.Common.{rules, to_z-of_z, false≢true}
 use Rattle.script_lines.proofs.WordLemmas.{no_place_behind, place_numbers, range_along}
 use Rattle.script_lines.proofs.words.spaced_position.Goals as goal
 

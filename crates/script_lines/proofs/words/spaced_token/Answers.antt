@@ -1,5 +1,5 @@
-use Rattle.std.proofs.Common.{sym, subst}
-use Rattle.script_lines.specs.Words.{IsToken}
+use Rattle.kit_words.proofs.Common.{sym, subst}
+use Rattle.script_lines.specs.Common.{IsToken}
 use Rattle.script_lines.proofs.TokenLemmas.{token_found}
 use Rattle.script_lines.proofs.words.spaced_token.Goals as goal
 

@@ -1,4 +1,4 @@
-use Rattle.std.proofs.Common.{sym, ◌∙◌}
+use Rattle.kit_words.proofs.Common.{sym, ◌∙◌}
 use Rattle.script_lines.proofs.WordLemmas.{wide_utf8, wide_parses, wide_not_written}
 use Rattle.script_lines.proofs.words.wide_number.Goals as goal
 

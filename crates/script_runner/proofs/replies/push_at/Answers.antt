@@ -1,5 +1,5 @@
-use Rattle.std.proofs.Common.{codes}
-use Rattle.script_runner.specs.Answers.{spaced_numbers}
+use Rattle.kit_words.proofs.Common.{codes}
+use Rattle.script_runner.specs.Common.{spaced_numbers}
 use Rattle.script_runner.proofs.ListLemmas.{two_lists}
 use Rattle.script_runner.proofs.replies.push_at.Goals as goal
 

@@ -1,5 +1,5 @@
-use Rattle.std.proofs.Common.{codes, ap, ◌∙◌, ◌++◌, append_assoc}
-use Rattle.script_runner.specs.Answers.{spaced_numbers}
+use Rattle.kit_words.proofs.Common.{codes, ap, ◌∙◌, ◌++◌, append_assoc}
+use Rattle.script_runner.specs.Common.{spaced_numbers}
 use Rattle.script_runner.proofs.replies.push_neighbours.Goals as goal
 
 pub returns : goal.returns

@@ -1,4 +1,4 @@
-use Rattle.std.proofs.Common.{codes, ap, ◌∙◌, ◌++◌, append_assoc}
+use Rattle.kit_words.proofs.Common.{codes, ap, ◌∙◌, ◌++◌, append_assoc}
 use Rattle.script_runner.proofs.replies.push_ok.Goals as goal
 
 pub returns : goal.returns

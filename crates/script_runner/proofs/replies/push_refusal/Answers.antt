@@ -1,5 +1,5 @@
-use Rattle.std.proofs.Common.{append_assoc, codes, decimal, ◌∙◌, ap, ◌++◌}
-use Rattle.script_runner.specs.Answers.{position_text, segment_text}
+use Rattle.kit_words.proofs.Common.{append_assoc, codes, decimal, ◌∙◌, ap, ◌++◌}
+use Rattle.script_runner.specs.Common.{position_text, segment_text}
 use Rattle.script_runner.proofs.replies.push_refusal.Goals as goal
 
 pub returns-in_ok-push_conflict-in-Conflict : goal.returns-in_ok-push_conflict-in-Conflict

@@ -1,4 +1,4 @@
-use Rattle.undo_ring.specs.Commands.{command_of}
+use Rattle.undo_ring.specs.Common.{command_of}
 use Rattle.script_runner.proofs.ReplyLemmas.{applied, failed}
 use Rattle.script_runner.proofs.replies.reply_to.Goals as goal
 

@@ -1,5 +1,5 @@
-use Rattle.std.proofs.Common.{subst}
-use Rattle.undo_ring.specs.Edited.{StaysDone}
+use Rattle.kit_words.proofs.Common.{subst}
+use Rattle.undo_ring.specs.Common.{StaysDone}
 use Rattle.script_runner.proofs.ReplyLemmas.{undone, not_undone}
 use Rattle.script_runner.proofs.replies.reply_to_undo.Goals as goal
 

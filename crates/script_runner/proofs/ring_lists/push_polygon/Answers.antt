@@ -1,6 +1,6 @@
-use Rattle.std.proofs.Common.{◌∙◌, ◌<◌, ◌≤◌, [], length, get_or, arith}
-use Rattle.ring_machine.specs.Refusals.{feature_at}
-use Rattle.script_runner.specs.Answers.{ring_text}
+use Rattle.kit_words.proofs.Common.{◌∙◌, ◌<◌, ◌≤◌, [], length, get_or, arith}
+use Rattle.ring_machine.specs.Common.{feature_at}
+use Rattle.script_runner.specs.Common.{ring_text}
 use Rattle.script_runner.proofs.ListLemmas.{item_step, items_end}
 use Rattle.script_runner.proofs.ring_lists.push_polygon.Goals as goal
 

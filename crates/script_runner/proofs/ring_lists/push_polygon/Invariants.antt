@@ -1,8 +1,7 @@
-use Rattle.std.proofs.Common.{◌≡◌, ◌++◌, [], map, drop, get_or, codes}
-use Rattle.std.specs.Prelude.{nat_lt}
-use Rattle.ring_machine.specs.Refusals.{feature_at}
-use Rattle.map_text.specs.Text.{commas}
-use Rattle.script_runner.specs.Answers.{ring_text}
+use Rattle.kit_words.proofs.Common.{◌≡◌, ◌++◌, [], map, drop, get_or, codes, nat_lt}
+use Rattle.ring_machine.specs.Common.{feature_at}
+use Rattle.map_text.specs.Common.{commas}
+use Rattle.script_runner.specs.Common.{ring_text}
 use Rattle.script_runner.proofs.ListLemmas.{left_text}
 use Rattle.script_runner.proofs.ring_lists.push_polygon.Given as goal
 

@@ -1,6 +1,5 @@
-use Rattle.std.proofs.Common.{◌≡◌, ◌++◌, ◌∙◌, sym, ap, map, to_z, of_z, w64, rules}
-use Rattle.std.proofs.lemmas.Int.{to_z-of_z}
-use Rattle.map_text.specs.Text.{commas, pair_text}
+use Rattle.kit_words.proofs.Common.{◌≡◌, ◌++◌, ◌∙◌, sym, ap, map, to_z, of_z, w64, rules, to_z-of_z}
+use Rattle.map_text.specs.Common.{commas, pair_text}
 use Rattle.script_runner.proofs.ListLemmas.{left_text, left_done, pair_step}
 use Rattle.script_runner.proofs.ring_lists.push_positions.Goals as goal
 

@@ -1,5 +1,5 @@
-use Rattle.std.proofs.Common.{◌≡◌, ◌++◌, map}
-use Rattle.map_text.specs.Text.{commas, pair_text}
+use Rattle.kit_words.proofs.Common.{◌≡◌, ◌++◌, map}
+use Rattle.map_text.specs.Common.{commas, pair_text}
 use Rattle.script_runner.proofs.ListLemmas.{left_text}
 use Rattle.script_runner.proofs.ring_lists.push_positions.Given as goal
 

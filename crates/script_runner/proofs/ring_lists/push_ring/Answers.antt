@@ -1,5 +1,5 @@
-use Rattle.std.proofs.Common.{◌∙◌, sym, map}
-use Rattle.map_text.specs.Text.{commas, pair_text}
+use Rattle.kit_words.proofs.Common.{◌∙◌, sym, map}
+use Rattle.map_text.specs.Common.{commas, pair_text}
 use Rattle.script_runner.proofs.ListLemmas.{between, ring_shown, no_ring_shown}
 use Rattle.script_runner.proofs.ring_lists.push_ring.Goals as goal
 

@@ -1,11 +1,8 @@
-use Rattle.std.proofs.Common.{◌≡◌, ◌∙◌, ◌<◌, ◌≤◌, true, false, sym, ap, [], length, arith}
-use Rattle.std.specs.Prelude.{is_some, unwrap_or, slice_get}
-use Rattle.std.proofs.lemmas.Bool.{false≢true}
-use Rattle.std.proofs.lemmas.List.{length-map}
-use Rattle.ring_machine.specs.Parts.{has_feature}
-use Rattle.ring_machine.specs.Refusals.{feature_at}
-use Rattle.point_queries.proofs.Shows.{numbers_shown, count_is, is_shown}
-use Rattle.script_runner.specs.Answers.{polygon_text}
+use Rattle.kit_words.proofs.Common.{◌≡◌, ◌∙◌, ◌<◌, ◌≤◌, true, false, sym, ap, [], length, arith, is_some, unwrap_or}
+use Rattle.kit_words.proofs.Common.{slice_get, false≢true, length-map}
+use Rattle.ring_machine.specs.Common.{has_feature, feature_at}
+use Rattle.point_queries.proofs.Common.{numbers_shown, count_is, is_shown}
+use Rattle.script_runner.specs.Common.{polygon_text}
 use Rattle.script_runner.proofs.ReplyLemmas.{listed, not_listed}
 use Rattle.script_runner.proofs.ListLemmas.{item_step, items_end}
 use Rattle.script_runner.proofs.ring_lists.reply_to_rings.Goals as goal

@@ -1,5 +1,5 @@
 use Rattle.script_runner.proofs.LineLemmas.{return_found, not_returned}
-use Rattle.std.proofs.Common.{sym}
+use Rattle.kit_words.proofs.Common.{sym}
 use Rattle.script_runner.proofs.runner.without_return.Goals as goal
 
 pub returns-in-Some : goal.returns-in-Some

@@ -1,12 +1,9 @@
-use Rattle.std.proofs.Common.{◌+◌, ◌++◌, [], ◌∙◌, ap, refl, take, drop, rules, arith, length, ◌≡◌, ◌≤◌, ℕ}
-use Rattle.std.proofs.KnownBytes.{Consumes-nil, Appends-nil}
-use Rattle.script_runner.specs.Devices.{reader_of, writer_of, devices}
-use Rattle.script_runner.specs.Progress.{Progress}
-use Rattle.script_runner.specs.Replies.{of_writer}
-use Rattle.device_io.proofs.DeviceLemmas.{Appends-more}
+use Rattle.kit_words.proofs.Common.{◌+◌, ◌++◌, [], ◌∙◌, ap, refl, take, drop, rules, arith, length, ◌≡◌, ◌≤◌, ℕ}
+use Rattle.kit_words.proofs.Common.{Consumes-nil, Appends-nil, length-take-le}
+use Rattle.script_runner.specs.Common.{reader_of, writer_of, devices, Progress, of_writer}
+use Rattle.device_io.proofs.Common.{Appends-more}
 use Rattle.script_runner.proofs.StepLemmas.{Feeds-append}
 use Rattle.script_runner.proofs.RunLemmas.{lines_kept, all_answered, end_read, part_at_end, part_in_piece, piece_came, whole_came, past_limit, fed_length, lines_in_piece, piece_fits, rest_fits}
-use Rattle.std.proofs.lemmas.List.{length-take-le}
 use Rattle.script_runner.proofs.running.answer_script.Goals as goal
 
 pub returns-in-Err-clause-halted : goal.returns-in-Err-clause-halted

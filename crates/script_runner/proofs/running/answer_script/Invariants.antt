@@ -1,6 +1,5 @@
-use Rattle.std.proofs.Common.{◌≡◌, ◌+◌, ℕ, List, false, length}
-use Rattle.std.specs.Io.KnownBytes.{Appends, Consumes}
-use Rattle.script_runner.specs.Progress.{Feeds, start}
+use Rattle.kit_words.proofs.Common.{◌≡◌, ◌+◌, ℕ, List, false, length, Appends, Consumes}
+use Rattle.script_runner.specs.Common.{Feeds, start}
 use Rattle.script_runner.proofs.running.answer_script.Given as goal
 
 abbrev pub invariant-loop-n : goal.invariant-loop-n

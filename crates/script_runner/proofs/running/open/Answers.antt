@@ -1,4 +1,4 @@
-use Rattle.std.proofs.Common.{◌≡◌, rules}
+use Rattle.kit_words.proofs.Common.{◌≡◌, rules}
 use Rattle.topo_outline.specs.declared.fault.OpenFault.TheVariants as opening
 use Rattle.script_runner.proofs.OpenLemmas.{opens_as, not_read, not_built}
 use Rattle.script_runner.proofs.running.open.Goals as goal

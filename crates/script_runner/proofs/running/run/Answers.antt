@@ -1,6 +1,6 @@
-use Rattle.std.proofs.Common.{Err, ap, ◌∙◌}
-use Rattle.topo_writer.specs.Faults.{of_device}
-use Rattle.script_runner.specs.Devices.{reader_of, writer_of, devices_of}
+use Rattle.kit_words.proofs.Common.{Err, ap, ◌∙◌}
+use Rattle.topo_writer.specs.Common.{of_device}
+use Rattle.script_runner.specs.Common.{reader_of, writer_of, devices_of}
 use Rattle.script_runner.proofs.OpenLemmas.{ends_unopened}
 use Rattle.script_runner.proofs.RunLemmas.{ends_lines, ends_part, ends_unsaved, completes, ends_saving, ends_saved_part}
 use Rattle.script_runner.proofs.running.run.Goals as goal

@@ -1,6 +1,6 @@
-use Rattle.device_io.proofs.SendingLaws.{sends_front}
-use Rattle.map_text.specs.Text.{text_of}
-use Rattle.topo_writer.specs.Faults.{of_device}
+use Rattle.device_io.proofs.Common.{sends_front}
+use Rattle.map_text.specs.Common.{text_of}
+use Rattle.topo_writer.specs.Common.{of_device}
 use Rattle.topo_writer.specs.declared.fault.WriteFault.TheVariants.{Device}
 use Rattle.script_runner.proofs.SendLemmas.{prefix_kept}
 use Rattle.script_runner.proofs.running.save.Goals as goal

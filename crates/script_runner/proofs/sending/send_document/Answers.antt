@@ -1,9 +1,8 @@
-use Rattle.std.proofs.Common.{codes, subst, ◌++◌}
-use Rattle.device_io.specs.Sending.{TookFront}
-use Rattle.device_io.proofs.SendingLaws.{sends_front, took_both, took_first, took_second}
-use Rattle.map_text.specs.Text.{text_of}
-use Rattle.script_runner.specs.Replies.{of_writer, stop_of}
-use Rattle.script_runner.specs.declared.stop.Stop.TheVariants.{Write}
+use Rattle.kit_words.proofs.Common.{codes, subst, ◌++◌}
+use Rattle.device_io.specs.Common.{TookFront}
+use Rattle.device_io.proofs.Common.{sends_front, took_both, took_first, took_second}
+use Rattle.map_text.specs.Common.{text_of}
+use Rattle.script_runner.specs.Common.{of_writer, stop_of, Write}
 use Rattle.script_runner.proofs.SendLemmas.{stops_alike}
 use Rattle.script_runner.proofs.sending.send_document.Goals as goal
 

@@ -1,11 +1,9 @@
-use Rattle.std.proofs.Common.{ap, subst}
-use Rattle.device_io.specs.Sending.{Took, TookFront}
-use Rattle.device_io.proofs.SendingLaws.{sends_front, took_none}
-use Rattle.ring_machine.specs.Document.{Document}
-use Rattle.map_text.specs.Text.{text_of}
-use Rattle.map_text.specs.Saved.{Saved}
-use Rattle.script_runner.specs.Replies.{of_writer}
-use Rattle.script_runner.specs.declared.stop.Stop.TheVariants.{OutOfMemory}
+use Rattle.kit_words.proofs.Common.{ap, subst}
+use Rattle.device_io.specs.Common.{Took, TookFront}
+use Rattle.device_io.proofs.Common.{sends_front, took_none}
+use Rattle.ring_machine.specs.Common.{Document}
+use Rattle.map_text.specs.Common.{text_of, Saved}
+use Rattle.script_runner.specs.Common.{of_writer, OutOfMemory}
 use Rattle.script_runner.proofs.SendLemmas.{shown, shown_text}
 use Rattle.script_runner.proofs.sending.send_reply.Goals as goal
 

@@ -1,5 +1,5 @@
-use Rattle.std.proofs.Common.{◌≡◌, ◌++◌, take}
-use Rattle.script_runner.specs.Answers.{spaced_numbers}
+use Rattle.kit_words.proofs.Common.{◌≡◌, ◌++◌, take}
+use Rattle.script_runner.specs.Common.{spaced_numbers}
 use Rattle.script_runner.proofs.texts.push_numbers.Given as goal
 
 -- the numbers so far

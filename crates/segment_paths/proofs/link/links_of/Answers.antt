@@ -1,10 +1,5 @@
-use Rattle.std.proofs.Common.{Contains, sym, ◌∙◌}
-use Rattle.std.specs.List.{All}
-use Rattle.std.proofs.lemmas.List.Elements.{All-same, All-nil}
-use Rattle.std.proofs.lemmas.List.Sorted.{All-permutation}
-use Rattle.segment_paths.specs.Paths.{IsKnown}
-use Rattle.segment_paths.specs.Seen.{path_seen, paths_seen}
-use Rattle.segment_paths.specs.Stops.{IsPiece}
+use Rattle.kit_words.proofs.Common.{Contains, sym, ◌∙◌, All, All-same, All-nil, All-permutation}
+use Rattle.segment_paths.specs.Common.{IsKnown, path_seen, paths_seen, IsPiece}
 use Rattle.segment_paths.proofs.Led.{at_place_seen}
 use Rattle.segment_paths.proofs.Linked.{inner_at}
 use Rattle.segment_paths.proofs.link.links_of.Goals as goal

@@ -1,9 +1,6 @@
-use Rattle.std.proofs.Common.{List}
-use Rattle.std.specs.List.{All}
-use Rattle.grid_geometry.specs.Segment.{Segment}
-use Rattle.segment_paths.specs.Paths.{ArePaths}
-use Rattle.segment_paths.specs.Seen.{paths_seen}
-use Rattle.segment_paths.specs.Stops.{IsPiece}
+use Rattle.kit_words.proofs.Common.{List, All}
+use Rattle.grid_geometry.specs.Common.{Segment}
+use Rattle.segment_paths.specs.Common.{ArePaths, paths_seen, IsPiece}
 use Rattle.segment_paths.proofs.link.links_of.Given as goal
 
 abbrev pub invariant-loop-path : goal.invariant-loop-path

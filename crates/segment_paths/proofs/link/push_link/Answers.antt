@@ -1,5 +1,5 @@
-use Rattle.std.proofs.lemmas.List.Elements.{All-same, All-push}
-use Rattle.segment_paths.specs.Stops.{IsPiece}
+use Rattle.kit_words.proofs.Common.{All-same, All-push}
+use Rattle.segment_paths.specs.Common.{IsPiece}
 use Rattle.segment_paths.proofs.Led.{link_known}
 use Rattle.segment_paths.proofs.link.push_link.Goals as goal
 

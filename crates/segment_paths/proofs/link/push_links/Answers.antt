@@ -1,6 +1,6 @@
-use Rattle.std.proofs.Common.{Contains, subst, sym, ap, arith}
-use Rattle.grid_geometry.specs.Segment.{segment}
-use Rattle.segment_paths.specs.Paths.{IsKnown, links_of}
+use Rattle.kit_words.proofs.Common.{Contains, subst, sym, ap, arith}
+use Rattle.grid_geometry.specs.Common.{segment}
+use Rattle.segment_paths.specs.Common.{IsKnown, links_of}
 use Rattle.segment_paths.proofs.Led.{at_place, lo_known, hi_known}
 use Rattle.segment_paths.proofs.Linked.{mid_link, last_link, next_at}
 use Rattle.segment_paths.proofs.link.push_links.Goals as goal

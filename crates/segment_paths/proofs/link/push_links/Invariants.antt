@@ -1,8 +1,6 @@
-use Rattle.std.proofs.Common.{List, ◌∷◌, ◌≡◌, Contains, get_or}
-use Rattle.std.specs.List.{All}
-use Rattle.grid_geometry.specs.Segment.{Segment}
-use Rattle.segment_paths.specs.Paths.{Path, IsKnown, inner_of}
-use Rattle.segment_paths.specs.Stops.{IsPiece}
+use Rattle.kit_words.proofs.Common.{List, ◌∷◌, ◌≡◌, Contains, get_or, All}
+use Rattle.grid_geometry.specs.Common.{Segment}
+use Rattle.segment_paths.specs.Common.{Path, IsKnown, inner_of, IsPiece}
 use Rattle.segment_paths.proofs.link.push_links.Given as goal
 
 -- the links so far are between known positions, and the next one begins at one, the last that was reached

@@ -1,5 +1,5 @@
-use Rattle.std.proofs.lemmas.List.Elements.{All-same, All-drop}
-use Rattle.segment_paths.specs.Stops.{IsPiece}
+use Rattle.kit_words.proofs.Common.{All-same, All-drop}
+use Rattle.segment_paths.specs.Common.{IsPiece}
 use Rattle.segment_paths.proofs.link.push_pieces.Goals as goal
 
 pub returns-clause-kept : goal.returns-clause-kept

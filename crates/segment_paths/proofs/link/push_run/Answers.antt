@@ -1,6 +1,5 @@
-use Rattle.std.proofs.Common.{ap, length, arith, sym, ◌∙◌}
-use Rattle.std.proofs.lemmas.List.Elements.{All-same, All-push}
-use Rattle.segment_paths.specs.Stops.{IsPiece, IsOf}
+use Rattle.kit_words.proofs.Common.{ap, length, arith, sym, ◌∙◌, All-same, All-push}
+use Rattle.segment_paths.specs.Common.{IsPiece, IsOf}
 use Rattle.segment_paths.proofs.Led.{at_place}
 use Rattle.segment_paths.proofs.Linked.{same_as}
 use Rattle.segment_paths.proofs.link.push_run.Goals as goal

@@ -1,8 +1,6 @@
-use Rattle.std.proofs.Common.{List, ◌≡◌, []}
-use Rattle.std.specs.List.{All}
-use Rattle.grid_geometry.specs.Segment.{Segment}
-use Rattle.segment_paths.specs.Paths.{Path}
-use Rattle.segment_paths.specs.Stops.{IsPiece, IsOf}
+use Rattle.kit_words.proofs.Common.{List, ◌≡◌, [], All}
+use Rattle.grid_geometry.specs.Common.{Segment}
+use Rattle.segment_paths.specs.Common.{Path, IsPiece, IsOf}
 use Rattle.segment_paths.proofs.link.push_run.Given as goal
 
 abbrev pub invariant-loop-piece : goal.invariant-loop-piece

@@ -1,5 +1,5 @@
-use Rattle.std.proofs.Common.{subst, sym}
-use Rattle.segment_paths.specs.Paths.{IsKnown}
+use Rattle.kit_words.proofs.Common.{subst, sym}
+use Rattle.segment_paths.specs.Common.{IsKnown}
 use Rattle.segment_paths.proofs.round.join_ends.Goals as goal
 
 pub returns-then-lesser : goal.returns-then-lesser

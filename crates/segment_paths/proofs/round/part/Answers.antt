@@ -1,5 +1,5 @@
-use Rattle.std.proofs.Common.{sym, ◌∙◌}
-use Rattle.segment_paths.specs.Paths.{IsKnown, crossing}
+use Rattle.kit_words.proofs.Common.{sym, ◌∙◌}
+use Rattle.segment_paths.specs.Common.{IsKnown, crossing}
 use Rattle.segment_paths.proofs.round.part.Goals as goal
 
 pub returns-in_ok-join_crossing-2 : goal.returns-in_ok-join_crossing-2

@@ -1,4 +1,4 @@
-use Rattle.segment_paths.specs.Stops.{IsPiece}
+use Rattle.segment_paths.specs.Common.{IsPiece}
 use Rattle.segment_paths.proofs.Led.{at_place}
 use Rattle.segment_paths.proofs.round.part_all.Goals as goal
 

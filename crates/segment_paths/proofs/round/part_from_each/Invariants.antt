@@ -1,8 +1,6 @@
-use Rattle.std.proofs.Common.{List}
-use Rattle.std.specs.List.{All}
-use Rattle.grid_geometry.specs.Segment.{Segment}
-use Rattle.segment_paths.specs.Paths.{Path}
-use Rattle.segment_paths.specs.Stops.{IsStop, IsPiece}
+use Rattle.kit_words.proofs.Common.{List, All}
+use Rattle.grid_geometry.specs.Common.{Segment}
+use Rattle.segment_paths.specs.Common.{Path, IsStop, IsPiece}
 use Rattle.segment_paths.proofs.round.part_from_each.Given as goal
 
 abbrev pub invariant-loop-other : goal.invariant-loop-other

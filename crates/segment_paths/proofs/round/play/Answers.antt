@@ -1,10 +1,7 @@
-use Rattle.std.proofs.Common.{List, ◌∙◌, ap, sym, subst, refl}
-use Rattle.std.specs.List.{list_any}
-use Rattle.grid_geometry.specs.Segment.{Segment, segment_eq}
-use Rattle.std.proofs.lemmas.List.Elements.{All-same, All-nil}
-use Rattle.segment_index.specs.Times.{times_by}
-use Rattle.segment_paths.specs.Faults.{IsPathFault}
-use Rattle.segment_paths.specs.Stops.{IsStop, IsPair, AreWays}
+use Rattle.kit_words.proofs.Common.{List, ◌∙◌, ap, sym, subst, refl, list_any, All-same, All-nil}
+use Rattle.grid_geometry.specs.Common.{Segment, segment_eq}
+use Rattle.segment_index.specs.Common.{times_by}
+use Rattle.segment_paths.specs.Common.{IsPathFault, IsStop, IsPair, AreWays}
 use Rattle.segment_paths.proofs.Conflicting.{handed}
 use Rattle.segment_paths.proofs.Gathering.{not_held}
 use Rattle.segment_paths.proofs.round.play.Goals as goal

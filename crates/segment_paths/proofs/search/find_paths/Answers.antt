@@ -1,10 +1,6 @@
-use Rattle.std.proofs.Common.{◌≡◌, ◌+◌, None, Some, Option, ap, subst, sym, arith}
-use Rattle.std.proofs.lemmas.List.Elements.{All-same}
-use Rattle.ring_machine.specs.Planar.{least_conflict}
-use Rattle.segment_paths.specs.Faults.{IsPathFault}
-use Rattle.segment_paths.specs.Paths.{inner_positions}
-use Rattle.segment_paths.specs.Seen.{paths_seen}
-use Rattle.segment_paths.specs.Stops.{IsStop}
+use Rattle.kit_words.proofs.Common.{◌≡◌, ◌+◌, None, Some, Option, ap, subst, sym, arith, All-same}
+use Rattle.ring_machine.specs.Common.{least_conflict}
+use Rattle.segment_paths.specs.Common.{IsPathFault, inner_positions, paths_seen, IsStop}
 use Rattle.segment_paths.proofs.Conflicting.{handed, has_more}
 use Rattle.segment_paths.proofs.search.find_paths.Goals as goal
 

@@ -1,9 +1,6 @@
-use Rattle.std.proofs.Common.{◌≡◌, ◌+◌, [], None}
-use Rattle.std.specs.List.{All}
-use Rattle.ring_machine.specs.Planar.{least_conflict}
-use Rattle.segment_paths.specs.Paths.{inner_positions}
-use Rattle.segment_paths.specs.Seen.{paths_seen}
-use Rattle.segment_paths.specs.Stops.{IsStop, AreWays, IsPair}
+use Rattle.kit_words.proofs.Common.{◌≡◌, ◌+◌, [], None, All}
+use Rattle.ring_machine.specs.Common.{least_conflict}
+use Rattle.segment_paths.specs.Common.{inner_positions, paths_seen, IsStop, AreWays, IsPair}
 use Rattle.segment_paths.proofs.search.find_paths.Given as goal
 
 abbrev pub invariant-loop-round : goal.invariant-loop-round

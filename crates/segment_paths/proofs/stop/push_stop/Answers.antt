@@ -1,5 +1,5 @@
-use Rattle.std.proofs.lemmas.List.Elements.{All-same, All-push}
-use Rattle.segment_paths.specs.Stops.{IsStop}
+use Rattle.kit_words.proofs.Common.{All-same, All-push}
+use Rattle.segment_paths.specs.Common.{IsStop}
 use Rattle.segment_paths.proofs.stop.push_stop.Goals as goal
 
 pub returns : goal.returns

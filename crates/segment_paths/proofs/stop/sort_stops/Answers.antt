@@ -1,7 +1,5 @@
-use Rattle.std.proofs.lemmas.List.Elements.{All-same}
-use Rattle.std.proofs.lemmas.List.Filters.{All-dedup, dedup_is}
-use Rattle.std.proofs.lemmas.List.Sorted.{All-permutation}
-use Rattle.segment_paths.specs.Stops.{IsStop}
+use Rattle.kit_words.proofs.Common.{All-same, All-dedup, dedup_is, All-permutation}
+use Rattle.segment_paths.specs.Common.{IsStop}
 use Rattle.segment_paths.proofs.stop.sort_stops.Goals as goal
 
 pub returns : goal.returns

@@ -1,6 +1,5 @@
-use Rattle.std.proofs.Common.{◌<ℤ◌, subst, sym, ◌∙◌, arith}
-use Rattle.std.proofs.lemmas.Int.{ints}
-use Rattle.snap_geometry.specs.Near.{along}
+use Rattle.kit_words.proofs.Common.{◌<ℤ◌, subst, sym, ◌∙◌, arith, ints}
+use Rattle.snap_geometry.specs.Common.{along}
 use Rattle.segment_paths.proofs.ways.comes_next.Goals as goal
 
 pub returns : goal.returns

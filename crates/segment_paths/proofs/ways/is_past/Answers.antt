@@ -1,4 +1,4 @@
-use Rattle.std.proofs.Common.{◌-◌, length, arith, sym, ◌∙◌}
+use Rattle.kit_words.proofs.Common.{◌-◌, length, arith, sym, ◌∙◌}
 use Rattle.segment_paths.proofs.Led.{past_all, past_none}
 use Rattle.segment_paths.proofs.ways.is_past.Goals as goal
 

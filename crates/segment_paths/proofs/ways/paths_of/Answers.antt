@@ -1,8 +1,5 @@
-use Rattle.std.proofs.Common.{subst, sym, arith}
-use Rattle.std.proofs.lemmas.List.Elements.{All-same, All-take, All-drop}
-use Rattle.segment_paths.specs.Paths.{ArePaths}
-use Rattle.segment_paths.specs.Seen.{paths_seen}
-use Rattle.segment_paths.specs.Stops.{IsStop}
+use Rattle.kit_words.proofs.Common.{subst, sym, arith, All-same, All-take, All-drop}
+use Rattle.segment_paths.specs.Common.{ArePaths, paths_seen, IsStop}
 use Rattle.segment_paths.proofs.Led.{no_paths, at_place}
 use Rattle.segment_paths.proofs.ways.paths_of.Goals as goal
 

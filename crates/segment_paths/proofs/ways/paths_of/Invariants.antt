@@ -1,9 +1,6 @@
-use Rattle.std.proofs.Common.{List, length}
-use Rattle.std.specs.List.{All}
-use Rattle.grid_geometry.specs.Segment.{Segment}
-use Rattle.segment_paths.specs.Paths.{ArePaths}
-use Rattle.segment_paths.specs.Seen.{paths_seen}
-use Rattle.segment_paths.specs.Stops.{IsStop}
+use Rattle.kit_words.proofs.Common.{List, length, All}
+use Rattle.grid_geometry.specs.Common.{Segment}
+use Rattle.segment_paths.specs.Common.{ArePaths, paths_seen, IsStop}
 use Rattle.segment_paths.proofs.ways.paths_of.Given as goal
 
 abbrev pub invariant-loop-rest : goal.invariant-loop-rest

@@ -1,6 +1,6 @@
-use Rattle.std.proofs.Common.{◌≡◌, ◌+◌, length, drop}
-use Rattle.std.specs.Prelude.{sum_by, map}
-use Rattle.segment_paths.specs.Seen.{path_seen}
+use Rattle.kit_words.proofs.Common.{◌≡◌, ◌+◌, length, drop, map}
+use Rattle.std.specs.Prelude.{sum_by}
+use Rattle.segment_paths.specs.Common.{path_seen}
 use Rattle.segment_paths.proofs.ways.room_after.Given as goal
 
 -- the room that is left, and what is left of the sum

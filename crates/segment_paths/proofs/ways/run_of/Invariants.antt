@@ -1,4 +1,4 @@
-use Rattle.std.proofs.Common.{◌<◌, ◌≤◌, ◌-◌, length}
+use Rattle.kit_words.proofs.Common.{◌<◌, ◌≤◌, ◌-◌, length}
 use Rattle.segment_paths.proofs.ways.run_of.Given as goal
 
 abbrev pub invariant-loop-n : goal.invariant-loop-n

@@ -1,7 +1,6 @@
-use Rattle.std.proofs.Common.{arith, ◌≡◌, ◌≤◌, ◌≤ℤ◌, ℤ, w64, to_z, of_z, unsigned_abs, refl, ◌∙◌}
-use Rattle.std.specs.Int.{int_min, int_max}
-use Rattle.std.proofs.lemmas.Int.{ints}
-use Rattle.segment_trees.specs.Bounds.{box_around}
+use Rattle.kit_words.proofs.Common.{arith, ◌≡◌, ◌≤◌, ◌≤ℤ◌, ℤ, w64, to_z, of_z, unsigned_abs, refl, ◌∙◌, int_min}
+use Rattle.kit_words.proofs.Common.{int_max, ints}
+use Rattle.segment_trees.specs.Common.{box_around}
 use Rattle.segment_trees.proofs.bounds.around.Goals as goal
 
 wrapped : (r z : ℤ) → r ≡ z → unsigned_abs z ≤ 1000000000000 → to_z w64 (of_z w64 r) ≡ z

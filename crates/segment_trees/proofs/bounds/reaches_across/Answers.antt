@@ -1,6 +1,6 @@
-use Rattle.std.proofs.Common.{rules, ◌≡◌, ◌∙◌, sym, subst, ap, ap₂, int_le, w64, to_z, of_z, true, false}
-use Rattle.std.proofs.lemmas.Int.{to_z-of_z}
-use Rattle.grid_geometry.specs.Segment.{Segment, IsSegment, Box}
+use Rattle.kit_words.proofs.Common.{rules, ◌≡◌, ◌∙◌, sym, subst, ap, ap₂, int_le, w64, to_z, of_z, true, false}
+use Rattle.kit_words.proofs.Common.{to_z-of_z}
+use Rattle.grid_geometry.specs.Common.{Segment, IsSegment, Box}
 use Rattle.segment_trees.proofs.Reaching.{across_then, across_else}
 use Rattle.segment_trees.proofs.bounds.reaches_across.Goals as goal
 

@@ -1,4 +1,4 @@
-use Rattle.std.proofs.Common.{sym, ◌∙◌}
+use Rattle.kit_words.proofs.Common.{sym, ◌∙◌}
 use Rattle.segment_trees.proofs.Branches.{around-within}
 use Rattle.segment_trees.proofs.bounds.widen.Goals as goal
 

@@ -1,5 +1,5 @@
-use Rattle.std.proofs.Common.{◌≡◌, ◌++◌, take}
-use Rattle.segment_trees.specs.Gathers.{meeting}
+use Rattle.kit_words.proofs.Common.{◌≡◌, ◌++◌, take}
+use Rattle.segment_trees.specs.Common.{meeting}
 use Rattle.segment_trees.proofs.cell.append_meeting.Given as goal
 
 abbrev pub invariant-loop-s : goal.invariant-loop-s

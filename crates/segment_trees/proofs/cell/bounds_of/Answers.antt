@@ -1,7 +1,6 @@
-use Rattle.std.proofs.Common.{◌≡◌, ◌+◌, take, ap, subst, sym, ◌∙◌, Some}
-use Rattle.grid_geometry.specs.Segment.{box_of}
-use Rattle.segment_trees.specs.Bounds.{joined}
-use Rattle.segment_trees.specs.Trees.{LiesIn}
+use Rattle.kit_words.proofs.Common.{◌≡◌, ◌+◌, take, ap, subst, sym, ◌∙◌, Some}
+use Rattle.grid_geometry.specs.Common.{box_of}
+use Rattle.segment_trees.specs.Common.{joined, LiesIn}
 use Rattle.segment_trees.proofs.Branches.{lies-more}
 use Rattle.segment_trees.proofs.cell.bounds_of.Goals as goal
 

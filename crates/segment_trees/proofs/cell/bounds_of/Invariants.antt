@@ -1,5 +1,5 @@
-use Rattle.std.proofs.Common.{take}
-use Rattle.segment_trees.specs.Trees.{LiesIn}
+use Rattle.kit_words.proofs.Common.{take}
+use Rattle.segment_trees.specs.Common.{LiesIn}
 use Rattle.segment_trees.proofs.cell.bounds_of.Given as goal
 
 abbrev pub invariant-loop-s : goal.invariant-loop-s

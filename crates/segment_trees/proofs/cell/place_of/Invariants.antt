@@ -1,5 +1,5 @@
-use Rattle.std.proofs.Common.{◌≡◌, take, false}
-use Rattle.segment_trees.specs.Candidates.{has}
+use Rattle.kit_words.proofs.Common.{◌≡◌, take, false}
+use Rattle.segment_trees.specs.Common.{has}
 use Rattle.segment_trees.proofs.cell.place_of.Given as goal
 
 abbrev pub invariant-loop-place : goal.invariant-loop-place

@@ -1,4 +1,4 @@
-use Rattle.std.proofs.Common.{◌≡◌, ◌++◌, ◌∷◌, []}
+use Rattle.kit_words.proofs.Common.{◌≡◌, ◌++◌, ◌∷◌, []}
 use Rattle.segment_trees.proofs.Singles.{ok_then}
 use Rattle.segment_trees.proofs.Branches.{gains-cell, gains-left, gains-right}
 use Rattle.segment_trees.proofs.cell.put_either.Goals as goal

@@ -1,6 +1,5 @@
-use Rattle.std.proofs.Common.{◌≡◌, ◌<◌, ◌∙◌, length, get_or, refl, sym, false}
-use Rattle.std.proofs.lemmas.List.{get_or_default}
-use Rattle.segment_trees.specs.Candidates.{has}
+use Rattle.kit_words.proofs.Common.{◌≡◌, ◌<◌, ◌∙◌, length, get_or, refl, sym, false, get_or_default}
+use Rattle.segment_trees.specs.Common.{has}
 use Rattle.segment_trees.proofs.Singles.{loses-swap_remove, loses-none, has-at}
 use Rattle.segment_trees.proofs.cell.take_one.Goals as goal
 

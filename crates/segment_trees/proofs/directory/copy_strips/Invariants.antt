@@ -1,4 +1,4 @@
-use Rattle.std.proofs.Common.{◌≡◌, take}
+use Rattle.kit_words.proofs.Common.{◌≡◌, take}
 use Rattle.segment_trees.proofs.directory.copy_strips.Given as goal
 
 abbrev pub invariant-loop-strip : goal.invariant-loop-strip

@@ -1,6 +1,5 @@
-use Rattle.std.proofs.Common.{◌≡◌, ◌≤◌, ◌-◌, [], length, arith, refl}
-use Rattle.std.proofs.lemmas.List.{get_or_past}
-use Rattle.segment_trees.specs.Cells.{column}
+use Rattle.kit_words.proofs.Common.{◌≡◌, ◌≤◌, ◌-◌, [], length, arith, refl, get_or_past}
+use Rattle.segment_trees.specs.Common.{column}
 use Rattle.segment_trees.proofs.Homes.{gathers-unheld}
 use Rattle.segment_trees.proofs.directory.gather_at.Goals as goal
 

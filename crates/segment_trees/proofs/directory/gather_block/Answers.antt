@@ -1,7 +1,5 @@
-use Rattle.std.proofs.Common.{rules, is_ok, false, arith, refl, ◌≡◌, ◌-◌}
-use Rattle.segment_trees.specs.Candidates.{times_in}
-use Rattle.segment_trees.specs.Cells.{cell, column}
-use Rattle.segment_trees.specs.Covers.{counted}
+use Rattle.kit_words.proofs.Common.{rules, is_ok, false, arith, refl, ◌≡◌, ◌-◌}
+use Rattle.segment_trees.specs.Common.{times_in, cell, column, counted}
 use Rattle.segment_trees.proofs.Gathering.{gathers-none, gathers-next, gathers-stop}
 use Rattle.segment_trees.proofs.directory.gather_block.Goals as goal
 

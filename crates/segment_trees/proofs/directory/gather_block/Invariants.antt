@@ -1,8 +1,5 @@
-use Rattle.std.proofs.Common.{true, ◌-◌}
-use Rattle.segment_trees.specs.Candidates.{times_in}
-use Rattle.segment_trees.specs.Cells.{cell, column}
-use Rattle.segment_trees.specs.Gathers.{Gathers}
-use Rattle.segment_trees.specs.Covers.{counted}
+use Rattle.kit_words.proofs.Common.{true, ◌-◌}
+use Rattle.segment_trees.specs.Common.{times_in, cell, column, Gathers, counted}
 use Rattle.segment_trees.proofs.directory.gather_block.Given as goal
 
 abbrev pub invariant-loop-i : goal.invariant-loop-i

@@ -1,4 +1,4 @@
-use Rattle.std.proofs.Common.{◌≡◌, take}
+use Rattle.kit_words.proofs.Common.{◌≡◌, take}
 use Rattle.segment_trees.proofs.strip.copy_of.Given as goal
 
 abbrev pub invariant-loop-bucket : goal.invariant-loop-bucket

@@ -1,4 +1,4 @@
-use Rattle.std.proofs.Common.{◌≡◌, [], replicate}
+use Rattle.kit_words.proofs.Common.{◌≡◌, [], replicate}
 use Rattle.segment_trees.proofs.strip.empty_buckets.Given as goal
 
 abbrev pub invariant-loop : goal.invariant-loop

@@ -1,8 +1,5 @@
-use Rattle.std.proofs.Common.{rules, is_ok, true, false, arith, refl, subst, ◌≡◌, ◌-◌}
-use Rattle.segment_trees.specs.Candidates.{times_in}
-use Rattle.segment_trees.specs.Cells.{cell}
-use Rattle.segment_trees.specs.Covers.{counted}
-use Rattle.segment_trees.specs.Gathers.{Gathers}
+use Rattle.kit_words.proofs.Common.{rules, is_ok, true, false, arith, refl, subst, ◌≡◌, ◌-◌}
+use Rattle.segment_trees.specs.Common.{times_in, cell, counted, Gathers}
 use Rattle.segment_trees.proofs.Gathering.{gathers-none, gathers-next, gathers-stop}
 use Rattle.segment_trees.proofs.strip.gather_from.Goals as goal
 

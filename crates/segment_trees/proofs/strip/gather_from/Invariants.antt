@@ -1,8 +1,5 @@
-use Rattle.std.proofs.Common.{true, ◌-◌}
-use Rattle.segment_trees.specs.Candidates.{times_in}
-use Rattle.segment_trees.specs.Cells.{cell}
-use Rattle.segment_trees.specs.Gathers.{Gathers}
-use Rattle.segment_trees.specs.Covers.{counted}
+use Rattle.kit_words.proofs.Common.{true, ◌-◌}
+use Rattle.segment_trees.specs.Common.{times_in, cell, Gathers, counted}
 use Rattle.segment_trees.proofs.strip.gather_from.Given as goal
 
 abbrev pub invariant-loop-j : goal.invariant-loop-j

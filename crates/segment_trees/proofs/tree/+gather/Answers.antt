@@ -1,6 +1,5 @@
-use Rattle.std.proofs.Common.{rules, is_ok, false, arith, ◌≡◌, ◌+◌, refl, sym, ◌++◌, ◌∙◌}
-use Rattle.segment_trees.specs.Candidates.{times_in}
-use Rattle.segment_trees.specs.Trees.{listed}
+use Rattle.kit_words.proofs.Common.{rules, is_ok, false, arith, ◌≡◌, ◌+◌, refl, sym, ◌++◌, ◌∙◌}
+use Rattle.segment_trees.specs.Common.{times_in, listed}
 use Rattle.segment_trees.proofs.Singles.{times-append}
 use Rattle.segment_trees.proofs.Gathering.{gathers-nothing, gathers-then, gathers-less, gathers-same}
 use Rattle.segment_trees.proofs.Branches.{none-meets}

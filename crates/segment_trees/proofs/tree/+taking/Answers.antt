@@ -1,8 +1,6 @@
-use Rattle.std.proofs.Common.{◌≡◌, ◌++◌, sym, ◌∙◌, true, false}
-use Rattle.grid_geometry.specs.Segment.{box_of}
-use Rattle.segment_trees.specs.Bounds.{is_within}
-use Rattle.segment_trees.specs.Candidates.{has}
-use Rattle.segment_trees.specs.Trees.{listed}
+use Rattle.kit_words.proofs.Common.{◌≡◌, ◌++◌, sym, ◌∙◌, true, false}
+use Rattle.grid_geometry.specs.Common.{box_of}
+use Rattle.segment_trees.specs.Common.{is_within, has, listed}
 use Rattle.segment_trees.proofs.Singles.{loses-none}
 use Rattle.segment_trees.proofs.Branches.{lost-left, lost-right, lost-past_left, lost-past_right, has-apart}
 use Rattle.segment_trees.proofs.tree.+taking.Goals as goal

@@ -1,6 +1,6 @@
-use Rattle.std.proofs.Common.{◌≡◌, ◌++◌, ap, subst, sym, ◌∙◌, unwrap_or}
-use Rattle.segment_trees.specs.Bounds.{joined}
-use Rattle.segment_trees.specs.Trees.{listed, LieIn}
+use Rattle.kit_words.proofs.Common.{◌≡◌, ◌++◌, ap, subst, sym, ◌∙◌}
+use Rattle.std.proofs.Common.{unwrap_or}
+use Rattle.segment_trees.specs.Common.{joined, listed, LieIn}
 use Rattle.segment_trees.proofs.Branches.{lies-joined, lies-or, fork-gained}
 use Rattle.segment_trees.proofs.tree.fork_of.Goals as goal
 

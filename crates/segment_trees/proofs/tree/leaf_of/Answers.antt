@@ -1,4 +1,4 @@
-use Rattle.std.proofs.Common.{◌∙◌}
+use Rattle.kit_words.proofs.Common.{◌∙◌}
 use Rattle.segment_trees.proofs.Branches.{first-gained, lie-one}
 use Rattle.segment_trees.proofs.tree.leaf_of.Goals as goal
 

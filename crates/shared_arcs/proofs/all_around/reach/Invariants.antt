@@ -1,5 +1,5 @@
-use Rattle.std.proofs.Common.{◌+◌, ◌-◌, [], vec_len}
-use Rattle.shared_arcs.specs.Around.{SeesMore}
+use Rattle.kit_words.proofs.Common.{◌+◌, ◌-◌, [], vec_len}
+use Rattle.shared_arcs.specs.Common.{SeesMore}
 use Rattle.shared_arcs.proofs.all_around.reach.Given as goal
 
 abbrev pub invariant-loop-k : goal.invariant-loop-k

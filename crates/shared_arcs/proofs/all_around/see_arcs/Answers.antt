@@ -1,7 +1,6 @@
-use Rattle.std.proofs.Common.{◌∙◌, sym, ap, get_or}
-use Rattle.shared_arcs.specs.declared.around.Neighbours.TheVariants.{None}
-use Rattle.arc_tables.specs.Ways.{links}
-use Rattle.shared_arcs.specs.Around.{noted_all, other_ends, ends_in}
+use Rattle.kit_words.proofs.Common.{◌∙◌, sym, ap, get_or}
+use Rattle.shared_arcs.specs.Common.{None, noted_all, other_ends, ends_in}
+use Rattle.arc_tables.specs.Common.{links}
 use Rattle.shared_arcs.proofs.AroundLemmas.{noted_all-append}
 use Rattle.shared_arcs.proofs.all_around.see_arcs.Goals as goal
 

@@ -1,7 +1,6 @@
-use Rattle.std.proofs.Common.{◌≡◌, ℕ, get_or}
+use Rattle.kit_words.proofs.Common.{◌≡◌, ℕ, get_or}
 use Rattle.slab.specs.Slab.{entries}
-use Rattle.shared_arcs.specs.declared.around.Neighbours.TheVariants.{None}
-use Rattle.shared_arcs.specs.Around.{noted_all, ends_in}
+use Rattle.shared_arcs.specs.Common.{None, noted_all, ends_in}
 use Rattle.shared_arcs.proofs.all_around.see_arcs.Given as goal
 
 -- with the entries that are left, all are seen

@@ -1,7 +1,6 @@
-use Rattle.std.proofs.Common.{arith, ◌∙◌, ap, get_or, take}
-use Rattle.shared_arcs.specs.declared.around.Neighbours.TheVariants.{None}
-use Rattle.arc_tables.specs.Ways.{Edge, links}
-use Rattle.shared_arcs.specs.Around.{noted_all, other_end, other_ends}
+use Rattle.kit_words.proofs.Common.{arith, ◌∙◌, ap, get_or, take}
+use Rattle.shared_arcs.specs.Common.{None, noted_all, other_end, other_ends}
+use Rattle.arc_tables.specs.Common.{Edge, links}
 use Rattle.shared_arcs.proofs.AroundLemmas.{ends_more}
 use Rattle.shared_arcs.proofs.SeenLemmas.{sees_then}
 use Rattle.shared_arcs.proofs.all_around.see_path.Goals as goal

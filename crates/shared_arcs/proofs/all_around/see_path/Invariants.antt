@@ -1,6 +1,6 @@
-use Rattle.std.proofs.Common.{take}
-use Rattle.arc_tables.specs.Ways.{links}
-use Rattle.shared_arcs.specs.Around.{other_ends, SeesMore}
+use Rattle.kit_words.proofs.Common.{take}
+use Rattle.arc_tables.specs.Common.{links}
+use Rattle.shared_arcs.specs.Common.{other_ends, SeesMore}
 use Rattle.shared_arcs.proofs.all_around.see_path.Given as goal
 
 abbrev pub invariant-loop-at : goal.invariant-loop-at

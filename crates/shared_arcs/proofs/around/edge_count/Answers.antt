@@ -1,8 +1,7 @@
-use Rattle.std.proofs.Common.{ℕ, ◌+◌, ◌-◌, ap, ◌∙◌, take, length, false}
-use Rattle.std.specs.Prelude.{min}
+use Rattle.kit_words.proofs.Common.{ℕ, ◌+◌, ◌-◌, ap, ◌∙◌, take, length, false, min}
 use Rattle.slab.specs.Slab.{get}
-use Rattle.shared_arcs.specs.Shortest.{most, edge_count}
-use Rattle.arc_tables.specs.Stores.{path_in}
+use Rattle.shared_arcs.specs.Common.{most, edge_count}
+use Rattle.arc_tables.specs.Common.{path_in}
 use Rattle.shared_arcs.proofs.ShortestLemmas.{count_more}
 use Rattle.shared_arcs.proofs.around.edge_count.Goals as goal
 

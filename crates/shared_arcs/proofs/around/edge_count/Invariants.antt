@@ -1,7 +1,7 @@
-use Rattle.std.proofs.Common.{◌≡◌, take}
+use Rattle.kit_words.proofs.Common.{◌≡◌, take}
 use Rattle.slab.specs.Slab.{get}
-use Rattle.shared_arcs.specs.Shortest.{most, edge_count}
-use Rattle.arc_tables.specs.Stores.{path_in}
+use Rattle.shared_arcs.specs.Common.{most, edge_count}
+use Rattle.arc_tables.specs.Common.{path_in}
 use Rattle.shared_arcs.proofs.around.edge_count.Given as goal
 
 abbrev pub invariant-loop-u : goal.invariant-loop-u

@@ -1,9 +1,7 @@
-use Rattle.std.proofs.Common.{ap, ◌∙◌, take}
+use Rattle.kit_words.proofs.Common.{ap, ◌∙◌, take}
 use Rattle.slab.specs.Slab.{get}
-use Rattle.shared_arcs.specs.declared.around.Neighbours.TheVariants.{None}
-use Rattle.arc_tables.specs.Ways.{links}
-use Rattle.shared_arcs.specs.Around.{noted_all, other_ends, ends_among}
-use Rattle.arc_tables.specs.Stores.{path_in}
+use Rattle.shared_arcs.specs.Common.{None, noted_all, other_ends, ends_among}
+use Rattle.arc_tables.specs.Common.{links, path_in}
 use Rattle.shared_arcs.proofs.AroundLemmas.{among_more}
 use Rattle.shared_arcs.proofs.around.neighbours_among.Goals as goal
 

@@ -1,8 +1,7 @@
-use Rattle.std.proofs.Common.{◌≡◌, take}
+use Rattle.kit_words.proofs.Common.{◌≡◌, take}
 use Rattle.slab.specs.Slab.{get}
-use Rattle.shared_arcs.specs.declared.around.Neighbours.TheVariants.{None}
-use Rattle.shared_arcs.specs.Around.{noted_all, ends_among}
-use Rattle.arc_tables.specs.Stores.{path_in}
+use Rattle.shared_arcs.specs.Common.{None, noted_all, ends_among}
+use Rattle.arc_tables.specs.Common.{path_in}
 use Rattle.shared_arcs.proofs.around.neighbours_among.Given as goal
 
 abbrev pub invariant-loop-i : goal.invariant-loop-i

@@ -1,7 +1,7 @@
-use Rattle.std.proofs.Common.{ℕ, ap, ◌∙◌, map, get_or, None}
+use Rattle.kit_words.proofs.Common.{ℕ, ap, ◌∙◌, map, get_or, None}
 use Rattle.slab.specs.Slab.{get}
-use Rattle.shared_arcs.specs.Shortest.{most, edge_count, least_of, users_at}
-use Rattle.arc_tables.specs.Stores.{path_in, users_in, uses_in}
+use Rattle.shared_arcs.specs.Common.{most, edge_count, least_of, users_at}
+use Rattle.arc_tables.specs.Common.{path_in, users_in, uses_in}
 use Rattle.shared_arcs.proofs.ShortestLemmas.{among_least}
 use Rattle.shared_arcs.proofs.around.shortest_among.Goals as goal
 

@@ -1,5 +1,5 @@
-use Rattle.std.proofs.Common.{◌≡◌, take, None}
-use Rattle.shared_arcs.specs.Shortest.{edge_counts, least_of, rings_along}
+use Rattle.kit_words.proofs.Common.{◌≡◌, take, None}
+use Rattle.shared_arcs.specs.Common.{edge_counts, least_of, rings_along}
 use Rattle.shared_arcs.proofs.around.shortest_among.Given as goal
 
 abbrev pub invariant-loop-i : goal.invariant-loop-i

@@ -1,7 +1,7 @@
-use Rattle.std.proofs.Common.{ℕ, ap, ◌∙◌, take, map}
+use Rattle.kit_words.proofs.Common.{ℕ, ap, ◌∙◌, take, map}
 use Rattle.slab.specs.Slab.{get}
-use Rattle.shared_arcs.specs.Shortest.{most, edge_count, less_of, least_of}
-use Rattle.arc_tables.specs.Stores.{path_in, uses_in}
+use Rattle.shared_arcs.specs.Common.{most, edge_count, less_of, least_of}
+use Rattle.arc_tables.specs.Common.{path_in, uses_in}
 use Rattle.shared_arcs.proofs.ShortestLemmas.{least_more}
 use Rattle.shared_arcs.proofs.around.shortest_of.Goals as goal
 

@@ -1,5 +1,5 @@
-use Rattle.std.proofs.Common.{◌≡◌, take}
-use Rattle.shared_arcs.specs.Shortest.{edge_counts, least_of}
+use Rattle.kit_words.proofs.Common.{◌≡◌, take}
+use Rattle.shared_arcs.specs.Common.{edge_counts, least_of}
 use Rattle.shared_arcs.proofs.around.shortest_of.Given as goal
 
 abbrev pub invariant-loop-r : goal.invariant-loop-r

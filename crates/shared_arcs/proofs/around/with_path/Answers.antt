@@ -1,5 +1,5 @@
-use Rattle.std.proofs.Common.{arith, ap, ◌∙◌}
-use Rattle.shared_arcs.specs.Around.{noted_all, other_end}
+use Rattle.kit_words.proofs.Common.{arith, ap, ◌∙◌}
+use Rattle.shared_arcs.specs.Common.{noted_all, other_end}
 use Rattle.shared_arcs.proofs.AroundLemmas.{path_more}
 use Rattle.shared_arcs.proofs.around.with_path.Goals as goal
 

@@ -1,7 +1,6 @@
-use Rattle.std.proofs.Common.{arith, ap, ◌∙◌, take}
-use Rattle.arc_tables.specs.Ways.{links}
-use Rattle.shared_arcs.specs.Around.{other_end, other_ends}
-use Rattle.shared_arcs.specs.Listing.{gathered}
+use Rattle.kit_words.proofs.Common.{arith, ap, ◌∙◌, take}
+use Rattle.arc_tables.specs.Common.{links}
+use Rattle.shared_arcs.specs.Common.{other_end, other_ends, gathered}
 use Rattle.shared_arcs.proofs.AroundLemmas.{ends_more}
 use Rattle.shared_arcs.proofs.Gathering.{gathered-append}
 use Rattle.shared_arcs.proofs.joined.push_along.Goals as goal

@@ -1,7 +1,6 @@
-use Rattle.std.proofs.Common.{◌≡◌, take}
-use Rattle.arc_tables.specs.Ways.{links}
-use Rattle.shared_arcs.specs.Around.{other_ends}
-use Rattle.shared_arcs.specs.Listing.{gathered}
+use Rattle.kit_words.proofs.Common.{◌≡◌, take}
+use Rattle.arc_tables.specs.Common.{links}
+use Rattle.shared_arcs.specs.Common.{other_ends, gathered}
 use Rattle.shared_arcs.proofs.joined.push_along.Given as goal
 
 abbrev pub invariant-loop-at : goal.invariant-loop-at

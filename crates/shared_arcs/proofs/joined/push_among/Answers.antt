@@ -1,9 +1,7 @@
-use Rattle.std.proofs.Common.{ap, ◌∙◌, take, ◌++◌, ℕ, List}
+use Rattle.kit_words.proofs.Common.{ap, ◌∙◌, take, ◌++◌, ℕ, List}
 use Rattle.slab.specs.Slab.{get}
-use Rattle.arc_tables.specs.Ways.{links}
-use Rattle.shared_arcs.specs.Around.{other_ends, ends_among}
-use Rattle.arc_tables.specs.Stores.{path_in}
-use Rattle.shared_arcs.specs.Listing.{gathered}
+use Rattle.arc_tables.specs.Common.{links, path_in}
+use Rattle.shared_arcs.specs.Common.{other_ends, ends_among, gathered}
 use Rattle.shared_arcs.proofs.AroundLemmas.{ends_among_more}
 use Rattle.shared_arcs.proofs.Gathering.{gathered-append}
 use Rattle.shared_arcs.proofs.joined.push_among.Goals as goal

@@ -1,8 +1,7 @@
-use Rattle.std.proofs.Common.{◌≡◌, take}
+use Rattle.kit_words.proofs.Common.{◌≡◌, take}
 use Rattle.slab.specs.Slab.{get}
-use Rattle.shared_arcs.specs.Around.{ends_among}
-use Rattle.arc_tables.specs.Stores.{path_in}
-use Rattle.shared_arcs.specs.Listing.{gathered}
+use Rattle.shared_arcs.specs.Common.{ends_among, gathered}
+use Rattle.arc_tables.specs.Common.{path_in}
 use Rattle.shared_arcs.proofs.joined.push_among.Given as goal
 
 abbrev pub invariant-loop-i : goal.invariant-loop-i

@@ -1,5 +1,4 @@
-use Rattle.std.proofs.Common.{ap, sym, ◌∙◌, ◌++◌, ◌∷◌, [], append_assoc, arith}
-use Rattle.std.proofs.lemmas.List.{append-nil}
+use Rattle.kit_words.proofs.Common.{ap, sym, ◌∙◌, ◌++◌, ◌∷◌, [], append_assoc, arith, append-nil}
 use Rattle.shared_arcs.proofs.ReadLemmas.{walked, walk_step}
 use Rattle.shared_arcs.proofs.reading.push_begins.Goals as goal
 

@@ -1,6 +1,5 @@
-use Rattle.std.proofs.Common.{◌≡◌, ◌≤◌, ◌+◌, ◌++◌, length, take, ◌-◌}
-use Rattle.std.specs.Prelude.{vec_len, vec_capacity}
-use Rattle.arc_tables.specs.Ways.{walk}
+use Rattle.kit_words.proofs.Common.{◌≡◌, ◌≤◌, ◌+◌, ◌++◌, length, take, ◌-◌, vec_len, vec_capacity}
+use Rattle.arc_tables.specs.Common.{walk}
 use Rattle.shared_arcs.proofs.reading.push_begins.Given as goal
 
 -- the keys so far, and there is room for the others

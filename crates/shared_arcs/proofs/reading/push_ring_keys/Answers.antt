@@ -1,9 +1,8 @@
-use Rattle.std.proofs.Common.{◌≡◌, ap, sym, ◌∙◌, subst, IsSome, true, false, take, take_all, ◌++◌, append_assoc, get_or, ◌+◌}
-use Rattle.std.specs.Option.{option_copied}
+use Rattle.kit_words.proofs.Common.{◌≡◌, ap, sym, ◌∙◌, subst, IsSome, true, false, take, ◌++◌, append_assoc, get_or}
+use Rattle.kit_words.proofs.Common.{◌+◌, option_copied}
+use Rattle.std.proofs.Common.{take_all}
 use Rattle.slab.specs.Slab.{get}
-use Rattle.arc_tables.specs.Ways.{links, walk, chain}
-use Rattle.arc_tables.specs.Rings.{begins}
-use Rattle.arc_tables.specs.Stores.{uses_in, uses_arc, path_in, path_of}
+use Rattle.arc_tables.specs.Common.{links, walk, chain, begins, uses_in, uses_arc, path_in, path_of}
 use Rattle.shared_arcs.proofs.ReadLemmas.{uses_at, copied_some, read_more}
 use Rattle.shared_arcs.proofs.reading.push_ring_keys.Goals as goal
 

@@ -1,8 +1,6 @@
-use Rattle.std.proofs.Common.{◌≡◌, ◌++◌, take}
+use Rattle.kit_words.proofs.Common.{◌≡◌, ◌++◌, take}
 use Rattle.slab.specs.Slab.{get}
-use Rattle.arc_tables.specs.Ways.{chain}
-use Rattle.arc_tables.specs.Rings.{begins}
-use Rattle.arc_tables.specs.Stores.{path_of, uses_in}
+use Rattle.arc_tables.specs.Common.{chain, begins, path_of, uses_in}
 use Rattle.shared_arcs.proofs.reading.push_ring_keys.Given as goal
 
 abbrev pub invariant-loop-u : goal.invariant-loop-u

@@ -1,6 +1,5 @@
-use Rattle.std.proofs.Common.{◌<◌, subst, sym}
-use Rattle.std.proofs.lemmas.Bool.{false≢true}
-use Rattle.snap_geometry.specs.Crossing.{IsRoundedCrossing, whole}
+use Rattle.kit_words.proofs.Common.{◌<◌, subst, sym, false≢true}
+use Rattle.snap_geometry.specs.Common.{IsRoundedCrossing, whole}
 use Rattle.snap_geometry.proofs.Crossings.{crossing_some, in_range, read_between, is_crossing}
 use Rattle.snap_geometry.proofs.crossing.rounded_crossing.Goals as goal
 

@@ -1,4 +1,4 @@
-use Rattle.std.proofs.Common.{◌*◌}
+use Rattle.kit_words.proofs.Common.{◌*◌}
 use Rattle.snap_geometry.proofs.Rounding.{quotient_rounded, part_bound}
 use Rattle.snap_geometry.proofs.crossing.rounded_part.Goals as goal
 

@@ -1,5 +1,5 @@
-use Rattle.std.proofs.Common.{◌∙◌, ap, refl}
-use Rattle.snap_geometry.specs.Near.{along}
+use Rattle.kit_words.proofs.Common.{◌∙◌, ap, refl}
+use Rattle.snap_geometry.specs.Common.{along}
 use Rattle.snap_geometry.proofs.Widths.{sum_fits, sum_is, narrow_is}
 use Rattle.snap_geometry.proofs.near.along.Goals as goal
 

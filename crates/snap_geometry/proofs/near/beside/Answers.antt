@@ -1,6 +1,6 @@
-use Rattle.std.proofs.Common.{◌∙◌, ap, refl}
-use Rattle.grid_geometry.specs.Orientation.{orientation}
-use Rattle.snap_geometry.specs.Crossing.{beside}
+use Rattle.kit_words.proofs.Common.{◌∙◌, ap, refl}
+use Rattle.grid_geometry.specs.Common.{orientation}
+use Rattle.snap_geometry.specs.Common.{beside}
 use Rattle.snap_geometry.proofs.Widths.{difference_is, difference_bound, narrow_is}
 use Rattle.snap_geometry.proofs.near.beside.Goals as goal
 

@@ -1,12 +1,7 @@
-use Rattle.std.proofs.Common.{◌≡◌, Some, sym, ◌∙◌, subst}
-use Rattle.std.specs.Prelude.{OnOk}
-use Rattle.ring_machine.specs.Command.{NoFeature}
-use Rattle.ring_machine.specs.Join.{take_out}
-use Rattle.ring_machine.specs.Refusals.{first_of, feature_refusals}
-use Rattle.arc_store.specs.Outcomes.{Edits}
-use Rattle.arc_store.specs.Recorded.{IsRecorded}
-use Rattle.arc_store.specs.State.{State}
-use Rattle.arc_store.proofs.Outcomes.{is_refused, just_begun, keeps_last, with_refusal}
+use Rattle.kit_words.proofs.Common.{◌≡◌, Some, sym, ◌∙◌, subst, OnOk}
+use Rattle.ring_machine.specs.Common.{NoFeature, take_out, first_of, feature_refusals}
+use Rattle.arc_store.specs.Common.{Edits, IsRecorded, State}
+use Rattle.arc_store.proofs.Common.{is_refused, just_begun, keeps_last, with_refusal}
 use Rattle.split_merge.proofs.Recording.{delete_recorded, missing, there}
 use Rattle.split_merge.proofs.deleting.delete.Goals as goal
 

@@ -1,10 +1,10 @@
-use Rattle.std.proofs.Common.{◌≡◌, List, ℕ, sym, ap, ◌∙◌, subst, [], ◌∷◌, append-nil, IsUtf8}
-use Rattle.std.proofs.lemmas.Result.{IfOk-weaker}
-use Rattle.std.proofs.lemmas.Str.{IsUtf8-string_bytes}
+use Rattle.kit_words.proofs.Common.{◌≡◌, List, ℕ, sym, ap, ◌∙◌, subst, [], ◌∷◌, IsUtf8, IfOk-weaker}
+use Rattle.kit_words.proofs.Common.{IsUtf8-string_bytes}
+use Rattle.std.proofs.Common.{append-nil}
 use Rattle.json.specs.Print.{print, print_from, quoted}
 use Rattle.json.specs.Token.{string}
-use Rattle.topo_outline.specs.Kept.{IsJson}
-use Rattle.map_text.specs.Strings.{string_text}
+use Rattle.topo_outline.specs.Common.{IsJson}
+use Rattle.map_text.specs.Common.{string_text}
 use Rattle.map_text.proofs.StringTexts.{string_is_json}
 use Rattle.split_merge.proofs.id_text.json_string.Goals as goal
 

@@ -1,6 +1,6 @@
-use Rattle.std.proofs.Common.{ap, ◌∙◌, arith}
-use Rattle.ring_parts.specs.Seen.{polygons_seen}
-use Rattle.split_merge.specs.Conditions.{only_outer}
+use Rattle.kit_words.proofs.Common.{ap, ◌∙◌, arith}
+use Rattle.ring_parts.specs.Common.{polygons_seen}
+use Rattle.split_merge.specs.Common.{only_outer}
 use Rattle.split_merge.proofs.MergeConditions.{outer_small}
 use Rattle.split_merge.proofs.merging.check_outlines.Goals as goal
 

@@ -1,15 +1,9 @@
-use Rattle.std.proofs.Common.{Some, ap, subst}
-use Rattle.std.specs.Prelude.{OnOk, ◌≡◌, ◌+ℤ◌}
-use Rattle.std.proofs.lemmas.Result.{on_ok_weaker}
-use Rattle.ring_machine.specs.Join.{join}
-use Rattle.ring_machine.specs.Query.{area_of}
-use Rattle.ring_machine.specs.Refusals.{first_of, merge_refusals, feature_at}
-use Rattle.edit_records.specs.Records.{Exchanged}
-use Rattle.edit_records.proofs.ExchangesBack.{merged}
-use Rattle.arc_store.specs.Outcomes.{Edits}
-use Rattle.arc_store.specs.Recorded.{IsRecorded}
-use Rattle.arc_store.specs.State.{State}
-use Rattle.arc_store.proofs.Outcomes.{keeps_last}
+use Rattle.kit_words.proofs.Common.{Some, ap, subst, OnOk, ◌≡◌, ◌+ℤ◌, on_ok_weaker}
+use Rattle.ring_machine.specs.Common.{join, area_of, first_of, merge_refusals, feature_at}
+use Rattle.edit_records.specs.Common.{Exchanged}
+use Rattle.edit_records.proofs.Common.{merged}
+use Rattle.arc_store.specs.Common.{Edits, IsRecorded, State}
+use Rattle.arc_store.proofs.Common.{keeps_last}
 use Rattle.split_merge.proofs.MergeConditions.{areas_added}
 use Rattle.split_merge.proofs.Recording.{merge_recorded}
 use Rattle.split_merge.proofs.merging.merge.Goals as goal

@@ -1,8 +1,8 @@
-use Rattle.std.proofs.Common.{refl, sym, ap, ◌∙◌, subst}
-use Rattle.ring_machine.specs.Refusals.{first_of}
-use Rattle.arc_store.specs.Faults.{Refuses}
-use Rattle.split_merge.specs.Conditions.{pair_refusals, outline_refusals}
-use Rattle.arc_store.proofs.Outcomes.{is_refused, with_refusal}
+use Rattle.kit_words.proofs.Common.{refl, sym, ap, ◌∙◌, subst}
+use Rattle.ring_machine.specs.Common.{first_of}
+use Rattle.arc_store.specs.Common.{Refuses}
+use Rattle.split_merge.specs.Common.{pair_refusals, outline_refusals}
+use Rattle.arc_store.proofs.Common.{is_refused, with_refusal}
 use Rattle.split_merge.proofs.FirstRefusal.{second_group, refuses_first}
 use Rattle.split_merge.proofs.MergeConditions.{merge_groups}
 use Rattle.split_merge.proofs.merging.merge_now.Goals as goal

@@ -1,6 +1,6 @@
-use Rattle.std.proofs.Common.{sym, ap₂, ◌∙◌, ◌≤◌, arith}
-use Rattle.grid_geometry.specs.Ring.{edges}
-use Rattle.ring_machine.specs.Join.{is_common, runs}
+use Rattle.kit_words.proofs.Common.{sym, ap₂, ◌∙◌, ◌≤◌, arith}
+use Rattle.grid_geometry.specs.Common.{edges}
+use Rattle.ring_machine.specs.Common.{is_common, runs}
 use Rattle.split_merge.proofs.RingConditions.{refusal, some_runs, common_beside, on_one_side, joinable}
 use Rattle.split_merge.proofs.outlines.check_rings.Goals as goal
 

@@ -1,6 +1,5 @@
-use Rattle.std.proofs.Common.{◌≡◌, take, false}
-use Rattle.std.specs.List.{list_any}
-use Rattle.ring_machine.specs.Parts.{is_vertex}
+use Rattle.kit_words.proofs.Common.{◌≡◌, take, false, list_any}
+use Rattle.ring_machine.specs.Common.{is_vertex}
 use Rattle.split_merge.proofs.path_way.has_any_vertex.Given as goal
 
 -- none so far

@@ -1,7 +1,6 @@
-use Rattle.std.proofs.Common.{◌-◌, sym, ◌∙◌, length, take, drop}
-use Rattle.ring_machine.specs.Ring.{segment_of}
-use Rattle.ring_machine.specs.Parts.{is_segment}
-use Rattle.ring_parts.proofs.WaySegments.{way_on}
+use Rattle.kit_words.proofs.Common.{◌-◌, sym, ◌∙◌, length, take, drop}
+use Rattle.ring_machine.specs.Common.{segment_of, is_segment}
+use Rattle.ring_parts.proofs.Common.{way_on}
 use Rattle.split_merge.proofs.PathSegments.{none_here}
 use Rattle.split_merge.proofs.path_way.has_segment_along.Goals as goal
 

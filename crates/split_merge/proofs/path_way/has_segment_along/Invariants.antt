@@ -1,8 +1,6 @@
-use Rattle.std.proofs.Common.{◌≡◌, ◌∷◌, drop, true}
-use Rattle.std.specs.List.{list_any}
-use Rattle.grid_geometry.specs.Ring.{links}
-use Rattle.ring_machine.specs.Ring.{is_distinct, segment_of}
-use Rattle.ring_machine.specs.Parts.{is_segment}
+use Rattle.kit_words.proofs.Common.{◌≡◌, ◌∷◌, drop, true, list_any}
+use Rattle.grid_geometry.specs.Common.{links}
+use Rattle.ring_machine.specs.Common.{is_distinct, segment_of, is_segment}
 use Rattle.split_merge.proofs.path_way.has_segment_along.Given as goal
 
 -- none so far: what is left of the path decides

@@ -1,6 +1,5 @@
-use Rattle.std.proofs.Common.{ap, ◌∙◌}
-use Rattle.std.specs.Prelude.{nat_lt}
-use Rattle.ring_machine.specs.Parts.{is_segment}
+use Rattle.kit_words.proofs.Common.{ap, ◌∙◌, nat_lt}
+use Rattle.ring_machine.specs.Common.{is_segment}
 use Rattle.split_merge.proofs.PathSegments.{segment_used}
 use Rattle.split_merge.proofs.path_way.is_joined.Goals as goal
 

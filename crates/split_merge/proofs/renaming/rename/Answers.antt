@@ -1,13 +1,8 @@
-use Rattle.std.proofs.Common.{◌≡◌, None, Some, sym, ◌∙◌, subst}
-use Rattle.std.specs.Prelude.{Ok}
-use Rattle.ring_machine.specs.Command.{NoFeature}
-use Rattle.ring_machine.specs.Machine.{renamed}
-use Rattle.ring_machine.specs.Refusals.{first_of, feature_refusals}
-use Rattle.arc_store.specs.Outcomes.{Edits}
-use Rattle.arc_store.specs.Recorded.{IsRecorded}
-use Rattle.arc_store.specs.State.{State}
+use Rattle.kit_words.proofs.Common.{◌≡◌, None, Some, sym, ◌∙◌, subst, Ok}
+use Rattle.ring_machine.specs.Common.{NoFeature, renamed, first_of, feature_refusals}
+use Rattle.arc_store.specs.Common.{Edits, IsRecorded, State}
 use Rattle.arc_store.specs.declared.fault.EditFault.TheVariants.{OutOfMemory}
-use Rattle.arc_store.proofs.Outcomes.{is_refused, hands_on, just_begun, keeps_last}
+use Rattle.arc_store.proofs.Common.{is_refused, hands_on, just_begun, keeps_last}
 use Rattle.split_merge.proofs.Recording.{rename_recorded, missing}
 use Rattle.split_merge.proofs.renaming.rename.Goals as goal
 

@@ -1,9 +1,8 @@
-use Rattle.std.proofs.Common.{◌≡◌, sym, subst, None}
-use Rattle.std.specs.Prelude.{OnOk, IfErr}
-use Rattle.ring_machine.specs.Refusals.{first_of}
-use Rattle.ring_parts.specs.Seen.{path_seen}
-use Rattle.arc_store.specs.Faults.{Refuses}
-use Rattle.split_merge.specs.Conditions.{place_refusals, path_refusals, early_refusals}
+use Rattle.kit_words.proofs.Common.{◌≡◌, sym, subst, None, OnOk, IfErr}
+use Rattle.ring_machine.specs.Common.{first_of}
+use Rattle.ring_parts.specs.Common.{path_seen}
+use Rattle.arc_store.specs.Common.{Refuses}
+use Rattle.split_merge.specs.Common.{place_refusals, path_refusals, early_refusals}
 use Rattle.split_merge.proofs.FirstRefusal.{second_group, refuses_first}
 use Rattle.split_merge.proofs.splitting.check_split.Goals as goal
 

@@ -1,17 +1,12 @@
-use Rattle.std.proofs.Common.{◌≡◌, ◌≤◌, ◌+◌, true, sym, ap, ◌∙◌, subst, length, arith}
-use Rattle.std.specs.Prelude.{OnOk, IfOk, IfErr, ◌+ℤ◌}
-use Rattle.std.proofs.lemmas.Result.{on_ok_weaker}
-use Rattle.ring_machine.specs.Cut.{path_of, cut}
-use Rattle.ring_machine.specs.Query.{area_of}
-use Rattle.ring_machine.specs.Refusals.{feature_at}
-use Rattle.segment_index.specs.Times.{times_by}
-use Rattle.local_planarity.specs.Tests.{most_for}
-use Rattle.arc_store.specs.Outcomes.{edit_begun}
-use Rattle.arc_store.specs.Recorded.{IsRecorded}
-use Rattle.arc_store.specs.State.{State}
-use Rattle.arc_store.proofs.Outcomes.{keeps_last}
-use Rattle.map_text.specs.Strings.{string_text}
-use Rattle.split_merge.specs.Untested.{is_early}
+use Rattle.kit_words.proofs.Common.{◌≡◌, ◌≤◌, ◌+◌, true, sym, ap, ◌∙◌, subst, length, arith, OnOk, IfOk, IfErr, ◌+ℤ◌}
+use Rattle.kit_words.proofs.Common.{on_ok_weaker}
+use Rattle.ring_machine.specs.Common.{path_of, cut, area_of, feature_at}
+use Rattle.segment_index.specs.Common.{times_by}
+use Rattle.local_planarity.specs.Common.{most_for}
+use Rattle.arc_store.specs.Common.{edit_begun, IsRecorded, State}
+use Rattle.arc_store.proofs.Common.{keeps_last}
+use Rattle.map_text.specs.Common.{string_text}
+use Rattle.split_merge.specs.Common.{is_early}
 use Rattle.split_merge.proofs.SplitConditions.{areas_add_up}
 use Rattle.split_merge.proofs.Recording.{SplitsAlong, split_recorded}
 use Rattle.split_merge.proofs.splitting.split.Goals as goal

@@ -1,14 +1,11 @@
-use Rattle.std.proofs.Common.{◌≡◌, ◌≤◌, ◌+◌, true, refl, sym, subst}
-use Rattle.std.proofs.lemmas.Result.{IfErr-weaker}
-use Rattle.ring_machine.specs.Cut.{path_of, cut}
-use Rattle.ring_machine.specs.Refusals.{first_of, split_refusals}
-use Rattle.segment_index.specs.Times.{times_by}
-use Rattle.local_planarity.specs.Tests.{most_for}
-use Rattle.arc_store.specs.Faults.{Refuses}
-use Rattle.arc_store.proofs.Outcomes.{is_refused}
-use Rattle.split_merge.specs.Conditions.{early_refusals}
-use Rattle.split_merge.specs.Untested.{is_early}
-use Rattle.map_text.specs.Strings.{string_text}
+use Rattle.kit_words.proofs.Common.{◌≡◌, ◌≤◌, ◌+◌, true, refl, sym, subst, IfErr-weaker}
+use Rattle.ring_machine.specs.Common.{path_of, cut, first_of, split_refusals}
+use Rattle.segment_index.specs.Common.{times_by}
+use Rattle.local_planarity.specs.Common.{most_for}
+use Rattle.arc_store.specs.Common.{Refuses}
+use Rattle.arc_store.proofs.Common.{is_refused}
+use Rattle.split_merge.specs.Common.{early_refusals, is_early}
+use Rattle.map_text.specs.Common.{string_text}
 use Rattle.split_merge.proofs.FirstRefusal.{refuses_first}
 use Rattle.split_merge.proofs.Recording.{SplitsAlong}
 use Rattle.split_merge.proofs.Late.{split_late, not_early}

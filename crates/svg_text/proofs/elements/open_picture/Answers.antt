@@ -1,6 +1,5 @@
-use Rattle.std.specs.Prelude.{codes}
-use Rattle.svg_text.specs.Numbers.{attribute_text}
-use Rattle.svg_text.specs.Elements.{box_text}
+use Rattle.kit_words.proofs.Common.{codes}
+use Rattle.svg_text.specs.Common.{attribute_text, box_text}
 use Rattle.svg_text.proofs.Appending.{five, whole, both_whole}
 use Rattle.svg_text.proofs.elements.open_picture.Goals as goal
 

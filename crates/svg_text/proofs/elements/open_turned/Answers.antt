@@ -1,5 +1,4 @@
-use Rattle.std.specs.Prelude.{codes}
-use Rattle.std.specs.Fmt.{signed_decimal}
+use Rattle.kit_words.proofs.Common.{codes, signed_decimal}
 use Rattle.svg_text.proofs.Appending.{three, whole}
 use Rattle.svg_text.proofs.elements.open_turned.Goals as goal
 

@@ -1,5 +1,5 @@
-use Rattle.std.specs.Prelude.{codes}
-use Rattle.svg_text.specs.Elements.{box_text, place_text}
+use Rattle.kit_words.proofs.Common.{codes}
+use Rattle.svg_text.specs.Common.{box_text, place_text}
 use Rattle.svg_text.proofs.Appending.{four, both_whole}
 use Rattle.svg_text.proofs.elements.open_view.Goals as goal
 

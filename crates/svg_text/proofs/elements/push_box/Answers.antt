@@ -1,5 +1,5 @@
-use Rattle.std.specs.Prelude.{codes}
-use Rattle.svg_text.specs.Numbers.{pair_text}
+use Rattle.kit_words.proofs.Common.{codes}
+use Rattle.svg_text.specs.Common.{pair_text}
 use Rattle.svg_text.proofs.Appending.{three, both_whole}
 use Rattle.svg_text.proofs.elements.push_box.Goals as goal
 

@@ -1,8 +1,7 @@
 use mir.Syntax.{w64}
 use mir.Val.{SFits}
-use Rattle.std.proofs.Common.{rules}
-use Rattle.std.specs.Prelude.{codes}
-use Rattle.svg_text.specs.Numbers.{attribute_text}
+use Rattle.kit_words.proofs.Common.{rules, codes}
+use Rattle.svg_text.specs.Common.{attribute_text}
 use Rattle.svg_text.proofs.Appending.{four, whole}
 use Rattle.svg_text.proofs.elements.push_place.Goals as goal
 

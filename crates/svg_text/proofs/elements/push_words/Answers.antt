@@ -1,7 +1,5 @@
-use Rattle.std.proofs.Common.{◌++◌, ◌∙◌, ap}
-use Rattle.std.specs.Prelude.{codes}
-use Rattle.svg_text.specs.Escaping.{escaped}
-use Rattle.svg_text.specs.Numbers.{attribute_text}
+use Rattle.kit_words.proofs.Common.{◌++◌, ◌∙◌, ap, codes}
+use Rattle.svg_text.specs.Common.{escaped, attribute_text}
 use Rattle.svg_text.proofs.Appending.{four, five, whole}
 use Rattle.svg_text.proofs.elements.push_words.Goals as goal
 

@@ -1,5 +1,5 @@
-use Rattle.std.proofs.Common.{◌≡◌, ◌++◌, drop}
-use Rattle.svg_text.specs.Escaping.{escaped, escaped_from}
+use Rattle.kit_words.proofs.Common.{◌≡◌, ◌++◌, drop}
+use Rattle.svg_text.specs.Common.{escaped, escaped_from}
 use Rattle.svg_text.proofs.escaping.push_escaped.Given as goal
 
 -- what was appended so far, and what the bytes that are left become, are the whole

@@ -1,6 +1,6 @@
-use Rattle.std.proofs.Common.{◌-◌, refl, sym, map}
-use Rattle.json_spans.specs.Left.{node}
-use Rattle.topo_outline.specs.Views.{view_entry}
+use Rattle.kit_words.proofs.Common.{◌-◌, refl, sym, map}
+use Rattle.json_spans.specs.Common.{node}
+use Rattle.topo_outline.specs.Common.{view_entry}
 use Rattle.topo_outline.specs.declared.fault.OpenFault.TheVariants as open_fault
 use Rattle.topo_outline.proofs.Depth.{inside, names_fail, type_fails, single_fails, single_gives, list_fails, deep, collection, collection_fails, joined_turn, joined_stop, joined_end, enclosed_gives}
 use Rattle.topo_outline.proofs.geometries.+geometry.Goals as goal

@@ -1,8 +1,6 @@
-use Rattle.std.proofs.Common.{◌≡◌, ◌-◌, map}
-use Rattle.json_spans.specs.Left.{node}
-use Rattle.json_spans.specs.Walk.{items, items_left}
-use Rattle.topo_outline.specs.Shape.{each_joined}
-use Rattle.topo_outline.specs.Views.{view_item, view_entry}
+use Rattle.kit_words.proofs.Common.{◌≡◌, ◌-◌, map}
+use Rattle.json_spans.specs.Common.{node, items, items_left}
+use Rattle.topo_outline.specs.Common.{each_joined, view_item, view_entry}
 use Rattle.topo_outline.proofs.Walking.{with_front}
 use Rattle.topo_outline.proofs.Depth.{inside}
 use Rattle.topo_outline.proofs.geometries.+geometry.Given as goal

@@ -1,8 +1,6 @@
-use Rattle.std.proofs.Common.{◌≡◌}
-use Rattle.std.specs.List.{list_all}
-use Rattle.json_spans.specs.Left.{node}
-use Rattle.json_spans.specs.Walk.{items, items_left}
-use Rattle.topo_outline.specs.Shape.{is_list}
+use Rattle.kit_words.proofs.Common.{◌≡◌, list_all}
+use Rattle.json_spans.specs.Common.{node, items, items_left}
+use Rattle.topo_outline.specs.Common.{is_list}
 use Rattle.topo_outline.proofs.geometries.are_lists.Given as goal
 
 abbrev pub invariant-loop-part : goal.invariant-loop-part

@@ -1,5 +1,4 @@
-use Rattle.std.proofs.Common.{rules, refl, ◌++◌, ◌∷◌, [], string_bytes}
-use Rattle.std.proofs.lemmas.List.{map-append}
+use Rattle.kit_words.proofs.Common.{rules, refl, ◌++◌, ◌∷◌, [], string_bytes, map-append}
 use Rattle.topo_outline.proofs.Naming.{one_more, tested, named_turn, named_again, named_stop, named_end}
 use Rattle.topo_outline.proofs.members.entries.Goals as goal
 

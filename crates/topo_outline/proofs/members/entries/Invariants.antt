@@ -1,11 +1,6 @@
-use Rattle.std.proofs.Common.{◌≡◌, ℕ, List, map}
-use Rattle.std.specs.BTreeSet.{contains_text}
-use Rattle.std.specs.List.{list_any}
-use Rattle.std.specs.Str.{bytes_eq}
-use Rattle.json_spans.specs.Left.{node}
-use Rattle.json_spans.specs.Walk.{members_left}
-use Rattle.topo_outline.specs.Shape.{named, members_of}
-use Rattle.topo_outline.specs.Views.{view_entry}
+use Rattle.kit_words.proofs.Common.{◌≡◌, ℕ, List, map, contains_text, list_any, bytes_eq}
+use Rattle.json_spans.specs.Common.{node, members_left}
+use Rattle.topo_outline.specs.Common.{named, members_of, view_entry}
 use Rattle.topo_outline.proofs.Walking.{with_front}
 use Rattle.topo_outline.proofs.members.entries.Given as goal
 

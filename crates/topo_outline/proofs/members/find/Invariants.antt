@@ -1,6 +1,5 @@
-use Rattle.std.proofs.Common.{◌≡◌, map, drop}
-use Rattle.topo_outline.specs.Members.{member}
-use Rattle.topo_outline.specs.Views.{view_entry}
+use Rattle.kit_words.proofs.Common.{◌≡◌, map, drop}
+use Rattle.topo_outline.specs.Common.{member, view_entry}
 use Rattle.topo_outline.proofs.members.find.Given as goal
 
 abbrev pub invariant-loop-entry : goal.invariant-loop-entry

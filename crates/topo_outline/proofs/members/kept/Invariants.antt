@@ -1,6 +1,5 @@
-use Rattle.std.proofs.Common.{◌≡◌, map, drop, ◌++◌}
-use Rattle.topo_outline.specs.Members.{kept}
-use Rattle.topo_outline.specs.Views.{view_entry, view_kept}
+use Rattle.kit_words.proofs.Common.{◌≡◌, map, drop, ◌++◌}
+use Rattle.topo_outline.specs.Common.{kept, view_entry, view_kept}
 use Rattle.topo_outline.proofs.members.kept.Given as goal
 
 abbrev pub invariant-loop-entry : goal.invariant-loop-entry

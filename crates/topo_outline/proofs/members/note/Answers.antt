@@ -1,8 +1,5 @@
-use Rattle.std.proofs.Common.{◌∙◌, string_bytes}
-use Rattle.std.specs.BTreeSet.{contains_text}
-use Rattle.std.specs.Str.{bytes_eq}
+use Rattle.kit_words.proofs.Common.{◌∙◌, string_bytes, contains_text, bytes_eq, on_ok_weaker}
 use Rattle.std.proofs.lemmas.Map.Text.{btree_set_updates_text}
-use Rattle.std.proofs.lemmas.Result.{on_ok_weaker}
 use Rattle.topo_outline.proofs.Naming.{either}
 use Rattle.topo_outline.proofs.members.note.Goals as goal
 

@@ -1,4 +1,4 @@
-use Rattle.std.proofs.Common.{arith}
+use Rattle.kit_words.proofs.Common.{arith}
 use Rattle.topo_outline.proofs.Placing.{layer_turn, layer_done}
 use Rattle.topo_outline.proofs.places.places.Goals as goal
 

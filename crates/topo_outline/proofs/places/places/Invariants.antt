@@ -1,6 +1,5 @@
-use Rattle.std.proofs.Common.{◌≡◌, map, drop, ◌++◌}
-use Rattle.topo_outline.specs.Layers.{leaves}
-use Rattle.topo_outline.specs.Views.{view_layer, view_place}
+use Rattle.kit_words.proofs.Common.{◌≡◌, map, drop, ◌++◌}
+use Rattle.topo_outline.specs.Common.{leaves, view_layer, view_place}
 use Rattle.topo_outline.proofs.places.places.Given as goal
 
 abbrev pub invariant-loop-layer : goal.invariant-loop-layer

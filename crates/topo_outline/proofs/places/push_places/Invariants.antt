@@ -1,6 +1,5 @@
-use Rattle.std.proofs.Common.{◌≡◌, map, drop, ◌++◌}
-use Rattle.topo_outline.specs.Layers.{leaves_in}
-use Rattle.topo_outline.specs.Views.{view_item, view_place}
+use Rattle.kit_words.proofs.Common.{◌≡◌, map, drop, ◌++◌}
+use Rattle.topo_outline.specs.Common.{leaves_in, view_item, view_place}
 use Rattle.topo_outline.proofs.places.push_places.Given as goal
 
 abbrev pub invariant-loop-item : goal.invariant-loop-item

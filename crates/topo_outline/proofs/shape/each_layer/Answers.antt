@@ -1,7 +1,6 @@
-use Rattle.std.proofs.Common.{arith}
-use Rattle.std.proofs.lemmas.List.{map-append}
+use Rattle.kit_words.proofs.Common.{arith, map-append}
 use Rattle.topo_outline.specs.Shape.{layer}
-use Rattle.topo_outline.specs.Views.{view_entry}
+use Rattle.topo_outline.specs.Common.{view_entry}
 use Rattle.topo_outline.proofs.Walking.{each_drop_turn}
 use Rattle.topo_outline.proofs.shape.each_layer.Goals as goal
 

@@ -1,7 +1,6 @@
-use Rattle.std.proofs.Common.{◌≡◌, map, drop}
-use Rattle.topo_outline.specs.Faults.{each}
+use Rattle.kit_words.proofs.Common.{◌≡◌, map, drop}
+use Rattle.topo_outline.specs.Common.{each, view_entry, view_layer}
 use Rattle.topo_outline.specs.Shape.{layer}
-use Rattle.topo_outline.specs.Views.{view_entry, view_layer}
 use Rattle.topo_outline.proofs.Walking.{with_front}
 use Rattle.topo_outline.proofs.shape.each_layer.Given as goal
 

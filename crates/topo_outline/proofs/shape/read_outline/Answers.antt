@@ -1,4 +1,4 @@
-use Rattle.json_spans.specs.Left.{node}
+use Rattle.json_spans.specs.Common.{node}
 use Rattle.topo_outline.proofs.Promised as promised
 use Rattle.topo_outline.proofs.shape.read_outline.Goals as goal
 

@@ -1,6 +1,5 @@
-use Rattle.std.proofs.Common.{rules}
-use Rattle.std.proofs.lemmas.Int.{to_z-of_z}
-use Rattle.json_spans.specs.Left.{node}
+use Rattle.kit_words.proofs.Common.{rules, to_z-of_z}
+use Rattle.json_spans.specs.Common.{node}
 use Rattle.topo_reader.proofs.Summing.{pair_fails}
 use Rattle.topo_reader.proofs.arcs.pair.Goals as goal
 use mir.Syntax.{w64}

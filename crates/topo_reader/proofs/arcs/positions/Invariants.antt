@@ -1,9 +1,7 @@
-use Rattle.std.proofs.Common.{◌≡◌}
-use Rattle.json_spans.specs.Left.{node}
-use Rattle.json_spans.specs.Walk.{items, items_left}
-use Rattle.topo_reader.specs.Arcs.{origin}
-use Rattle.topo_reader.specs.Positions.{positions}
-use Rattle.topo_outline.proofs.Walking.{with_front}
+use Rattle.kit_words.proofs.Common.{◌≡◌}
+use Rattle.json_spans.specs.Common.{node, items, items_left}
+use Rattle.topo_reader.specs.Common.{origin, positions}
+use Rattle.topo_outline.proofs.Common.{with_front}
 use Rattle.topo_reader.proofs.arcs.positions.Given as goal
 
 abbrev pub invariant-loop-part : goal.invariant-loop-part

@@ -1,5 +1,4 @@
-use Rattle.std.proofs.Common.{arith}
-use Rattle.std.proofs.lemmas.Int.{ints, clamps}
+use Rattle.kit_words.proofs.Common.{arith, ints, clamps}
 use Rattle.topo_reader.proofs.Boxed.{is_box_with, box_with_is}
 use Rattle.topo_reader.proofs.extent.box_with.Goals as goal
 

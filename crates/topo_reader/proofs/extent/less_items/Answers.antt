@@ -1,5 +1,5 @@
-use Rattle.std.proofs.Common.{arith}
-use Rattle.topo_outline.specs.Views.{view_item}
+use Rattle.kit_words.proofs.Common.{arith}
+use Rattle.topo_outline.specs.Common.{view_item}
 use Rattle.topo_reader.proofs.Leaves.{item_turn, item_done}
 use Rattle.topo_reader.proofs.extent.less_items.Goals as goal
 

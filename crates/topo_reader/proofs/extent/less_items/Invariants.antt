@@ -1,6 +1,5 @@
-use Rattle.std.proofs.Common.{◌≡◌, ◌-◌, drop, length, map}
-use Rattle.topo_outline.specs.Layers.{leaves_in}
-use Rattle.topo_outline.specs.Views.{view_item}
+use Rattle.kit_words.proofs.Common.{◌≡◌, ◌-◌, drop, length, map}
+use Rattle.topo_outline.specs.Common.{leaves_in, view_item}
 use Rattle.topo_reader.proofs.extent.less_items.Given as goal
 
 abbrev pub invariant-loop-item : goal.invariant-loop-item

@@ -1,5 +1,5 @@
-use Rattle.std.proofs.Common.{arith}
-use Rattle.topo_outline.specs.Views.{view_layer}
+use Rattle.kit_words.proofs.Common.{arith}
+use Rattle.topo_outline.specs.Common.{view_layer}
 use Rattle.topo_reader.proofs.Leaves.{layer_turn, layer_done}
 use Rattle.topo_reader.proofs.extent.less_layers.Goals as goal
 

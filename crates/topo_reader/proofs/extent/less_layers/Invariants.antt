@@ -1,6 +1,5 @@
-use Rattle.std.proofs.Common.{◌≡◌, ◌-◌, drop, length, map}
-use Rattle.topo_outline.specs.Layers.{leaves}
-use Rattle.topo_outline.specs.Views.{view_layer}
+use Rattle.kit_words.proofs.Common.{◌≡◌, ◌-◌, drop, length, map}
+use Rattle.topo_outline.specs.Common.{leaves, view_layer}
 use Rattle.topo_reader.proofs.extent.less_layers.Given as goal
 
 abbrev pub invariant-loop-layer : goal.invariant-loop-layer

@@ -1,5 +1,5 @@
-use Rattle.std.proofs.Common.{sym, ◌∙◌, arith}
-use Rattle.topo_reader.specs.Uses.{polygon_corners}
+use Rattle.kit_words.proofs.Common.{sym, ◌∙◌, arith}
+use Rattle.topo_reader.specs.Common.{polygon_corners}
 use Rattle.topo_reader.proofs.Widening.{turn, done}
 use Rattle.topo_reader.proofs.extent.with_feature.Goals as goal
 

@@ -1,7 +1,5 @@
-use Rattle.std.proofs.Common.{◌≡◌, drop}
-use Rattle.std.specs.List.{flat_map}
-use Rattle.topo_reader.specs.Extent.{widened}
-use Rattle.topo_reader.specs.Uses.{polygon_corners}
+use Rattle.kit_words.proofs.Common.{◌≡◌, drop, flat_map}
+use Rattle.topo_reader.specs.Common.{widened, polygon_corners}
 use Rattle.topo_reader.proofs.extent.with_feature.Given as goal
 
 abbrev pub invariant-loop-polygon : goal.invariant-loop-polygon

@@ -1,5 +1,5 @@
-use Rattle.std.proofs.Common.{sym, ◌∙◌, arith}
-use Rattle.topo_reader.specs.Uses.{feature_corners}
+use Rattle.kit_words.proofs.Common.{sym, ◌∙◌, arith}
+use Rattle.topo_reader.specs.Common.{feature_corners}
 use Rattle.topo_reader.proofs.Widening.{turn, done}
 use Rattle.topo_reader.proofs.extent.with_features.Goals as goal
 

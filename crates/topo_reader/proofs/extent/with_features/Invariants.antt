@@ -1,8 +1,5 @@
-use Rattle.std.proofs.Common.{◌≡◌, drop}
-use Rattle.std.specs.List.{flat_map}
-use Rattle.topo_reader.specs.Extent.{widened}
-use Rattle.std.specs.Prelude.{None}
-use Rattle.topo_reader.specs.Uses.{feature_corners}
+use Rattle.kit_words.proofs.Common.{◌≡◌, drop, flat_map, None}
+use Rattle.topo_reader.specs.Common.{widened, feature_corners}
 use Rattle.topo_reader.proofs.extent.with_features.Given as goal
 
 abbrev pub invariant-loop-polygons : goal.invariant-loop-polygons

@@ -1,5 +1,5 @@
-use Rattle.std.proofs.Common.{sym, ◌∙◌, arith}
-use Rattle.topo_reader.specs.Uses.{positions_of}
+use Rattle.kit_words.proofs.Common.{sym, ◌∙◌, arith}
+use Rattle.topo_reader.specs.Common.{positions_of}
 use Rattle.topo_reader.proofs.Widening.{turn, done}
 use Rattle.topo_reader.proofs.extent.with_polygon.Goals as goal
 

@@ -1,7 +1,5 @@
-use Rattle.std.proofs.Common.{◌≡◌, drop}
-use Rattle.std.specs.List.{flat_map}
-use Rattle.topo_reader.specs.Extent.{widened}
-use Rattle.topo_reader.specs.Uses.{positions_of}
+use Rattle.kit_words.proofs.Common.{◌≡◌, drop, flat_map}
+use Rattle.topo_reader.specs.Common.{widened, positions_of}
 use Rattle.topo_reader.proofs.extent.with_polygon.Given as goal
 
 abbrev pub invariant-loop-ring : goal.invariant-loop-ring

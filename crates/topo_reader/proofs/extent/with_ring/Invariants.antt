@@ -1,5 +1,5 @@
-use Rattle.std.proofs.Common.{◌≡◌, drop}
-use Rattle.topo_reader.specs.Extent.{widened}
+use Rattle.kit_words.proofs.Common.{◌≡◌, drop}
+use Rattle.topo_reader.specs.Common.{widened}
 use Rattle.topo_reader.proofs.extent.with_ring.Given as goal
 
 abbrev pub invariant-loop-pos : goal.invariant-loop-pos

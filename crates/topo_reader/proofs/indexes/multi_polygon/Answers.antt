@@ -1,8 +1,6 @@
-use Rattle.std.proofs.Common.{map}
-use Rattle.std.proofs.lemmas.List.{map-append}
-use Rattle.topo_outline.proofs.Walking.{each_turn}
-use Rattle.topo_reader.specs.Indexes.{polygon}
-use Rattle.topo_reader.specs.Uses.{positions_of}
+use Rattle.kit_words.proofs.Common.{map, map-append}
+use Rattle.topo_outline.proofs.Common.{each_turn}
+use Rattle.topo_reader.specs.Common.{polygon, positions_of}
 use Rattle.topo_reader.proofs.indexes.multi_polygon.Goals as goal
 
 pub loop-part-preserved : goal.loop-part-preserved

@@ -1,10 +1,8 @@
-use Rattle.std.proofs.Common.{◌≡◌, map}
-use Rattle.json_spans.specs.Left.{node}
-use Rattle.json_spans.specs.Walk.{items, items_left}
-use Rattle.topo_outline.specs.Faults.{each}
-use Rattle.topo_reader.specs.Indexes.{index}
-use Rattle.topo_outline.proofs.Walking.{with_front}
-use Rattle.topo_reader.specs.Uses.{arc_of, positions_of}
+use Rattle.kit_words.proofs.Common.{◌≡◌, map}
+use Rattle.json_spans.specs.Common.{node, items, items_left}
+use Rattle.topo_outline.specs.Common.{each}
+use Rattle.topo_reader.specs.Common.{index, arc_of, positions_of}
+use Rattle.topo_outline.proofs.Common.{with_front}
 use Rattle.topo_reader.proofs.indexes.ring.Given as goal
 
 abbrev pub invariant-loop-part : goal.invariant-loop-part

@@ -1,9 +1,7 @@
-use Rattle.std.proofs.Common.{arith, map}
-use Rattle.std.proofs.lemmas.List.{map-append}
-use Rattle.topo_outline.specs.Views.{view_place}
-use Rattle.topo_outline.proofs.Walking.{each_drop_turn}
-use Rattle.topo_reader.specs.Indexes.{uses_of}
-use Rattle.topo_reader.specs.Uses.{positions_of}
+use Rattle.kit_words.proofs.Common.{arith, map, map-append}
+use Rattle.topo_outline.specs.Common.{view_place}
+use Rattle.topo_outline.proofs.Common.{each_drop_turn}
+use Rattle.topo_reader.specs.Common.{uses_of, positions_of}
 use Rattle.topo_reader.proofs.indexes.uses.Goals as goal
 
 pub loop-place-preserved : goal.loop-place-preserved

@@ -1,9 +1,7 @@
-use Rattle.std.proofs.Common.{◌≡◌, map, drop}
-use Rattle.topo_outline.specs.Faults.{each}
-use Rattle.topo_reader.specs.Indexes.{uses_of}
-use Rattle.topo_outline.specs.Views.{view_place}
-use Rattle.topo_outline.proofs.Walking.{with_front}
-use Rattle.topo_reader.specs.Uses.{feature_uses, positions_of}
+use Rattle.kit_words.proofs.Common.{◌≡◌, map, drop}
+use Rattle.topo_outline.specs.Common.{each, view_place}
+use Rattle.topo_reader.specs.Common.{uses_of, feature_uses, positions_of}
+use Rattle.topo_outline.proofs.Common.{with_front}
 use Rattle.topo_reader.proofs.indexes.uses.Given as goal
 
 abbrev pub invariant-loop-place : goal.invariant-loop-place

@@ -1,5 +1,4 @@
-use Rattle.topo_reader.specs.Uses.{feature_uses}
-use Rattle.topo_reader.specs.Sizes.{feature_size}
+use Rattle.topo_reader.specs.Common.{feature_uses, feature_size}
 use Rattle.topo_reader.proofs.Counting.{Counts}
 use Rattle.topo_reader.proofs.limits.after_all.Given as goal
 

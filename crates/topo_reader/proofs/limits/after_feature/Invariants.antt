@@ -1,5 +1,4 @@
-use Rattle.topo_reader.specs.Uses.{polygon_uses}
-use Rattle.topo_reader.specs.Sizes.{polygon_size}
+use Rattle.topo_reader.specs.Common.{polygon_uses, polygon_size}
 use Rattle.topo_reader.proofs.Counting.{Counts}
 use Rattle.topo_reader.proofs.limits.after_feature.Given as goal
 

@@ -1,5 +1,4 @@
-use Rattle.topo_reader.specs.Uses.{ring_uses}
-use Rattle.topo_reader.specs.Sizes.{ring_size}
+use Rattle.topo_reader.specs.Common.{ring_uses, ring_size}
 use Rattle.topo_reader.proofs.Counting.{Counts}
 use Rattle.topo_reader.proofs.limits.after_polygon.Given as goal
 

@@ -1,5 +1,5 @@
-use Rattle.std.proofs.Common.{length}
-use Rattle.topo_reader.specs.Uses.{arc_of}
+use Rattle.kit_words.proofs.Common.{length}
+use Rattle.topo_reader.specs.Common.{arc_of}
 use Rattle.topo_reader.proofs.Counting.{Counts}
 use Rattle.topo_reader.proofs.limits.after_ring.Given as goal
 

@@ -1,7 +1,6 @@
-use Rattle.std.proofs.Common.{◌≡◌, ◌+◌, ◌*◌, ◌-◌, ◌<◌, ℕ, true, length, take, get_or, refl, sym, ◌∙◌, arith}
-use Rattle.std.proofs.lemmas.Grind.{common_steps}
-use Rattle.json_spans.specs.Bytes.{is_digit}
-use Rattle.json_spans.specs.Whole.{value_from}
+use Rattle.kit_words.proofs.Common.{◌≡◌, ◌+◌, ◌*◌, ◌-◌, ◌<◌, ℕ, true, length, take, get_or, refl, sym, ◌∙◌, arith}
+use Rattle.kit_words.proofs.Common.{common_steps}
+use Rattle.json_spans.specs.Common.{is_digit, value_from}
 use Rattle.topo_reader.proofs.PlainNumbers.{value_more, digits_more}
 use Rattle.topo_reader.proofs.plain_arc.digits.Goals as goal
 

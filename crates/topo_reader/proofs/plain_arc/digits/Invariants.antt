@@ -1,7 +1,5 @@
-use Rattle.std.proofs.Common.{◌≡◌, ◌<◌, ◌^◌, take, true}
-use Rattle.std.specs.List.{list_all}
-use Rattle.json_spans.specs.Bytes.{is_digit}
-use Rattle.json_spans.specs.Whole.{value_from}
+use Rattle.kit_words.proofs.Common.{◌≡◌, ◌<◌, ◌^◌, take, true, list_all}
+use Rattle.json_spans.specs.Common.{is_digit, value_from}
 use Rattle.topo_reader.proofs.plain_arc.digits.Given as goal
 
 abbrev pub invariant-loop-i : goal.invariant-loop-i

@@ -1,7 +1,7 @@
-use Rattle.std.proofs.Common.{◌≡◌, length, sym, ◌∙◌}
+use Rattle.kit_words.proofs.Common.{◌≡◌, length, sym, ◌∙◌}
 use Rattle.std.proofs.lemmas.Bool.{eqb-true}
-use Rattle.json_spans.specs.Left.{node}
-use Rattle.topo_reader.specs.Plain.{PlainArc}
+use Rattle.json_spans.specs.Common.{node}
+use Rattle.topo_reader.specs.Common.{PlainArc}
 use Rattle.topo_reader.proofs.PlainArcs.{whole_reads}
 use Rattle.topo_reader.proofs.plain_arc.plain_arc.Goals as goal
 

@@ -1,6 +1,5 @@
-use Rattle.std.proofs.Common.{◌≡◌, ◌<◌, true, length, get_or, arith}
-use Rattle.std.proofs.lemmas.Grind.{common_steps}
-use Rattle.json_spans.specs.Bytes.{is_space}
+use Rattle.kit_words.proofs.Common.{◌≡◌, ◌<◌, true, length, get_or, arith, common_steps}
+use Rattle.json_spans.specs.Common.{is_space}
 use Rattle.topo_reader.proofs.PlainLists.{space_more, space_end, space_last}
 use Rattle.topo_reader.proofs.plain_list.after_space.Goals as goal
 

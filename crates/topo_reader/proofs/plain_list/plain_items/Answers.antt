@@ -1,7 +1,6 @@
-use Rattle.std.proofs.Common.{◌≡◌, length, sym, ◌∙◌}
+use Rattle.kit_words.proofs.Common.{◌≡◌, length, sym, ◌∙◌}
 use Rattle.std.proofs.lemmas.Bool.{eqb-true}
-use Rattle.topo_reader.specs.PlainList.{PlainItem}
-use Rattle.topo_reader.specs.Uses.{positions_of}
+use Rattle.topo_reader.specs.Common.{PlainItem, positions_of}
 use Rattle.topo_reader.proofs.PlainLists.{turn, end, item_shorter}
 use Rattle.topo_reader.proofs.plain_list.plain_items.Goals as goal
 

@@ -1,5 +1,5 @@
-use Rattle.std.proofs.Common.{map}
-use Rattle.topo_reader.specs.Uses.{positions_of}
+use Rattle.kit_words.proofs.Common.{map}
+use Rattle.topo_reader.specs.Common.{positions_of}
 use Rattle.topo_reader.proofs.PlainArcs.{left_len}
 use Rattle.topo_reader.proofs.PlainLists.{Continues}
 use Rattle.topo_reader.proofs.plain_list.plain_items.Given as goal

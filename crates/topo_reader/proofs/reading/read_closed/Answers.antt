@@ -1,6 +1,6 @@
-use Rattle.std.proofs.Common.{ap, ◌∙◌, arith}
-use Rattle.json_spans.specs.Left.{node}
-use Rattle.topo_reader.specs.DocumentView.{view_raw}
+use Rattle.kit_words.proofs.Common.{ap, ◌∙◌, arith}
+use Rattle.json_spans.specs.Common.{node}
+use Rattle.topo_reader.specs.Common.{view_raw}
 use Rattle.topo_reader.proofs.MeaningOfText.{gives_read, gives_unread}
 use Rattle.topo_reader.proofs.OneReading.{gives_only}
 use Rattle.topo_reader.proofs.reading.read_closed.Goals as goal

@@ -1,4 +1,4 @@
-use Rattle.topo_reader.specs.DocumentView.{view_raw}
+use Rattle.topo_reader.specs.Common.{view_raw}
 use Rattle.topo_reader.proofs.OfRings.{answers_of_walks}
 use Rattle.topo_reader.proofs.reading.read_walks.Goals as goal
 

@@ -1,7 +1,5 @@
-use Rattle.std.proofs.Common.{◌∙◌, ap, sym, subst, length}
-use Rattle.std.specs.List.Sorted.{IsPermutation}
+use Rattle.kit_words.proofs.Common.{◌∙◌, ap, sym, subst, length, IsPermutation, length_permutation}
 use Rattle.std.proofs.lemmas.Bool.{eqb-true}
-use Rattle.std.proofs.lemmas.List.Sorted.{length_permutation}
 use Rattle.topo_reader.proofs.Sorting.{none_twice, copied}
 use Rattle.topo_reader.proofs.rings.all_differ.Goals as goal
 

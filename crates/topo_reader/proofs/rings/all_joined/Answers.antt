@@ -1,4 +1,4 @@
-use Rattle.std.proofs.Common.{arith}
+use Rattle.kit_words.proofs.Common.{arith}
 use Rattle.topo_reader.proofs.Joining.{joined_turn, joined_end, more_front, no_more}
 use Rattle.topo_reader.proofs.rings.all_joined.Goals as goal
 

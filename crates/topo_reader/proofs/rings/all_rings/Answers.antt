@@ -1,8 +1,6 @@
-use Rattle.std.proofs.Common.{arith}
-use Rattle.std.proofs.lemmas.List.{map-append}
-use Rattle.topo_reader.specs.Uses.{feature_uses}
-use Rattle.topo_reader.specs.Rings.{feature_of, all_rings}
-use Rattle.topo_outline.proofs.Walking.{each_at_turn, each_at_stop}
+use Rattle.kit_words.proofs.Common.{arith, map-append}
+use Rattle.topo_reader.specs.Common.{feature_uses, feature_of, all_rings}
+use Rattle.topo_outline.proofs.Common.{each_at_turn, each_at_stop}
 use Rattle.topo_reader.proofs.rings.all_rings.Goals as goal
 
 pub returns-in-Err : goal.returns-in-Err

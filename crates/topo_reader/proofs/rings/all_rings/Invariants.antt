@@ -1,8 +1,7 @@
-use Rattle.std.proofs.Common.{◌≡◌, map, drop}
-use Rattle.topo_outline.specs.Faults.{each_at}
-use Rattle.topo_reader.specs.Rings.{feature_of}
-use Rattle.topo_outline.proofs.Walking.{with_front}
-use Rattle.topo_reader.specs.Uses.{feature_uses, feature_positions}
+use Rattle.kit_words.proofs.Common.{◌≡◌, map, drop}
+use Rattle.topo_outline.specs.Common.{each_at}
+use Rattle.topo_reader.specs.Common.{feature_of, feature_uses, feature_positions}
+use Rattle.topo_outline.proofs.Common.{with_front}
 use Rattle.topo_reader.proofs.rings.all_rings.Given as goal
 
 abbrev pub invariant-loop-feature : goal.invariant-loop-feature

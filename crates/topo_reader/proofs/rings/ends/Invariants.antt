@@ -1,7 +1,5 @@
-use Rattle.std.proofs.Common.{◌≡◌, map, drop}
-use Rattle.std.specs.Prelude.{None}
-use Rattle.topo_reader.specs.Rings.{ends}
-use Rattle.topo_reader.specs.Uses.{arc_of}
+use Rattle.kit_words.proofs.Common.{◌≡◌, map, drop, None}
+use Rattle.topo_reader.specs.Common.{ends, arc_of}
 use Rattle.topo_reader.proofs.rings.ends.Given as goal
 
 abbrev pub invariant-loop-one : goal.invariant-loop-one

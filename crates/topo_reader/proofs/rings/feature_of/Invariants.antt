@@ -1,8 +1,7 @@
-use Rattle.std.proofs.Common.{◌≡◌, map, drop}
-use Rattle.topo_outline.specs.Faults.{each_at}
-use Rattle.topo_reader.specs.Rings.{polygon_of}
-use Rattle.topo_outline.proofs.Walking.{with_front}
-use Rattle.topo_reader.specs.Uses.{polygon_uses, polygon_positions}
+use Rattle.kit_words.proofs.Common.{◌≡◌, map, drop}
+use Rattle.topo_outline.specs.Common.{each_at}
+use Rattle.topo_reader.specs.Common.{polygon_of, polygon_uses, polygon_positions}
+use Rattle.topo_outline.proofs.Common.{with_front}
 use Rattle.topo_reader.proofs.rings.feature_of.Given as goal
 
 abbrev pub invariant-loop-polygon : goal.invariant-loop-polygon

@@ -1,4 +1,4 @@
-use Rattle.std.proofs.Common.{◌∙◌, arith}
+use Rattle.kit_words.proofs.Common.{◌∙◌, arith}
 use Rattle.topo_reader.proofs.Seen.{repeat_turn}
 use Rattle.topo_reader.proofs.rings.first_repeat.Goals as goal
 

@@ -1,5 +1,5 @@
-use Rattle.std.proofs.Common.{◌≡◌, drop, []}
-use Rattle.topo_reader.specs.Rings.{first_repeat}
+use Rattle.kit_words.proofs.Common.{◌≡◌, drop, []}
+use Rattle.topo_reader.specs.Common.{first_repeat}
 use Rattle.topo_reader.proofs.rings.first_repeat.Given as goal
 
 abbrev pub invariant-loop-pos : goal.invariant-loop-pos

@@ -1,6 +1,5 @@
-use Rattle.std.proofs.Common.{◌≡◌, map, drop}
-use Rattle.topo_reader.specs.Rings.{meet_from}
-use Rattle.topo_reader.specs.Uses.{arc_of}
+use Rattle.kit_words.proofs.Common.{◌≡◌, map, drop}
+use Rattle.topo_reader.specs.Common.{meet_from, arc_of}
 use Rattle.topo_reader.proofs.rings.meet_from.Given as goal
 
 abbrev pub invariant-loop-one : goal.invariant-loop-one

@@ -1,8 +1,7 @@
-use Rattle.std.proofs.Common.{◌≡◌, map, drop}
-use Rattle.topo_outline.specs.Faults.{each_at}
-use Rattle.topo_reader.specs.Rings.{closed_of}
-use Rattle.topo_outline.proofs.Walking.{with_front}
-use Rattle.topo_reader.specs.Uses.{ring_uses, positions_of}
+use Rattle.kit_words.proofs.Common.{◌≡◌, map, drop}
+use Rattle.topo_outline.specs.Common.{each_at}
+use Rattle.topo_reader.specs.Common.{closed_of, ring_uses, positions_of}
+use Rattle.topo_outline.proofs.Common.{with_front}
 use Rattle.topo_reader.proofs.rings.polygon_of.Given as goal
 
 abbrev pub invariant-loop-ring : goal.invariant-loop-ring

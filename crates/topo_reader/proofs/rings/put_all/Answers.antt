@@ -1,4 +1,4 @@
-use Rattle.std.proofs.Common.{sym, ◌∙◌, arith}
+use Rattle.kit_words.proofs.Common.{sym, ◌∙◌, arith}
 use Rattle.topo_reader.proofs.Joining.{squeezed_turn, squeezed_end, last_turn, more_front, no_more}
 use Rattle.topo_reader.proofs.rings.put_all.Goals as goal
 

@@ -1,5 +1,5 @@
-use Rattle.std.proofs.Common.{◌≡◌, drop, ◌++◌}
-use Rattle.topo_reader.specs.Rings.{squeezed, last_after}
+use Rattle.kit_words.proofs.Common.{◌≡◌, drop, ◌++◌}
+use Rattle.topo_reader.specs.Common.{squeezed, last_after}
 use Rattle.topo_reader.proofs.rings.put_all.Given as goal
 
 abbrev pub invariant-loop-pos : goal.invariant-loop-pos

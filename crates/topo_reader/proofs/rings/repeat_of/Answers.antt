@@ -1,4 +1,4 @@
-use Rattle.std.proofs.Common.{sym}
+use Rattle.kit_words.proofs.Common.{sym}
 use Rattle.topo_reader.proofs.rings.repeat_of.Goals as goal
 
 pub returns-then-branch : goal.returns-then-branch

@@ -1,5 +1,5 @@
-use Rattle.std.proofs.Common.{◌∙◌, ◌++◌, ap, sym, map, take, drop, arith}
-use Rattle.topo_writer.specs.Ways.{between}
+use Rattle.kit_words.proofs.Common.{◌∙◌, ◌++◌, ap, sym, map, take, drop, arith}
+use Rattle.topo_writer.specs.Common.{between}
 use Rattle.topo_writer.proofs.Marks.{round_marks, round_start}
 use Rattle.topo_writer.proofs.Ways.{round_is}
 use Rattle.topo_writer.proofs.cutting.cut_ring.Goals as goal

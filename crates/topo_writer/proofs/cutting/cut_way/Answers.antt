@@ -1,6 +1,7 @@
-use Rattle.std.proofs.Common.{arith, ◌≡◌, ◌+◌, ◌<◌, ◌||◌, ◌++◌, ◌∷◌, [], if◌then◌else◌, ◌∙◌, sym, ap, subst, length, drop, append-nil}
-use Rattle.std.proofs.lemmas.List.{drop_all, length-append}
-use Rattle.topo_writer.specs.Ways.{between, cut_after, is_end, Rising}
+use Rattle.kit_words.proofs.Common.{arith, ◌≡◌, ◌+◌, ◌<◌, ◌||◌, ◌++◌, ◌∷◌, [], if◌then◌else◌, ◌∙◌, sym, ap, subst}
+use Rattle.kit_words.proofs.Common.{length, drop, drop_all, length-append}
+use Rattle.std.proofs.Common.{append-nil}
+use Rattle.topo_writer.specs.Common.{between, cut_after, is_end, Rising}
 use Rattle.topo_writer.proofs.Cuts.{open_part, place_step, rising_step}
 use Rattle.topo_writer.proofs.Marks.{mark_at}
 use Rattle.topo_writer.proofs.cutting.cut_way.Goals as goal

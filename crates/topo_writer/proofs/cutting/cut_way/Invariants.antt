@@ -1,6 +1,6 @@
-use Rattle.std.proofs.Common.{◌≡◌, ◌<◌, ◌++◌, Bool, map, take, drop, length}
-use Rattle.grid_geometry.specs.Position.{Position}
-use Rattle.topo_writer.specs.Ways.{between, cut_after, Rising}
+use Rattle.kit_words.proofs.Common.{◌≡◌, ◌<◌, ◌++◌, Bool, map, take, drop, length}
+use Rattle.grid_geometry.specs.Common.{Position}
+use Rattle.topo_writer.specs.Common.{between, cut_after, Rising}
 use Rattle.topo_writer.proofs.Cuts.{open_part}
 use Rattle.topo_writer.proofs.cutting.cut_way.Given as goal
 

@@ -1,4 +1,4 @@
-use Rattle.std.proofs.Common.{◌||◌, ◌+◌, false, get_or, sym, ap, arith}
+use Rattle.kit_words.proofs.Common.{◌||◌, ◌+◌, false, get_or, sym, ap, arith}
 use Rattle.topo_writer.proofs.Marks.{not_end}
 use Rattle.topo_writer.proofs.cutting.ends_at.Goals as goal
 

@@ -1,5 +1,4 @@
-use Rattle.std.proofs.Common.{◌∙◌, ◌<◌, sym, ap, length, arith}
-use Rattle.std.proofs.lemmas.List.{length-map}
+use Rattle.kit_words.proofs.Common.{◌∙◌, ◌<◌, sym, ap, length, arith, length-map}
 use Rattle.topo_writer.proofs.Marks.{mark_at, from_more, before_more, begun_at}
 use Rattle.topo_writer.proofs.cutting.first_mark.Goals as goal
 

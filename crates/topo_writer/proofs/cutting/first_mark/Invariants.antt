@@ -1,6 +1,6 @@
-use Rattle.std.proofs.Common.{◌≡◌, ◌++◌, Bool, List, map, take, drop}
-use Rattle.grid_geometry.specs.Position.{Position}
-use Rattle.map_text.specs.Arcs.{from_first, before_first}
+use Rattle.kit_words.proofs.Common.{◌≡◌, ◌++◌, Bool, List, map, take, drop}
+use Rattle.grid_geometry.specs.Common.{Position}
+use Rattle.map_text.specs.Common.{from_first, before_first}
 use Rattle.topo_writer.proofs.cutting.first_mark.Given as goal
 
 -- none of the places before has a mark

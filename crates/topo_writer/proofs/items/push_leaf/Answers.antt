@@ -1,10 +1,7 @@
-use Rattle.std.proofs.Common.{ap, ◌∙◌, ◌++◌}
-use Rattle.ring_machine.specs.Parts.{in_feature}
-use Rattle.ring_machine.specs.Vertices.{is_junction}
-use Rattle.map_text.specs.Arcs.{arcs_of, indexes}
-use Rattle.map_text.specs.Text.{feature_text}
-use Rattle.topo_writer.specs.Items.{feature_at}
-use Rattle.topo_writer.specs.Tables.{arcs_in}
+use Rattle.kit_words.proofs.Common.{ap, ◌∙◌, ◌++◌}
+use Rattle.ring_machine.specs.Common.{in_feature, is_junction}
+use Rattle.map_text.specs.Common.{arcs_of, indexes, feature_text}
+use Rattle.topo_writer.specs.Common.{feature_at, arcs_in}
 use Rattle.topo_writer.proofs.InDocument.{rings_there, form_fits}
 use Rattle.topo_writer.proofs.ItemSteps.{after_comma}
 use Rattle.topo_writer.proofs.Leading.{feature_whole, leaf_rings, leaf_few}

@@ -1,17 +1,13 @@
-use Rattle.std.proofs.Common.{◌≡◌, sym, ap, ◌∙◌, subst, inl, refl, [], ◌∷◌, ◌++◌, map, append_assoc, true, false}
-use Rattle.std.specs.List.{flat_map}
-use Rattle.std.proofs.lemmas.List.{map-append}
-use Rattle.device_io.specs.Sending.{Took, TookFront}
-use Rattle.device_io.proofs.SendingLaws.{sends_front, took_nothing}
-use Rattle.ring_machine.specs.Vertices.{is_junction}
-use Rattle.ring_machine.proofs.First.{In, in_right}
-use Rattle.map_frame.specs.Shown.{view_item_view}
-use Rattle.map_text.specs.Arcs.{pieces, with_pieces}
-use Rattle.map_text.specs.Text.{items_text}
-use Rattle.topo_writer.specs.Faults.{of_device}
-use Rattle.topo_writer.specs.Items.{item_at, item_rings, items_at, items_written, open_heads, LeadsOn}
-use Rattle.topo_writer.specs.Opened.{is_begin, more_after, open_after}
-use Rattle.topo_writer.specs.Tables.{arcs_in}
+use Rattle.kit_words.proofs.Common.{◌≡◌, sym, ap, ◌∙◌, subst, inl, refl, [], ◌∷◌, ◌++◌, map, append_assoc, true, false}
+use Rattle.kit_words.proofs.Common.{flat_map, map-append}
+use Rattle.device_io.specs.Common.{Took, TookFront}
+use Rattle.device_io.proofs.Common.{sends_front, took_nothing}
+use Rattle.ring_machine.specs.Common.{is_junction}
+use Rattle.ring_machine.proofs.Common.{In, in_right}
+use Rattle.map_frame.specs.Common.{view_item_view}
+use Rattle.map_text.specs.Common.{pieces, with_pieces, items_text}
+use Rattle.topo_writer.specs.Common.{of_device, item_at, item_rings, items_at, items_written, open_heads, LeadsOn}
+use Rattle.topo_writer.specs.Common.{is_begin, more_after, open_after, arcs_in}
 use Rattle.topo_writer.proofs.ItemLemmas.{shown_there, written_begins}
 use Rattle.topo_writer.proofs.ItemSteps.{heads_step, more_step, sent_step, sent_part, arcs_step}
 use Rattle.topo_writer.proofs.Leading.{leads_first, leads_off}

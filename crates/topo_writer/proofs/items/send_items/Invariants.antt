@@ -1,10 +1,8 @@
-use Rattle.std.proofs.Common.{◌≡◌, ◌++◌, [], map, false}
-use Rattle.device_io.specs.Sending.{Took}
-use Rattle.map_frame.specs.Shown.{view_item_view}
-use Rattle.map_text.specs.Text.{items_text}
-use Rattle.topo_writer.specs.Items.{items_written, open_heads}
-use Rattle.topo_writer.specs.Opened.{more_after, open_after}
-use Rattle.topo_writer.specs.Tables.{FindsArcs, Leads, TakesItems}
+use Rattle.kit_words.proofs.Common.{◌≡◌, ◌++◌, [], map, false}
+use Rattle.device_io.specs.Common.{Took}
+use Rattle.map_frame.specs.Common.{view_item_view}
+use Rattle.map_text.specs.Common.{items_text}
+use Rattle.topo_writer.specs.Common.{items_written, open_heads, more_after, open_after, FindsArcs, Leads, TakesItems}
 use Rattle.topo_writer.proofs.items.send_items.Given as goal
 
 abbrev pub invariant-loop-item : goal.invariant-loop-item

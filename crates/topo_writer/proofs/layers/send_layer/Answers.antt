@@ -1,12 +1,8 @@
-use Rattle.std.proofs.Common.{ap, subst, ◌∙◌, false, []}
-use Rattle.std.specs.Prelude.{nat_lt}
-use Rattle.device_io.specs.Sending.{Took, TookFront}
-use Rattle.device_io.proofs.SendingLaws.{sends_front, took_both, took_first, took_none, took_second}
-use Rattle.map_text.specs.Text.{comma_if, items_text}
-use Rattle.topo_writer.specs.Faults.{of_device}
-use Rattle.topo_writer.specs.Items.{items_at, items_written}
-use Rattle.topo_writer.specs.Tables.{arcs_in}
-use Rattle.topo_writer.specs.declared.fault.WriteFault.TheVariants.{Device, OutOfMemory}
+use Rattle.kit_words.proofs.Common.{ap, subst, ◌∙◌, false, [], nat_lt}
+use Rattle.device_io.specs.Common.{Took, TookFront}
+use Rattle.device_io.proofs.Common.{sends_front, took_both, took_first, took_none, took_second}
+use Rattle.map_text.specs.Common.{comma_if, items_text}
+use Rattle.topo_writer.specs.Common.{of_device, items_at, items_written, arcs_in, Device, OutOfMemory}
 use Rattle.topo_writer.proofs.LayerLemmas.{arcs_next, items_are, items_out, items_shown, layer_leads, layer_parts, name_shown, shows_layer}
 use Rattle.topo_writer.proofs.Sent.{filled}
 use Rattle.topo_writer.proofs.layers.send_layer.Goals as goal

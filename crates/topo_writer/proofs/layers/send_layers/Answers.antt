@@ -1,8 +1,6 @@
-use Rattle.std.proofs.Common.{◌≡◌, ◌<◌, ap, ◌∙◌, arith, length}
-use Rattle.device_io.proofs.SendingLaws.{sends_front, took_nothing}
-use Rattle.topo_writer.specs.Faults.{of_device}
-use Rattle.topo_writer.specs.Named.{arcs_along}
-use Rattle.topo_writer.specs.Sections.{arcs_after, layer_at, layer_text}
+use Rattle.kit_words.proofs.Common.{◌≡◌, ◌<◌, ap, ◌∙◌, arith, length}
+use Rattle.device_io.proofs.Common.{sends_front, took_nothing}
+use Rattle.topo_writer.specs.Common.{of_device, arcs_along, arcs_after, layer_at, layer_text}
 use Rattle.topo_writer.proofs.LayerLemmas.{arcs_whole, layer_count, layer_there}
 use Rattle.topo_writer.proofs.Sent.{sent_step, sent_part}
 use Rattle.topo_writer.proofs.layers.send_layers.Goals as goal

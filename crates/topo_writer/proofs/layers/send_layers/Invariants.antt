@@ -1,8 +1,7 @@
-use Rattle.std.proofs.Common.{◌≡◌, map, take}
-use Rattle.device_io.specs.Sending.{Took}
-use Rattle.map_text.specs.Text.{commas}
-use Rattle.topo_writer.specs.Sections.{arcs_after, layer_text}
-use Rattle.topo_writer.specs.Tables.{arcs_in, FindsArcs}
+use Rattle.kit_words.proofs.Common.{◌≡◌, map, take}
+use Rattle.device_io.specs.Common.{Took}
+use Rattle.map_text.specs.Common.{commas}
+use Rattle.topo_writer.specs.Common.{arcs_after, layer_text, arcs_in, FindsArcs}
 use Rattle.topo_writer.proofs.layers.send_layers.Given as goal
 
 abbrev pub invariant-loop-i : goal.invariant-loop-i

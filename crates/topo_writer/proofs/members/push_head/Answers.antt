@@ -1,6 +1,5 @@
-use Rattle.std.proofs.Common.{◌++◌, map, option_map, sym, ap, ◌∙◌, append_assoc}
-use Rattle.std.specs.Prelude.{codes}
-use Rattle.map_text.specs.Text.{further, member_if, member_text}
+use Rattle.kit_words.proofs.Common.{◌++◌, map, option_map, sym, ap, ◌∙◌, append_assoc, codes}
+use Rattle.map_text.specs.Common.{further, member_if, member_text}
 use Rattle.topo_writer.proofs.MemberLemmas.{further_both}
 use Rattle.topo_writer.proofs.members.push_head.Goals as goal
 

@@ -1,6 +1,6 @@
-use Rattle.std.proofs.Common.{◌≡◌, ◌++◌, map, take}
-use Rattle.topo_outline.specs.Views.{view_kept}
-use Rattle.map_text.specs.Text.{further, member_text}
+use Rattle.kit_words.proofs.Common.{◌≡◌, ◌++◌, map, take}
+use Rattle.topo_outline.specs.Common.{view_kept}
+use Rattle.map_text.specs.Common.{further, member_text}
 use Rattle.topo_writer.proofs.members.push_kept.Given as goal
 
 abbrev pub invariant-loop-member : goal.invariant-loop-member

@@ -1,12 +1,8 @@
-use Rattle.std.proofs.Common.{arith, refl, ◌≡◌, sym, ap, ◌∙◌, subst, ◌<◌, ◌++◌, [], append-nil, length, get_or}
-use Rattle.std.specs.Prelude.{codes, Contains}
-use Rattle.std.proofs.lemmas.List.{get_or_default, take_all}
-use Rattle.std.proofs.lemmas.List.Sums.{sum_by-drop_more}
-use Rattle.ring_machine.specs.Parts.{rings}
-use Rattle.ring_machine.specs.Vertices.{is_junction}
-use Rattle.topo_writer.specs.Reading.{positions_at, rings_at}
-use Rattle.topo_writer.specs.Tables.{arcs_in}
-use Rattle.topo_writer.specs.Ways.{written_rings}
+use Rattle.kit_words.proofs.Common.{arith, refl, ◌≡◌, sym, ap, ◌∙◌, subst, ◌<◌, ◌++◌, [], length, get_or, codes}
+use Rattle.kit_words.proofs.Common.{Contains, get_or_default, take_all, sum_by-drop_more}
+use Rattle.std.proofs.Common.{append-nil}
+use Rattle.ring_machine.specs.Common.{rings, is_junction}
+use Rattle.topo_writer.specs.Common.{positions_at, rings_at, arcs_in, written_rings}
 use Rattle.topo_writer.proofs.Later.{arcs_step, text_step, ring_few}
 use Rattle.topo_writer.proofs.Listed.{bracketed, polygon_is}
 use Rattle.topo_writer.proofs.ReadRings.{ring_is, each_place}

@@ -1,9 +1,6 @@
-use Rattle.std.proofs.Common.{◌≡◌, ◌++◌, take, drop}
-use Rattle.std.specs.Prelude.{codes}
-use Rattle.ring_machine.specs.Vertices.{is_junction}
-use Rattle.topo_writer.specs.Reading.{rings_at}
-use Rattle.topo_writer.specs.Tables.{arcs_in, FindsArcs, HasRoom, TakesRings}
-use Rattle.topo_writer.specs.Ways.{written_rings}
+use Rattle.kit_words.proofs.Common.{◌≡◌, ◌++◌, take, drop, codes}
+use Rattle.ring_machine.specs.Common.{is_junction}
+use Rattle.topo_writer.specs.Common.{rings_at, arcs_in, FindsArcs, HasRoom, TakesRings, written_rings}
 use Rattle.topo_writer.proofs.rings.push_polygon_of.Given as goal
 
 abbrev pub invariant-loop-ring : goal.invariant-loop-ring

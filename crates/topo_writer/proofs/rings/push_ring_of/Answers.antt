@@ -1,11 +1,8 @@
-use Rattle.std.proofs.Common.{arith, ◌≡◌, ◌∷◌, [], ◌++◌, sym, ap, ap₂, ◌∙◌, length}
+use Rattle.kit_words.proofs.Common.{arith, ◌≡◌, ◌∷◌, [], ◌++◌, sym, ap, ap₂, ◌∙◌, length}
 use Rattle.indexmap.specs.IndexMap.{get}
-use Rattle.ring_machine.specs.Ring.{edge_eq}
-use Rattle.ring_machine.specs.Vertices.{is_junction}
-use Rattle.map_text.specs.Arcs.{pieces}
-use Rattle.map_text.specs.Text.{ring_text}
-use Rattle.topo_writer.specs.Found.{found}
-use Rattle.topo_writer.specs.Named.{arcs_along, listed_arcs, named_ring}
+use Rattle.ring_machine.specs.Common.{edge_eq, is_junction}
+use Rattle.map_text.specs.Common.{pieces, ring_text}
+use Rattle.topo_writer.specs.Common.{found, arcs_along, listed_arcs, named_ring}
 use Rattle.topo_writer.proofs.Later.{pieces_few}
 use Rattle.topo_writer.proofs.NamedRings.{named_fits, named_found, named_indexes, named_long}
 use Rattle.topo_writer.proofs.rings.push_ring_of.Goals as goal

@@ -1,10 +1,8 @@
-use Rattle.std.proofs.Common.{◌≡◌, ap, ◌∙◌, ◌++◌, map}
-use Rattle.std.specs.Prelude.{codes}
-use Rattle.ring_machine.specs.Vertices.{is_junction}
-use Rattle.map_frame.specs.Readers.{shown, Shown}
-use Rattle.map_text.specs.Text.{further, member_if, member_text, type_text}
-use Rattle.topo_writer.specs.Tables.{arcs_in}
-use Rattle.topo_writer.specs.Ways.{written_shape}
+use Rattle.kit_words.proofs.Common.{◌≡◌, ap, ◌∙◌, ◌++◌, map, codes}
+use Rattle.ring_machine.specs.Common.{is_junction}
+use Rattle.map_frame.specs.Common.{shown, Shown}
+use Rattle.map_text.specs.Common.{further, member_if, member_text, type_text}
+use Rattle.topo_writer.specs.Common.{arcs_in, written_shape}
 use Rattle.topo_writer.proofs.FeatureTexts.{feature_texts}
 use Rattle.topo_writer.proofs.SeenParts.{seen_as, polygons_read}
 use Rattle.topo_writer.proofs.shapes.push_feature.Goals as goal

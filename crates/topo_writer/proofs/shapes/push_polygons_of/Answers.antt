@@ -1,12 +1,7 @@
-use Rattle.std.proofs.Common.{arith, refl, ◌≡◌, sym, ap, ◌∙◌, subst, ◌<◌, [], length, get_or}
-use Rattle.std.specs.Prelude.{Contains}
-use Rattle.std.specs.List.{AllByRecursion}
-use Rattle.std.proofs.lemmas.List.{append-nil, get_or_default}
-use Rattle.ring_machine.specs.Parts.{rings}
-use Rattle.ring_machine.specs.Vertices.{is_junction}
-use Rattle.topo_writer.specs.Reading.{rings_at, polygons_at}
-use Rattle.topo_writer.specs.Tables.{arcs_in}
-use Rattle.topo_writer.specs.Ways.{written_polygon}
+use Rattle.kit_words.proofs.Common.{arith, refl, ◌≡◌, sym, ap, ◌∙◌, subst, ◌<◌, [], length, get_or, Contains}
+use Rattle.kit_words.proofs.Common.{AllByRecursion, append-nil, get_or_default}
+use Rattle.ring_machine.specs.Common.{rings, is_junction}
+use Rattle.topo_writer.specs.Common.{rings_at, polygons_at, arcs_in, written_polygon}
 use Rattle.topo_writer.proofs.LaterParts.{each_part, in_place, polygon_same, rings_few, left_step, part_arcs, part_text}
 use Rattle.topo_writer.proofs.SeenParts.{polygon_is_at, seen_count, seen_ring_count}
 use Rattle.topo_writer.proofs.shapes.push_polygons_of.Goals as goal

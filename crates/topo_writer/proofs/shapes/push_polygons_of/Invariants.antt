@@ -1,9 +1,6 @@
-use Rattle.std.proofs.Common.{◌≡◌, ◌++◌, take, drop}
-use Rattle.std.specs.List.{flat_map}
-use Rattle.ring_machine.specs.Vertices.{is_junction}
-use Rattle.topo_writer.specs.Reading.{polygons_at}
-use Rattle.topo_writer.specs.Tables.{arcs_in, FindsArcs, HasRoom, TakesRings}
-use Rattle.topo_writer.specs.Ways.{written_polygons}
+use Rattle.kit_words.proofs.Common.{◌≡◌, ◌++◌, take, drop, flat_map}
+use Rattle.ring_machine.specs.Common.{is_junction}
+use Rattle.topo_writer.specs.Common.{polygons_at, arcs_in, FindsArcs, HasRoom, TakesRings, written_polygons}
 use Rattle.topo_writer.proofs.shapes.push_polygons_of.Given as goal
 
 abbrev pub invariant-loop-polygon : goal.invariant-loop-polygon

@@ -1,14 +1,9 @@
-use Rattle.std.proofs.Common.{arith, ◌≡◌, sym, ap, ◌∙◌, subst, ◌++◌, ◌∷◌, [], length}
-use Rattle.std.specs.Prelude.{Contains}
-use Rattle.std.specs.List.{sum_by, flat_map, AllByRecursion}
-use Rattle.ring_machine.specs.Document.{Polygon, MultiPolygon, Null}
-use Rattle.ring_machine.specs.Parts.{rings}
-use Rattle.ring_machine.specs.Vertices.{is_junction}
-use Rattle.topo_outline.specs.Views.{form_of}
-use Rattle.map_text.specs.Arcs.{pieces, with_pieces}
-use Rattle.topo_writer.specs.Reading.{rings_at, polygons_at}
-use Rattle.topo_writer.specs.Tables.{arcs_in}
-use Rattle.topo_writer.specs.Ways.{written_shape}
+use Rattle.kit_words.proofs.Common.{arith, ◌≡◌, sym, ap, ◌∙◌, subst, ◌++◌, ◌∷◌, [], length, Contains, sum_by, flat_map}
+use Rattle.kit_words.proofs.Common.{AllByRecursion}
+use Rattle.ring_machine.specs.Common.{Polygon, MultiPolygon, Null, rings, is_junction}
+use Rattle.topo_outline.specs.Common.{form_of}
+use Rattle.map_text.specs.Common.{pieces, with_pieces}
+use Rattle.topo_writer.specs.Common.{rings_at, polygons_at, arcs_in, written_shape}
 use Rattle.topo_writer.proofs.FeatureTexts.{shape_many, shape_one}
 use Rattle.topo_writer.proofs.SeenParts.{one_polygon, one_rings, no_rings}
 use Rattle.topo_writer.proofs.shapes.push_shape.Goals as goal

@@ -1,6 +1,6 @@
-use Rattle.std.proofs.Common.{rules, ◌≡◌, ap₂, ◌∙◌, to_z, of_z, w64}
+use Rattle.kit_words.proofs.Common.{rules, ◌≡◌, ap₂, ◌∙◌, to_z, of_z, w64}
 use Rattle.std.proofs.Math.Facts.{to_z-of_z}
-use Rattle.grid_geometry.specs.Position.{position}
+use Rattle.grid_geometry.specs.Common.{position}
 use Rattle.topo_writer.proofs.Differences.{pair_is}
 use Rattle.topo_writer.proofs.texts.pair_at.Goals as goal
 

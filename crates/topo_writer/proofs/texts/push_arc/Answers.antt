@@ -1,9 +1,9 @@
-use Rattle.std.proofs.Common.{rules, arith, ◌≡◌, pos, refl, sym, ap, ap₂, ◌∙◌, ◌++◌, ◌<◌, append-nil, length, get_or, map, to_z, of_z, w64}
-use Rattle.std.specs.Prelude.{codes}
+use Rattle.kit_words.proofs.Common.{rules, arith, ◌≡◌, pos, refl, sym, ap, ap₂, ◌∙◌, ◌++◌, ◌<◌, length, get_or, map}
+use Rattle.kit_words.proofs.Common.{to_z, of_z, w64, codes, get_or_default, take_all}
+use Rattle.std.proofs.Common.{append-nil}
 use Rattle.std.proofs.Math.Facts.{to_z-of_z}
-use Rattle.std.proofs.lemmas.List.{get_or_default, take_all}
-use Rattle.grid_geometry.specs.Position.{position}
-use Rattle.map_text.specs.Text.{commas, pair_text, pairs}
+use Rattle.grid_geometry.specs.Common.{position}
+use Rattle.map_text.specs.Common.{commas, pair_text, pairs}
 use Rattle.topo_writer.proofs.Differences.{pairs-length}
 use Rattle.topo_writer.proofs.Listed.{bracketed, items_step}
 use Rattle.topo_writer.proofs.texts.push_arc.Goals as goal

@@ -1,6 +1,5 @@
-use Rattle.std.proofs.Common.{◌≡◌, ◌++◌, map, take}
-use Rattle.std.specs.Prelude.{codes}
-use Rattle.map_text.specs.Text.{commas, pair_text, pairs}
+use Rattle.kit_words.proofs.Common.{◌≡◌, ◌++◌, map, take, codes}
+use Rattle.map_text.specs.Common.{commas, pair_text, pairs}
 use Rattle.topo_writer.proofs.texts.push_arc.Given as goal
 
 abbrev pub invariant-loop-i : goal.invariant-loop-i

@@ -1,9 +1,8 @@
-use Rattle.std.proofs.Common.{rules, arith, ◌≡◌, pos, refl, sym, ap, ◌∙◌, ◌++◌, append-nil, get_or, map, to_z, of_z, w64}
-use Rattle.std.specs.Prelude.{codes}
-use Rattle.std.specs.Fmt.{signed_decimal}
+use Rattle.kit_words.proofs.Common.{rules, arith, ◌≡◌, pos, refl, sym, ap, ◌∙◌, ◌++◌, get_or, map, to_z, of_z, w64}
+use Rattle.kit_words.proofs.Common.{codes, signed_decimal, get_or_default, take_all}
+use Rattle.std.proofs.Common.{append-nil}
 use Rattle.std.proofs.Math.Facts.{to_z-of_z}
-use Rattle.std.proofs.lemmas.List.{get_or_default, take_all}
-use Rattle.map_text.specs.Text.{commas}
+use Rattle.map_text.specs.Common.{commas}
 use Rattle.topo_writer.proofs.Listed.{bracketed, items_step}
 use Rattle.topo_writer.proofs.texts.push_ring.Goals as goal
 

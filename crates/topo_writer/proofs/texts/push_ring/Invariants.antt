@@ -1,7 +1,5 @@
-use Rattle.std.proofs.Common.{◌≡◌, ◌++◌, map, take}
-use Rattle.std.specs.Prelude.{codes}
-use Rattle.std.specs.Fmt.{signed_decimal}
-use Rattle.map_text.specs.Text.{commas}
+use Rattle.kit_words.proofs.Common.{◌≡◌, ◌++◌, map, take, codes, signed_decimal}
+use Rattle.map_text.specs.Common.{commas}
 use Rattle.topo_writer.proofs.texts.push_ring.Given as goal
 
 abbrev pub invariant-loop-i : goal.invariant-loop-i

@@ -1,6 +1,5 @@
-use Rattle.std.proofs.Common.{◌++◌, map, option_map}
-use Rattle.std.specs.Prelude.{codes}
-use Rattle.map_text.specs.Text.{further, member_if, member_text}
+use Rattle.kit_words.proofs.Common.{◌++◌, map, option_map, codes}
+use Rattle.map_text.specs.Common.{further, member_if, member_text}
 use Rattle.topo_writer.proofs.FeatureTexts.{then}
 use Rattle.topo_writer.proofs.writing.push_begin.Goals as goal
 

@@ -1,10 +1,7 @@
-use Rattle.std.proofs.Common.{◌∙◌, subst, sym}
-use Rattle.device_io.specs.Sending.{Took, TookFront}
-use Rattle.device_io.proofs.SendingLaws.{sends_front, took_both, took_none, took_second}
-use Rattle.topo_writer.specs.Faults.{of_device}
-use Rattle.topo_writer.specs.Named.{arcs_along}
-use Rattle.topo_writer.specs.Tables.{Finds}
-use Rattle.topo_writer.specs.declared.fault.WriteFault.TheVariants.{Device, OutOfMemory}
+use Rattle.kit_words.proofs.Common.{◌∙◌, subst, sym}
+use Rattle.device_io.specs.Common.{Took, TookFront}
+use Rattle.device_io.proofs.Common.{sends_front, took_both, took_none, took_second}
+use Rattle.topo_writer.specs.Common.{of_device, arcs_along, Finds, Device, OutOfMemory}
 use Rattle.topo_writer.proofs.SectionLemmas.{arcs_are, begin_is, delta_is, end_is, front_at_arcs, front_at_begin, front_at_end, front_at_layers, front_at_middle, sections_are}
 use Rattle.topo_writer.proofs.writing.send_map.Goals as goal
 

@@ -1,9 +1,8 @@
-use Rattle.std.proofs.Common.{rules, subst}
-use Rattle.device_io.specs.Sending.{Sends}
-use Rattle.device_io.proofs.SendingLaws.{sends_front, took_none}
-use Rattle.map_text.specs.Text.{text_of}
-use Rattle.topo_writer.specs.Faults.{of_device}
-use Rattle.topo_writer.specs.declared.fault.WriteFault.TheVariants.{OutOfMemory}
+use Rattle.kit_words.proofs.Common.{rules, subst}
+use Rattle.device_io.specs.Common.{Sends}
+use Rattle.device_io.proofs.Common.{sends_front, took_none}
+use Rattle.map_text.specs.Common.{text_of}
+use Rattle.topo_writer.specs.Common.{of_device, OutOfMemory}
 use Rattle.topo_writer.proofs.SectionLemmas.{saved_text}
 use Rattle.topo_writer.proofs.writing.write.Goals as goal
 

@@ -1,8 +1,6 @@
-use Rattle.std.proofs.Common.{◌≡◌, sym, subst, to_z, of_z, rules}
-use Rattle.std.specs.Int.{w128}
-use Rattle.std.proofs.lemmas.Int.{to_z-of_z}
-use Rattle.ring_machine.specs.Command.{Move, Insert, Remove, Thin, Merge, Delete}
-use Rattle.undo_ring.specs.Answered.{AnswersMap}
+use Rattle.kit_words.proofs.Common.{◌≡◌, sym, subst, to_z, of_z, rules, w128, to_z-of_z}
+use Rattle.ring_machine.specs.Common.{Move, Insert, Remove, Thin, Merge, Delete}
+use Rattle.undo_ring.specs.Common.{AnswersMap}
 use Rattle.undo_ring.proofs.MapAnswers.{move_answered, insert_answered, remove_answered, merge_answered, delete_answered}
 use Rattle.undo_ring.proofs.answering.answer.Goals as goal
 

@@ -1,6 +1,4 @@
-use Rattle.std.proofs.Common.{refl, ◌∙◌, rules}
-use Rattle.std.proofs.lemmas.Bool.{false≢true}
-use Rattle.std.proofs.lemmas.Int.{to_z-of_z}
+use Rattle.kit_words.proofs.Common.{refl, ◌∙◌, rules, false≢true, to_z-of_z}
 use Rattle.undo_ring.proofs.MapAnswers.{area_answered, area_refused}
 use Rattle.undo_ring.proofs.answering.area_on.Goals as goal
 

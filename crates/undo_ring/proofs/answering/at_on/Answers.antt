@@ -1,4 +1,4 @@
-use Rattle.std.proofs.Common.{inl, refl}
+use Rattle.kit_words.proofs.Common.{inl, refl}
 use Rattle.undo_ring.proofs.MapAnswers.{at_answered}
 use Rattle.undo_ring.proofs.answering.at_on.Goals as goal
 

@@ -1,5 +1,4 @@
-use Rattle.std.proofs.Common.{rules, inr}
-use Rattle.std.proofs.lemmas.Int.{to_z-of_z}
+use Rattle.kit_words.proofs.Common.{rules, inr, to_z-of_z}
 use Rattle.undo_ring.proofs.MapAnswers.{thin_answered, thin_stopped}
 use Rattle.undo_ring.proofs.answering.leave_out.Goals as goal
 

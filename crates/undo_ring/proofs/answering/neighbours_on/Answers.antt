@@ -1,5 +1,5 @@
-use Rattle.std.proofs.Common.{subst, inl, refl}
-use Rattle.point_queries.specs.Told.{Tells}
+use Rattle.kit_words.proofs.Common.{subst, inl, refl}
+use Rattle.point_queries.specs.Common.{Tells}
 use Rattle.undo_ring.proofs.MapAnswers.{neighbours_answered, neighbours_refused}
 use Rattle.undo_ring.proofs.answering.neighbours_on.Goals as goal
 

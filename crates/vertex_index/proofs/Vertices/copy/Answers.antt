@@ -1,5 +1,5 @@
-use Rattle.std.proofs.Common.{◌∙◌, sym, ap}
-use Rattle.vertex_index.specs.Mirrors.{placement_of, positions}
+use Rattle.kit_words.proofs.Common.{◌∙◌, sym, ap}
+use Rattle.vertex_index.specs.Common.{placement_of, positions}
 use Rattle.vertex_index.proofs.MirrorLemmas.{slots-clone, entries-clone}
 use Rattle.vertex_index.proofs.Vertices.copy.Goals as goal
 

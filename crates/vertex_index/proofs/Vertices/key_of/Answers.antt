@@ -1,4 +1,4 @@
-use Rattle.std.proofs.Common.{◌∙◌}
+use Rattle.kit_words.proofs.Common.{◌∙◌}
 use Rattle.vertex_index.proofs.MirrorLemmas.{found_key, absent_key, distinct}
 use Rattle.vertex_index.proofs.Vertices.key_of.Goals as goal
 

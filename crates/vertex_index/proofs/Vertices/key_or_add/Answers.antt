@@ -1,4 +1,4 @@
-use Rattle.std.proofs.Common.{◌∙◌, refl, sym}
+use Rattle.kit_words.proofs.Common.{◌∙◌, refl, sym}
 use Rattle.vertex_index.proofs.MirrorLemmas.{distinct}
 use Rattle.vertex_index.proofs.PlacementLemmas.{insert-same}
 use Rattle.vertex_index.proofs.PutLemmas.{put_found, put_key, put_ok, put_held}

@@ -1,6 +1,6 @@
-use Rattle.std.proofs.Common.{◌∙◌, sym, ap}
+use Rattle.kit_words.proofs.Common.{◌∙◌, sym, ap}
 use Rattle.std.specs.FinMap as map
-use Rattle.vertex_index.specs.Mirrors.{positions}
+use Rattle.vertex_index.specs.Common.{positions}
 use Rattle.vertex_index.proofs.SlotLemmas.{as_many}
 use Rattle.vertex_index.proofs.PlacementLemmas.{len-placement_of}
 use Rattle.vertex_index.proofs.MirrorLemmas.{distinct, in_range}

@@ -1,5 +1,4 @@
-use Rattle.std.proofs.Common.{◌∙◌, sym, ap, is_some}
-use Rattle.std.specs.Option.{option_copied}
+use Rattle.kit_words.proofs.Common.{◌∙◌, sym, ap, is_some, option_copied}
 use Rattle.vertex_index.proofs.MirrorLemmas.{slot_has, IsSome-copied, distinct}
 use Rattle.vertex_index.proofs.SlotLemmas.{is_held, pos_here}
 use Rattle.vertex_index.proofs.Vertices.pos.Goals as goal

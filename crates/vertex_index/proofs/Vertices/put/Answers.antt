@@ -1,9 +1,8 @@
-use Rattle.std.proofs.Common.{◌≡◌, ◌≢◌, ◌∙◌, ℕ, List, [], ◌∷◌, ◌++◌, Some, None, cond, sym, ap, refl, rules}
+use Rattle.kit_words.proofs.Common.{◌≡◌, ◌≢◌, ◌∙◌, ℕ, List, [], ◌∷◌, ◌++◌, Some, None, cond, sym, ap, refl, rules}
 use Rattle.std.specs.FinMap as map
 use Rattle.indexmap.specs.Entry.{entry_value, map_with_value}
-use Rattle.grid_geometry.specs.Position.{Position, position_eq}
-use Rattle.vertex_index.specs.Mirrors.{Mirrors, placement_of, positions, in_slot, key_in}
-use Rattle.vertex_index.specs.Places.{slot_at, AreInPlace}
+use Rattle.grid_geometry.specs.Common.{Position, position_eq}
+use Rattle.vertex_index.specs.Common.{Mirrors, placement_of, positions, in_slot, key_in, slot_at, AreInPlace}
 use Rattle.indexmap.proofs.CallerLemmas.{insert_entry-new}
 use Rattle.vertex_index.proofs.SlotLemmas.{pos_here, none_here, pos_kept}
 use Rattle.vertex_index.proofs.PlaceLemmas.{placed}

@@ -1,10 +1,8 @@
-use Rattle.std.proofs.Common.{◌≡◌, ◌≢◌, ◌∙◌, ℕ, Some, None, cond, sym, ap, refl, subst, is_some, slice_get}
+use Rattle.kit_words.proofs.Common.{◌≡◌, ◌≢◌, ◌∙◌, ℕ, Some, None, cond, sym, ap, refl, subst, is_some, slice_get}
+use Rattle.kit_words.proofs.Common.{swap_remove, option_copied_mut}
 use Rattle.std.specs.FinMap as map
-use Rattle.std.specs.List.{swap_remove}
-use Rattle.std.specs.Option.{option_copied_mut}
-use Rattle.grid_geometry.specs.Position.{Position, position_eq}
-use Rattle.vertex_index.specs.Mirrors.{Mirrors, placement_of, positions, in_slot, key_in}
-use Rattle.vertex_index.specs.Places.{slot_at}
+use Rattle.grid_geometry.specs.Common.{Position, position_eq}
+use Rattle.vertex_index.specs.Common.{Mirrors, placement_of, positions, in_slot, key_in, slot_at}
 use Rattle.vertex_index.proofs.PlacementLemmas.{placement-removed}
 use Rattle.vertex_index.proofs.MirrorLemmas.{slot_has, Mirrors-remove, IsSome-copied_mut}
 use Rattle.vertex_index.proofs.SlotLemmas.{pos_here, none_here, pos_kept, is_held, same_positions}

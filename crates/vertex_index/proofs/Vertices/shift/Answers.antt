@@ -1,15 +1,11 @@
-use Rattle.std.proofs.Common.{◌≡◌, ◌∙◌, ℕ, List, Some, None, cond, sym, ap, refl, is_some, rules}
-use Rattle.std.proofs.Common.{[], ◌∷◌, ◌++◌, set, slice_get, IfSome, subst}
-use Rattle.std.specs.List.{swap_remove}
+use Rattle.kit_words.proofs.Common.{◌≡◌, ◌∙◌, ℕ, List, Some, None, cond, sym, ap, refl, is_some, rules, [], ◌∷◌, ◌++◌}
+use Rattle.kit_words.proofs.Common.{set, slice_get, IfSome, subst, swap_remove, option_copied_mut}
 use Rattle.std.specs.FinMap as map
-use Rattle.std.specs.Option.{option_copied_mut}
 use Rattle.indexmap.specs.Entry.{map_with_value}
 use Rattle.indexmap.specs.IndexMap.{with_entries}
-use Rattle.grid_geometry.specs.Position.{Position, position_eq}
+use Rattle.grid_geometry.specs.Common.{Position, position_eq}
 use Rattle.indexmap.proofs.CallerLemmas.{insert_entry-new}
-use Rattle.vertex_index.specs.declared.slot.Slot.{Slot}
-use Rattle.vertex_index.specs.Mirrors.{Mirrors, placement_of, positions, in_slot, key_in}
-use Rattle.vertex_index.specs.Places.{slot_at, AreInPlace}
+use Rattle.vertex_index.specs.Common.{Slot, Mirrors, placement_of, positions, in_slot, key_in, slot_at, AreInPlace}
 use Rattle.vertex_index.proofs.SlotLemmas.{pos_here, is_held, set_slot, other_slots, set_positions}
 use Rattle.vertex_index.proofs.PlaceLemmas.{of_some, gone_from, stands_before, exchanged}
 use Rattle.vertex_index.proofs.PlacementLemmas.{placement-changed, get-inserted}

@@ -1,5 +1,4 @@
-use Rattle.std.proofs.Common.{◌∙◌, Some, sym, ap, refl}
-use Rattle.std.specs.Option.{option_copied}
+use Rattle.kit_words.proofs.Common.{◌∙◌, Some, sym, ap, refl, option_copied}
 use Rattle.vertex_index.proofs.MirrorLemmas.{slot_has, position_eq-same}
 use Rattle.vertex_index.proofs.SlotLemmas.{pos_here}
 use Rattle.vertex_index.proofs.Vertices.stands.Goals as goal

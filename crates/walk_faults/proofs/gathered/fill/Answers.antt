@@ -1,7 +1,6 @@
-use Rattle.std.proofs.Common.{◌∙◌, ap}
-use Rattle.std.proofs.lemmas.List.{take_all}
-use Rattle.segment_index.specs.Candidates.{has}
-use Rattle.segment_index.proofs.Singles.{contains_none}
+use Rattle.kit_words.proofs.Common.{◌∙◌, ap, take_all}
+use Rattle.segment_index.specs.Common.{has}
+use Rattle.segment_index.proofs.Common.{contains_none}
 use Rattle.walk_faults.proofs.Filled.{none_before, one_more}
 use Rattle.walk_faults.proofs.gathered.fill.Goals as goal
 

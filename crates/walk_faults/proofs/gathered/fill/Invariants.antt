@@ -1,7 +1,7 @@
-use Rattle.std.proofs.Common.{◌≡◌, take}
+use Rattle.kit_words.proofs.Common.{◌≡◌, take}
 use Rattle.std.specs.FinSet as set
-use Rattle.grid_geometry.specs.Segment.{Segment}
-use Rattle.segment_index.specs.Candidates.{has}
+use Rattle.grid_geometry.specs.Common.{Segment}
+use Rattle.segment_index.specs.Common.{has}
 use Rattle.walk_faults.proofs.gathered.fill.Given as goal
 
 -- the segments so far are held

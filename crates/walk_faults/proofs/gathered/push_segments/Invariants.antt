@@ -1,7 +1,6 @@
-use Rattle.std.proofs.Common.{◌≡◌, ◌++◌, ◌∷◌, [], drop}
-use Rattle.std.specs.List.{flat_map}
-use Rattle.grid_geometry.specs.Ring.{links}
-use Rattle.walk_faults.specs.Findings.{segment_at}
+use Rattle.kit_words.proofs.Common.{◌≡◌, ◌++◌, ◌∷◌, [], drop, flat_map}
+use Rattle.grid_geometry.specs.Common.{links}
+use Rattle.walk_faults.specs.Common.{segment_at}
 use Rattle.walk_faults.proofs.gathered.push_segments.Given as goal
 
 -- the segments so far and those of the way that is left are all

@@ -1,6 +1,5 @@
-use Rattle.std.proofs.Common.{◌≡◌, map, take}
-use Rattle.walk_faults.specs.Findings.{all_segments}
-use Rattle.walk_faults.specs.Seen.{walk_seen}
+use Rattle.kit_words.proofs.Common.{◌≡◌, map, take}
+use Rattle.walk_faults.specs.Common.{all_segments, walk_seen}
 use Rattle.walk_faults.proofs.gathered.segments.Given as goal
 
 -- the segments of the walks so far

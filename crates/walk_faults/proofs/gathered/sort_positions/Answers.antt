@@ -1,6 +1,5 @@
-use Rattle.grid_geometry.specs.Position.{position_cmp, position_eq}
-use Rattle.ring_machine.proofs.Order.{position_eq-true}
-use Rattle.ring_machine.proofs.SortedOnce.{position_total, ties}
+use Rattle.grid_geometry.specs.Common.{position_cmp, position_eq}
+use Rattle.ring_machine.proofs.Common.{position_eq-true, position_total, ties}
 use Rattle.walk_faults.proofs.Ascending.{sorted_once}
 use Rattle.walk_faults.proofs.gathered.sort_positions.Goals as goal
 

@@ -1,6 +1,5 @@
-use Rattle.std.proofs.Common.{◌≡◌, map, take}
-use Rattle.walk_faults.specs.Findings.{all_positions}
-use Rattle.walk_faults.specs.Seen.{walk_seen}
+use Rattle.kit_words.proofs.Common.{◌≡◌, map, take}
+use Rattle.walk_faults.specs.Common.{all_positions, walk_seen}
 use Rattle.walk_faults.proofs.gathered.vertices.Given as goal
 
 -- the positions of the walks so far

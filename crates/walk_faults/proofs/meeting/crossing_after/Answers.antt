@@ -1,8 +1,6 @@
-use Rattle.std.proofs.Common.{◌&&◌, subst, true}
-use Rattle.grid_geometry.specs.Conflict.{cross}
-use Rattle.grid_geometry.specs.Segment.{box_of, segment_lt}
-use Rattle.segment_index.specs.Candidates.{Gives}
-use Rattle.segment_index.specs.Times.{times_by}
+use Rattle.kit_words.proofs.Common.{◌&&◌, subst, true}
+use Rattle.grid_geometry.specs.Common.{cross, box_of, segment_lt}
+use Rattle.segment_index.specs.Common.{Gives, times_by}
 use Rattle.walk_faults.proofs.Boxes.{crossing_meets}
 use Rattle.walk_faults.proofs.Filled.{near_is}
 use Rattle.walk_faults.proofs.meeting.crossing_after.Goals as goal

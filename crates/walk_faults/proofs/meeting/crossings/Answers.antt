@@ -1,8 +1,5 @@
-use Rattle.std.proofs.Common.{◌<◌, ◌+◌, ◌∙◌, length, map, sym, ap, subst, IfErr}
-use Rattle.std.proofs.lemmas.List.{length-map}
-use Rattle.std.proofs.lemmas.Result.{err_from_is_err_and}
-use Rattle.walk_faults.specs.Findings.{OnlyIfMany, crossing_at}
-use Rattle.walk_faults.specs.Meeting.{crossing, crossings_among}
+use Rattle.kit_words.proofs.Common.{◌<◌, ◌+◌, ◌∙◌, length, map, sym, ap, subst, IfErr, length-map, err_from_is_err_and}
+use Rattle.walk_faults.specs.Common.{OnlyIfMany, crossing_at, crossing, crossings_among}
 use Rattle.walk_faults.proofs.Lists.{flat_past}
 use Rattle.walk_faults.proofs.Walking.{only_where}
 use Rattle.walk_faults.proofs.meeting.crossings.Goals as goal

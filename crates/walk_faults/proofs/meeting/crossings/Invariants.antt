@@ -1,5 +1,5 @@
-use Rattle.std.proofs.Common.{◌≡◌, ◌≤◌, take, length}
-use Rattle.walk_faults.specs.Meeting.{crossings_among}
+use Rattle.kit_words.proofs.Common.{◌≡◌, ◌≤◌, take, length}
+use Rattle.walk_faults.specs.Common.{crossings_among}
 use Rattle.walk_faults.proofs.meeting.crossings.Given as goal
 
 -- the crossings of the segments so far

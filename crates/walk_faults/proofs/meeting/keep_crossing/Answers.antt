@@ -1,7 +1,5 @@
-use Rattle.std.proofs.Common.{◌&&◌, rules}
-use Rattle.std.proofs.lemmas.Fn.{filter_same}
-use Rattle.grid_geometry.specs.Conflict.{cross}
-use Rattle.grid_geometry.specs.Segment.{segment_lt}
+use Rattle.kit_words.proofs.Common.{◌&&◌, rules, filter_same}
+use Rattle.grid_geometry.specs.Common.{cross, segment_lt}
 use Rattle.walk_faults.proofs.meeting.keep_crossing.Goals as goal
 
 -- the closure only tests

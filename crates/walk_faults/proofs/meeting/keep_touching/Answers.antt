@@ -1,6 +1,5 @@
-use Rattle.std.proofs.Common.{rules}
-use Rattle.std.proofs.lemmas.Fn.{filter_same}
-use Rattle.grid_geometry.specs.Conflict.{is_within}
+use Rattle.kit_words.proofs.Common.{rules, filter_same}
+use Rattle.grid_geometry.specs.Common.{is_within}
 use Rattle.walk_faults.proofs.meeting.keep_touching.Goals as goal
 
 -- the closure only tests

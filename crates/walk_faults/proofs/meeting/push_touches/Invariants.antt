@@ -1,5 +1,5 @@
-use Rattle.std.proofs.Common.{◌≡◌, ◌≤◌, ◌++◌, map, take, length}
-use Rattle.walk_faults.specs.Findings.{touch_at}
+use Rattle.kit_words.proofs.Common.{◌≡◌, ◌≤◌, ◌++◌, map, take, length}
+use Rattle.walk_faults.specs.Common.{touch_at}
 use Rattle.walk_faults.proofs.meeting.push_touches.Given as goal
 
 -- those of the segments so far are appended

@@ -1,10 +1,7 @@
-use Rattle.std.proofs.Common.{◌<◌, ◌+◌, ◌∙◌, List, length, map, sym, ap, subst, IfErr}
-use Rattle.std.proofs.lemmas.List.{length-map}
-use Rattle.std.proofs.lemmas.Result.{err_from_is_err_and}
-use Rattle.grid_geometry.specs.Segment.{Segment}
-use Rattle.walk_faults.specs.declared.findings.FindFault.{FindFault}
-use Rattle.walk_faults.specs.Findings.{OnlyIfMany, touch_at}
-use Rattle.walk_faults.specs.Meeting.{AreHeld, touching, touches_among}
+use Rattle.kit_words.proofs.Common.{◌<◌, ◌+◌, ◌∙◌, List, length, map, sym, ap, subst, IfErr, length-map}
+use Rattle.kit_words.proofs.Common.{err_from_is_err_and}
+use Rattle.grid_geometry.specs.Common.{Segment}
+use Rattle.walk_faults.specs.Common.{FindFault, OnlyIfMany, touch_at, AreHeld, touching, touches_among}
 use Rattle.walk_faults.proofs.Lists.{flat_past}
 use Rattle.walk_faults.proofs.Walking.{only_where}
 use Rattle.walk_faults.proofs.meeting.touches.Goals as goal

@@ -1,6 +1,6 @@
-use Rattle.std.proofs.Common.{◌≡◌, ◌≤◌, List, take, length}
-use Rattle.grid_geometry.specs.Segment.{Segment}
-use Rattle.walk_faults.specs.Meeting.{AreHeld, touches_among}
+use Rattle.kit_words.proofs.Common.{◌≡◌, ◌≤◌, List, take, length}
+use Rattle.grid_geometry.specs.Common.{Segment}
+use Rattle.walk_faults.specs.Common.{AreHeld, touches_among}
 use Rattle.walk_faults.proofs.meeting.touches.Given as goal
 
 -- the touches of the vertices so far

@@ -1,7 +1,6 @@
-use Rattle.std.proofs.Common.{subst, true}
-use Rattle.grid_geometry.specs.Conflict.{is_within}
-use Rattle.segment_index.specs.Candidates.{Gives}
-use Rattle.segment_index.specs.Times.{times_by}
+use Rattle.kit_words.proofs.Common.{subst, true}
+use Rattle.grid_geometry.specs.Common.{is_within}
+use Rattle.segment_index.specs.Common.{Gives, times_by}
 use Rattle.walk_faults.proofs.Boxes.{box_at, within_meets}
 use Rattle.walk_faults.proofs.Filled.{near_is}
 use Rattle.walk_faults.proofs.meeting.touching_at.Goals as goal

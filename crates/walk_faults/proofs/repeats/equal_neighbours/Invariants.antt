@@ -1,4 +1,4 @@
-use Rattle.std.proofs.Common.{◌≡◌, ◌++◌, ◌∷◌, drop}
+use Rattle.kit_words.proofs.Common.{◌≡◌, ◌++◌, ◌∷◌, drop}
 use Rattle.walk_faults.proofs.Neighbours.{twice}
 use Rattle.walk_faults.proofs.repeats.equal_neighbours.Given as goal
 

@@ -1,5 +1,5 @@
-use Rattle.std.proofs.Common.{◌≡◌, ◌≤◌, ◌++◌, map, take, length}
-use Rattle.walk_faults.specs.Findings.{repeat_at}
+use Rattle.kit_words.proofs.Common.{◌≡◌, ◌≤◌, ◌++◌, map, take, length}
+use Rattle.walk_faults.specs.Common.{repeat_at}
 use Rattle.walk_faults.proofs.repeats.push_repeats.Given as goal
 
 -- those of the positions so far are appended

@@ -1,7 +1,6 @@
-use Rattle.std.proofs.Common.{◌∙◌, ap, subst, Contains}
-use Rattle.std.specs.List.Sorted.{IsPermutation}
-use Rattle.grid_geometry.specs.Position.{position_cmp}
-use Rattle.walk_faults.specs.Findings.{ListsAll}
+use Rattle.kit_words.proofs.Common.{◌∙◌, ap, subst, Contains, IsPermutation}
+use Rattle.grid_geometry.specs.Common.{position_cmp}
+use Rattle.walk_faults.specs.Common.{ListsAll}
 use Rattle.walk_faults.proofs.Neighbours.{twice, repeated_is}
 use Rattle.walk_faults.proofs.repeats.repeated.Goals as goal
 

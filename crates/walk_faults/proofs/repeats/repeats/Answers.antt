@@ -1,8 +1,5 @@
-use Rattle.std.proofs.Common.{◌<◌, ◌+◌, ◌∙◌, length, map, sym, ap, subst, IfErr}
-use Rattle.std.proofs.lemmas.List.{length-map}
-use Rattle.std.proofs.lemmas.Result.{err_from_is_err_and}
-use Rattle.walk_faults.specs.Findings.{OnlyIfMany, repeat_at, repeated, all_repeats}
-use Rattle.walk_faults.specs.Seen.{walk_seen}
+use Rattle.kit_words.proofs.Common.{◌<◌, ◌+◌, ◌∙◌, length, map, sym, ap, subst, IfErr, length-map, err_from_is_err_and}
+use Rattle.walk_faults.specs.Common.{OnlyIfMany, repeat_at, repeated, all_repeats, walk_seen}
 use Rattle.walk_faults.proofs.Walking.{only_where, repeats_past}
 use Rattle.walk_faults.proofs.repeats.repeats.Goals as goal
 

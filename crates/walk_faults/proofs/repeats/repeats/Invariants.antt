@@ -1,6 +1,5 @@
-use Rattle.std.proofs.Common.{◌≡◌, ◌≤◌, map, take, length}
-use Rattle.walk_faults.specs.Findings.{all_repeats}
-use Rattle.walk_faults.specs.Seen.{walk_seen}
+use Rattle.kit_words.proofs.Common.{◌≡◌, ◌≤◌, map, take, length}
+use Rattle.walk_faults.specs.Common.{all_repeats, walk_seen}
 use Rattle.walk_faults.proofs.repeats.repeats.Given as goal
 
 -- the repeats of the walks so far

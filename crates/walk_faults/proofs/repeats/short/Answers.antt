@@ -1,7 +1,5 @@
-use Rattle.std.proofs.Common.{◌<◌, ◌≤◌, length, map, sym, subst, IfErr}
-use Rattle.std.proofs.lemmas.Result.{err_from_is_err_and}
-use Rattle.walk_faults.specs.Findings.{OnlyIfMany, short_walks}
-use Rattle.walk_faults.specs.Seen.{walk_seen}
+use Rattle.kit_words.proofs.Common.{◌<◌, ◌≤◌, length, map, sym, subst, IfErr, err_from_is_err_and}
+use Rattle.walk_faults.specs.Common.{OnlyIfMany, short_walks, walk_seen}
 use Rattle.walk_faults.proofs.Walking.{short_past, only_where}
 use Rattle.walk_faults.proofs.repeats.short.Goals as goal
 

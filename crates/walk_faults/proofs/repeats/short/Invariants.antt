@@ -1,6 +1,5 @@
-use Rattle.std.proofs.Common.{◌≡◌, ◌≤◌, map, take, length}
-use Rattle.walk_faults.specs.Findings.{short_walks}
-use Rattle.walk_faults.specs.Seen.{walk_seen}
+use Rattle.kit_words.proofs.Common.{◌≡◌, ◌≤◌, map, take, length}
+use Rattle.walk_faults.specs.Common.{short_walks, walk_seen}
 use Rattle.walk_faults.proofs.repeats.short.Given as goal
 
 -- the short ones of the walks so far

@@ -1,11 +1,9 @@
-use Rattle.std.proofs.Common.{◌≡◌, ◌<◌, ◌∙◌, List, map, length, ap, sym, subst, inl, inr, Contains, IfErr}
-use Rattle.std.proofs.lemmas.Result.{err_from_is_err_and}
-use Rattle.grid_geometry.specs.Position.{Position, position_cmp}
-use Rattle.grid_geometry.specs.Segment.{Segment, segment_cmp}
-use Rattle.walk_faults.specs.Walks.{Placed, walks_of}
-use Rattle.walk_faults.specs.Seen.{walk_seen, features_seen}
-use Rattle.walk_faults.specs.Findings.{ListsAll, IsTouch, IsCrossing, touch_cmp, crossing_cmp, all_positions, all_segments, short_walks, all_repeats, HasMore, Tells}
-use Rattle.walk_faults.specs.Meeting.{touches_among, crossings_among}
+use Rattle.kit_words.proofs.Common.{◌≡◌, ◌<◌, ◌∙◌, List, map, length, ap, sym, subst, inl, inr, Contains, IfErr}
+use Rattle.kit_words.proofs.Common.{err_from_is_err_and}
+use Rattle.grid_geometry.specs.Common.{Position, position_cmp, Segment, segment_cmp}
+use Rattle.walk_faults.specs.Common.{Placed, walks_of, walk_seen, features_seen, ListsAll, IsTouch, IsCrossing}
+use Rattle.walk_faults.specs.Common.{touch_cmp, crossing_cmp, all_positions, all_segments, short_walks, all_repeats}
+use Rattle.walk_faults.specs.Common.{HasMore, Tells, touches_among, crossings_among}
 use Rattle.walk_faults.proofs.Pairs.{touches_all, crossings_all}
 use Rattle.walk_faults.proofs.Walking.{only_where}
 use Rattle.walk_faults.proofs.search.find_at_most.Goals as goal

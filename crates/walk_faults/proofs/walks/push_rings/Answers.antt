@@ -1,7 +1,5 @@
-use Rattle.std.proofs.Common.{◌++◌, ap, ◌∙◌, map}
-use Rattle.std.proofs.lemmas.List.{map-append}
-use Rattle.walk_faults.specs.Walks.{placed}
-use Rattle.walk_faults.specs.Seen.{walk_seen}
+use Rattle.kit_words.proofs.Common.{◌++◌, ap, ◌∙◌, map, map-append}
+use Rattle.walk_faults.specs.Common.{placed, walk_seen}
 use Rattle.walk_faults.proofs.Walking.{one_appended}
 use Rattle.walk_faults.proofs.walks.push_rings.Goals as goal
 

@@ -1,6 +1,5 @@
-use Rattle.std.proofs.Common.{◌++◌, [], ap, ◌∙◌, map}
-use Rattle.walk_faults.specs.Walks.{walks_in_feature}
-use Rattle.walk_faults.specs.Seen.{walk_seen, polygons_seen}
+use Rattle.kit_words.proofs.Common.{◌++◌, [], ap, ◌∙◌, map}
+use Rattle.walk_faults.specs.Common.{walks_in_feature, walk_seen, polygons_seen}
 use Rattle.walk_faults.proofs.Walking.{one_appended}
 use Rattle.walk_faults.proofs.walks.walks.Goals as goal
 

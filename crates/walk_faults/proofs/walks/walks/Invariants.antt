@@ -1,6 +1,5 @@
-use Rattle.std.proofs.Common.{◌≡◌, map, take}
-use Rattle.walk_faults.specs.Walks.{walks_of}
-use Rattle.walk_faults.specs.Seen.{walk_seen, features_seen}
+use Rattle.kit_words.proofs.Common.{◌≡◌, map, take}
+use Rattle.walk_faults.specs.Common.{walks_of, walk_seen, features_seen}
 use Rattle.walk_faults.proofs.walks.walks.Given as goal
 
 -- the walks of the features so far

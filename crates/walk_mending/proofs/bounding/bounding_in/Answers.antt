@@ -1,8 +1,7 @@
-use Rattle.std.proofs.Common.{◌≡◌, ap, sym, ◌∙◌}
-use Rattle.std.proofs.lemmas.Result.{IfOk-weaker}
-use Rattle.grid_geometry.specs.Segment.{Segment}
-use Rattle.walk_faults.specs.Seen.{rings_seen}
-use Rattle.walk_mending.specs.Odd.{is_among, is_bounding}
+use Rattle.kit_words.proofs.Common.{◌≡◌, ap, sym, ◌∙◌, IfOk-weaker}
+use Rattle.grid_geometry.specs.Common.{Segment}
+use Rattle.walk_faults.specs.Common.{rings_seen}
+use Rattle.walk_mending.specs.Common.{is_among, is_bounding}
 use Rattle.walk_mending.proofs.Bounds.{all_bound, odd_bound}
 use Rattle.walk_mending.proofs.Cancelling.{is_odd, times}
 use Rattle.walk_mending.proofs.bounding.bounding_in.Goals as goal

@@ -1,7 +1,6 @@
-use Rattle.std.proofs.Common.{ap, ◌∙◌}
-use Rattle.std.proofs.lemmas.List.{take_all}
-use Rattle.walk_faults.specs.Seen.{features_seen}
-use Rattle.walk_mending.specs.Odd.{is_bounding_in}
+use Rattle.kit_words.proofs.Common.{ap, ◌∙◌, take_all}
+use Rattle.walk_faults.specs.Common.{features_seen}
+use Rattle.walk_mending.specs.Common.{is_bounding_in}
 use Rattle.walk_mending.proofs.Bounds.{listed}
 use Rattle.walk_mending.proofs.bounding.bounding_segments.Goals as goal
 

@@ -1,7 +1,7 @@
-use Rattle.std.proofs.Common.{◌≡◌, take}
-use Rattle.grid_geometry.specs.Segment.{Segment}
-use Rattle.walk_faults.specs.Seen.{features_seen}
-use Rattle.walk_mending.specs.Odd.{is_among, is_bounding_in}
+use Rattle.kit_words.proofs.Common.{◌≡◌, take}
+use Rattle.grid_geometry.specs.Common.{Segment}
+use Rattle.walk_faults.specs.Common.{features_seen}
+use Rattle.walk_mending.specs.Common.{is_among, is_bounding_in}
 use Rattle.walk_mending.proofs.bounding.bounding_segments.Given as goal
 
 -- those of the features so far

@@ -1,8 +1,7 @@
-use Rattle.std.proofs.Common.{◌≡◌, ◌||◌, take}
-use Rattle.std.specs.List.{list_any}
-use Rattle.grid_geometry.specs.Segment.{Segment}
-use Rattle.walk_faults.specs.Seen.{polygons_seen}
-use Rattle.walk_mending.specs.Odd.{is_among, is_bounding}
+use Rattle.kit_words.proofs.Common.{◌≡◌, ◌||◌, take, list_any}
+use Rattle.grid_geometry.specs.Common.{Segment}
+use Rattle.walk_faults.specs.Common.{polygons_seen}
+use Rattle.walk_mending.specs.Common.{is_among, is_bounding}
 use Rattle.walk_mending.proofs.bounding.push_bounding.Given as goal
 
 -- those of the polygons so far

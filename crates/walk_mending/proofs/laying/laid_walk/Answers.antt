@@ -1,7 +1,6 @@
-use Rattle.std.proofs.Common.{◌≡◌, map, arith}
-use Rattle.std.proofs.lemmas.Grind.{common_steps}
-use Rattle.segment_paths.specs.Seen.{path_seen}
-use Rattle.walk_mending.specs.Laid.{laid}
+use Rattle.kit_words.proofs.Common.{◌≡◌, map, arith, common_steps}
+use Rattle.segment_paths.specs.Common.{path_seen}
+use Rattle.walk_mending.specs.Common.{laid}
 use Rattle.walk_mending.proofs.Along.{none_keeps, keeps_if}
 use Rattle.walk_mending.proofs.Going.{none_goes, goes_if}
 use Rattle.walk_mending.proofs.laying.laid_walk.Goals as goal

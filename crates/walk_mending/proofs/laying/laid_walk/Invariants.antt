@@ -1,8 +1,7 @@
-use Rattle.std.proofs.Common.{◌≡◌, ◌++◌, ◌∷◌, [], drop, map}
-use Rattle.std.specs.List.{flat_map}
-use Rattle.grid_geometry.specs.Ring.{links}
-use Rattle.segment_paths.specs.Seen.{path_seen}
-use Rattle.walk_mending.specs.Laid.{edge_along}
+use Rattle.kit_words.proofs.Common.{◌≡◌, ◌++◌, ◌∷◌, [], drop, map, flat_map}
+use Rattle.grid_geometry.specs.Common.{links}
+use Rattle.segment_paths.specs.Common.{path_seen}
+use Rattle.walk_mending.specs.Common.{edge_along}
 use Rattle.walk_mending.proofs.laying.laid_walk.Given as goal
 
 -- what is laid so far and what is left of the way are all

@@ -1,6 +1,6 @@
-use Rattle.std.proofs.Common.{sym, ◌∙◌}
-use Rattle.walk_faults.specs.Seen.{rings_seen, polygons_seen}
-use Rattle.walk_mending.specs.Mended.{HasOdd, AreApart}
+use Rattle.kit_words.proofs.Common.{sym, ◌∙◌}
+use Rattle.walk_faults.specs.Common.{rings_seen, polygons_seen}
+use Rattle.walk_mending.specs.Common.{HasOdd, AreApart}
 use Rattle.walk_mending.proofs.Laws.{stays_if, odd_ends, mended_if, ends_if, fault_if}
 use Rattle.walk_mending.proofs.mending.mended_polygon.Goals as goal
 

@@ -1,10 +1,7 @@
-use Rattle.std.proofs.Common.{ap, sym, ◌∙◌, subst}
-use Rattle.std.specs.List.{flat_map, list_all}
-use Rattle.std.specs.List.Sorted.{IsPermutation}
-use Rattle.walk_faults.specs.Findings.{walk_segments}
-use Rattle.walk_faults.specs.Seen.{rings_seen, polygons_seen}
+use Rattle.kit_words.proofs.Common.{ap, sym, ◌∙◌, subst, flat_map, list_all, IsPermutation}
+use Rattle.walk_faults.specs.Common.{walk_segments, rings_seen, polygons_seen}
 use Rattle.segment_paths.proofs.Led.{some_left}
-use Rattle.walk_mending.specs.Mended.{all_rings}
+use Rattle.walk_mending.specs.Common.{all_rings}
 use Rattle.walk_mending.proofs.Parting.{are_parts, is_filled, none_left, no_parts, some_odd}
 use Rattle.walk_mending.proofs.mending.parted.Goals as goal
 

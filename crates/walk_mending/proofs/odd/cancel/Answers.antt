@@ -1,6 +1,5 @@
-use Rattle.std.proofs.Common.{◌∙◌, sym, arith}
-use Rattle.std.proofs.lemmas.Bool.{false≢true}
-use Rattle.walk_mending.specs.Cancelled.{taken, put}
+use Rattle.kit_words.proofs.Common.{◌∙◌, sym, arith, false≢true}
+use Rattle.walk_mending.specs.Common.{taken, put}
 use Rattle.walk_mending.proofs.Cancelling.{popped}
 use Rattle.walk_mending.proofs.odd.cancel.Goals as goal
 

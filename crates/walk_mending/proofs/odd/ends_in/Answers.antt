@@ -1,4 +1,4 @@
-use Rattle.std.proofs.Common.{arith}
+use Rattle.kit_words.proofs.Common.{arith}
 use Rattle.walk_mending.proofs.Cancelling.{ends_tell, none_tells}
 use Rattle.walk_mending.proofs.odd.ends_in.Goals as goal
 

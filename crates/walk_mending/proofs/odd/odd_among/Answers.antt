@@ -1,5 +1,4 @@
-use Rattle.std.proofs.Common.{ap, ◌∙◌}
-use Rattle.std.proofs.lemmas.List.{take_all}
+use Rattle.kit_words.proofs.Common.{ap, ◌∙◌, take_all}
 use Rattle.walk_mending.proofs.Cancelling.{kept_none, next, times, is_odd}
 use Rattle.walk_mending.proofs.odd.odd_among.Goals as goal
 

@@ -1,4 +1,4 @@
-use Rattle.std.proofs.Common.{take}
+use Rattle.kit_words.proofs.Common.{take}
 use Rattle.walk_mending.proofs.Cancelling.{IsKept}
 use Rattle.walk_mending.proofs.odd.odd_among.Given as goal
 

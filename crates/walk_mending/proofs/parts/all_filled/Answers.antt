@@ -1,5 +1,5 @@
-use Rattle.std.proofs.Common.{ap, sym, ◌∙◌}
-use Rattle.walk_faults.specs.Seen.{rings_seen}
+use Rattle.kit_words.proofs.Common.{ap, sym, ◌∙◌}
+use Rattle.walk_faults.specs.Common.{rings_seen}
 use Rattle.walk_mending.proofs.Bounds.{fails_at}
 use Rattle.walk_mending.proofs.Parting.{is_filled}
 use Rattle.walk_mending.proofs.parts.all_filled.Goals as goal

@@ -1,6 +1,5 @@
-use Rattle.std.proofs.Common.{◌≡◌, true, take}
-use Rattle.std.specs.List.{list_all}
-use Rattle.walk_faults.specs.Seen.{polygons_seen}
+use Rattle.kit_words.proofs.Common.{◌≡◌, true, take, list_all}
+use Rattle.walk_faults.specs.Common.{polygons_seen}
 use Rattle.walk_mending.proofs.Parting.{is_filled}
 use Rattle.walk_mending.proofs.parts.all_filled.Given as goal
 

@@ -1,10 +1,6 @@
-use Rattle.std.proofs.Common.{sym, ◌∙◌, subst}
-use Rattle.std.specs.List.{flat_map}
-use Rattle.std.specs.List.Sorted.{IsPermutation}
-use Rattle.std.proofs.lemmas.Slice.Eq.{slice_eq-Decides}
-use Rattle.walk_faults.specs.Findings.{walk_segments}
-use Rattle.walk_faults.specs.Seen.{polygons_seen}
-use Rattle.walk_mending.specs.Mended.{all_rings}
+use Rattle.kit_words.proofs.Common.{sym, ◌∙◌, subst, flat_map, IsPermutation, slice_eq-Decides}
+use Rattle.walk_faults.specs.Common.{walk_segments, polygons_seen}
+use Rattle.walk_mending.specs.Common.{all_rings}
 use Rattle.walk_mending.proofs.Parting.{segment_decides}
 use Rattle.walk_mending.proofs.parts.have_exactly.Goals as goal
 

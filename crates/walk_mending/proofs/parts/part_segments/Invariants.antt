@@ -1,8 +1,6 @@
-use Rattle.std.proofs.Common.{◌≡◌, take}
-use Rattle.std.specs.List.{flat_map}
-use Rattle.walk_faults.specs.Findings.{walk_segments}
-use Rattle.walk_faults.specs.Seen.{polygons_seen}
-use Rattle.walk_mending.specs.Mended.{all_rings}
+use Rattle.kit_words.proofs.Common.{◌≡◌, take, flat_map}
+use Rattle.walk_faults.specs.Common.{walk_segments, polygons_seen}
+use Rattle.walk_mending.specs.Common.{all_rings}
 use Rattle.walk_mending.proofs.parts.part_segments.Given as goal
 
 -- those of the parts so far

@@ -1,7 +1,5 @@
-use Rattle.std.proofs.Common.{◌≡◌, ◌++◌, take}
-use Rattle.std.specs.List.{flat_map}
-use Rattle.walk_faults.specs.Findings.{walk_segments}
-use Rattle.walk_faults.specs.Seen.{rings_seen}
+use Rattle.kit_words.proofs.Common.{◌≡◌, ◌++◌, take, flat_map}
+use Rattle.walk_faults.specs.Common.{walk_segments, rings_seen}
 use Rattle.walk_mending.proofs.segments.push_all.Given as goal
 
 -- the segments of the walks so far

@@ -1,8 +1,8 @@
-use Rattle.std.proofs.Common.{◌∙◌}
-use Rattle.grid_geometry.specs.Segment.{segment_cmp, segment_eq}
-use Rattle.ring_machine.proofs.RingSegments.{segment_eq-true, segment_eq-sym}
-use Rattle.segment_index.proofs.Singles.{segment_total, segment_eq-is}
-use Rattle.walk_faults.proofs.Ascending.{sorted_once}
+use Rattle.kit_words.proofs.Common.{◌∙◌}
+use Rattle.grid_geometry.specs.Common.{segment_cmp, segment_eq}
+use Rattle.ring_machine.proofs.Common.{segment_eq-true, segment_eq-sym}
+use Rattle.segment_index.proofs.Common.{segment_total, segment_eq-is}
+use Rattle.walk_faults.proofs.Common.{sorted_once}
 use Rattle.walk_mending.proofs.segments.sort_once.Goals as goal
 
 pub returns : goal.returns

@@ -1,8 +1,6 @@
-use Rattle.std.proofs.Common.{ap, ◌∙◌}
-use Rattle.std.specs.Prelude.{not}
-use Rattle.std.specs.List.{list_any}
-use Rattle.grid_geometry.specs.Ring.{links}
-use Rattle.ring_machine.specs.Ring.{is_distinct}
+use Rattle.kit_words.proofs.Common.{ap, ◌∙◌, not, list_any}
+use Rattle.grid_geometry.specs.Common.{links}
+use Rattle.ring_machine.specs.Common.{is_distinct}
 use Rattle.walk_mending.proofs.Distinct.{is_still, neighbours_tell}
 use Rattle.walk_mending.proofs.simple.all_differ.Goals as goal
 

@@ -1,5 +1,5 @@
-use Rattle.std.proofs.Common.{ap, sym, ◌∙◌}
-use Rattle.topo_reader.specs.Document.{is_simple}
+use Rattle.kit_words.proofs.Common.{ap, sym, ◌∙◌}
+use Rattle.topo_reader.specs.Common.{is_simple}
 use Rattle.walk_mending.proofs.Bounds.{fails_at}
 use Rattle.walk_mending.proofs.simple.all_simple.Goals as goal
 

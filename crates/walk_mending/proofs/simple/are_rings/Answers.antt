@@ -1,5 +1,5 @@
-use Rattle.std.proofs.Common.{ap, sym, ◌∙◌}
-use Rattle.ring_machine.specs.Ring.{is_ring}
+use Rattle.kit_words.proofs.Common.{ap, sym, ◌∙◌}
+use Rattle.ring_machine.specs.Common.{is_ring}
 use Rattle.walk_mending.proofs.Bounds.{fails_at}
 use Rattle.walk_mending.proofs.simple.are_rings.Goals as goal
 

@@ -1,6 +1,5 @@
-use Rattle.std.proofs.Common.{◌≡◌, true, take}
-use Rattle.std.specs.List.{list_all}
-use Rattle.grid_geometry.specs.Position.{position_lt}
+use Rattle.kit_words.proofs.Common.{◌≡◌, true, take, list_all}
+use Rattle.grid_geometry.specs.Common.{position_lt}
 use Rattle.walk_mending.proofs.simple.begins_least.Given as goal
 
 -- all so far

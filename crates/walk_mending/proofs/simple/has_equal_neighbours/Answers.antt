@@ -1,7 +1,6 @@
-use Rattle.std.proofs.Common.{ap, sym, ◌∙◌}
-use Rattle.std.specs.List.{list_any}
-use Rattle.grid_geometry.specs.Ring.{links}
-use Rattle.ring_parts.proofs.Lists.{list_is}
+use Rattle.kit_words.proofs.Common.{ap, sym, ◌∙◌, list_any}
+use Rattle.grid_geometry.specs.Common.{links}
+use Rattle.ring_parts.proofs.Common.{list_is}
 use Rattle.walk_mending.proofs.Distinct.{is_still, still_step, still_here, still_end}
 use Rattle.walk_mending.proofs.simple.has_equal_neighbours.Goals as goal
 

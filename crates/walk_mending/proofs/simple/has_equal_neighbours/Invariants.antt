@@ -1,6 +1,5 @@
-use Rattle.std.proofs.Common.{◌≡◌, ◌∷◌, drop}
-use Rattle.std.specs.List.{list_any}
-use Rattle.grid_geometry.specs.Ring.{links}
+use Rattle.kit_words.proofs.Common.{◌≡◌, ◌∷◌, drop, list_any}
+use Rattle.grid_geometry.specs.Common.{links}
 use Rattle.walk_mending.proofs.Distinct.{is_still}
 use Rattle.walk_mending.proofs.simple.has_equal_neighbours.Given as goal
 

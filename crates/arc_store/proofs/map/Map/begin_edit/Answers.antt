@@ -1,7 +1,7 @@
-use Rattle.std.proofs.Common.{sym, subst}
-use Rattle.edit_records.specs.Records.{IsHeld}
-use Rattle.topo_outline.specs.Kept.{KeepsTexts}
-use Rattle.arc_store.specs.State.{State}
+use Rattle.kit_words.proofs.Common.{sym, subst}
+use Rattle.edit_records.specs.Common.{IsHeld}
+use Rattle.topo_outline.specs.Common.{KeepsTexts}
+use Rattle.arc_store.specs.Common.{State}
 use Rattle.arc_store.proofs.PlacedMap.{held_seen, keeps_seen}
 use Rattle.arc_store.proofs.map.Map.begin_edit.Goals as goal
 

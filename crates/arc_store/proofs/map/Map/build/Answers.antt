@@ -1,5 +1,5 @@
-use Rattle.std.proofs.Common.{◌≡◌, ◌∙◌, refl, sym, ap, None, Some, Option}
-use Rattle.map_opening.specs.Flat.{lists_seen}
+use Rattle.kit_words.proofs.Common.{◌≡◌, ◌∙◌, refl, sym, ap, None, Some, Option}
+use Rattle.map_opening.specs.Common.{lists_seen}
 use Rattle.arc_store.proofs.Opened.{read_are_rings, read_small, opened_pair, numbers_fit}
 use Rattle.arc_store.proofs.Opened.{opened_stands, map_document, map_features, map_proper, map_kept}
 use Rattle.arc_store.proofs.map.Map.build.Goals as goal

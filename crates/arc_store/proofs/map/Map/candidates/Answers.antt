@@ -1,10 +1,9 @@
-use Rattle.std.proofs.Common.{◌≡◌, true, map, ap, is_ok, subst}
-use Rattle.ring_machine.specs.Parts.{features}
-use Rattle.ring_machine.specs.WellFormed.{are_distinct}
-use Rattle.feature_exchange.specs.Stored.{stored, ring_under}
-use Rattle.arc_store.specs.Near.{ListsNear}
-use Rattle.segment_index.specs.Times.{times_by}
-use Rattle.ring_machine.proofs.FormedRings.{formed-in_rings}
+use Rattle.kit_words.proofs.Common.{◌≡◌, true, map, ap, is_ok, subst}
+use Rattle.ring_machine.specs.Common.{features, are_distinct}
+use Rattle.feature_exchange.specs.Common.{stored, ring_under}
+use Rattle.arc_store.specs.Common.{ListsNear}
+use Rattle.segment_index.specs.Common.{times_by}
+use Rattle.ring_machine.proofs.Common.{formed-in_rings}
 use Rattle.arc_store.proofs.NearLemmas.{near_listed}
 use Rattle.arc_store.proofs.map.Map.candidates.Goals as goal
 

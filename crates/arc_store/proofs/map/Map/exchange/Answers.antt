@@ -1,8 +1,6 @@
-use Rattle.std.proofs.Common.{◌≡◌, ◌∙◌, refl, ap, arith}
-use Rattle.edit_records.specs.Places.{had_before}
-use Rattle.edit_records.specs.Sizes.{weights}
-use Rattle.feature_exchange.specs.Changed.{seen, changed_as}
-use Rattle.feature_exchange.specs.Stored.{stored, document_of}
+use Rattle.kit_words.proofs.Common.{◌≡◌, ◌∙◌, refl, ap, arith}
+use Rattle.edit_records.specs.Common.{had_before, weights}
+use Rattle.feature_exchange.specs.Common.{seen, changed_as, stored, document_of}
 use Rattle.arc_store.proofs.ExchangePlan.{apart_tables, below_tables, grows_tables, map_tables}
 use Rattle.arc_store.proofs.ExchangePlan.{texts_tables, came_few}
 use Rattle.arc_store.proofs.ExchangePlan.{gone_few, gone_bounded, positions_after, state_after}

@@ -1,6 +1,6 @@
-use Rattle.std.proofs.Common.{None, sym, ap, ◌∙◌, subst}
-use Rattle.feature_exchange.specs.Changed.{seen}
-use Rattle.arc_store.specs.Exchanged.{MayExchange, exchanged_state}
+use Rattle.kit_words.proofs.Common.{None, sym, ap, ◌∙◌, subst}
+use Rattle.feature_exchange.specs.Common.{seen}
+use Rattle.arc_store.specs.Common.{MayExchange, exchanged_state}
 use Rattle.arc_store.proofs.RestorePlan.{may_back}
 use Rattle.arc_store.proofs.map.Map.exchange_back.Goals as goal
 

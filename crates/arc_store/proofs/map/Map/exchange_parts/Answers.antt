@@ -1,13 +1,9 @@
-use Rattle.std.proofs.Common.{◌≡◌, ◌+◌, ◌++◌, sym, ap, ap₂, ◌∙◌, subst, length, take, drop, [], ◌∷◌, Some}
-use Rattle.ring_machine.specs.Cut.{first_polygon, second_polygon}
-use Rattle.ring_machine.specs.Parts.{feature}
-use Rattle.ring_machine.specs.Refusals.{feature_at}
-use Rattle.ring_parts.specs.Seen.{path_seen, rings_seen}
-use Rattle.edit_records.specs.Places.{grown}
-use Rattle.edit_records.specs.Records.{Exchanged}
-use Rattle.feature_exchange.specs.Changed.{seen}
-use Rattle.arc_store.specs.Exchanged.{MayExchange, asked_document, with_polygons, part_of}
-use Rattle.arc_store.specs.State.{State}
+use Rattle.kit_words.proofs.Common.{◌≡◌, ◌+◌, ◌++◌, sym, ap, ap₂, ◌∙◌, subst, length, take, drop, [], ◌∷◌, Some}
+use Rattle.ring_machine.specs.Common.{first_polygon, second_polygon, feature, feature_at}
+use Rattle.ring_parts.specs.Common.{path_seen, rings_seen}
+use Rattle.edit_records.specs.Common.{grown, Exchanged}
+use Rattle.feature_exchange.specs.Common.{seen}
+use Rattle.arc_store.specs.Common.{MayExchange, asked_document, with_polygons, part_of, State}
 use Rattle.arc_store.proofs.ChangesCounted.{seen_two}
 use Rattle.arc_store.proofs.ChangesRecorded.{record_kept, next_none}
 use Rattle.arc_store.proofs.SplitMade.{both_parts}

@@ -1,9 +1,8 @@
-use Rattle.std.proofs.Common.{◌≡◌, ◌≤◌, true, sym, ap, ◌∙◌, subst, map, option_map}
-use Rattle.ring_machine.specs.Parts.{feature, features, size}
-use Rattle.ring_machine.specs.WellFormed.{are_distinct}
-use Rattle.ring_machine.proofs.FormedRings.{formed-in_rings}
-use Rattle.map_frame.specs.Readers.{shown}
-use Rattle.feature_exchange.specs.Stored.{stored, ring_under}
+use Rattle.kit_words.proofs.Common.{◌≡◌, ◌≤◌, true, sym, ap, ◌∙◌, subst, map, option_map}
+use Rattle.ring_machine.specs.Common.{feature, features, size, are_distinct}
+use Rattle.ring_machine.proofs.Common.{formed-in_rings}
+use Rattle.map_frame.specs.Common.{shown}
+use Rattle.feature_exchange.specs.Common.{stored, ring_under}
 use Rattle.arc_store.proofs.FrameReads.{feature_shown}
 use Rattle.arc_store.proofs.map.Map.feature.Goals as goal
 

@@ -1,6 +1,6 @@
-use Rattle.std.proofs.Common.{sym, ap, ◌∙◌, length}
-use Rattle.ring_machine.specs.Parts.{features}
-use Rattle.feature_exchange.specs.Stored.{stored, ring_under}
+use Rattle.kit_words.proofs.Common.{sym, ap, ◌∙◌, length}
+use Rattle.ring_machine.specs.Common.{features}
+use Rattle.feature_exchange.specs.Common.{stored, ring_under}
 use Rattle.arc_store.proofs.FrameReads.{feature_count-in_rings}
 use Rattle.arc_store.proofs.map.Map.feature_count.Goals as goal
 

@@ -1,8 +1,7 @@
-use Rattle.std.proofs.Common.{sym, ap, ◌∙◌, [], get_or, slice_set}
-use Rattle.std.specs.Prelude.{Vec}
-use Rattle.grid_geometry.specs.Position.{Position}
-use Rattle.ring_machine.specs.Refusals.{feature_at}
-use Rattle.ring_parts.specs.Seen.{path_seen, rings_seen, polygons_seen}
+use Rattle.kit_words.proofs.Common.{sym, ap, ◌∙◌, [], get_or, slice_set, Vec}
+use Rattle.grid_geometry.specs.Common.{Position}
+use Rattle.ring_machine.specs.Common.{feature_at}
+use Rattle.ring_parts.specs.Common.{path_seen, rings_seen, polygons_seen}
 use Rattle.arc_store.proofs.PolygonsSeen.{found_cut}
 use Rattle.arc_store.proofs.SplitPlan.{set_mapped}
 use Rattle.arc_store.proofs.map.Map.find_cut.Goals as goal

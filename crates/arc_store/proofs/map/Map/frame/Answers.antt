@@ -1,14 +1,11 @@
-use Rattle.std.proofs.Common.{◌≤◌, ◌∙◌, sym, ap, subst}
-use Rattle.std.specs.List.{AllByRecursion}
-use Rattle.grid_geometry.specs.Position.{InRange}
-use Rattle.ring_machine.specs.Parts.{rings, size}
-use Rattle.ring_machine.specs.Planar.{Proper}
-use Rattle.ring_machine.specs.WellFormed.{WellFormed}
-use Rattle.ring_machine.proofs.FormedRings.{formed-in_rings}
-use Rattle.topo_outline.specs.Kept.{KeepsTexts}
-use Rattle.topo_outline.proofs.KeptRings.{keeps-in_rings}
-use Rattle.map_frame.specs.Readers.{shown_frame}
-use Rattle.feature_exchange.specs.Stored.{stored, ring_under}
+use Rattle.kit_words.proofs.Common.{◌≤◌, ◌∙◌, sym, ap, subst, AllByRecursion}
+use Rattle.grid_geometry.specs.Common.{InRange}
+use Rattle.ring_machine.specs.Common.{rings, size, Proper, WellFormed}
+use Rattle.ring_machine.proofs.Common.{formed-in_rings}
+use Rattle.topo_outline.specs.Common.{KeepsTexts}
+use Rattle.topo_outline.proofs.Common.{keeps-in_rings}
+use Rattle.map_frame.specs.Common.{shown_frame}
+use Rattle.feature_exchange.specs.Common.{stored, ring_under}
 use Rattle.arc_store.proofs.FrameReads.{frame_shown}
 use Rattle.arc_store.proofs.Ranged.{rings_in_range}
 use Rattle.arc_store.proofs.map.Map.frame.Goals as goal

@@ -1,6 +1,6 @@
-use Rattle.std.proofs.Common.{sym, ap, ◌∙◌}
-use Rattle.ring_machine.specs.Parts.{has_feature}
-use Rattle.feature_exchange.specs.Stored.{stored, ring_under}
+use Rattle.kit_words.proofs.Common.{sym, ap, ◌∙◌}
+use Rattle.ring_machine.specs.Common.{has_feature}
+use Rattle.feature_exchange.specs.Common.{stored, ring_under}
 use Rattle.arc_store.proofs.FrameReads.{has_feature-in_rings}
 use Rattle.arc_store.proofs.map.Map.has_feature.Goals as goal
 

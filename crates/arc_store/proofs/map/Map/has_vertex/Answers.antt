@@ -1,6 +1,6 @@
-use Rattle.std.proofs.Common.{ap, ◌∙◌}
-use Rattle.ring_machine.specs.Parts.{is_vertex}
-use Rattle.feature_exchange.specs.Stored.{stored}
+use Rattle.kit_words.proofs.Common.{ap, ◌∙◌}
+use Rattle.ring_machine.specs.Common.{is_vertex}
+use Rattle.feature_exchange.specs.Common.{stored}
 use Rattle.arc_store.proofs.Reading.{found_vertex}
 use Rattle.arc_store.proofs.map.Map.has_vertex.Goals as goal
 

@@ -1,10 +1,7 @@
-use Rattle.std.proofs.Common.{sym, subst, ap, ◌∙◌, arith}
-use Rattle.std.proofs.lemmas.Result.{err_from_is_err_and}
-use Rattle.ring_machine.specs.Parts.{is_segment}
-use Rattle.ring_machine.specs.Vertices.{ins}
-use Rattle.feature_exchange.specs.Stored.{stored, document_of}
-use Rattle.arc_store.specs.Edits.{IsPlaceable}
-use Rattle.arc_store.specs.State.{State}
+use Rattle.kit_words.proofs.Common.{sym, subst, ap, ◌∙◌, arith, err_from_is_err_and}
+use Rattle.ring_machine.specs.Common.{is_segment, ins}
+use Rattle.feature_exchange.specs.Common.{stored, document_of}
+use Rattle.arc_store.specs.Common.{IsPlaceable, State}
 use Rattle.arc_store.proofs.Around.{none_joined}
 use Rattle.arc_store.proofs.InsertPlan.{first_key, second_key, insert_off, insert_new, insert_single}
 use Rattle.arc_store.proofs.InsertPlan.{doc_inserted, size_grows, kept_inserted}

@@ -1,7 +1,7 @@
-use Rattle.std.proofs.Common.{sym, ap, ◌∙◌}
-use Rattle.ring_machine.specs.Refusals.{is_layer}
-use Rattle.ring_machine.proofs.StaysFormed.{is_layer-in_rings}
-use Rattle.feature_exchange.specs.Stored.{stored, ring_under}
+use Rattle.kit_words.proofs.Common.{sym, ap, ◌∙◌}
+use Rattle.ring_machine.specs.Common.{is_layer}
+use Rattle.ring_machine.proofs.Common.{is_layer-in_rings}
+use Rattle.feature_exchange.specs.Common.{stored, ring_under}
 use Rattle.arc_store.proofs.map.Map.is_alone.Goals as goal
 
 pub returns : goal.returns

@@ -1,6 +1,6 @@
-use Rattle.std.proofs.Common.{sym, ap, ◌∙◌}
-use Rattle.ring_machine.specs.Vertices.{is_junction}
-use Rattle.feature_exchange.specs.Stored.{stored, document_of}
+use Rattle.kit_words.proofs.Common.{sym, ap, ◌∙◌}
+use Rattle.ring_machine.specs.Common.{is_junction}
+use Rattle.feature_exchange.specs.Common.{stored, document_of}
 use Rattle.arc_store.proofs.NoJunction as without
 use Rattle.arc_store.proofs.Reading.{no_vertex}
 use Rattle.arc_store.proofs.SpotLemmas.{spot_junction, two_between}

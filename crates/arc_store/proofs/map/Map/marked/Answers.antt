@@ -1,5 +1,5 @@
-use Rattle.std.proofs.Common.{ap}
-use Rattle.arc_store.specs.State.{State}
+use Rattle.kit_words.proofs.Common.{ap}
+use Rattle.arc_store.specs.Common.{State}
 use Rattle.arc_store.proofs.map.Map.marked.Goals as goal
 
 pub invariant_of-result : goal.invariant_of-result

@@ -1,9 +1,8 @@
-use Rattle.std.proofs.Common.{◌∙◌, sym, ap, subst}
-use Rattle.std.proofs.lemmas.Result.{err_from_is_err_and}
-use Rattle.ring_machine.specs.Parts.{is_vertex}
-use Rattle.segment_index.specs.Candidates.{AreAmong, AreSingle}
-use Rattle.feature_exchange.specs.Stored.{stored}
-use Rattle.ring_store.specs.Planned.{AreNew}
+use Rattle.kit_words.proofs.Common.{◌∙◌, sym, ap, subst, err_from_is_err_and}
+use Rattle.ring_machine.specs.Common.{is_vertex}
+use Rattle.segment_index.specs.Common.{AreAmong, AreSingle}
+use Rattle.feature_exchange.specs.Common.{stored}
+use Rattle.ring_store.specs.Common.{AreNew}
 use Rattle.arc_store.proofs.MovePlan.{has_moving, plan_new, plan_single, plan_held, plan_once, document_after, kept_after}
 use Rattle.arc_store.proofs.StateKept.{with_document, same_tables}
 use Rattle.arc_store.proofs.map.Map.move_tables.Goals as goal

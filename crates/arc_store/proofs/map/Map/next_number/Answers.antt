@@ -1,7 +1,7 @@
-use Rattle.std.proofs.Common.{◌≤◌, ap, sym, subst, ◌∙◌, option_map}
-use Rattle.ring_machine.specs.Parts.{feature, in_feature}
-use Rattle.ring_machine.proofs.Found.{feature-in_rings}
-use Rattle.feature_exchange.specs.Stored.{stored, ring_under}
+use Rattle.kit_words.proofs.Common.{◌≤◌, ap, sym, subst, ◌∙◌, option_map}
+use Rattle.ring_machine.specs.Common.{feature, in_feature}
+use Rattle.ring_machine.proofs.Common.{feature-in_rings}
+use Rattle.feature_exchange.specs.Common.{stored, ring_under}
 use Rattle.arc_store.proofs.PlacedMap.{held_seen, placed_seen, keeps_seen}
 use Rattle.arc_store.proofs.map.Map.next_number.Goals as goal
 

@@ -1,7 +1,7 @@
-use Rattle.std.proofs.Common.{sym, ap, ap₂, ◌∙◌, [], ◌∷◌, Some}
-use Rattle.ring_machine.specs.Document.{Polygon}
-use Rattle.ring_parts.specs.Seen.{polygons_seen}
-use Rattle.map_frame.specs.Texts.{Texts, with_texts}
+use Rattle.kit_words.proofs.Common.{sym, ap, ap₂, ◌∙◌, [], ◌∷◌, Some}
+use Rattle.ring_machine.specs.Common.{Polygon}
+use Rattle.ring_parts.specs.Common.{polygons_seen}
+use Rattle.map_frame.specs.Common.{Texts, with_texts}
 use Rattle.arc_store.proofs.PlacedMap.{texts_there, texts_missing}
 use Rattle.arc_store.proofs.map.Map.part_of.Goals as goal
 

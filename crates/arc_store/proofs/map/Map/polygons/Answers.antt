@@ -1,7 +1,6 @@
-use Rattle.std.proofs.Common.{◌≡◌, subst}
-use Rattle.std.specs.Prelude.{IfOk}
-use Rattle.ring_machine.specs.Refusals.{feature_at}
-use Rattle.ring_parts.specs.Seen.{polygons_seen}
+use Rattle.kit_words.proofs.Common.{◌≡◌, subst, IfOk}
+use Rattle.ring_machine.specs.Common.{feature_at}
+use Rattle.ring_parts.specs.Common.{polygons_seen}
 use Rattle.arc_store.proofs.map.Map.polygons.Goals as goal
 
 pub returns : goal.returns

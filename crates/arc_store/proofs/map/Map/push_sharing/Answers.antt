@@ -1,13 +1,10 @@
-use Rattle.std.proofs.Common.{◌≡◌, ◌∙◌, ℕ, [], Some, None, sym, ap, subst, Contains, option_map}
-use Rattle.std.specs.Prelude.{unwrap_or}
-use Rattle.grid_geometry.specs.Ring.{edges}
-use Rattle.arc_tables.specs.Users.{ListsSharing}
+use Rattle.kit_words.proofs.Common.{◌≡◌, ◌∙◌, ℕ, [], Some, None, sym, ap, subst, Contains, option_map, unwrap_or}
+use Rattle.grid_geometry.specs.Common.{edges}
+use Rattle.arc_tables.specs.Common.{ListsSharing}
 use Rattle.map_frame.specs.declared.names.RingName.{RingName}
-use Rattle.map_frame.specs.Named.{number_at}
-use Rattle.map_frame.specs.Readers.{ring_at}
-use Rattle.feature_exchange.specs.Stored.{stored, document_of, ring_under}
-use Rattle.arc_store.specs.Named.{ListsNames}
-use Rattle.arc_store.specs.Users.{ListsUsers}
+use Rattle.map_frame.specs.Common.{number_at, ring_at}
+use Rattle.feature_exchange.specs.Common.{stored, document_of, ring_under}
+use Rattle.arc_store.specs.Common.{ListsNames, ListsUsers}
 use Rattle.arc_store.proofs.NamedRings.{ring_by_name}
 use Rattle.arc_store.proofs.SharedNames.{users_none, sharing_named, sharing_listed}
 use Rattle.arc_store.proofs.map.Map.push_sharing.Goals as goal

@@ -1,9 +1,9 @@
-use Rattle.std.proofs.Common.{◌≡◌, ℕ, [], Some, sym, subst, Contains}
-use Rattle.grid_geometry.specs.Segment.{segment}
-use Rattle.arc_tables.specs.Users.{ListsUsers}
+use Rattle.kit_words.proofs.Common.{◌≡◌, ℕ, [], Some, sym, subst, Contains}
+use Rattle.grid_geometry.specs.Common.{segment}
+use Rattle.arc_tables.specs.Common.{ListsUsers}
 use Rattle.map_frame.specs.declared.names.RingName.{RingName}
-use Rattle.map_frame.specs.Named.{number_at}
-use Rattle.arc_store.specs.Named.{ListsNames, ListsRings}
+use Rattle.map_frame.specs.Common.{number_at}
+use Rattle.arc_store.specs.Common.{ListsNames, ListsRings}
 use Rattle.arc_store.proofs.NamedRings.{listed_names, rings_listed, none_from, none_to}
 use Rattle.arc_store.proofs.map.Map.push_users.Goals as goal
 

@@ -1,6 +1,5 @@
-use Rattle.std.proofs.Common.{ap, arith}
-use Rattle.std.proofs.lemmas.Result.{err_from_is_err_and}
-use Rattle.feature_exchange.specs.Stored.{stored}
+use Rattle.kit_words.proofs.Common.{ap, arith, err_from_is_err_and}
+use Rattle.feature_exchange.specs.Common.{stored}
 use Rattle.arc_store.proofs.Around.{none_joined}
 use Rattle.arc_store.proofs.StateKept.{with_document, same_tables}
 use Rattle.arc_store.proofs.ThinnedBack.{all_placeable, all_new, all_come_once, all_there, all_go_once}

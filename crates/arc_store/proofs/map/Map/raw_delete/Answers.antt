@@ -1,7 +1,7 @@
-use Rattle.std.proofs.Common.{◌≡◌, refl, sym, ap, ◌∙◌, subst, [], ◌∷◌, None}
-use Rattle.ring_machine.proofs.TakenOut.{take_out_none}
-use Rattle.feature_exchange.specs.Changed.{seen}
-use Rattle.arc_store.specs.Exchanged.{MayExchange, asked_document}
+use Rattle.kit_words.proofs.Common.{◌≡◌, refl, sym, ap, ◌∙◌, subst, [], ◌∷◌, None}
+use Rattle.ring_machine.proofs.Common.{take_out_none}
+use Rattle.feature_exchange.specs.Common.{seen}
+use Rattle.arc_store.specs.Common.{MayExchange, asked_document}
 use Rattle.arc_store.proofs.ChangesRecorded.{record_kept}
 use Rattle.arc_store.proofs.DeletePlan.{deleted_is, deleted_may}
 use Rattle.arc_store.proofs.Outcomes.{is_made, with_last}

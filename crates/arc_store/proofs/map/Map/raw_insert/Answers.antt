@@ -1,9 +1,7 @@
-use Rattle.std.proofs.Common.{◌≡◌, refl, subst, ap, ◌∙◌, None, arith}
-use Rattle.ring_machine.specs.Refusals.{first_of, insert_refusals}
-use Rattle.ring_machine.specs.Vertices.{ins}
-use Rattle.feature_exchange.specs.Stored.{stored, document_of}
-use Rattle.arc_store.specs.Faults.{Refuses}
-use Rattle.arc_store.specs.State.{State}
+use Rattle.kit_words.proofs.Common.{◌≡◌, refl, subst, ap, ◌∙◌, None, arith}
+use Rattle.ring_machine.specs.Common.{first_of, insert_refusals, ins}
+use Rattle.feature_exchange.specs.Common.{stored, document_of}
+use Rattle.arc_store.specs.Common.{Refuses, State}
 use Rattle.arc_store.proofs.Around.{none_joined}
 use Rattle.arc_store.proofs.Indexed.{indexed_apart}
 use Rattle.arc_store.proofs.InsertPlan.{first_key, second_key, insert_off, insert_new, insert_single, insertable}

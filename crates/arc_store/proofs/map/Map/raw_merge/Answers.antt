@@ -1,9 +1,8 @@
-use Rattle.std.proofs.Common.{◌≡◌, refl, sym, ap, ap₂, ◌∙◌, subst, get_or, [], ◌∷◌, Some, None, arith}
-use Rattle.ring_machine.specs.Refusals.{feature_at}
-use Rattle.ring_parts.specs.Merges.{joined_rings}
-use Rattle.ring_parts.specs.Seen.{rings_seen, polygons_seen}
-use Rattle.feature_exchange.specs.Changed.{seen}
-use Rattle.arc_store.specs.Exchanged.{MayExchange, asked_document, with_polygons}
+use Rattle.kit_words.proofs.Common.{◌≡◌, refl, sym, ap, ap₂, ◌∙◌, subst, get_or, [], ◌∷◌, Some, None, arith}
+use Rattle.ring_machine.specs.Common.{feature_at}
+use Rattle.ring_parts.specs.Common.{joined_rings, rings_seen, polygons_seen}
+use Rattle.feature_exchange.specs.Common.{seen}
+use Rattle.arc_store.specs.Common.{MayExchange, asked_document, with_polygons}
 use Rattle.arc_store.proofs.ChangesCounted.{seen_two}
 use Rattle.arc_store.proofs.ChangesRecorded.{record_kept}
 use Rattle.arc_store.proofs.MergePlan as plan

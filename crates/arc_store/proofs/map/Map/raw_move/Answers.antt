@@ -1,16 +1,11 @@
-use Rattle.std.proofs.Common.{◌≡◌, ◌∙◌, None, refl, sym, ap, subst, [], ◌∷◌}
-use Rattle.std.specs.Prelude.{not}
-use Rattle.ring_machine.specs.Parts.{is_vertex}
-use Rattle.ring_machine.specs.Command.{Sweeps}
-use Rattle.ring_machine.specs.Refusals.{conflict_of, first_of, ◌unless◌}
-use Rattle.segment_index.specs.Candidates.{AreAmong, AreSingle}
-use Rattle.segment_index.specs.Times.{times_by}
-use Rattle.local_planarity.specs.NearMove.{HasNearMove}
+use Rattle.kit_words.proofs.Common.{◌≡◌, ◌∙◌, None, refl, sym, ap, subst, [], ◌∷◌, not}
+use Rattle.ring_machine.specs.Common.{is_vertex, Sweeps, conflict_of, first_of, ◌unless◌}
+use Rattle.segment_index.specs.Common.{AreAmong, AreSingle, times_by}
+use Rattle.local_planarity.specs.Common.{HasNearMove}
 use Rattle.local_planarity.proofs.NearMoves.{near_apart, near_first, near_tests, near_way_tests}
-use Rattle.feature_exchange.specs.Stored.{stored}
-use Rattle.ring_store.specs.Planned.{AreNew, spokes}
-use Rattle.arc_store.specs.Faults.{Refuses}
-use Rattle.arc_store.specs.State.{State}
+use Rattle.feature_exchange.specs.Common.{stored}
+use Rattle.ring_store.specs.Common.{AreNew, spokes}
+use Rattle.arc_store.specs.Common.{Refuses, State}
 use Rattle.arc_store.specs.declared.fault.EditFault.TheVariants as fault
 use Rattle.arc_store.proofs.Accepted.{move_may}
 use Rattle.arc_store.proofs.MovePlan.{held_apart, move_conflicts, move_decided}

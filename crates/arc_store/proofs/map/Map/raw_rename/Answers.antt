@@ -1,10 +1,9 @@
-use Rattle.std.proofs.Common.{◌≡◌, ◌∙◌, is_some, sym, ap, subst}
-use Rattle.std.proofs.lemmas.Bool.{false≢true}
-use Rattle.ring_machine.specs.Machine.{renamed}
-use Rattle.ring_machine.proofs.Found.{has_feature-found}
-use Rattle.edit_records.specs.Records.{with_id}
-use Rattle.map_frame.specs.Framed.{Framed}
-use Rattle.arc_store.specs.Kept.{IsKept}
+use Rattle.kit_words.proofs.Common.{◌≡◌, ◌∙◌, is_some, sym, ap, subst, false≢true}
+use Rattle.ring_machine.specs.Common.{renamed}
+use Rattle.ring_machine.proofs.Common.{has_feature-found}
+use Rattle.edit_records.specs.Common.{with_id}
+use Rattle.map_frame.specs.Common.{Framed}
+use Rattle.arc_store.specs.Common.{IsKept}
 use Rattle.arc_store.proofs.FeaturesKept.{kept_renamed}
 use Rattle.arc_store.proofs.RenamedMap.{renamed_state}
 use Rattle.arc_store.proofs.map.Map.raw_rename.Goals as goal

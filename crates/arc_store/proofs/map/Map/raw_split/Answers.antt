@@ -1,7 +1,7 @@
-use Rattle.std.proofs.Common.{sym, subst}
-use Rattle.ring_machine.specs.Cut.{path_of}
-use Rattle.ring_parts.specs.Seen.{path_seen}
-use Rattle.arc_store.specs.Splits.{IsCuttable, IsFound}
+use Rattle.kit_words.proofs.Common.{sym, subst}
+use Rattle.ring_machine.specs.Common.{path_of}
+use Rattle.ring_parts.specs.Common.{path_seen}
+use Rattle.arc_store.specs.Common.{IsCuttable, IsFound}
 use Rattle.arc_store.proofs.SplitPlan.{cuttable}
 use Rattle.arc_store.proofs.map.Map.raw_split.Goals as goal
 

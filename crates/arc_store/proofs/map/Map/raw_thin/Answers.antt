@@ -1,9 +1,8 @@
-use Rattle.std.proofs.Common.{◌≡◌, ap, ◌∙◌, refl, subst, Option, Some, List, [], ◌∷◌, ◌++◌, map, reverse}
-use Rattle.std.proofs.lemmas.List.{reverse-append, map-append}
+use Rattle.kit_words.proofs.Common.{◌≡◌, ap, ◌∙◌, refl, subst, Option, Some, List, [], ◌∷◌, ◌++◌, map, reverse}
+use Rattle.kit_words.proofs.Common.{reverse-append, map-append}
 use Rattle.edit_records.specs.Records as made
 use Rattle.ring_store.specs.declared.removal.Removal.{Removal}
-use Rattle.arc_store.specs.Recorded.{IsLeftOut, left_out, removal_seen, thinned}
-use Rattle.arc_store.specs.State.{State}
+use Rattle.arc_store.specs.Common.{IsLeftOut, left_out, removal_seen, thinned, State}
 use Rattle.arc_store.proofs.map.Map.raw_thin.Goals as goal
 
 -- the record begins with the vertex that was left out last

@@ -1,10 +1,7 @@
-use Rattle.std.proofs.Common.{◌∙◌, ap, arith, subst, sym}
-use Rattle.std.proofs.lemmas.Result.{err_from_is_err_and}
-use Rattle.ring_machine.specs.Parts.{is_vertex}
-use Rattle.feature_exchange.specs.Stored.{stored}
-use Rattle.ring_machine.specs.Vertices.{del, is_junction}
-use Rattle.arc_store.specs.Edits.{IsLeavable}
-use Rattle.arc_store.specs.State.{State}
+use Rattle.kit_words.proofs.Common.{◌∙◌, ap, arith, subst, sym, err_from_is_err_and}
+use Rattle.ring_machine.specs.Common.{is_vertex, del, is_junction}
+use Rattle.feature_exchange.specs.Common.{stored}
+use Rattle.arc_store.specs.Common.{IsLeavable, State}
 use Rattle.arc_store.proofs.RemovePlan.{has_bridging, found, planned, not_joined, three_apart, taken}
 use Rattle.arc_store.proofs.StateKept.{with_document, same_tables}
 use Rattle.arc_store.proofs.map.Map.remove_tables.Goals as goal

@@ -1,12 +1,8 @@
-use Rattle.std.proofs.Common.{◌≡◌, ◌∙◌, refl, ap, arith, subst, sym, None}
-use Rattle.grid_geometry.specs.Segment.{Segment}
-use Rattle.ring_machine.specs.Parts.{is_vertex}
-use Rattle.ring_machine.specs.Refusals.{first_of, remove_refusals}
-use Rattle.ring_machine.specs.Vertices.{del, is_junction}
-use Rattle.feature_exchange.specs.Stored.{stored, document_of}
-use Rattle.arc_store.specs.Faults.{Refuses}
-use Rattle.arc_store.specs.Recorded.{IsLeftOut}
-use Rattle.arc_store.specs.State.{State}
+use Rattle.kit_words.proofs.Common.{◌≡◌, ◌∙◌, refl, ap, arith, subst, sym, None}
+use Rattle.grid_geometry.specs.Common.{Segment}
+use Rattle.ring_machine.specs.Common.{is_vertex, first_of, remove_refusals, del, is_junction}
+use Rattle.feature_exchange.specs.Common.{stored, document_of}
+use Rattle.arc_store.specs.Common.{Refuses, IsLeftOut, State}
 use Rattle.arc_store.specs.declared.fault.EditFault.TheVariants as fault
 use Rattle.arc_store.proofs.Accepted.{remove_may}
 use Rattle.arc_store.proofs.Indexed.{indexed_apart}

@@ -1,7 +1,7 @@
-use Rattle.std.proofs.Common.{refl, ap}
-use Rattle.arc_tables.proofs.Segments.{on_ok_map}
-use Rattle.edit_records.specs.Records.{back}
-use Rattle.arc_store.specs.Recorded.{record_seen}
+use Rattle.kit_words.proofs.Common.{refl, ap}
+use Rattle.arc_tables.proofs.Common.{on_ok_map}
+use Rattle.edit_records.specs.Common.{back}
+use Rattle.arc_store.specs.Common.{record_seen}
 use Rattle.arc_store.proofs.RestorePlan.{movable_back, leavable_back, undoes_began, texts_began, map_began, restored}
 use Rattle.arc_store.proofs.map.Map.restore.Goals as goal
 

@@ -1,6 +1,6 @@
-use Rattle.std.proofs.Common.{arith, sym, ap, ◌∙◌, ◌≡◌, [], Some, option_map}
-use Rattle.map_frame.specs.Readers.{ring_at}
-use Rattle.feature_exchange.specs.Stored.{stored, ring_under}
+use Rattle.kit_words.proofs.Common.{arith, sym, ap, ◌∙◌, ◌≡◌, [], Some, option_map}
+use Rattle.map_frame.specs.Common.{ring_at}
+use Rattle.feature_exchange.specs.Common.{stored, ring_under}
 use Rattle.arc_store.proofs.FrameNames.{number_there}
 use Rattle.arc_store.proofs.FrameReads.{ring-in_rings}
 use Rattle.arc_store.proofs.RingKeys.{there, no_keys, keys_placed, keys_round, keys_value, keys_few}

@@ -1,6 +1,6 @@
-use Rattle.std.proofs.Common.{sym, ap, ◌∙◌, length}
-use Rattle.ring_machine.specs.Query.{distinct_segments}
-use Rattle.feature_exchange.specs.Stored.{stored, document_of}
+use Rattle.kit_words.proofs.Common.{sym, ap, ◌∙◌, length}
+use Rattle.ring_machine.specs.Common.{distinct_segments}
+use Rattle.feature_exchange.specs.Common.{stored, document_of}
 use Rattle.arc_store.proofs.SegmentCounts.{indexed_len}
 use Rattle.arc_store.proofs.map.Map.segment_count.Goals as goal
 

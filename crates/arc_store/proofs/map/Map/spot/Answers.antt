@@ -1,10 +1,9 @@
-use Rattle.std.proofs.Common.{sym, ap, ◌∙◌, subst, Some, arith}
-use Rattle.ring_machine.specs.Parts.{is_vertex}
-use Rattle.ring_machine.specs.Vertices.{is_junction}
-use Rattle.grid_geometry.specs.Segment.{segment}
-use Rattle.feature_exchange.specs.Stored.{stored}
-use Rattle.arc_store.specs.Spots.{IsSpot, IsBetween, IsShortest}
-use Rattle.vertex_index.specs.Placement.{place}
+use Rattle.kit_words.proofs.Common.{sym, ap, ◌∙◌, subst, Some, arith}
+use Rattle.ring_machine.specs.Common.{is_vertex, is_junction}
+use Rattle.grid_geometry.specs.Common.{segment}
+use Rattle.feature_exchange.specs.Common.{stored}
+use Rattle.arc_store.specs.Common.{IsSpot, IsBetween, IsShortest}
+use Rattle.vertex_index.specs.Common.{place}
 use Rattle.arc_store.proofs.Reading.{no_vertex}
 use Rattle.arc_store.proofs.SpotLemmas.{spot_junction, two_pass, two_kept, two_between, shortest_read}
 use Rattle.arc_store.proofs.map.Map.spot.Goals as goal

@@ -1,8 +1,8 @@
-use Rattle.std.proofs.Common.{sym, ap, ◌∙◌, map, arith}
-use Rattle.grid_geometry.specs.Ring.{links}
-use Rattle.ring_machine.specs.Ring.{is_distinct, segment_of}
-use Rattle.ring_parts.specs.Seen.{path_seen, rings_seen, outer_length}
-use Rattle.feature_exchange.specs.Stored.{stored, document_of}
+use Rattle.kit_words.proofs.Common.{sym, ap, ◌∙◌, map, arith}
+use Rattle.grid_geometry.specs.Common.{links}
+use Rattle.ring_machine.specs.Common.{is_distinct, segment_of}
+use Rattle.ring_parts.specs.Common.{path_seen, rings_seen, outer_length}
+use Rattle.feature_exchange.specs.Common.{stored, document_of}
 use Rattle.arc_store.proofs.FeaturesKept.{seen_small}
 use Rattle.arc_store.proofs.Indexed.{indexed_apart}
 use Rattle.arc_store.proofs.SplitPlan.{inner_length, split_few, outer_few}

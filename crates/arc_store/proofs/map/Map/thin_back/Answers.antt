@@ -1,7 +1,6 @@
-use Rattle.std.proofs.Common.{map, sym, ap, ◌∙◌, subst}
-use Rattle.std.specs.List.{fold}
-use Rattle.edit_records.specs.Records.{AreRemoved, put_back}
-use Rattle.arc_store.specs.Recorded.{removal_seen}
+use Rattle.kit_words.proofs.Common.{map, sym, ap, ◌∙◌, subst, fold}
+use Rattle.edit_records.specs.Common.{AreRemoved, put_back}
+use Rattle.arc_store.specs.Common.{removal_seen}
 use Rattle.arc_store.proofs.PutBack.{seen_reversed}
 use Rattle.arc_store.proofs.map.Map.thin_back.Goals as goal
 

@@ -1,7 +1,7 @@
-use Rattle.std.proofs.Common.{refl, ap₂, ◌∙◌, length, inl, inr}
-use Rattle.grid_geometry.specs.Segment.{Segment}
-use Rattle.feature_exchange.specs.Stored.{stored}
-use Rattle.arc_store.specs.Spots.{users}
+use Rattle.kit_words.proofs.Common.{refl, ap₂, ◌∙◌, length, inl, inr}
+use Rattle.grid_geometry.specs.Common.{Segment}
+use Rattle.feature_exchange.specs.Common.{stored}
+use Rattle.arc_store.specs.Common.{users}
 use Rattle.arc_store.proofs.Reading.{users_read, unused_read}
 use Rattle.arc_store.proofs.map.Map.uses.Goals as goal
 

@@ -1,6 +1,6 @@
-use Rattle.std.proofs.Common.{ap, ◌∙◌, length}
-use Rattle.ring_machine.specs.Query.{vertices}
-use Rattle.feature_exchange.specs.Stored.{stored}
+use Rattle.kit_words.proofs.Common.{ap, ◌∙◌, length}
+use Rattle.ring_machine.specs.Common.{vertices}
+use Rattle.feature_exchange.specs.Common.{stored}
 use Rattle.arc_store.proofs.VertexCounts.{vertices_counted}
 use Rattle.arc_store.proofs.map.Map.vertex_count.Goals as goal
 

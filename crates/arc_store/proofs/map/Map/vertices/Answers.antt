@@ -1,6 +1,5 @@
-use Rattle.std.proofs.Common.{◌≡◌, subst}
-use Rattle.std.specs.Prelude.{IfOk}
-use Rattle.ring_machine.specs.Query.{vertices}
+use Rattle.kit_words.proofs.Common.{◌≡◌, subst, IfOk}
+use Rattle.ring_machine.specs.Common.{vertices}
 use Rattle.arc_store.proofs.map.Map.vertices.Goals as goal
 
 pub read_vertices-requires-clause-distinct : goal.read_vertices-requires-clause-distinct

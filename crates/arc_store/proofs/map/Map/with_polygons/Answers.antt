@@ -1,6 +1,6 @@
-use Rattle.std.proofs.Common.{sym, ap, ◌∙◌, [], ◌∷◌, Some}
-use Rattle.ring_parts.specs.Seen.{polygons_seen}
-use Rattle.map_frame.specs.Texts.{with_texts}
+use Rattle.kit_words.proofs.Common.{sym, ap, ◌∙◌, [], ◌∷◌, Some}
+use Rattle.ring_parts.specs.Common.{polygons_seen}
+use Rattle.map_frame.specs.Common.{with_texts}
 use Rattle.arc_store.proofs.PlacedMap.{texts_there, texts_missing}
 use Rattle.arc_store.proofs.map.Map.with_polygons.Goals as goal
 

@@ -1,7 +1,7 @@
-use Rattle.std.proofs.Common.{sym, ap, ◌∙◌, option_map}
-use Rattle.ring_machine.specs.Parts.{feature}
-use Rattle.map_frame.specs.Readers.{shown}
-use Rattle.feature_exchange.specs.Stored.{stored_in, ring_under}
+use Rattle.kit_words.proofs.Common.{sym, ap, ◌∙◌, option_map}
+use Rattle.ring_machine.specs.Common.{feature}
+use Rattle.map_frame.specs.Common.{shown}
+use Rattle.feature_exchange.specs.Common.{stored_in, ring_under}
 use Rattle.arc_store.proofs.FrameReads.{feature_shown}
 use Rattle.arc_store.proofs.marked_map.MarkedMap.feature.Goals as goal
 

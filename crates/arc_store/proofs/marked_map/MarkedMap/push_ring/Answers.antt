@@ -1,11 +1,8 @@
-use Rattle.std.proofs.Common.{sym, ap, ◌∙◌, subst, [], ◌++◌, map}
-use Rattle.std.specs.Prelude.{unwrap_or}
-use Rattle.std.proofs.lemmas.List.{append-nil}
-use Rattle.ring_machine.specs.Vertices.{is_junction}
-use Rattle.map_frame.specs.Readers.{ring_at}
-use Rattle.feature_exchange.specs.Marked.{MarksAlong}
-use Rattle.feature_exchange.specs.Stored.{stored_in, document_of}
-use Rattle.feature_exchange.proofs.PolygonsRead.{along}
+use Rattle.kit_words.proofs.Common.{sym, ap, ◌∙◌, subst, [], ◌++◌, map, unwrap_or, append-nil}
+use Rattle.ring_machine.specs.Common.{is_junction}
+use Rattle.map_frame.specs.Common.{ring_at}
+use Rattle.feature_exchange.specs.Common.{MarksAlong, stored_in, document_of}
+use Rattle.feature_exchange.proofs.Common.{along}
 use Rattle.arc_store.proofs.MarkedRings.{ring_read, no_ring_read, number_held, junctions_along}
 use Rattle.arc_store.proofs.marked_map.MarkedMap.push_ring.Goals as goal
 

@@ -1,6 +1,5 @@
-use Rattle.std.proofs.Common.{rules, ◌≡◌, ◌∙◌, ap, sym}
-use Rattle.std.proofs.lemmas.Fn.{filter_same}
-use Rattle.arc_tables.specs.ShortLists.{without, numbers_in}
+use Rattle.kit_words.proofs.Common.{rules, ◌≡◌, ◌∙◌, ap, sym, filter_same}
+use Rattle.arc_tables.specs.Common.{without, numbers_in}
 use Rattle.arc_tables.proofs.short_list.Kept.take_out.Goals as goal
 
 pub returns-in-Many : goal.returns-in-Many

@@ -1,6 +1,6 @@
-use Rattle.std.proofs.Common.{◌≡◌, ap, sym, ◌∙◌, refl, None, is_some}
+use Rattle.kit_words.proofs.Common.{◌≡◌, ap, sym, ◌∙◌, refl, None, is_some}
 use Rattle.slab.specs.Slab.{get}
-use Rattle.arc_tables.specs.Stores.{uses_in, store, store_of, SameRings}
+use Rattle.arc_tables.specs.Common.{uses_in, store, store_of, SameRings}
 use Rattle.arc_tables.proofs.Moves.{keeps_after_all}
 use Rattle.arc_tables.proofs.WholeLemmas.{whole_alike, empty_ring, one_fewer, laid_grows}
 use Rattle.arc_tables.proofs.tables.Tables.add_ring.Goals as goal

@@ -1,7 +1,8 @@
-use Rattle.std.proofs.Common.{◌≡◌, inl, inr, ℕ, ◌+◌, ap, sym, ◌∙◌, subst, take, drop, length, get_or, Contains, Some, arith, IsSome, List, ◌-◌, refl, take_all, length-drop}
-use Rattle.std.specs.Option.{option_copied}
+use Rattle.kit_words.proofs.Common.{◌≡◌, inl, inr, ℕ, ◌+◌, ap, sym, ◌∙◌, subst, take, drop, length, get_or, Contains}
+use Rattle.kit_words.proofs.Common.{Some, arith, IsSome, List, ◌-◌, refl, option_copied}
+use Rattle.std.proofs.Common.{take_all, length-drop}
 use Rattle.slab.specs.Slab.{get, ContainsKey}
-use Rattle.arc_tables.specs.Stores.{path_in, users_in, store_of, store, path_of, stand_at, HasRing}
+use Rattle.arc_tables.specs.Common.{path_in, users_in, store_of, store, path_of, stand_at, HasRing}
 use Rattle.arc_tables.proofs.Held.{stands_cut, stands_off}
 use Rattle.arc_tables.proofs.WholeLemmas.{whole_alike}
 use Rattle.arc_tables.proofs.CutLemmas.{Parted, cuts_of, still_known}

@@ -1,7 +1,6 @@
-use Rattle.std.proofs.Common.{◌≡◌, ap, sym, ◌∙◌, arith, Some, length}
-use Rattle.std.specs.Option.{option_copied}
+use Rattle.kit_words.proofs.Common.{◌≡◌, ap, sym, ◌∙◌, arith, Some, length, option_copied}
 use Rattle.slab.specs.Slab.{get}
-use Rattle.arc_tables.specs.Stores.{path_in}
+use Rattle.arc_tables.specs.Common.{path_in}
 use Rattle.arc_tables.proofs.Running.{ends_by_cut}
 use Rattle.arc_tables.proofs.tables.Tables.end_at.Goals as goal
 

@@ -1,4 +1,4 @@
-use Rattle.std.proofs.Common.{refl}
+use Rattle.kit_words.proofs.Common.{refl}
 use Rattle.arc_tables.proofs.WholeLemmas.{whole_alike, whole_longer, whole_same}
 use Rattle.arc_tables.proofs.tables.Tables.extend.Goals as goal
 

@@ -1,5 +1,5 @@
-use Rattle.std.proofs.Common.{sym, subst, Contains}
-use Rattle.arc_tables.specs.Stores.{path_of}
+use Rattle.kit_words.proofs.Common.{sym, subst, Contains}
+use Rattle.arc_tables.specs.Common.{path_of}
 use Rattle.arc_tables.proofs.Finding.{none_unless, if_none_map}
 use Rattle.arc_tables.proofs.tables.Tables.find.Goals as goal
 

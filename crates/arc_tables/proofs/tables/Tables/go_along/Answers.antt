@@ -1,5 +1,5 @@
-use Rattle.std.proofs.Common.{◌∙◌, refl}
-use Rattle.arc_tables.specs.declared.arc.Use.{Use}
+use Rattle.kit_words.proofs.Common.{◌∙◌, refl}
+use Rattle.arc_tables.specs.Common.{Use}
 use Rattle.arc_tables.proofs.Growing.{known_goes_on}
 use Rattle.arc_tables.proofs.WholeLemmas.{goes_on_after, listed_paths, whole_alike, whole_same}
 use Rattle.arc_tables.proofs.tables.Tables.go_along.Goals as goal

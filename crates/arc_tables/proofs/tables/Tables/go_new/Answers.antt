@@ -1,7 +1,6 @@
-use Rattle.std.proofs.Common.{ap, subst, arith, is_some}
+use Rattle.kit_words.proofs.Common.{ap, subst, arith, is_some}
 use Rattle.slab.specs.Slab.{get}
-use Rattle.arc_tables.specs.Ways.{OpenAt, Store}
-use Rattle.arc_tables.specs.Stores.{path_in, uses_in, store, IsOpen}
+use Rattle.arc_tables.specs.Common.{OpenAt, Store, path_in, uses_in, store, IsOpen}
 use Rattle.arc_tables.proofs.Moves.{extend_grows, open_started, extended}
 use Rattle.arc_tables.proofs.Running.{advances_new}
 use Rattle.arc_tables.proofs.Segments.{if_ok_map}

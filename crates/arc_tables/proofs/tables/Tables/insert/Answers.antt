@@ -1,7 +1,6 @@
-use Rattle.std.proofs.Common.{◌+◌, inl, refl, sym, subst, Contains}
+use Rattle.kit_words.proofs.Common.{◌+◌, inl, refl, sym, subst, Contains}
 use Rattle.slab.specs.Slab.{get}
-use Rattle.arc_tables.specs.Ways.{links}
-use Rattle.arc_tables.specs.Stores.{path_in, path_of}
+use Rattle.arc_tables.specs.Common.{links, path_in, path_of}
 use Rattle.arc_tables.proofs.Growing.{known_alike}
 use Rattle.arc_tables.proofs.EditLemmas.{listed_edited}
 use Rattle.arc_tables.proofs.Inserting.{inserted_arcs, untouched, in_inserted}

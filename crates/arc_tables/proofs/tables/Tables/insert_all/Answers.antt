@@ -1,9 +1,5 @@
-use Rattle.std.proofs.Common.{◌≡◌, ℕ, ◌+◌, ◌++◌, [], ◌∷◌, sym, ap, ◌∙◌, subst, take, arith}
-use Rattle.std.proofs.lemmas.List.{take_more}
-use Rattle.arc_tables.specs.Ways.{links}
-use Rattle.arc_tables.specs.Edited.{IsOff, throughs, taken_back, ArePuts}
-use Rattle.arc_tables.specs.Sound.{rings_of}
-use Rattle.arc_tables.specs.Stores.{path_of}
+use Rattle.kit_words.proofs.Common.{◌≡◌, ℕ, ◌+◌, ◌++◌, [], ◌∷◌, sym, ap, ◌∙◌, subst, take, arith, take_more}
+use Rattle.arc_tables.specs.Common.{links, IsOff, throughs, taken_back, ArePuts, rings_of, path_of}
 use Rattle.arc_tables.proofs.Gaining.{GainsSoFar, within_gained, one_more_gained, all_gained, through_everywhere}
 use Rattle.arc_tables.proofs.Putting.{puts_taken, puts_map, all_undone, one_more_put, once_put}
 use Rattle.arc_tables.proofs.tables.Tables.insert_all.Goals as goal

@@ -1,8 +1,5 @@
-use Rattle.std.proofs.Common.{◌≡◌, ℕ, take}
-use Rattle.arc_tables.specs.Ways.{Once, links}
-use Rattle.arc_tables.specs.Edited.{throughs}
-use Rattle.arc_tables.specs.Sound.{rings_of}
-use Rattle.arc_tables.specs.Stores.{path_of, Whole}
+use Rattle.kit_words.proofs.Common.{◌≡◌, ℕ, take}
+use Rattle.arc_tables.specs.Common.{Once, links, throughs, rings_of, path_of, Whole}
 use Rattle.arc_tables.proofs.Gaining.{GainsSoFar}
 use Rattle.arc_tables.proofs.tables.Tables.insert_all.Given as goal
 

@@ -1,6 +1,7 @@
-use Rattle.std.proofs.Common.{◌≡◌, ℕ, ◌≤◌, ◌+◌, ◌-◌, List, ap, ◌∙◌, subst, arith, take, drop, length, get_or, take_all, length-drop}
-use Rattle.std.proofs.lemmas.List.{get_or-drop}
-use Rattle.arc_tables.specs.Stores.{store, IsOpen}
+use Rattle.kit_words.proofs.Common.{◌≡◌, ℕ, ◌≤◌, ◌+◌, ◌-◌, List, ap, ◌∙◌, subst, arith, take, drop, length, get_or}
+use Rattle.kit_words.proofs.Common.{get_or-drop}
+use Rattle.std.proofs.Common.{take_all, length-drop}
+use Rattle.arc_tables.specs.Common.{store, IsOpen}
 use Rattle.arc_tables.proofs.Running.{lay_more, spoils_on_err}
 use Rattle.arc_tables.proofs.tables.Tables.lay.Goals as goal
 

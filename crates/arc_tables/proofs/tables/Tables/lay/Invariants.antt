@@ -1,7 +1,6 @@
-use Rattle.std.proofs.Common.{◌≤◌, ◌+◌, ◌-◌, length, take, get_or, IfSome}
+use Rattle.kit_words.proofs.Common.{◌≤◌, ◌+◌, ◌-◌, length, take, get_or, IfSome}
 use Rattle.slab.specs.Slab.{ContainsKey}
-use Rattle.arc_tables.specs.Ways.{links, Grows}
-use Rattle.arc_tables.specs.Stores.{store, Whole, IsOpen, SameKeys}
+use Rattle.arc_tables.specs.Common.{links, Grows, store, Whole, IsOpen, SameKeys}
 use Rattle.arc_tables.proofs.tables.Tables.lay.Given as goal
 
 abbrev pub invariant-loop-at : goal.invariant-loop-at

@@ -1,8 +1,7 @@
-use Rattle.std.proofs.Common.{◌≡◌, ◌++◌, ap, sym, ◌∙◌, take_all, []}
-use Rattle.std.proofs.lemmas.List.{append-nil}
-use Rattle.std.specs.Option.{option_copied}
+use Rattle.kit_words.proofs.Common.{◌≡◌, ◌++◌, ap, sym, ◌∙◌, [], append-nil, option_copied}
+use Rattle.std.proofs.Common.{take_all}
 use Rattle.slab.specs.Slab.{get}
-use Rattle.arc_tables.specs.Stores.{uses_in}
+use Rattle.arc_tables.specs.Common.{uses_in}
 use Rattle.arc_tables.proofs.SharingLemmas.{sharers, sharing_listed}
 use Rattle.arc_tables.proofs.tables.Tables.push_sharing.Goals as goal
 

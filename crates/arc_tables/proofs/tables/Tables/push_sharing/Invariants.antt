@@ -1,4 +1,4 @@
-use Rattle.std.proofs.Common.{◌≡◌, ◌++◌, take}
+use Rattle.kit_words.proofs.Common.{◌≡◌, ◌++◌, take}
 use Rattle.arc_tables.proofs.SharingLemmas.{sharers}
 use Rattle.arc_tables.proofs.tables.Tables.push_sharing.Given as goal
 

@@ -1,7 +1,6 @@
-use Rattle.std.proofs.Common.{refl, sym, ◌∙◌, subst, Contains}
+use Rattle.kit_words.proofs.Common.{refl, sym, ◌∙◌, subst, Contains}
 use Rattle.slab.specs.Slab.{get}
-use Rattle.arc_tables.specs.Edited.{CollapsesAmong}
-use Rattle.arc_tables.specs.Stores.{path_in, stand_at}
+use Rattle.arc_tables.specs.Common.{CollapsesAmong, path_in, stand_at}
 use Rattle.arc_tables.proofs.Growing.{known_alike}
 use Rattle.arc_tables.proofs.Removing.{collapsed_arcs, listed_collapsed}
 use Rattle.arc_tables.proofs.tables.Tables.remove.Goals as goal

@@ -1,7 +1,6 @@
-use Rattle.std.proofs.Common.{rules, ap, sym, ◌∙◌, arith, take}
-use Rattle.std.specs.Option.{option_copied}
+use Rattle.kit_words.proofs.Common.{rules, ap, sym, ◌∙◌, arith, take, option_copied}
 use Rattle.slab.specs.Slab.{get}
-use Rattle.arc_tables.specs.Stores.{path_in}
+use Rattle.arc_tables.specs.Common.{path_in}
 use Rattle.arc_tables.proofs.Running.{agreed_two, run_grows, advances_not}
 use Rattle.arc_tables.proofs.tables.Tables.run.Goals as goal
 

@@ -1,7 +1,6 @@
-use Rattle.std.proofs.Common.{rules, ◌≡◌, ◌-◌, ap, sym, ◌∙◌, arith, take, drop, length, reverse}
-use Rattle.std.specs.Option.{option_copied}
+use Rattle.kit_words.proofs.Common.{rules, ◌≡◌, ◌-◌, ap, sym, ◌∙◌, arith, take, drop, length, reverse, option_copied}
 use Rattle.slab.specs.Slab.{get}
-use Rattle.arc_tables.specs.Stores.{path_in, store}
+use Rattle.arc_tables.specs.Common.{path_in, store}
 use Rattle.arc_tables.proofs.Running.{run_back_grows, advances_not}
 use Rattle.arc_tables.proofs.tables.Tables.run_back.Goals as goal
 

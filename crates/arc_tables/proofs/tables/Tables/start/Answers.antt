@@ -1,8 +1,7 @@
-use Rattle.std.proofs.Common.{ℕ, ap, subst, Contains, ◌≡◌, sym, ◌∙◌, Some, None, IsSome, false, refl}
-use Rattle.std.proofs.lemmas.Bool.{false≢true, false_from_ne_true}
+use Rattle.kit_words.proofs.Common.{ℕ, ap, subst, Contains, ◌≡◌, sym, ◌∙◌, Some, None, IsSome, false, refl, false≢true}
+use Rattle.kit_words.proofs.Common.{false_from_ne_true}
 use Rattle.slab.specs.Slab.{get, Updates}
-use Rattle.arc_tables.specs.declared.arc.Arc.{Arc}
-use Rattle.arc_tables.specs.Stores.{path_in, users_in, including, GoesOn}
+use Rattle.arc_tables.specs.Common.{Arc, path_in, users_in, including, GoesOn}
 use Rattle.arc_tables.proofs.WholeLemmas.{whole_alike, listed_new, goes_on_after}
 use Rattle.arc_tables.proofs.CutLemmas.{lacks_of}
 use Rattle.arc_tables.proofs.Growing.{known_goes_on, learns}

@@ -1,6 +1,5 @@
-use Rattle.std.proofs.Common.{refl, sym, arith}
-use Rattle.arc_tables.specs.Ways.{links}
-use Rattle.arc_tables.specs.Stores.{path_of}
+use Rattle.kit_words.proofs.Common.{refl, sym, arith}
+use Rattle.arc_tables.specs.Common.{links, path_of}
 use Rattle.arc_tables.proofs.Growing.{known_alike}
 use Rattle.arc_tables.proofs.EditLemmas.{listed_edited}
 use Rattle.arc_tables.proofs.Putting.{unmoved, off_unless, second_there, collapsed_at}

@@ -1,7 +1,5 @@
-use Rattle.std.proofs.Common.{◌-◌, [], ◌∷◌, sym, ap, ◌∙◌, subst, take, arith}
-use Rattle.arc_tables.specs.Ways.{links}
-use Rattle.arc_tables.specs.Edited.{taken_back, WerePut}
-use Rattle.arc_tables.specs.Stores.{path_of}
+use Rattle.kit_words.proofs.Common.{◌-◌, [], ◌∷◌, sym, ap, ◌∙◌, subst, take, arith}
+use Rattle.arc_tables.specs.Common.{links, taken_back, WerePut, path_of}
 use Rattle.arc_tables.proofs.Putting.{taken_last, last_of, taken_back-append, last_apart, last_beside, were_before, once_left}
 use Rattle.arc_tables.proofs.tables.Tables.take_back_all.Goals as goal
 

@@ -1,7 +1,5 @@
-use Rattle.std.proofs.Common.{◌≡◌, ℕ, ◌≤◌, length, take}
-use Rattle.arc_tables.specs.Ways.{Once, links}
-use Rattle.arc_tables.specs.Edited.{taken_back, WerePut}
-use Rattle.arc_tables.specs.Stores.{path_of, Whole}
+use Rattle.kit_words.proofs.Common.{◌≡◌, ℕ, ◌≤◌, length, take}
+use Rattle.arc_tables.specs.Common.{Once, links, taken_back, WerePut, path_of, Whole}
 use Rattle.arc_tables.proofs.tables.Tables.take_back_all.Given as goal
 
 -- so many are left

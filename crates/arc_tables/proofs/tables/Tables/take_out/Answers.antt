@@ -1,7 +1,7 @@
-use Rattle.std.proofs.Common.{◌≡◌, ◌+◌, ap, sym, ◌∙◌, subst, refl, take, take_all, false}
+use Rattle.kit_words.proofs.Common.{◌≡◌, ◌+◌, ap, sym, ◌∙◌, subst, refl, take, false}
+use Rattle.std.proofs.Common.{take_all}
 use Rattle.slab.specs.Slab.{get}
-use Rattle.arc_tables.specs.Ways.{TakesOut}
-use Rattle.arc_tables.specs.Stores.{uses_in, store, store_of, Known}
+use Rattle.arc_tables.specs.Common.{TakesOut, uses_in, store, store_of, Known}
 use Rattle.arc_tables.proofs.TakeLemmas.{Dropped, none_dropped, dropped_more, takes_out_of, known_without}
 use Rattle.arc_tables.proofs.tables.Tables.take_out.Given.{Over}
 use Rattle.arc_tables.proofs.tables.Tables.take_out.Goals as goal

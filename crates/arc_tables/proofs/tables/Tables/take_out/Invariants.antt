@@ -1,6 +1,6 @@
-use Rattle.std.proofs.Common.{◌≡◌, take}
+use Rattle.kit_words.proofs.Common.{◌≡◌, take}
 use Rattle.slab.specs.Slab.{get}
-use Rattle.arc_tables.specs.Stores.{Listed, uses_in}
+use Rattle.arc_tables.specs.Common.{Listed, uses_in}
 use Rattle.arc_tables.proofs.TakeLemmas.{Dropped}
 use Rattle.arc_tables.proofs.tables.Tables.take_out.Given as goal
 

@@ -1,7 +1,6 @@
-use Rattle.std.proofs.Common.{◌≡◌, ap, sym, ◌∙◌, arith, Some, length}
-use Rattle.std.specs.Option.{option_copied}
+use Rattle.kit_words.proofs.Common.{◌≡◌, ap, sym, ◌∙◌, arith, Some, length, option_copied}
 use Rattle.slab.specs.Slab.{get}
-use Rattle.arc_tables.specs.Stores.{path_of, users_in}
+use Rattle.arc_tables.specs.Common.{path_of, users_in}
 use Rattle.arc_tables.proofs.Counting.{users_here, users_nowhere}
 use Rattle.arc_tables.proofs.tables.Tables.uses.Goals as goal
 use Rattle.arc_tables.proofs.Inserting.{placed}

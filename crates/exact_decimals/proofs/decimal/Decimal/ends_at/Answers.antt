@@ -1,7 +1,5 @@
-use Rattle.std.proofs.Common.{◌-◌, ap, sym, ◌∙◌, length, drop}
-use Rattle.std.specs.Prelude.{◌&&◌}
-use Rattle.std.specs.List.{list_all}
-use Rattle.json_spans.specs.Whole.{is_zero}
+use Rattle.kit_words.proofs.Common.{◌-◌, ap, sym, ◌∙◌, length, drop, ◌&&◌, list_all}
+use Rattle.json_spans.specs.Common.{is_zero}
 use Rattle.exact_decimals.proofs.Cutting.{ends_is}
 use Rattle.exact_decimals.proofs.decimal.Decimal.ends_at.Goals as goal
 

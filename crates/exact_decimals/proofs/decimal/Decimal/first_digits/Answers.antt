@@ -1,5 +1,5 @@
-use Rattle.std.proofs.Common.{◌≡◌, ◌≤◌, ◌*◌, ◌-◌, ◌^◌, ap, sym, subst, ◌∙◌, length, MatchOption}
-use Rattle.json_spans.specs.Whole.{value_from}
+use Rattle.kit_words.proofs.Common.{◌≡◌, ◌≤◌, ◌*◌, ◌-◌, ◌^◌, ap, sym, subst, ◌∙◌, length, MatchOption}
+use Rattle.json_spans.specs.Common.{value_from}
 use Rattle.exact_decimals.proofs.Cutting.{first_digits_is, first_large, both_large}
 use Rattle.exact_decimals.proofs.decimal.Decimal.first_digits.Goals as goal
 

@@ -1,6 +1,5 @@
-use Rattle.std.proofs.Common.{arith, sym, ap, ◌∙◌, subst, length, drop}
-use Rattle.std.specs.Prelude.{Contains}
-use Rattle.feature_exchange.specs.RingPlaces.{positions_left, IsAround}
+use Rattle.kit_words.proofs.Common.{arith, sym, ap, ◌∙◌, subst, length, drop, Contains}
+use Rattle.feature_exchange.specs.Common.{positions_left, IsAround}
 use Rattle.feature_exchange.proofs.RingAround.{among_cons, begun_left, begun_around}
 use Rattle.feature_exchange.proofs.ring_iter.RingIter.begin.Goals as goal
 

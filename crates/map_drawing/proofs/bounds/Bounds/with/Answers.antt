@@ -1,5 +1,4 @@
-use Rattle.std.proofs.Common.{arith}
-use Rattle.std.proofs.lemmas.Int.{ints}
+use Rattle.kit_words.proofs.Common.{arith, ints}
 use Rattle.map_drawing.proofs.bounds.Bounds.with.Goals as goal
 
 pub returns-clause-new : goal.returns-clause-new

@@ -1,5 +1,4 @@
-use Rattle.std.proofs.Common.{arith}
-use Rattle.std.proofs.lemmas.Int.{ints}
+use Rattle.kit_words.proofs.Common.{arith, ints}
 use Rattle.map_drawing.proofs.window.Window.about.Goals as goal
 
 pub invariant_of-result : goal.invariant_of-result

@@ -1,5 +1,4 @@
-use Rattle.std.proofs.Common.{arith}
-use Rattle.std.proofs.lemmas.Int.{ints}
+use Rattle.kit_words.proofs.Common.{arith, ints}
 use Rattle.map_drawing.proofs.WindowLemmas.{further_out, extent_about, starts_before, ends_behind}
 use Rattle.map_drawing.proofs.window.Window.around.Goals as goal
 

@@ -1,5 +1,4 @@
-use Rattle.std.proofs.Common.{◌≡◌, ◌+ℤ◌, ◌∙◌, sym, ap₂, int_le, w64, to_z, of_z, arith}
-use Rattle.std.proofs.lemmas.Int.{ints}
+use Rattle.kit_words.proofs.Common.{◌≡◌, ◌+ℤ◌, ◌∙◌, sym, ap₂, int_le, w64, to_z, of_z, arith, ints}
 use Rattle.map_drawing.proofs.WindowLemmas.{far_side, test_left}
 use Rattle.map_drawing.proofs.window.Window.meets_upward.Goals as goal
 

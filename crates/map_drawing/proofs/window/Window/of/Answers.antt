@@ -1,5 +1,5 @@
-use Rattle.std.proofs.Common.{subst}
-use Rattle.map_drawing.specs.Windows.{IsWithin}
+use Rattle.kit_words.proofs.Common.{subst}
+use Rattle.map_drawing.specs.Common.{IsWithin}
 use Rattle.map_drawing.proofs.WithinLemmas.{shown_around}
 use Rattle.map_drawing.proofs.window.Window.of.Goals as goal
 

@@ -1,5 +1,5 @@
 use Rattle.map_frame.proofs.CopiedFrames.{feature_copied}
-use Rattle.map_frame.specs.declared.feature.Feature.{Feature}
+use Rattle.map_frame.specs.Common.{Feature}
 use Rattle.map_frame.proofs.copying.FeatureClone.clone.Goals as goal
 
 pub returns : goal.returns

@@ -1,6 +1,6 @@
-use Rattle.std.proofs.Common.{◌≡◌, ◌∙◌, sym, ap}
-use Rattle.topo_outline.proofs.Copied.{copied_map}
-use Rattle.map_frame.specs.Copied.{holds, slot_text, geometry_text}
+use Rattle.kit_words.proofs.Common.{◌≡◌, ◌∙◌, sym, ap}
+use Rattle.topo_outline.proofs.Common.{copied_map}
+use Rattle.map_frame.specs.Common.{holds, slot_text, geometry_text}
 use Rattle.map_frame.proofs.copying.GeometryClone.clone.Goals as goal
 
 pub returns-in_ok-clone-in-Items : goal.returns-in_ok-clone-in-Items

@@ -1,8 +1,5 @@
-use Rattle.std.proofs.Common.{◌∙◌, subst, map}
-use Rattle.std.specs.Vec.Iter.{into_iter_items}
-use Rattle.map_frame.specs.Numbers.{feature_numbers}
-use Rattle.map_frame.specs.Naming.{AllNamed}
-use Rattle.map_frame.specs.declared.tables.Tables.{Tables}
+use Rattle.kit_words.proofs.Common.{◌∙◌, subst, map, into_iter_items}
+use Rattle.map_frame.specs.Common.{feature_numbers, AllNamed, Tables}
 use Rattle.map_frame.proofs.BuiltTables.{laid_from, tables_seen, tables_framed, as_many}
 use Rattle.map_frame.proofs.frame.Frame.build.Goals as goal
 

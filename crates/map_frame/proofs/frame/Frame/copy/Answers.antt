@@ -1,4 +1,4 @@
-use Rattle.std.proofs.Common.{◌∙◌}
+use Rattle.kit_words.proofs.Common.{◌∙◌}
 use Rattle.map_frame.proofs.CopiedFrames.{same_framed, copy_framed}
 use Rattle.map_frame.proofs.frame.Frame.copy.Goals as goal
 

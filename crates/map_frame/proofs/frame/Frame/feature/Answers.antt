@@ -1,5 +1,5 @@
-use Rattle.std.proofs.Common.{◌∙◌, None, Some}
-use Rattle.map_frame.specs.Readers.{shown}
+use Rattle.kit_words.proofs.Common.{◌∙◌, None, Some}
+use Rattle.map_frame.specs.Common.{shown}
 use Rattle.map_frame.proofs.EditedStands.{read_as}
 use Rattle.map_frame.proofs.frame.Frame.feature.Goals as goal
 

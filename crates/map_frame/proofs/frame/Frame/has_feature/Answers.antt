@@ -1,7 +1,7 @@
-use Rattle.std.proofs.Common.{sym, ap, ◌∙◌, is_some}
-use Rattle.ring_machine.specs.Parts.{has_feature}
-use Rattle.ring_machine.proofs.Members.{is_some-mapped}
-use Rattle.map_frame.specs.Live.{live}
+use Rattle.kit_words.proofs.Common.{sym, ap, ◌∙◌, is_some}
+use Rattle.ring_machine.specs.Common.{has_feature}
+use Rattle.ring_machine.proofs.Common.{is_some-mapped}
+use Rattle.map_frame.specs.Common.{live}
 use Rattle.map_frame.proofs.EditedStands.{has_is}
 use Rattle.map_frame.proofs.frame.Frame.has_feature.Goals as goal
 

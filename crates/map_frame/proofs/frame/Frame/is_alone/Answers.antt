@@ -1,7 +1,6 @@
-use Rattle.std.proofs.Common.{◌≡◌, sym, ap, ◌∙◌, length, Some, arith}
-use Rattle.std.proofs.lemmas.Option.{slice_get_within}
-use Rattle.ring_machine.specs.Refusals.{is_layer}
-use Rattle.map_frame.specs.Live.{live}
+use Rattle.kit_words.proofs.Common.{◌≡◌, sym, ap, ◌∙◌, length, Some, arith, slice_get_within}
+use Rattle.ring_machine.specs.Common.{is_layer}
+use Rattle.map_frame.specs.Common.{live}
 use Rattle.map_frame.proofs.ReadAlone.{none_alone, is_alone, not_alone, in_some_layer}
 use Rattle.map_frame.proofs.ReadFeatures.{live_there}
 use Rattle.map_frame.proofs.ReadLists.{got, got_none}

@@ -1,9 +1,8 @@
-use Rattle.std.proofs.Common.{◌≤◌, sym, ap, ◌∙◌, subst, option_map}
-use Rattle.ring_machine.specs.Parts.{feature}
-use Rattle.map_frame.specs.Seen.{view_feature}
+use Rattle.kit_words.proofs.Common.{◌≤◌, sym, ap, ◌∙◌, subst, option_map}
+use Rattle.ring_machine.specs.Common.{feature}
+use Rattle.map_frame.specs.Common.{view_feature, ArePlaced}
 use Rattle.map_frame.proofs.EditedStands.{entry_is}
 use Rattle.map_frame.proofs.ReadFeatures.{live_past}
-use Rattle.map_frame.specs.Placed.{ArePlaced}
 use Rattle.map_frame.proofs.PlacedFrames.{all_placed}
 use Rattle.map_frame.proofs.frame.Frame.next.Goals as goal
 

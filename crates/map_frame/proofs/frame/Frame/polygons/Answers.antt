@@ -1,5 +1,5 @@
-use Rattle.std.proofs.Common.{ap, ◌∙◌, option_map, map, None, Some}
-use Rattle.map_frame.specs.Numbers.{polygon_numbers}
+use Rattle.kit_words.proofs.Common.{ap, ◌∙◌, option_map, map, None, Some}
+use Rattle.map_frame.specs.Common.{polygon_numbers}
 use Rattle.map_frame.proofs.EditedStands.{read_as}
 use Rattle.map_frame.proofs.frame.Frame.polygons.Goals as goal
 

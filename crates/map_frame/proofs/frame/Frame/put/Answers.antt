@@ -1,8 +1,6 @@
-use Rattle.std.proofs.Common.{◌<◌, sym, ap, ◌∙◌, subst, [], ◌∷◌, Some}
-use Rattle.edit_records.specs.Places.{exchanged}
-use Rattle.map_frame.specs.Numbers.{feature_numbers}
-use Rattle.map_frame.specs.Framed.{Framed}
-use Rattle.map_frame.specs.Texts.{with_texts}
+use Rattle.kit_words.proofs.Common.{◌<◌, sym, ap, ◌∙◌, subst, [], ◌∷◌, Some}
+use Rattle.edit_records.specs.Common.{exchanged}
+use Rattle.map_frame.specs.Common.{feature_numbers, Framed, with_texts}
 use Rattle.map_frame.proofs.frame.Frame.put.Goals as goal
 
 pub put-requires-clause-room : goal.put-requires-clause-room

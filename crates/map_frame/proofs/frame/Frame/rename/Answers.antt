@@ -1,6 +1,6 @@
-use Rattle.std.proofs.Common.{sym, ap, ◌∙◌}
-use Rattle.ring_machine.specs.Parts.{feature}
-use Rattle.map_frame.specs.Live.{live}
+use Rattle.kit_words.proofs.Common.{sym, ap, ◌∙◌}
+use Rattle.ring_machine.specs.Common.{feature}
+use Rattle.map_frame.specs.Common.{live}
 use Rattle.map_frame.proofs.PlacedFrames.{id_seen, id_none}
 use Rattle.map_frame.proofs.EditedStands.{entry_is}
 use Rattle.map_frame.proofs.frame.Frame.rename.Goals as goal

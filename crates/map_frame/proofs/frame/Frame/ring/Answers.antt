@@ -1,6 +1,5 @@
-use Rattle.std.proofs.Common.{refl, sym, ap, ◌∙◌, None, Some}
-use Rattle.std.proofs.lemmas.Option.{slice_get_past}
-use Rattle.map_frame.specs.Readers.{element}
+use Rattle.kit_words.proofs.Common.{refl, sym, ap, ◌∙◌, None, Some, slice_get_past}
+use Rattle.map_frame.specs.Common.{element}
 use Rattle.map_frame.proofs.ReadLists.{got, got_none, ring_as}
 use Rattle.map_frame.proofs.frame.Frame.ring.Goals as goal
 

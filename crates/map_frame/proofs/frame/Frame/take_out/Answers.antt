@@ -1,6 +1,6 @@
-use Rattle.std.proofs.Common.{ap, ◌∙◌, [], ◌∷◌, None}
-use Rattle.edit_records.specs.Places.{exchanged}
-use Rattle.map_frame.specs.Framed.{Framed}
+use Rattle.kit_words.proofs.Common.{ap, ◌∙◌, [], ◌∷◌, None}
+use Rattle.edit_records.specs.Common.{exchanged}
+use Rattle.map_frame.specs.Common.{Framed}
 use Rattle.map_frame.proofs.frame.Frame.take_out.Goals as goal
 
 pub returns-clause-taken : goal.returns-clause-taken

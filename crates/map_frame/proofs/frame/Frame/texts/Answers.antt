@@ -1,5 +1,5 @@
-use Rattle.std.proofs.Common.{ap, ◌∙◌, None, Some}
-use Rattle.map_frame.specs.Texts.{texts_of}
+use Rattle.kit_words.proofs.Common.{ap, ◌∙◌, None, Some}
+use Rattle.map_frame.specs.Common.{texts_of}
 use Rattle.map_frame.proofs.EditedStands.{read_as}
 use Rattle.map_frame.proofs.frame.Frame.texts.Goals as goal
 

@@ -1,4 +1,4 @@
-use Rattle.std.proofs.Common.{None, Some}
+use Rattle.kit_words.proofs.Common.{None, Some}
 use Rattle.map_frame.proofs.ReadItems.{layer_as}
 use Rattle.map_frame.proofs.ReadLists.{got, got_none}
 use Rattle.map_frame.proofs.frame_view.FrameView.layer_name.Goals as goal

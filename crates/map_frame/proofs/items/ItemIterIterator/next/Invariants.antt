@@ -1,6 +1,5 @@
-use Rattle.std.proofs.Common.{◌≡◌, length}
-use Rattle.std.specs.Slice.Iter.{iter_rest}
-use Rattle.map_frame.specs.Shown.{shown_rest}
+use Rattle.kit_words.proofs.Common.{◌≡◌, length, iter_rest}
+use Rattle.map_frame.specs.Common.{shown_rest}
 use Rattle.map_frame.proofs.items.ItemIterIterator.next.Given as goal
 
 -- nothing that is shown was passed over

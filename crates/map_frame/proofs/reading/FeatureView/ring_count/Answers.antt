@@ -1,8 +1,6 @@
-use Rattle.std.proofs.Common.{sym, ap, ◌∙◌, length, option_map}
-use Rattle.std.specs.Prelude.{unwrap_or}
+use Rattle.kit_words.proofs.Common.{sym, ap, ◌∙◌, length, option_map, unwrap_or, slice_get-map}
 use Rattle.std.specs.List.{slice_get}
-use Rattle.std.proofs.lemmas.Option.{slice_get-map}
-use Rattle.map_frame.specs.Numbers.{polygon_numbers, feature_numbers}
+use Rattle.map_frame.specs.Common.{polygon_numbers, feature_numbers}
 use Rattle.map_frame.proofs.ReadLists.{got, got_none}
 use Rattle.map_frame.proofs.reading.FeatureView.ring_count.Goals as goal
 

@@ -1,8 +1,7 @@
-use Rattle.std.proofs.Common.{◌≡◌, ◌∙◌, refl, ap, map, rules}
-use Rattle.std.specs.List.{each_same}
-use Rattle.topo_outline.proofs.Copied.{copied_map}
-use Rattle.topo_outline.specs.Views.{view_kept}
-use Rattle.map_frame.specs.Copied.{layer_text, slot_text, seen}
+use Rattle.kit_words.proofs.Common.{◌≡◌, ◌∙◌, refl, ap, map, rules, each_same}
+use Rattle.topo_outline.proofs.Common.{copied_map}
+use Rattle.topo_outline.specs.Common.{view_kept}
+use Rattle.map_frame.specs.Common.{layer_text, slot_text, seen}
 use Rattle.map_frame.proofs.CopiedFrames.{options_copied}
 use Rattle.map_frame.proofs.tables.Tables.copy.Goals as goal
 

@@ -1,8 +1,6 @@
-use Rattle.std.proofs.Common.{◌≡◌, refl, ap, ap₂, ◌∙◌, [], ◌∷◌, ◌++◌, length, arith, rules, None}
-use Rattle.std.specs.Prelude.{slice_get}
-use Rattle.std.specs.Vec.{with_item}
-use Rattle.map_frame.specs.Growing.{with_new}
-use Rattle.map_frame.specs.Kept.{numbers_under}
+use Rattle.kit_words.proofs.Common.{◌≡◌, refl, ap, ap₂, ◌∙◌, [], ◌∷◌, ◌++◌, length, arith, rules, None, slice_get}
+use Rattle.kit_words.proofs.Common.{with_item}
+use Rattle.map_frame.specs.Common.{with_new, numbers_under}
 use Rattle.map_frame.proofs.GrownFrames.{number_within, stand_got, layer_within, layer_got, grow_all, found}
 use Rattle.map_frame.proofs.GrownPlace.{slot_within}
 use Rattle.map_frame.proofs.PlacedFrames.{moved_kept}

@@ -1,11 +1,5 @@
-use Rattle.std.proofs.Common.{◌≡◌, ◌+◌, refl, sym, subst, map, arith, Some}
-use Rattle.std.specs.Prelude.{slice_get}
-use Rattle.std.specs.List.{flat_map}
-use Rattle.std.specs.Vec.{with_item}
-use Rattle.map_frame.specs.Numbers.{polygon_numbers}
-use Rattle.map_frame.specs.declared.feature.Feature.{Feature}
-use Rattle.map_frame.specs.Naming.{HasRoom, Gain}
-use Rattle.map_frame.specs.Readers.{element}
+use Rattle.kit_words.proofs.Common.{◌≡◌, ◌+◌, refl, sym, subst, map, arith, Some, slice_get, flat_map, with_item}
+use Rattle.map_frame.specs.Common.{polygon_numbers, Feature, HasRoom, Gain, element}
 use Rattle.map_frame.proofs.CountedWithin.{counted_within}
 use Rattle.map_frame.proofs.TakenTables.{set_framed, put_kept}
 use Rattle.map_frame.proofs.tables.Tables.put.Goals as goal

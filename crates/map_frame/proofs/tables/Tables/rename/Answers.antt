@@ -1,6 +1,5 @@
-use Rattle.std.proofs.Common.{◌<◌, ◌≤◌, refl, sym, ap, ◌∙◌, length, arith}
-use Rattle.std.specs.Vec.{with_item}
-use Rattle.map_frame.specs.Renaming.{id_or}
+use Rattle.kit_words.proofs.Common.{◌<◌, ◌≤◌, refl, sym, ap, ◌∙◌, length, arith, with_item}
+use Rattle.map_frame.specs.Common.{id_or}
 use Rattle.map_frame.proofs.PlacedFrames.{live_is}
 use Rattle.map_frame.proofs.ReadFeatures.{live_past}
 use Rattle.map_frame.proofs.ReadLists.{got}

@@ -1,10 +1,6 @@
-use Rattle.std.proofs.Common.{◌≡◌, ◌<◌, ◌≤◌, ◌+◌, ◌-◌, refl, sym, ap, ◌∙◌, subst, length, map, slice_set, ℕ, arith, Some, None, option_map}
-use Rattle.std.specs.Prelude.{slice_get}
-use Rattle.std.specs.Vec.{with_item}
-use Rattle.map_frame.specs.Numbers.{polygon_numbers}
-use Rattle.map_frame.specs.Naming.{Loss}
-use Rattle.map_frame.specs.Readers.{element}
-use Rattle.map_frame.specs.Texts.{texts_of}
+use Rattle.kit_words.proofs.Common.{◌≡◌, ◌<◌, ◌≤◌, ◌+◌, ◌-◌, refl, sym, ap, ◌∙◌, subst, length, map, slice_set, ℕ}
+use Rattle.kit_words.proofs.Common.{arith, Some, None, option_map, slice_get, with_item}
+use Rattle.map_frame.specs.Common.{polygon_numbers, Loss, element, texts_of}
 use Rattle.map_frame.proofs.EditedStands.{entry_is}
 use Rattle.map_frame.proofs.PlacedFrames.{moved_framed, moved_kept, set_same}
 use Rattle.map_frame.proofs.ReadLists.{got}

@@ -1,13 +1,7 @@
-use Rattle.std.proofs.Common.{◌≡◌, ◌≤◌, refl, sym, ap, ◌∙◌, subst, arith}
-use Rattle.std.specs.Prelude.{is_some}
-use Rattle.std.proofs.lemmas.Bool.{false≢true}
-use Rattle.std.proofs.lemmas.Int.{ints}
-use Rattle.ring_machine.specs.Parts.{has_feature}
-use Rattle.ring_machine.specs.Query.{area_of}
-use Rattle.ring_machine.specs.Refusals.{feature_at}
-use Rattle.topo_reader.specs.DocumentView.{view_raw}
-use Rattle.plain_rings.specs.Areas.{areas, positions_in}
-use Rattle.plain_rings.specs.Rings.{held_feature}
+use Rattle.kit_words.proofs.Common.{◌≡◌, ◌≤◌, refl, sym, ap, ◌∙◌, subst, arith, is_some, false≢true, ints}
+use Rattle.ring_machine.specs.Common.{has_feature, area_of, feature_at}
+use Rattle.topo_reader.specs.Common.{view_raw}
+use Rattle.plain_rings.specs.Common.{areas, positions_in, held_feature}
 use Rattle.plain_rings.proofs.Documents.{has_numbered, polygons_numbered}
 use Rattle.plain_rings.proofs.MovedRings.{polygons_held, none_held}
 use Rattle.plain_rings.proofs.Summing.{feature_small}

@@ -1,8 +1,6 @@
-use Rattle.std.proofs.Common.{sym, ap, ◌∙◌}
-use Rattle.std.specs.List.{list_all, flat_map}
-use Rattle.ring_machine.specs.Ring.{is_ring, segments}
-use Rattle.ring_machine.specs.Planar.{least_conflict}
-use Rattle.plain_rings.specs.Rings.{all_rings}
+use Rattle.kit_words.proofs.Common.{sym, ap, ◌∙◌, list_all, flat_map}
+use Rattle.ring_machine.specs.Common.{is_ring, segments, least_conflict}
+use Rattle.plain_rings.specs.Common.{all_rings}
 use Rattle.plain_rings.proofs.MovedRings.{rings_held, pair_held, named_pair}
 use Rattle.plain_rings.proofs.map.PlainMap.build.Goals as goal
 

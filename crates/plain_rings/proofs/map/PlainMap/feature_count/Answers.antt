@@ -1,8 +1,7 @@
-use Rattle.std.proofs.Common.{sym, ap, ◌∙◌, length}
-use Rattle.std.proofs.lemmas.List.{length-map}
-use Rattle.ring_machine.specs.Parts.{features}
-use Rattle.topo_reader.specs.DocumentView.{view_raw}
-use Rattle.plain_rings.specs.Rings.{held_feature}
+use Rattle.kit_words.proofs.Common.{sym, ap, ◌∙◌, length, length-map}
+use Rattle.ring_machine.specs.Common.{features}
+use Rattle.topo_reader.specs.Common.{view_raw}
+use Rattle.plain_rings.specs.Common.{held_feature}
 use Rattle.plain_rings.proofs.Documents.{features_counted}
 use Rattle.plain_rings.proofs.map.PlainMap.feature_count.Goals as goal
 

@@ -1,11 +1,6 @@
-use Rattle.std.proofs.Common.{◌≡◌, sym, ap, ◌∙◌, subst, None}
-use Rattle.std.specs.Prelude.{OnOk, IfErr}
-use Rattle.std.specs.List.{list_all}
-use Rattle.ring_machine.specs.Ring.{is_ring}
-use Rattle.ring_machine.specs.Parts.{rings}
-use Rattle.ring_machine.specs.Refusals.{first_of}
-use Rattle.plain_rings.specs.Faults.{Refuses}
-use Rattle.plain_rings.specs.Rings.{all_rings, refusals}
+use Rattle.kit_words.proofs.Common.{◌≡◌, sym, ap, ◌∙◌, subst, None, OnOk, IfErr, list_all}
+use Rattle.ring_machine.specs.Common.{is_ring, rings, first_of}
+use Rattle.plain_rings.specs.Common.{Refuses, all_rings, refusals}
 use Rattle.plain_rings.proofs.RingLists.{held_same}
 use Rattle.plain_rings.proofs.MovedRings.{rings_held}
 use Rattle.plain_rings.proofs.Refusing.{refusals_are}

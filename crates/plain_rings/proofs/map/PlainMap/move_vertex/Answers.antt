@@ -1,10 +1,7 @@
-use Rattle.std.proofs.Common.{◌≡◌, sym, ap, ◌∙◌, subst, map, None}
-use Rattle.ring_machine.specs.Vertices.{put, put_ring}
-use Rattle.ring_machine.specs.Refusals.{first_of, move_refusals}
-use Rattle.topo_reader.specs.Document.{document_of}
-use Rattle.topo_reader.specs.DocumentView.{view_raw}
-use Rattle.plain_rings.specs.Plain.{IsPlain}
-use Rattle.plain_rings.specs.Rings.{held_feature, held}
+use Rattle.kit_words.proofs.Common.{◌≡◌, sym, ap, ◌∙◌, subst, map, None}
+use Rattle.ring_machine.specs.Common.{put, put_ring, first_of, move_refusals}
+use Rattle.topo_reader.specs.Common.{document_of, view_raw}
+use Rattle.plain_rings.specs.Common.{IsPlain, held_feature, held}
 use Rattle.plain_rings.proofs.RingLists.{lengths_same}
 use Rattle.plain_rings.proofs.MovedRings.{moved_held}
 use Rattle.plain_rings.proofs.StaysPlain.{stays_plain, put_document}

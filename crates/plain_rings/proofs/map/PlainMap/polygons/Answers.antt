@@ -1,7 +1,7 @@
-use Rattle.std.proofs.Common.{sym, ap, ◌∙◌, map}
-use Rattle.ring_machine.specs.Parts.{features}
-use Rattle.topo_reader.specs.DocumentView.{view_raw}
-use Rattle.plain_rings.specs.Rings.{held}
+use Rattle.kit_words.proofs.Common.{sym, ap, ◌∙◌, map}
+use Rattle.ring_machine.specs.Common.{features}
+use Rattle.topo_reader.specs.Common.{view_raw}
+use Rattle.plain_rings.specs.Common.{held}
 use Rattle.plain_rings.proofs.Documents.{polygons_are}
 use Rattle.plain_rings.proofs.map.PlainMap.polygons.Goals as goal
 

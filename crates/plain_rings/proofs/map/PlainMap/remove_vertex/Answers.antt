@@ -1,15 +1,9 @@
-use Rattle.std.proofs.Common.{sym, ap, ◌∙◌, subst, map}
-use Rattle.std.specs.List.{list_all}
-use Rattle.ring_machine.specs.Ring.{is_ring}
-use Rattle.ring_machine.specs.Vertices.{del, del_ring}
-use Rattle.ring_machine.specs.Refusals.{first_of, remove_refusals}
-use Rattle.topo_reader.specs.Document.{document_of}
-use Rattle.topo_reader.specs.DocumentView.{view_raw}
-use Rattle.plain_rings.specs.Faults.{Refuses}
-use Rattle.plain_rings.specs.Plain.{IsPlain}
-use Rattle.plain_rings.specs.Rings.{held}
+use Rattle.kit_words.proofs.Common.{sym, ap, ◌∙◌, subst, map, list_all}
+use Rattle.ring_machine.specs.Common.{is_ring, del, del_ring, first_of, remove_refusals}
+use Rattle.topo_reader.specs.Common.{document_of, view_raw}
+use Rattle.plain_rings.specs.Common.{Refuses, IsPlain, held}
 use Rattle.plain_rings.proofs.Changed.{changed_held, remove_stays}
-use Rattle.topo_reader.proofs.RingsChanged.{rings_changed}
+use Rattle.topo_reader.proofs.Common.{rings_changed}
 use Rattle.plain_rings.proofs.RefusingEdits.{held_rings, remove_held}
 use Rattle.plain_rings.proofs.map.PlainMap.remove_vertex.Goals as goal
 

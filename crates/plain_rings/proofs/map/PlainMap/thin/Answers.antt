@@ -1,10 +1,5 @@
-use Rattle.std.proofs.Common.{◌≡◌, sym, ap, ◌∙◌, take, to_z, of_z, arith}
-use Rattle.std.specs.Int.{w128}
-use Rattle.std.proofs.lemmas.Int.{ints}
-use Rattle.std.specs.List.{fold}
-use Rattle.std.proofs.lemmas.List.{take_all}
-use Rattle.ring_machine.specs.Query.{vertices}
-use Rattle.ring_machine.specs.Thin.{Thinning, thin_at, thinned}
+use Rattle.kit_words.proofs.Common.{◌≡◌, sym, ap, ◌∙◌, take, to_z, of_z, arith, w128, ints, fold, take_all}
+use Rattle.ring_machine.specs.Common.{vertices, Thinning, thin_at, thinned}
 use Rattle.plain_rings.proofs.RefusingEdits.{vertices_held}
 use Rattle.plain_rings.proofs.Thinning.{with_count}
 use Rattle.plain_rings.proofs.map.PlainMap.thin.Goals as goal

@@ -1,6 +1,5 @@
-use Rattle.std.proofs.Common.{◌≡◌, ◌≤◌, take}
-use Rattle.std.specs.List.{fold}
-use Rattle.ring_machine.specs.Thin.{thin_at}
+use Rattle.kit_words.proofs.Common.{◌≡◌, ◌≤◌, take, fold}
+use Rattle.ring_machine.specs.Common.{thin_at}
 use Rattle.plain_rings.proofs.Thinning.{with_count}
 use Rattle.plain_rings.proofs.map.PlainMap.thin.Given as goal
 

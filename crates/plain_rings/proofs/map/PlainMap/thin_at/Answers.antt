@@ -1,13 +1,6 @@
-use Rattle.std.proofs.Common.{◌≡◌, sym, ap, ◌∙◌, to_z, of_z, arith}
-use Rattle.std.specs.Int.{w128}
-use Rattle.std.proofs.lemmas.Int.{ints}
-use Rattle.std.specs.Prelude.{not, ◌&&◌}
-use Rattle.std.specs.List.{list_all}
-use Rattle.ring_machine.specs.Ring.{is_ring}
-use Rattle.ring_machine.specs.Thin.{is_flat}
-use Rattle.ring_machine.specs.Vertices.{is_junction}
-use Rattle.plain_rings.specs.Rings.{all_rings}
-use Rattle.plain_rings.specs.Thin.{is_thin}
+use Rattle.kit_words.proofs.Common.{◌≡◌, sym, ap, ◌∙◌, to_z, of_z, arith, w128, ints, not, ◌&&◌, list_all}
+use Rattle.ring_machine.specs.Common.{is_ring, is_flat, is_junction}
+use Rattle.plain_rings.specs.Common.{all_rings, is_thin}
 use Rattle.plain_rings.proofs.RefusingEdits.{held_rings, thin_held}
 use Rattle.plain_rings.proofs.Thinning.{thin_gone, thin_refused, thin_passed}
 use Rattle.plain_rings.proofs.map.PlainMap.thin_at.Goals as goal

@@ -1,7 +1,6 @@
-use Rattle.std.proofs.Common.{subst, true, None}
-use Rattle.segment_index.specs.Candidates.{Gives}
-use Rattle.segment_index.specs.Times.{times_by}
-use Rattle.ring_boxes.specs.Held.{AreBoxesOf}
+use Rattle.kit_words.proofs.Common.{subst, true, None}
+use Rattle.segment_index.specs.Common.{Gives, times_by}
+use Rattle.ring_boxes.specs.Common.{AreBoxesOf}
 use Rattle.ring_boxes.proofs.Holding.{given_boxes}
 use Rattle.ring_boxes.proofs.boxes.RingBoxes.boxes_of.Goals as goal
 

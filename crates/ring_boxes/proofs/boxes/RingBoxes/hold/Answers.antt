@@ -1,6 +1,6 @@
-use Rattle.std.proofs.Common.{subst}
-use Rattle.segment_index.proofs.Singles.{contains_inserted}
-use Rattle.ring_boxes.specs.Held.{StaysHeld}
+use Rattle.kit_words.proofs.Common.{subst}
+use Rattle.segment_index.proofs.Common.{contains_inserted}
+use Rattle.ring_boxes.specs.Common.{StaysHeld}
 use Rattle.ring_boxes.proofs.Holding.{on_ok, added_stays}
 use Rattle.ring_boxes.proofs.boxes.RingBoxes.hold.Goals as goal
 

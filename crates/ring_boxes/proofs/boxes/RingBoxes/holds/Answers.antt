@@ -1,7 +1,6 @@
-use Rattle.std.proofs.Common.{ap, subst, ◌∙◌}
-use Rattle.std.specs.List.{list_any}
-use Rattle.grid_geometry.specs.Segment.{Segment, segment_eq}
-use Rattle.ring_boxes.specs.Held.{AreBoxesOf}
+use Rattle.kit_words.proofs.Common.{ap, subst, ◌∙◌, list_any}
+use Rattle.grid_geometry.specs.Common.{Segment, segment_eq}
+use Rattle.ring_boxes.specs.Common.{AreBoxesOf}
 use Rattle.ring_boxes.proofs.Holding.{held_among}
 use Rattle.ring_boxes.proofs.boxes.RingBoxes.holds.Goals as goal
 

@@ -1,7 +1,7 @@
-use Rattle.std.proofs.Common.{◌≡◌, true, take}
-use Rattle.grid_geometry.specs.Segment.{Segment}
-use Rattle.segment_index.specs.Candidates.{has}
-use Rattle.ring_boxes.specs.Held.{IsWidened, StaysHeld}
+use Rattle.kit_words.proofs.Common.{◌≡◌, true, take}
+use Rattle.grid_geometry.specs.Common.{Segment}
+use Rattle.segment_index.specs.Common.{has}
+use Rattle.ring_boxes.specs.Common.{IsWidened, StaysHeld}
 use Rattle.ring_boxes.proofs.boxes.RingBoxes.widen_all.Given as goal
 
 -- the boxes so far are widened, and those that were held still are

@@ -1,7 +1,5 @@
-use Rattle.std.proofs.Common.{◌≡◌, drop}
-use Rattle.std.specs.Prelude.{not}
-use Rattle.ring_machine.specs.Ring.{has}
-use Rattle.ring_machine.specs.Cut.{least_off}
+use Rattle.kit_words.proofs.Common.{◌≡◌, drop, not}
+use Rattle.ring_machine.specs.Common.{has, least_off}
 use Rattle.ring_parts.proofs.LeastOff.{least_with}
 use Rattle.ring_parts.proofs.membership.Members.least_off.Given as goal
 

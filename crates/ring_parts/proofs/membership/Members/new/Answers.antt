@@ -1,6 +1,6 @@
-use Rattle.std.proofs.Common.{◌∙◌, ap}
-use Rattle.grid_geometry.specs.Position.{position_eq}
-use Rattle.ring_machine.specs.Ring.{has}
+use Rattle.kit_words.proofs.Common.{◌∙◌, ap}
+use Rattle.grid_geometry.specs.Common.{position_eq}
+use Rattle.ring_machine.specs.Common.{has}
 use Rattle.ring_parts.proofs.Searching.{any_permuted}
 use Rattle.ring_parts.proofs.membership.Members.new.Goals as goal
 

@@ -1,9 +1,7 @@
-use Rattle.std.proofs.Common.{◌∙◌, ap, sym, subst, map}
-use Rattle.std.specs.List.{list_any}
-use Rattle.std.specs.List.Sorted.{IsSorted}
-use Rattle.grid_geometry.specs.Ring.{edges}
-use Rattle.ring_machine.specs.Ring.{edge_eq}
-use Rattle.ring_parts.specs.Borders.{ends_of, edge_cmp}
+use Rattle.kit_words.proofs.Common.{◌∙◌, ap, sym, subst, map, list_any, IsSorted}
+use Rattle.grid_geometry.specs.Common.{edges}
+use Rattle.ring_machine.specs.Common.{edge_eq}
+use Rattle.ring_parts.specs.Common.{ends_of, edge_cmp}
 use Rattle.ring_parts.proofs.Ways.{edge_turned, common_by_ends}
 use Rattle.ring_parts.proofs.sides.Border.has.Goals as goal
 

@@ -1,7 +1,6 @@
-use Rattle.std.proofs.Common.{◌∙◌, ap, map}
-use Rattle.std.specs.List.{list_any}
-use Rattle.ring_machine.specs.Ring.{edge_eq}
-use Rattle.ring_parts.specs.Borders.{ends_of}
+use Rattle.kit_words.proofs.Common.{◌∙◌, ap, map, list_any}
+use Rattle.ring_machine.specs.Common.{edge_eq}
+use Rattle.ring_parts.specs.Common.{ends_of}
 use Rattle.ring_parts.proofs.Searching.{any_permuted}
 use Rattle.ring_parts.proofs.sides.Border.new.Goals as goal
 

@@ -1,6 +1,6 @@
-use Rattle.std.proofs.Common.{◌∙◌, ap, arith}
+use Rattle.kit_words.proofs.Common.{◌∙◌, ap, arith}
 use Rattle.std.specs.FinSet as set
-use Rattle.ring_store.specs.Counted.{Indexed}
+use Rattle.ring_store.specs.Common.{Indexed}
 use Rattle.ring_store.proofs.Held.{len_more}
 use Rattle.ring_store.proofs.counted.CountedSegIndex.add.Goals as goal
 

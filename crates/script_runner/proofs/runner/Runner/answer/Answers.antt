@@ -1,5 +1,5 @@
-use Rattle.std.proofs.Common.{refl, sym, ap, ap₂, ◌∙◌, ◌+◌}
-use Rattle.script_runner.specs.Replies.{meaning_of_said}
+use Rattle.kit_words.proofs.Common.{refl, sym, ap, ap₂, ◌∙◌, ◌+◌}
+use Rattle.script_runner.specs.Common.{meaning_of_said}
 use Rattle.script_runner.proofs.StepLemmas.{on_part, put_part, put_nothing, answered_line, shows}
 use Rattle.script_runner.proofs.runner.Runner.answer.Goals as goal
 

@@ -1,4 +1,5 @@
-use Rattle.std.proofs.Common.{◌-◌, ◌∷◌, ◌++◌, [], take, drop, length, sym, append-nil, arith, rules}
+use Rattle.kit_words.proofs.Common.{◌-◌, ◌∷◌, ◌++◌, [], take, drop, length, sym, arith, rules}
+use Rattle.std.proofs.Common.{append-nil}
 use Rattle.script_runner.proofs.StepLemmas.{on_feeds}
 use Rattle.script_runner.proofs.FeedLemmas.{none_kept, none_found, line_found, cut_behind, cut_length, fed_on, fed_part, fed_all}
 use Rattle.script_runner.proofs.runner.Runner.feed.Goals as goal

@@ -1,4 +1,4 @@
-use Rattle.std.proofs.Common.{◌≡◌, ◌+◌, false, length}
+use Rattle.kit_words.proofs.Common.{◌≡◌, ◌+◌, false, length}
 use Rattle.script_runner.proofs.FeedLemmas.{Fed}
 use Rattle.script_runner.proofs.runner.Runner.feed.Given as goal
 

@@ -1,5 +1,5 @@
-use Rattle.std.proofs.Common.{◌∷◌, ◌++◌, [], ◌+◌, ap}
-use Rattle.script_runner.specs.Progress.{Progress}
+use Rattle.kit_words.proofs.Common.{◌∷◌, ◌++◌, [], ◌+◌, ap}
+use Rattle.script_runner.specs.Common.{Progress}
 use Rattle.script_runner.proofs.StepLemmas.{on_feeds}
 use Rattle.script_runner.proofs.FeedLemmas.{no_line_kept, line_fed, line_part}
 use Rattle.script_runner.proofs.runner.Runner.feed_line.Goals as goal

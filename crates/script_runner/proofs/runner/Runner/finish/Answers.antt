@@ -1,6 +1,6 @@
-use Rattle.std.proofs.Common.{◌≡◌, ◌∙◌, ◌==◌, length, sym, ap, Bool, false, Result, Ok, Err, IsErrAnd, MatchResult}
-use Rattle.std.proofs.lemmas.Result.{IfOk-weaker}
-use Rattle.script_runner.specs.Replies.{of_writer}
+use Rattle.kit_words.proofs.Common.{◌≡◌, ◌∙◌, ◌==◌, length, sym, ap, Bool, false, Result, Ok, Err, IsErrAnd}
+use Rattle.kit_words.proofs.Common.{MatchResult, IfOk-weaker}
+use Rattle.script_runner.specs.Common.{of_writer}
 use Rattle.script_runner.proofs.StepLemmas.{on_last, put_last, put_none, put_some, finished_none, finished_line}
 use Rattle.script_runner.proofs.runner.Runner.finish.Goals as goal
 

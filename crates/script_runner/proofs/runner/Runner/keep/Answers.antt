@@ -1,4 +1,4 @@
-use Rattle.std.proofs.Common.{◌∙◌, ap, length, arith}
+use Rattle.kit_words.proofs.Common.{◌∙◌, ap, length, arith}
 use Rattle.script_runner.proofs.FeedLemmas.{feeds_kept}
 use Rattle.script_runner.proofs.runner.Runner.keep.Goals as goal
 

@@ -1,7 +1,7 @@
-use Rattle.std.proofs.Common.{◌∙◌, [], true, ap, subst}
-use Rattle.segment_trees.specs.Candidates.{Gives, has}
-use Rattle.segment_index.specs.Times.{times_by}
-use Rattle.segment_trees.proofs.Singles.{near_given}
+use Rattle.kit_words.proofs.Common.{◌∙◌, [], true, ap, subst}
+use Rattle.segment_trees.specs.Common.{Gives, has}
+use Rattle.segment_index.specs.Common.{times_by}
+use Rattle.segment_trees.proofs.Common.{near_given}
 use Rattle.segment_index.proofs.list_index.ListIndex.near.Goals as goal
 
 pub returns-then-gives_once-clause-near : goal.returns-then-gives_once-clause-near

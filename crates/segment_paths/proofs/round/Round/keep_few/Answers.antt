@@ -1,5 +1,5 @@
-use Rattle.std.proofs.lemmas.List.Elements.{All-same}
-use Rattle.segment_paths.specs.Stops.{IsStop}
+use Rattle.kit_words.proofs.Common.{All-same}
+use Rattle.segment_paths.specs.Common.{IsStop}
 use Rattle.segment_paths.proofs.Conflicting.{has_more}
 use Rattle.segment_paths.proofs.round.Round.keep_few.Goals as goal
 

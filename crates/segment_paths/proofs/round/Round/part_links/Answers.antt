@@ -1,7 +1,5 @@
-use Rattle.std.proofs.Common.{ap, ◌∙◌, length}
-use Rattle.std.proofs.lemmas.List.Elements.{All-same}
-use Rattle.segment_paths.specs.Stops.{IsPiece, IsOf}
-use Rattle.segment_paths.specs.Seen.{paths_seen}
+use Rattle.kit_words.proofs.Common.{ap, ◌∙◌, length, All-same}
+use Rattle.segment_paths.specs.Common.{IsPiece, IsOf, paths_seen}
 use Rattle.segment_paths.proofs.Gathering.{still_none}
 use Rattle.segment_paths.proofs.Conflicting.{owners_conflict}
 use Rattle.segment_paths.proofs.round.Round.part_links.Goals as goal

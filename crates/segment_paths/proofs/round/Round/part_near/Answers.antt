@@ -1,6 +1,5 @@
-use Rattle.std.proofs.Common.{ap, sym, subst, ◌∙◌}
-use Rattle.std.proofs.lemmas.List.Elements.{All-same}
-use Rattle.segment_paths.specs.Stops.{IsStop, IsPair}
+use Rattle.kit_words.proofs.Common.{ap, sym, subst, ◌∙◌, All-same}
+use Rattle.segment_paths.specs.Common.{IsStop, IsPair}
 use Rattle.segment_paths.proofs.round.Round.part_near.Goals as goal
 use Rattle.segment_paths.proofs.round.Round.part_near.Goals.{then-conflict+in_ok-part_links, else-conflict}
 

@@ -1,8 +1,7 @@
-use Rattle.std.proofs.Common.{List, ◌≡◌, [], None}
-use Rattle.std.specs.List.{All}
-use Rattle.grid_geometry.specs.Segment.{Segment}
-use Rattle.ring_machine.specs.Planar.{least_conflict}
-use Rattle.segment_paths.specs.Stops.{IsStop, AreWays, IsPair}
+use Rattle.kit_words.proofs.Common.{List, ◌≡◌, [], None, All}
+use Rattle.grid_geometry.specs.Common.{Segment}
+use Rattle.ring_machine.specs.Common.{least_conflict}
+use Rattle.segment_paths.specs.Common.{IsStop, AreWays, IsPair}
 use Rattle.segment_paths.proofs.round.Round.part_near.Given as goal
 
 abbrev pub invariant-loop-other : goal.invariant-loop-other

@@ -1,8 +1,6 @@
-use Rattle.std.proofs.Common.{Contains, rules, sym, subst, ◌∙◌}
-use Rattle.std.proofs.lemmas.List.Sorted.{answers_always}
-use Rattle.grid_geometry.specs.Segment.{Segment}
-use Rattle.segment_paths.specs.Paths.{links_of}
-use Rattle.segment_paths.specs.Seen.{paths_seen}
+use Rattle.kit_words.proofs.Common.{Contains, rules, sym, subst, ◌∙◌, answers_always}
+use Rattle.grid_geometry.specs.Common.{Segment}
+use Rattle.segment_paths.specs.Common.{links_of, paths_seen}
 use Rattle.segment_paths.proofs.Linked.{own_link}
 use Rattle.segment_paths.proofs.Searched.{none_found}
 use Rattle.segment_paths.proofs.ways.Ways.is_bent.Goals as goal

@@ -1,4 +1,4 @@
-use Rattle.std.proofs.Common.{◌≡◌, Bool, true, false, not, ap, refl, is_ok}
+use Rattle.kit_words.proofs.Common.{◌≡◌, Bool, true, false, not, ap, refl, is_ok}
 use Rattle.segment_paths.proofs.Gathering.{found_in}
 use Rattle.segment_paths.proofs.ways.Ways.is_whole.Goals as goal
 

@@ -1,4 +1,4 @@
-use Rattle.std.proofs.Common.{refl}
+use Rattle.kit_words.proofs.Common.{refl}
 use Rattle.segment_paths.proofs.Led.{ways_none}
 use Rattle.segment_paths.proofs.ways.Ways.none.Goals as goal
 

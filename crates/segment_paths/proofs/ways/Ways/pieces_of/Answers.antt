@@ -1,8 +1,5 @@
-use Rattle.std.proofs.Common.{Contains, ap, refl, subst, length, ◌∙◌, arith}
-use Rattle.std.specs.List.{All}
-use Rattle.std.proofs.lemmas.List.Elements.{All-same, All-nil, All-push}
-use Rattle.segment_paths.specs.Seen.{paths_seen}
-use Rattle.segment_paths.specs.Stops.{IsPiece, IsOf}
+use Rattle.kit_words.proofs.Common.{Contains, ap, refl, subst, length, ◌∙◌, arith, All, All-same, All-nil, All-push}
+use Rattle.segment_paths.specs.Common.{paths_seen, IsPiece, IsOf}
 use Rattle.segment_paths.proofs.Led.{whole_known}
 use Rattle.segment_paths.proofs.ways.Ways.pieces_of.Goals as goal
 use Rattle.segment_paths.proofs.ways.Ways.pieces_of.Goals.{then-is_whole+in_ok-push, else-is_whole}

@@ -1,9 +1,5 @@
-use Rattle.std.proofs.Common.{subst, sym}
-use Rattle.std.specs.List.{All}
-use Rattle.std.proofs.lemmas.List.Elements.{All-same}
-use Rattle.segment_paths.specs.Paths.{ArePaths}
-use Rattle.segment_paths.specs.Seen.{paths_seen}
-use Rattle.segment_paths.specs.Stops.{IsStop, IsPiece}
+use Rattle.kit_words.proofs.Common.{subst, sym, All, All-same}
+use Rattle.segment_paths.specs.Common.{ArePaths, paths_seen, IsStop, IsPiece}
 use Rattle.segment_paths.proofs.ways.Ways.with.Goals as goal
 
 pub returns : goal.returns

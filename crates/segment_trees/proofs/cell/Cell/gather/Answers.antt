@@ -1,4 +1,4 @@
-use Rattle.std.proofs.Common.{is_ok}
+use Rattle.kit_words.proofs.Common.{is_ok}
 use Rattle.segment_trees.proofs.Gathering.{gathers-cell, when_ok}
 use Rattle.segment_trees.proofs.cell.Cell.gather.Goals as goal
 

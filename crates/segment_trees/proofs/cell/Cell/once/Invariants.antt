@@ -1,6 +1,6 @@
-use Rattle.std.proofs.Common.{◌≡◌, take}
-use Rattle.grid_geometry.specs.Segment.{Segment}
-use Rattle.segment_trees.specs.Candidates.{has, AreSingle}
+use Rattle.kit_words.proofs.Common.{◌≡◌, take}
+use Rattle.grid_geometry.specs.Common.{Segment}
+use Rattle.segment_trees.specs.Common.{has, AreSingle}
 use Rattle.segment_trees.proofs.cell.Cell.once.Given as goal
 
 abbrev pub invariant-loop-s : goal.invariant-loop-s

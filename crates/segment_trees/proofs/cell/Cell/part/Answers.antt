@@ -1,4 +1,4 @@
-use Rattle.std.proofs.Common.{◌++◌}
+use Rattle.kit_words.proofs.Common.{◌++◌}
 use Rattle.segment_trees.proofs.Branches.{part-more}
 use Rattle.segment_trees.proofs.cell.Cell.part.Goals as goal
 

@@ -1,5 +1,5 @@
-use Rattle.std.proofs.Common.{◌++◌, take}
-use Rattle.segment_trees.specs.Trees.{IsSame}
+use Rattle.kit_words.proofs.Common.{◌++◌, take}
+use Rattle.segment_trees.specs.Common.{IsSame}
 use Rattle.segment_trees.proofs.cell.Cell.part.Given as goal
 
 abbrev pub invariant-loop-t : goal.invariant-loop-t

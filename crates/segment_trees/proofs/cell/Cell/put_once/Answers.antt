@@ -1,5 +1,5 @@
-use Rattle.std.proofs.Common.{◌≡◌, refl, false}
-use Rattle.segment_trees.specs.Candidates.{has}
+use Rattle.kit_words.proofs.Common.{◌≡◌, refl, false}
+use Rattle.segment_trees.specs.Common.{has}
 use Rattle.segment_trees.proofs.Singles.{single-once, had-once}
 use Rattle.segment_trees.proofs.cell.Cell.put_once.Goals as goal
 

@@ -1,7 +1,5 @@
-use Rattle.std.proofs.Common.{rules, is_ok, false, ◌≡◌, ◌+◌, ◌++◌, arith}
-use Rattle.segment_trees.specs.Candidates.{times_in}
-use Rattle.segment_trees.specs.Cells.{every}
-use Rattle.segment_trees.specs.Directories.{lines_in}
+use Rattle.kit_words.proofs.Common.{rules, is_ok, false, ◌≡◌, ◌+◌, ◌++◌, arith}
+use Rattle.segment_trees.specs.Common.{times_in, every, lines_in}
 use Rattle.segment_trees.proofs.Gathering.{gathers-less, gathers-same, gathers-then}
 use Rattle.segment_trees.proofs.Homes.{gathers-block}
 use Rattle.segment_trees.proofs.Lines.{region-monotone}

@@ -1,7 +1,5 @@
-use Rattle.std.proofs.Common.{◌≡◌, ◌∙◌}
-use Rattle.std.proofs.lemmas.List.{get_or_default}
-use Rattle.segment_trees.specs.Cells.{column, every}
-use Rattle.segment_trees.specs.Directories.{lines_in}
+use Rattle.kit_words.proofs.Common.{◌≡◌, ◌∙◌, get_or_default}
+use Rattle.segment_trees.specs.Common.{column, every, lines_in}
 use Rattle.segment_trees.proofs.Branches.{gains-right, same-right}
 use Rattle.segment_trees.proofs.Homes.{home-put, gained-at_home, same-at_home}
 use Rattle.segment_trees.proofs.Singles.{ok_then, err_then}

@@ -1,7 +1,5 @@
-use Rattle.std.proofs.Common.{◌≡◌, ◌∙◌, sym, refl}
-use Rattle.std.proofs.lemmas.List.{get_or_default}
-use Rattle.segment_trees.specs.Cells.{column}
-use Rattle.segment_trees.specs.Directories.{lines_in}
+use Rattle.kit_words.proofs.Common.{◌≡◌, ◌∙◌, sym, refl, get_or_default}
+use Rattle.segment_trees.specs.Common.{column, lines_in}
 use Rattle.segment_trees.proofs.Homes.{lost-at_home, lost-past_home, lost-elsewhere}
 use Rattle.segment_trees.proofs.directory.Directory.take_out.Goals as goal
 

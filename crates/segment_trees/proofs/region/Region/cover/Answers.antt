@@ -1,4 +1,4 @@
-use Rattle.std.proofs.Common.{◌+◌, ◌^◌, ◌%◌}
+use Rattle.kit_words.proofs.Common.{◌+◌, ◌^◌, ◌%◌}
 use Rattle.segment_trees.proofs.Lines.{line-is, lines-ordered}
 use Rattle.segment_trees.proofs.region.Region.cover.Goals as goal
 

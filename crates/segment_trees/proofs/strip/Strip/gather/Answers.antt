@@ -1,4 +1,4 @@
-use Rattle.std.proofs.Common.{sym, ◌∙◌, ◌-◌}
+use Rattle.kit_words.proofs.Common.{sym, ◌∙◌, ◌-◌}
 use Rattle.segment_trees.proofs.Homes.{gathers-apart, gathers-unheld}
 use Rattle.segment_trees.proofs.strip.Strip.gather.Goals as goal
 

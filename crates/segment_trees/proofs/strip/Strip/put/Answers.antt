@@ -1,8 +1,6 @@
-use Rattle.std.proofs.Common.{◌≡◌, ◌<◌, length, ap, ◌∙◌, Some}
-use Rattle.std.proofs.lemmas.List.{get_or_default}
-use Rattle.grid_geometry.specs.Segment.{box_of}
-use Rattle.segment_trees.specs.Bounds.{joined}
-use Rattle.segment_trees.specs.Cells.{cell}
+use Rattle.kit_words.proofs.Common.{◌≡◌, ◌<◌, length, ap, ◌∙◌, Some, get_or_default}
+use Rattle.grid_geometry.specs.Common.{box_of}
+use Rattle.segment_trees.specs.Common.{joined, cell}
 use Rattle.segment_trees.proofs.Homes.{strip-put}
 use Rattle.segment_trees.proofs.strip.Strip.put.Goals as goal
 

@@ -1,6 +1,5 @@
-use Rattle.std.proofs.Common.{◌≡◌, ◌<◌, length, ◌∙◌}
-use Rattle.std.proofs.lemmas.List.{get_or_default}
-use Rattle.segment_trees.specs.Cells.{cell}
+use Rattle.kit_words.proofs.Common.{◌≡◌, ◌<◌, length, ◌∙◌, get_or_default}
+use Rattle.segment_trees.specs.Common.{cell}
 use Rattle.segment_trees.proofs.Homes.{strip-lost}
 use Rattle.segment_trees.proofs.strip.Strip.take_out.Goals as goal
 

@@ -1,7 +1,6 @@
-use Rattle.std.proofs.Common.{◌≡◌, ◌++◌, ap, ◌∙◌}
-use Rattle.grid_geometry.specs.Segment.{box_of}
-use Rattle.segment_trees.specs.Bounds.{box_around}
-use Rattle.segment_trees.specs.Trees.{listed}
+use Rattle.kit_words.proofs.Common.{◌≡◌, ◌++◌, ap, ◌∙◌}
+use Rattle.grid_geometry.specs.Common.{box_of}
+use Rattle.segment_trees.specs.Common.{box_around, listed}
 use Rattle.segment_trees.proofs.Singles.{ok_then, err_then}
 use Rattle.segment_trees.proofs.Branches.{put-lies, gains-cell, same-cell, gains-left, same-left, gains-right, same-right}
 use Rattle.segment_trees.proofs.tree.Tree.+put.Goals as goal

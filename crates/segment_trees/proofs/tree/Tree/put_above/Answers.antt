@@ -1,6 +1,6 @@
-use Rattle.std.proofs.Common.{◌≡◌, ◌++◌, ◌∙◌, ap, sym, subst, unwrap_or, Some, arith}
-use Rattle.segment_trees.specs.Bounds.{joined}
-use Rattle.segment_trees.specs.Trees.{listed, LieIn, LiesIn}
+use Rattle.kit_words.proofs.Common.{◌≡◌, ◌++◌, ◌∙◌, ap, sym, subst, Some, arith}
+use Rattle.std.proofs.Common.{unwrap_or}
+use Rattle.segment_trees.specs.Common.{joined, listed, LieIn, LiesIn}
 use Rattle.segment_trees.proofs.Branches.{lies-put, lies-or, above-gained}
 use Rattle.segment_trees.proofs.tree.Tree.put_above.Goals as goal
 

@@ -1,9 +1,7 @@
-use Rattle.std.proofs.Common.{◌≡◌, ap, sym, ◌∙◌, subst, ◌++◌, ◌∷◌, []}
+use Rattle.kit_words.proofs.Common.{◌≡◌, ap, sym, ◌∙◌, subst, ◌++◌, ◌∷◌, []}
 use Rattle.std.specs.FinMap as map
-use Rattle.arc_tables.specs.Ways.{links, Grows}
-use Rattle.arc_tables.specs.Rings.{edges}
-use Rattle.arc_tables.specs.Stores.{store}
-use Rattle.arc_tables.proofs.RingLemmas.{rings_grown, rings_kept, none_there, around}
+use Rattle.arc_tables.specs.Common.{links, Grows, edges, store}
+use Rattle.arc_tables.proofs.Common.{rings_grown, rings_kept, none_there, around}
 use Rattle.shared_arcs.proofs.borders.Borders.add_ring.Goals as goal
 
 pub returns-in-Ok-clause-new : goal.returns-in-Ok-clause-new

@@ -1,7 +1,6 @@
-use Rattle.std.proofs.Common.{subst}
-use Rattle.shared_arcs.specs.Around.{SeesMore, ends_in}
+use Rattle.kit_words.proofs.Common.{subst}
+use Rattle.shared_arcs.specs.Common.{SeesMore, ends_in, AreAllNeighbours}
 use Rattle.slab.specs.Slab.{entries}
-use Rattle.shared_arcs.specs.Joined.{AreAllNeighbours}
 use Rattle.shared_arcs.proofs.JoinedLemmas.{each_used}
 use Rattle.shared_arcs.proofs.SeenLemmas.{all_seen}
 use Rattle.shared_arcs.proofs.borders.Borders.all_neighbours.Goals as goal

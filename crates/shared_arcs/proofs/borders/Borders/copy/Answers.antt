@@ -1,4 +1,4 @@
-use Rattle.std.proofs.Common.{◌∙◌}
+use Rattle.kit_words.proofs.Common.{◌∙◌}
 use Rattle.arc_tables.proofs.CopyLemmas.{copy_sound, copy_rings}
 use Rattle.shared_arcs.proofs.borders.Borders.copy.Goals as goal
 

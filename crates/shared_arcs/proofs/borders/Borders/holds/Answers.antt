@@ -1,6 +1,6 @@
-use Rattle.std.proofs.Common.{ap, sym, ◌∙◌, is_some}
+use Rattle.kit_words.proofs.Common.{ap, sym, ◌∙◌, is_some}
 use Rattle.shared_arcs.proofs.ReadLemmas.{copied_is_some}
-use Rattle.arc_tables.proofs.RingLemmas.{holds_ring}
+use Rattle.arc_tables.proofs.Common.{holds_ring}
 use Rattle.shared_arcs.proofs.borders.Borders.holds.Goals as goal
 
 pub returns : goal.returns

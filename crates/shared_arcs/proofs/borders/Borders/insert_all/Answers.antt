@@ -1,12 +1,8 @@
-use Rattle.std.proofs.Common.{ℕ, ◌≡◌, ◌<◌, ◌^◌, ◌∙◌, sym, ap, subst, IfOk}
+use Rattle.kit_words.proofs.Common.{ℕ, ◌≡◌, ◌<◌, ◌^◌, ◌∙◌, sym, ap, subst, IfOk, option_map}
 use Rattle.std.specs.FinMap as map
-use Rattle.std.specs.Prelude.{option_map}
-use Rattle.arc_tables.specs.Ways.{links}
-use Rattle.arc_tables.specs.Edited.{IsOff, throughs, gained}
-use Rattle.arc_tables.specs.Stores.{path_of}
-use Rattle.shared_arcs.specs.Joined.{Joined}
-use Rattle.arc_tables.proofs.Segments.{on_ok_map, on_err_map}
-use Rattle.arc_tables.proofs.Putting.{puts_map, put_everywhere, rings_linked}
+use Rattle.arc_tables.specs.Common.{links, IsOff, throughs, gained, path_of}
+use Rattle.shared_arcs.specs.Common.{Joined}
+use Rattle.arc_tables.proofs.Common.{on_ok_map, on_err_map, puts_map, put_everywhere, rings_linked}
 use Rattle.shared_arcs.proofs.JoinedLemmas.{each_used, not_joined}
 use Rattle.shared_arcs.proofs.borders.Borders.insert_all.Goals as goal
 

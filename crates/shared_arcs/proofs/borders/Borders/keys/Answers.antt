@@ -1,11 +1,8 @@
-use Rattle.std.proofs.Common.{Some, option_map, ap, sym, ◌∙◌}
+use Rattle.kit_words.proofs.Common.{Some, option_map, ap, sym, ◌∙◌, option_copied}
 use Rattle.std.specs.FinMap as map
-use Rattle.std.specs.Option.{option_copied}
-use Rattle.arc_tables.specs.Rings.{begins}
-use Rattle.arc_tables.specs.Ways.{chain}
-use Rattle.arc_tables.specs.Stores.{path_of}
+use Rattle.arc_tables.specs.Common.{begins, chain, path_of}
 use Rattle.shared_arcs.proofs.KeysLeft.{keys_here}
-use Rattle.arc_tables.proofs.RingLemmas.{none_there}
+use Rattle.arc_tables.proofs.Common.{none_there}
 use Rattle.shared_arcs.proofs.borders.Borders.keys.Goals as goal
 
 pub returns-in-Some : goal.returns-in-Some

@@ -1,6 +1,6 @@
-use Rattle.std.proofs.Common.{sym, subst}
-use Rattle.shared_arcs.specs.Joined.{AreNeighbours}
-use Rattle.arc_tables.specs.Sound.{rings_of}
+use Rattle.kit_words.proofs.Common.{sym, subst}
+use Rattle.shared_arcs.specs.Common.{AreNeighbours}
+use Rattle.arc_tables.specs.Common.{rings_of}
 use Rattle.shared_arcs.proofs.JoinedLemmas.{neighbours_seen, each_used}
 use Rattle.shared_arcs.proofs.borders.Borders.neighbours.Goals as goal
 

@@ -1,15 +1,11 @@
-use Rattle.std.proofs.Common.{◌≡◌, ℕ, sym, ap, ◌∙◌, subst, [], Option, None, is_some, arith}
-use Rattle.std.specs.Prelude.{◌==◌, slice_index_or}
-use Rattle.std.specs.List.{list_any}
-use Rattle.std.proofs.lemmas.Bool.{false≢true}
+use Rattle.kit_words.proofs.Common.{◌≡◌, ℕ, sym, ap, ◌∙◌, subst, [], Option, None, is_some, arith, ◌==◌, slice_index_or}
+use Rattle.kit_words.proofs.Common.{list_any, false≢true}
 use Rattle.slab.specs.Slab.{get}
 use Rattle.arc_tables.specs.declared.arc.Arc.{Arc}
 use Rattle.arc_tables.specs.declared.arc.Ring.{Ring}
 use Rattle.arc_tables.specs.declared.tables.Tables.{Tables}
-use Rattle.arc_tables.specs.Ways.{links, times}
-use Rattle.arc_tables.specs.Stores.{path_in, path_of, users_in, uses_in, uses_arc, AllDifferent}
-use Rattle.arc_tables.specs.Sound.{Sound}
-use Rattle.arc_tables.proofs.Different.{none_contained}
+use Rattle.arc_tables.specs.Common.{links, times, path_in, path_of, users_in, uses_in, uses_arc, AllDifferent, Sound}
+use Rattle.arc_tables.proofs.Common.{none_contained}
 use Rattle.arc_tables.proofs.Knowing.{known_of}
 use Rattle.shared_arcs.proofs.borders.Borders.new.Goals as goal
 

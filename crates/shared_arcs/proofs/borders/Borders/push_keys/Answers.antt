@@ -1,7 +1,7 @@
-use Rattle.std.proofs.Common.{◌≡◌, ap, sym, ◌∙◌, subst, IfSome, ◌++◌}
+use Rattle.kit_words.proofs.Common.{◌≡◌, ap, sym, ◌∙◌, subst, IfSome, ◌++◌}
 use Rattle.std.specs.FinMap as map
-use Rattle.arc_tables.specs.Rings.{begins}
-use Rattle.arc_tables.proofs.RingLemmas.{held_ring, ring_here}
+use Rattle.arc_tables.specs.Common.{begins}
+use Rattle.arc_tables.proofs.Common.{held_ring, ring_here}
 use Rattle.shared_arcs.proofs.borders.Borders.push_keys.Goals as goal
 
 pub push_ring_keys-requires-clause-held : goal.push_ring_keys-requires-clause-held

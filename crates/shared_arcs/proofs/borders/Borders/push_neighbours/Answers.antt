@@ -1,7 +1,6 @@
-use Rattle.std.proofs.Common.{arith, ◌≡◌, ◌∙◌, ap, subst, List, ℕ, length}
-use Rattle.shared_arcs.specs.Around.{ends_among}
-use Rattle.arc_tables.specs.Stores.{path_of, stand_at}
-use Rattle.shared_arcs.specs.Listing.{ListsJoined, gathered}
+use Rattle.kit_words.proofs.Common.{arith, ◌≡◌, ◌∙◌, ap, subst, List, ℕ, length}
+use Rattle.shared_arcs.specs.Common.{ends_among, ListsJoined, gathered}
+use Rattle.arc_tables.specs.Common.{path_of, stand_at}
 use Rattle.shared_arcs.proofs.JoinedLemmas.{each_used, lists_joined}
 use Rattle.shared_arcs.proofs.borders.Borders.push_neighbours.Goals as goal
 

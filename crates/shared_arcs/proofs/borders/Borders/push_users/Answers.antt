@@ -1,5 +1,5 @@
-use Rattle.std.proofs.Common.{subst}
-use Rattle.arc_tables.specs.Users.{ListsUsers}
+use Rattle.kit_words.proofs.Common.{subst}
+use Rattle.arc_tables.specs.Common.{ListsUsers}
 use Rattle.shared_arcs.proofs.borders.Borders.push_users.Goals as goal
 
 pub returns-in-Ok : goal.returns-in-Ok

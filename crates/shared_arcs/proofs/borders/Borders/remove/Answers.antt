@@ -1,12 +1,9 @@
-use Rattle.std.proofs.Common.{ℕ, ◌∙◌, sym, ap, subst}
+use Rattle.kit_words.proofs.Common.{ℕ, ◌∙◌, sym, ap, subst, option_map}
 use Rattle.std.specs.FinMap as map
-use Rattle.std.specs.Prelude.{option_map}
-use Rattle.arc_tables.specs.Edited.{drawn, collapsed}
-use Rattle.shared_arcs.specs.Joined.{Joined}
-use Rattle.arc_tables.specs.Stores.{path_of}
-use Rattle.arc_tables.proofs.Segments.{on_ok_map, on_err_map, either_result}
-use Rattle.arc_tables.proofs.EditLemmas.{edited_everywhere, once_alike, rings_unedited}
-use Rattle.arc_tables.proofs.Removing.{drawn-turns, once_collapsed}
+use Rattle.arc_tables.specs.Common.{drawn, collapsed, path_of}
+use Rattle.shared_arcs.specs.Common.{Joined}
+use Rattle.arc_tables.proofs.Common.{on_ok_map, on_err_map, either_result, edited_everywhere, once_alike}
+use Rattle.arc_tables.proofs.Common.{rings_unedited, drawn-turns, once_collapsed}
 use Rattle.shared_arcs.proofs.JoinedLemmas.{each_used, not_joined, arc_joined}
 use Rattle.shared_arcs.proofs.borders.Borders.remove.Goals as goal
 

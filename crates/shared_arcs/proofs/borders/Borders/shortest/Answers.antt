@@ -1,4 +1,4 @@
-use Rattle.shared_arcs.specs.Shortest.{most}
+use Rattle.shared_arcs.specs.Common.{most}
 use Rattle.shared_arcs.proofs.ShortestLemmas.{says_shortest}
 use Rattle.shared_arcs.proofs.borders.Borders.shortest.Goals as goal
 

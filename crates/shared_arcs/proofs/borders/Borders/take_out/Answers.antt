@@ -1,6 +1,6 @@
-use Rattle.std.proofs.Common.{ap, ◌∙◌}
+use Rattle.kit_words.proofs.Common.{ap, ◌∙◌}
 use Rattle.std.specs.FinMap as map
-use Rattle.arc_tables.proofs.RingLemmas.{rings_taken}
+use Rattle.arc_tables.proofs.Common.{rings_taken}
 use Rattle.shared_arcs.proofs.borders.Borders.take_out.Goals as goal
 
 pub returns : goal.returns

@@ -1,5 +1,5 @@
-use Rattle.std.proofs.Common.{arith, rules, refl, sym, ap, ◌∙◌, ◌∷◌, ◌+◌, length}
-use Rattle.shared_arcs.specs.Coming.{keys_left}
+use Rattle.kit_words.proofs.Common.{arith, rules, refl, sym, ap, ◌∙◌, ◌∷◌, ◌+◌, length}
+use Rattle.shared_arcs.specs.Common.{keys_left}
 use Rattle.shared_arcs.proofs.KeysLeft.{left_turned, left_none, left_next}
 use Rattle.shared_arcs.proofs.ring_keys.RingKeysIterator.next.Goals as goal
 

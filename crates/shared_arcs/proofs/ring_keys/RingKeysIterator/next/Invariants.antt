@@ -1,5 +1,5 @@
-use Rattle.std.proofs.Common.{◌≡◌, ◌≤◌, length}
-use Rattle.shared_arcs.specs.Coming.{keys_left}
+use Rattle.kit_words.proofs.Common.{◌≡◌, ◌≤◌, length}
+use Rattle.shared_arcs.specs.Common.{keys_left}
 use Rattle.shared_arcs.proofs.ring_keys.RingKeysIterator.next.Given as goal
 
 abbrev pub invariant-loop-self : goal.invariant-loop-self

@@ -1,6 +1,5 @@
-use Rattle.std.proofs.Common.{◌≡◌, ap, List}
-use Rattle.topo_outline.specs.Layers.{LayerText, Piece}
-use Rattle.topo_outline.specs.Views.{view_item}
+use Rattle.kit_words.proofs.Common.{◌≡◌, ap, List}
+use Rattle.topo_outline.specs.Common.{LayerText, Piece, view_item}
 use Rattle.topo_outline.proofs.Copied.{copied_map}
 use Rattle.topo_outline.proofs.copying.RawLayerClone.clone.Goals as goal
 

@@ -1,7 +1,7 @@
-use Rattle.std.proofs.Common.{◌-◌, refl, ap, ◌∙◌, ℕ, length, map}
-use Rattle.topo_outline.specs.Views.{view_layer}
-use Rattle.topo_reader.specs.DocumentView.{view_raw}
-use Rattle.topo_reader.specs.Uses.{feature_positions, feature_corners, polygon_positions, polygon_corners, positions_of}
+use Rattle.kit_words.proofs.Common.{◌-◌, refl, ap, ◌∙◌, ℕ, length, map}
+use Rattle.topo_outline.specs.Common.{view_layer}
+use Rattle.topo_reader.specs.Common.{view_raw, feature_positions, feature_corners, polygon_positions, polygon_corners}
+use Rattle.topo_reader.specs.Common.{positions_of}
 use Rattle.topo_reader.proofs.Widening.{extent_document, feature_joined, polygon_joined}
 use Rattle.topo_reader.proofs.document.RawDoc.extent.Goals as goal
 

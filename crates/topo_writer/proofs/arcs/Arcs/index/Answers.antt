@@ -1,14 +1,10 @@
-use Rattle.std.proofs.Common.{rules, arith, ◌≡◌, pos, negsuc, None, Some, sym, ap, ap₂, subst, ◌∙◌, length, ◌++◌, cond, List}
-use Rattle.std.proofs.Common.{[], ◌∷◌, ◌-◌, to_z, of_z, w64}
-use Rattle.std.specs.Prelude.{is_some}
+use Rattle.kit_words.proofs.Common.{rules, arith, ◌≡◌, pos, negsuc, None, Some, sym, ap, ap₂, subst, ◌∙◌, length, ◌++◌}
+use Rattle.kit_words.proofs.Common.{cond, List, [], ◌∷◌, ◌-◌, to_z, of_z, w64, is_some, length-append}
 use Rattle.std.proofs.Math.Facts.{to_z-of_z}
-use Rattle.std.proofs.lemmas.List.{length-append}
-use Rattle.grid_geometry.specs.Position.{Position}
+use Rattle.grid_geometry.specs.Common.{Position}
 use Rattle.indexmap.specs.IndexMap.{get}
-use Rattle.ring_machine.specs.Ring.{edge_eq}
-use Rattle.topo_writer.specs.Found.{found, first_edge, last_edge, with_found}
-use Rattle.topo_writer.specs.Named.{listed_arcs}
-use Rattle.topo_writer.specs.Tables.{Finds}
+use Rattle.ring_machine.specs.Common.{edge_eq}
+use Rattle.topo_writer.specs.Common.{found, first_edge, last_edge, with_found, listed_arcs, Finds}
 use Rattle.topo_writer.proofs.FoundLaws.{found_first, found_both, found_known, at_place_is}
 use Rattle.topo_writer.proofs.Listed.{listed_push}
 use Rattle.topo_writer.proofs.arcs.Arcs.index.Given.{Over}

@@ -1,7 +1,7 @@
-use Rattle.std.proofs.Common.{rules, arith, ◌≡◌, ◌+◌, ◌<◌, ◌++◌, [], ◌∷◌, sym, ap, ◌∙◌, subst, drop, length}
+use Rattle.kit_words.proofs.Common.{rules, arith, ◌≡◌, ◌+◌, ◌<◌, ◌++◌, [], ◌∷◌, sym, ap, ◌∙◌, subst, drop, length}
+use Rattle.kit_words.proofs.Common.{drop_more}
 use Rattle.std.proofs.Math.Facts.{to_z-of_z}
-use Rattle.std.proofs.lemmas.List.{drop_more}
-use Rattle.topo_writer.specs.Ways.{all_found, indexes_found}
+use Rattle.topo_writer.specs.Common.{all_found, indexes_found}
 use Rattle.topo_writer.proofs.IndexWays.{index_step, Indexing}
 use Rattle.topo_writer.proofs.arcs.Arcs.index_all.Goals as goal
 

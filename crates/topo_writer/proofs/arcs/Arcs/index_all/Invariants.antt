@@ -1,7 +1,6 @@
-use Rattle.std.proofs.Common.{◌≡◌, ◌+◌, ◌≤◌, List, drop}
-use Rattle.grid_geometry.specs.Position.{Position}
-use Rattle.topo_writer.specs.Tables.{Finds}
-use Rattle.topo_writer.specs.Ways.{all_found, indexes_found, FitAll}
+use Rattle.kit_words.proofs.Common.{◌≡◌, ◌+◌, ◌≤◌, List, drop}
+use Rattle.grid_geometry.specs.Common.{Position}
+use Rattle.topo_writer.specs.Common.{Finds, all_found, indexes_found, FitAll}
 use Rattle.topo_writer.proofs.IndexWays.{Indexing}
 use Rattle.topo_writer.proofs.arcs.Arcs.index_all.Given as goal
 

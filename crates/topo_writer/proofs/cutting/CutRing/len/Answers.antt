@@ -1,4 +1,4 @@
-use Rattle.std.proofs.Common.{arith, ap, length}
+use Rattle.kit_words.proofs.Common.{arith, ap, length}
 use Rattle.topo_writer.proofs.Cuts.{between_count}
 use Rattle.topo_writer.proofs.cutting.CutRing.len.Goals as goal
 

@@ -1,4 +1,4 @@
-use Rattle.std.proofs.Common.{arith, ◌+◌, ◌-◌, ◌<◌, ◌∙◌, ap, length, get_or, take, drop}
+use Rattle.kit_words.proofs.Common.{arith, ◌+◌, ◌-◌, ◌<◌, ◌∙◌, ap, length, get_or, take, drop}
 use Rattle.topo_writer.proofs.Cuts.{between_at, between_count, rising_at}
 use Rattle.topo_writer.proofs.cutting.CutRing.piece.Goals as goal
 

@@ -1,8 +1,7 @@
-use Rattle.std.proofs.Common.{subst}
-use Rattle.ring_machine.specs.Command.{Undo, NothingToUndo}
-use Rattle.arc_store.specs.Recorded.{record_seen}
-use Rattle.undo_ring.specs.Edited.{Refuses, IsUndone}
-use Rattle.undo_ring.specs.Trails.{edited_by}
+use Rattle.kit_words.proofs.Common.{subst}
+use Rattle.ring_machine.specs.Common.{Undo, NothingToUndo}
+use Rattle.arc_store.specs.Common.{record_seen}
+use Rattle.undo_ring.specs.Common.{Refuses, IsUndone, edited_by}
 use Rattle.undo_ring.proofs.Recording.{none_kept, taken_back}
 use Rattle.undo_ring.proofs.editor.Editor.undo.Goals as goal
 

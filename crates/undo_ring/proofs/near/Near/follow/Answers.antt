@@ -1,6 +1,5 @@
-use Rattle.std.proofs.Common.{◌∙◌, ◌≤◌, refl, suc, subst, sym, ap, arith}
-use Rattle.std.proofs.lemmas.Bool.{false≢true}
-use Rattle.undo_ring.specs.declared.near.Near.{Near}
+use Rattle.kit_words.proofs.Common.{◌∙◌, ◌≤◌, refl, suc, subst, sym, ap, arith, false≢true}
+use Rattle.undo_ring.specs.Common.{Near}
 use Rattle.undo_ring.proofs.NearLemmas.{follows_same, follows_more, follows_none, was_ok}
 use Rattle.undo_ring.proofs.near.Near.follow.Goals.{in-Some-boxes+then-is_ok, in-Some-boxes+else-is_ok, in-None}
 use Rattle.undo_ring.proofs.near.Near.follow.Goals as goal

@@ -1,5 +1,4 @@
-use Rattle.std.proofs.Common.{◌∷◌, suc, take}
-use Rattle.std.proofs.lemmas.Result.{on_ok_weaker}
+use Rattle.kit_words.proofs.Common.{◌∷◌, suc, take, on_ok_weaker}
 use Rattle.undo_ring.proofs.NearLemmas.{keeps_covered, known_some}
 use Rattle.undo_ring.proofs.near.Near.grow.Goals as goal
 

@@ -1,4 +1,4 @@
-use Rattle.std.proofs.lemmas.Result.{on_ok_weaker}
+use Rattle.kit_words.proofs.Common.{on_ok_weaker}
 use Rattle.undo_ring.proofs.near.Near.prepare.Goals as goal
 
 pub returns-in-Move-clause-ready : goal.returns-in-Move-clause-ready

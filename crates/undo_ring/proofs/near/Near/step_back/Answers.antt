@@ -1,6 +1,5 @@
-use Rattle.std.proofs.Common.{◌≡◌, ◌-◌, suc, subst, take, arith}
-use Rattle.std.specs.Prelude.{IfSome}
-use Rattle.undo_ring.specs.Boxed.{AreCovered}
+use Rattle.kit_words.proofs.Common.{◌≡◌, ◌-◌, suc, subst, take, arith, IfSome}
+use Rattle.undo_ring.specs.Common.{AreCovered}
 use Rattle.undo_ring.proofs.NearLemmas.{one_back}
 use Rattle.undo_ring.proofs.near.Near.step_back.Goals as goal
 
