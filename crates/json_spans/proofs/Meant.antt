@@ -7,9 +7,8 @@ use Rattle.kit_words.proofs.Common.{take-append_seam}
 use Rattle.std.proofs.lemmas.Bool.{eqb-true}
 use Rattle.json_spans.specs.Common.{is_digit, Digits, no_digit, digit, SomeDigits, digits, value_from, is_zero}
 use Rattle.json_spans.specs.Common.{is_whole_rest, digits_len, whole_digits, signed, whole_of, NoFraction, no_point}
-use Rattle.json_spans.specs.Common.{point, IsWhole, plain, negative, held, Means}
+use Rattle.json_spans.specs.Common.{point, IsWhole, plain, negative, held, Means, Form}
 use Rattle.json_spans.specs.Whole.{minus}
-use Rattle.json_spans.specs.declared.number.NotWhole.TheVariants.{Form}
 
 -- ---- a whole number is read
 

@@ -32,6 +32,7 @@ pub use Rattle.json_spans.specs.Walk.{items, items_left, member_of, members, mem
 pub use Rattle.json_spans.specs.Whole.{IsWhole, Means, NoFraction, digits_len, held, is_whole_rest, is_zero, negative}
 pub use Rattle.json_spans.specs.Whole.{no_point, plain, point, signed, whole_digits, whole_of}
 unfoldable pub use Rattle.json_spans.specs.Whole.{value_from}
+pub use Rattle.json_spans.specs.declared.kinds.Kind.{Kind}
 pub use Rattle.json_spans.specs.declared.machine.Frame.{Frame}
 pub use Rattle.json_spans.specs.declared.machine.Mode.{Mode}
 pub use Rattle.json_spans.specs.declared.machine.Move.{Move}
@@ -39,5 +40,8 @@ pub use Rattle.json_spans.specs.declared.machine.Move.TheVariants.{Closes, Fails
 pub use Rattle.json_spans.specs.declared.machine.Within.{Within}
 pub use Rattle.json_spans.specs.declared.machine.Within.TheVariants.{AfterE0, AfterEd, AfterF0, AfterF4, Escape, Hex1}
 pub use Rattle.json_spans.specs.declared.machine.Within.TheVariants.{Hex2, Hex3, Hex4, Tail1, Tail2, Tail3}
+pub use Rattle.json_spans.specs.declared.number.NotWhole.{NotWhole}
+pub use Rattle.json_spans.specs.declared.number.NotWhole.TheVariants.{Form, Huge}
 pub use Rattle.json_spans.specs.declared.parts.Skip.{Skip}
 pub use Rattle.json_spans.specs.declared.parts.Skip.TheVariants.{Escaped, Plain, Quoted}
+pub use Rattle.json_spans.specs.declared.span.Span.{Span}
