@@ -93,6 +93,8 @@ def maps_of(options):
         yield Map(path.name, path)
     for vertices in options.vertices:
         yield made_map("bricks", vertices, options.seed)
+    for vertices in options.fine:
+        yield made_map("fine", vertices, options.seed)
 
 
 def numbers(text):
@@ -107,6 +109,8 @@ def options_given():
     add("--maps", type=pathlib.Path, default=MAPS, help="the folder of real maps (%(default)s)")
     add("--vertices", type=numbers, default=[10**3, 10**4, 10**5, 10**6], metavar="N,N..",
         help="sizes of the maps of bricks that all is measured on (1000,10000,100000,1000000)")
+    add("--fine", type=numbers, default=[], metavar="N,N..",
+        help="sizes of maps of bricks whose features have some 128 positions, on which all is measured too (none)")
     add("--hard", type=numbers, default=[10**5], metavar="N,N..",
         help="how many segments the hard maps have, from some 10,000 to 1,000,000 (100000)")
     add("--kinds", type=kinds, default=list(KINDS), metavar="KIND,KIND..",

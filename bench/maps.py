@@ -16,8 +16,8 @@ MADE = TOP / "bench" / "out"
 # What the program refuses to open.
 MOST_BYTES = 67_108_864
 MOST_POSITIONS = 4_000_000
-# Segments of half a cell's upper border, as usual and where borders are long.
-PIECES, LONG_PIECES = 8, 1024
+# Segments of half a cell's upper border, as usual, where features have twice as many, and where borders are long.
+PIECES, FINE_PIECES, LONG_PIECES = 8, 16, 1024
 # The greatest coordinate of a map, and that of one whose far polygon makes all else small.
 REACH = 1_000_000_000
 SMALL_REACH = 1_000_000
@@ -99,6 +99,11 @@ class Bricks:
 def bricks(segments, rand):
     """A partition whose borders have some eight positions."""
     return Bricks(segments, REACH, rand).made()
+
+
+def fine(segments, rand):
+    """A partition whose features have some 128 positions, twice as many as those of bricks."""
+    return Bricks(segments, REACH, rand, FINE_PIECES).made()
 
 
 def outlier(segments, rand):
@@ -193,6 +198,8 @@ KINDS = {
     "bricks": bricks, "outlier": outlier, "clusters": clusters, "comb": comb, "comb-rings": comb_and_rings,
     "diagonal": diagonal, "mixed": mixed, "long": long_borders,
 }
+# Those and a partition on which all is measured where that is asked for.
+ALL_KINDS = {**KINDS, "fine": fine}
 
 
 # ---- their files
@@ -216,7 +223,7 @@ def shape_text(polygons):
 
 def make_map(path, kind, segments, seed):
     """Writes a map of this kind with about so many segments."""
-    made = KINDS[kind](segments, random.Random(f"{seed} {segments} {kind}"))
+    made = ALL_KINDS[kind](segments, random.Random(f"{seed} {segments} {kind}"))
     rings = (ring for polygons in made.features for rings in polygons for ring in rings)
     positions = sum(len(made.arcs[i if i >= 0 else ~i]) - 1 for ring in rings for i in ring)
     features = [f'{{"id":"{n}",{shape_text(polygons)}}}' for n, polygons in enumerate(made.features)]
