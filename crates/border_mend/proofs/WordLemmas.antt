@@ -1,6 +1,5 @@
 -- What clap found among the words is what the words ask for.
-use Rattle.kit_words.proofs.Common.{◌≡◌, ℕ, ap, ◌∙◌, refl, subst, sym, Bool, false, List, Option, Some, option_map}
-use Rattle.kit_words.proofs.Common.{codes, Bor, ◌≢◌, MatchBool}
+use Rattle.kit_words.proofs.Common.{◌≡◌, ℕ, ◌∙◌, refl, subst, sym, Bool, List, Option, Some, option_map, codes, Bor}
 use Rattle.clap.specs.Words.{App, HasMatchesOf, first_value, found_of}
 use Rattle.clap.specs.declared.parser.matches.ArgMatches.{ArgMatches}
 use Rattle.program_ends.proofs.Common.{read_text}
@@ -27,20 +26,6 @@ module _ (a : App) (m : ArgMatches) (words : List (List ℕ)) (is : a ≡ progra
     nothing_dropped = is_asked.nothing_dropped;
     not_lying = is_asked.not_lying;
   }
-
-pub places_is : (a : App) (m : ArgMatches) (words : List (List ℕ)) (id key : List ℕ) (given : Option (Bor (List ℕ))) (copy : Option (List ℕ))
-    → a ≡ program → HasMatchesOf a words m → key ≡ id → option_map (λ s. s.now) given ≡ first_value (found_of m) key
-    → copy ≡ option_map (λ s. s.now) given → copy ≡ text_of id words
-places_is a m words id key given copy is has same read copied =
-    copied ∙ read_text program refl a m words id key given is has same read
-
--- paths that are not the same are not the same once they are copied
-pub copies_apart : (given : Option (Bor (List ℕ))) (word : Bor (List ℕ)) (copy : Option (List ℕ)) (bytes : List ℕ) (is_same : Bool)
-    → MatchBool is_same (option_map (λ s. s.now) given ≡ Some word.now) (option_map (λ s. s.now) given ≢ Some word.now) → is_same ≡ false
-    → copy ≡ option_map (λ s. s.now) given → bytes ≡ word.now → copy ≢ Some bytes
-copies_apart given word copy bytes is_same told apart copied same equal =
-    subst (λ (b : Bool). MatchBool b (option_map (λ s. s.now) given ≡ Some word.now) (option_map (λ s. s.now) given ≢ Some word.now)) apart told
-    (sym copied ∙ (equal ∙ ap (λ (b : List ℕ). Some b) same))
 
 -- paths that are apart are apart once they are copied
 pub files_apart : (one other : Option (Bor (List ℕ))) (copy second : Option (List ℕ)) → AreApart (option_map (λ s. s.now) one) (option_map (λ s. s.now) other)

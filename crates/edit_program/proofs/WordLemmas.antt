@@ -1,6 +1,6 @@
 -- What clap found among the words is what the words ask for.
-use Rattle.kit_words.proofs.Common.{◌≡◌, ℕ, ap, subst, ◌∙◌, refl, sym, Bool, true, false, List, Option, Some, None}
-use Rattle.kit_words.proofs.Common.{option_map, Bor, ◌≢◌, codes, MatchBool}
+use Rattle.kit_words.proofs.Common.{◌≡◌, ℕ, ap, subst, ◌∙◌, refl, Bool, true, false, List, Option, Some, None}
+use Rattle.kit_words.proofs.Common.{option_map, Bor, codes}
 use Rattle.clap.specs.Words.{App, HasMatchesOf, first_value, found_of, is_simple, matches_of, one_of, one_text}
 use Rattle.clap.specs.declared.parser.matches.ArgMatches.{ArgMatches}
 use Rattle.clap.proofs.WalkLemmas.{one_text-rows}
@@ -12,20 +12,6 @@ pub depth_is : (a : App) (m : ArgMatches) (words : List (List ℕ)) (id key : Li
     → IsDepth (option_map (λ s. s.now) given) n → IsDepth (text_of id words) n
 depth_is a m words id key given n is has same read depth =
     subst (λ (o : Option (List ℕ)). IsDepth o n) (read_text program refl a m words id key given is has same read) depth
-
-pub refused_is : (a : App) (m : ArgMatches) (words : List (List ℕ)) (id key : List ℕ) (given : Option (Bor (List ℕ))) (copy : Option (List ℕ))
-    → a ≡ program → HasMatchesOf a words m → key ≡ id → option_map (λ s. s.now) given ≡ first_value (found_of m) key
-    → copy ≡ option_map (λ s. s.now) given → copy ≡ text_of id words
-refused_is a m words id key given copy is has same read copied =
-    copied ∙ read_text program refl a m words id key given is has same read
-
--- paths that are not the same are not the same once they are copied
-pub copies_apart : (given : Option (Bor (List ℕ))) (word : Bor (List ℕ)) (copy : Option (List ℕ)) (bytes : List ℕ) (is_same : Bool)
-    → MatchBool is_same (option_map (λ s. s.now) given ≡ Some word.now) (option_map (λ s. s.now) given ≢ Some word.now) → is_same ≡ false
-    → copy ≡ option_map (λ s. s.now) given → bytes ≡ word.now → copy ≢ Some bytes
-copies_apart given word copy bytes is_same told apart copied same equal =
-    subst (λ (b : Bool). MatchBool b (option_map (λ s. s.now) given ≡ Some word.now) (option_map (λ s. s.now) given ≢ Some word.now)) apart told
-    (sym copied ∙ (equal ∙ ap (λ (b : List ℕ). Some b) same))
 
 -- a flag is on as its value is read
 flag_read : (read : Option (List ℕ)) (on : Bool) → (read ≡ None → on ≡ false) → (read ≡ Some (codes "true") → on ≡ true)

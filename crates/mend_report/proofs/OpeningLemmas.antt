@@ -1,6 +1,6 @@
 -- The status is 0 exactly where the map opens.
 use Rattle.kit_words.proofs.Common.{◌≡◌, ◌↔◌, ℕ, suc, ◌==◌, ◌&&◌, Bool, true, false, refl, sym, ap, ap₂, ◌∙◌, subst}
-use Rattle.kit_words.proofs.Common.{List, [], ◌∷◌, length, arith, Result, Ok, Err, IfOk, is_some, if◌then◌else◌}
+use Rattle.kit_words.proofs.Common.{List, [], ◌∷◌, length, arith, Result, Ok, Err, IfOk, if◌then◌else◌}
 use Rattle.kit_words.proofs.Common.{false≢true}
 use Rattle.std.proofs.lemmas.Bool.{eqb-true}
 use Rattle.topo_reader.specs.Common.{Opened}

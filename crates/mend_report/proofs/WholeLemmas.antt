@@ -1,7 +1,7 @@
 -- A map of whole numbers is looked at, and mended, as the editor reads it.
 use Rattle.kit_words.proofs.Common.{◌≡◌, ◌↔◌, ℕ, ◌==◌, true, sym, ap, ◌∙◌, subst, List, Result, Ok, Err, IfOk, ◌&&◌}
 use Rattle.std.proofs.lemmas.Bool.{eqb-true}
-use Rattle.topo_reader.specs.Common.{Opened, document_of, OpensWalks}
+use Rattle.topo_reader.specs.Common.{Opened, document_of}
 use Rattle.topo_reader.proofs.Common.{is_read_by}
 use Rattle.grid_reader.specs.Common.{IsTold}
 use Rattle.grid_reader.specs.declared.told.Told.{Told}

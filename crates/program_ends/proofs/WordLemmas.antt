@@ -1,6 +1,6 @@
 -- What clap found among the words of a program is what its arguments were given.
-use Rattle.kit_words.proofs.Common.{◌≡◌, ℕ, ap, ◌∙◌, refl, true, List, [], Option, Some, None, option_map, Bor}
-use Rattle.kit_words.proofs.Common.{unwrap_or}
+use Rattle.kit_words.proofs.Common.{◌≡◌, ◌≢◌, ℕ, ap, ◌∙◌, refl, sym, subst, Bool, true, false, List, [], Option, Some}
+use Rattle.kit_words.proofs.Common.{None, option_map, unwrap_or, Bor, MatchBool}
 use Rattle.clap.specs.Words.{App, HasMatchesOf, first_of, first_value, found_of, is_simple, matches_of}
 use Rattle.clap.specs.declared.parser.matches.ArgMatches.{ArgMatches}
 use Rattle.clap.proofs.WalkLemmas.{first_value-rows}
@@ -27,3 +27,17 @@ pub word_is : (program : App) (simple : is_simple program ≡ true) (a : App) (m
 word_is program simple a m words id key given empty word bytes is has same read is_empty or_empty copied =
     copied ∙ (ap (λ (s : Bor (List ℕ)). s.now) or_empty ∙ (value_or_empty given empty is_empty
     ∙ ap (λ (o : Option (List ℕ)). unwrap_or o []) (read_text program simple a m words id key given is has same read)))
+
+pub copy_is : (program : App) (simple : is_simple program ≡ true) (a : App) (m : ArgMatches) (words : List (List ℕ)) (id key : List ℕ) (given : Option (Bor (List ℕ))) (copy : Option (List ℕ))
+    → a ≡ program → HasMatchesOf a words m → key ≡ id → option_map (λ s. s.now) given ≡ first_value (found_of m) key
+    → copy ≡ option_map (λ s. s.now) given → copy ≡ first_of id (matches_of program words)
+copy_is program simple a m words id key given copy is has same read copied =
+    copied ∙ read_text program simple a m words id key given is has same read
+
+-- paths that are not the same are not the same once they are copied
+pub copies_apart : (given : Option (Bor (List ℕ))) (word : Bor (List ℕ)) (copy : Option (List ℕ)) (bytes : List ℕ) (is_same : Bool)
+    → MatchBool is_same (option_map (λ s. s.now) given ≡ Some word.now) (option_map (λ s. s.now) given ≢ Some word.now) → is_same ≡ false
+    → copy ≡ option_map (λ s. s.now) given → bytes ≡ word.now → copy ≢ Some bytes
+copies_apart given word copy bytes is_same told apart copied same equal =
+    subst (λ (b : Bool). MatchBool b (option_map (λ s. s.now) given ≡ Some word.now) (option_map (λ s. s.now) given ≢ Some word.now)) apart told
+    (sym copied ∙ (equal ∙ ap (λ (b : List ℕ). Some b) same))

@@ -1,4 +1,4 @@
-use Rattle.kit_words.proofs.Common.{◌≡◌, Bool, true, false, ap, ap₂, ◌∙◌, rules, List, Some, codes}
+use Rattle.kit_words.proofs.Common.{◌≡◌, Bool, true, false, ap, ap₂, ◌∙◌, rules, Some, codes}
 use Rattle.clap.specs.Simple.{app_of_fields}
 use Rattle.clap.specs.Words.{Rule, app_of, new_app, new_rule, rule_of, with_rule}
 use Rattle.clap.specs.declared.builder.action.ArgAction.TheVariants.{Set}

@@ -1,4 +1,4 @@
-use Rattle.kit_words.proofs.Common.{◌≡◌, Bool, false, ap, ap₂, ◌∙◌, ℕ, List, Some, Bor}
+use Rattle.kit_words.proofs.Common.{◌≡◌, Bool, ap, ◌∙◌, ℕ, List, Some, Bor}
 use Rattle.clap.specs.Words.{Rule, new_rule, rule_of}
 use Rattle.clap.specs.declared.builder.action.ArgAction.TheVariants.{Set}
 use Rattle.clap.specs.declared.builder.arg.Arg.{Arg}

@@ -1,7 +1,7 @@
 use Rattle.kit_words.proofs.Common.{rules, codes, refl}
-use Rattle.program_ends.proofs.Common.{word_is}
+use Rattle.program_ends.proofs.Common.{copies_apart, copy_is, word_is}
 use Rattle.edit_program.specs.Common.{program}
-use Rattle.edit_program.proofs.WordLemmas.{depth_is, refused_is, copies_apart, flag_is}
+use Rattle.edit_program.proofs.WordLemmas.{depth_is, flag_is}
 use Rattle.edit_program.proofs.command_line.words.Goals as goal
 
 pub returns-clause-map : goal.returns-clause-map
@@ -26,7 +26,7 @@ returns-clause-depth c =
 
 pub returns-clause-refused : goal.returns-clause-refused
 returns-clause-refused c =
-    refused_is _ c.in_ok-matches.matches _ (codes "refused") _ c.get_str-refused.result _
+    copy_is program refl _ c.in_ok-matches.matches _ (codes "refused") _ c.get_str-refused.result _
     c.in_ok-command.ensures c.in_ok-matches.ensures.ok.2 (search rules) c.get_str-refused.ensures c.in_ok-copied.ensures
 
 pub returns-clause-apart : goal.returns-clause-apart
