@@ -35,12 +35,12 @@ impl<'a, I: SegIndex, A: Allocator + Copy> Map<'a, I, A> {
     pub fn uses(&self, s: Seg) -> usize
         ensures { result ≡ length (users self.now.doc s) }
     {
-        match (
-            self.rings.vertices.key_of(s.lo),
-            self.rings.vertices.key_of(s.hi),
-        ) {
-            (Some(a), Some(b)) => self.rings.borders.uses(a, b),
-            _ => 0,
+        let Some(a) = self.rings.vertices.key_of(s.lo) else {
+            return 0;
+        };
+        match self.rings.vertices.key_beside(a, s.hi) {
+            Some(b) => self.rings.borders.uses(a, b),
+            None => 0,
         }
     }
 
@@ -54,8 +54,10 @@ impl<'a, I: SegIndex, A: Allocator + Copy> Map<'a, I, A> {
     ) -> Result<(), AllocError>
         ensures { OnOk result (ListsRings self.now.doc (segment a b) out.old.items out.new.items) }
     {
-        let (Some(a), Some(b)) = (self.rings.vertices.key_of(a), self.rings.vertices.key_of(b))
-        else {
+        let Some(a) = self.rings.vertices.key_of(a) else {
+            return Ok(());
+        };
+        let Some(b) = self.rings.vertices.key_beside(a, b) else {
             return Ok(());
         };
         let mut numbers = Vec::new(self.rings.alloc);
@@ -63,6 +65,7 @@ impl<'a, I: SegIndex, A: Allocator + Copy> Map<'a, I, A> {
         push_names(&self.frame, numbers.as_slice(), out)?;
         Ok(())
     }
+
     /// Appends the rings that have a segment in common with this ring: of the feature with this
     /// number the polygon, and of that the ring, where the outer ring is the first one, each
     /// counted from 0. It is itself among them, and a ring may come several times; where there is

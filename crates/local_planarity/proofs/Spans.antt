@@ -1,11 +1,13 @@
 -- The box of three positions meets the box of a segment with an end in it.
 use Rattle.kit_words.proofs.Common.{◌≡◌, ℤ, ◌≤ℤ◌, Bool, true, false, not, ◌&&◌, ◌||◌, int_le, refl, ap, ◌∙◌, sym, arith}
 use Rattle.kit_words.proofs.Common.{inl, inr, List, int_min, int_max, false≢true, ints, clamps}
+use Rattle.std.proofs.Math.Bool.{and-false}
+use Rattle.std.proofs.lemmas.Bool.{or_parts}
 use Rattle.grid_geometry.specs.Common.{Position, InRange, position_eq, Segment, IsBox, box_of, boxes_meet, is_end}
 use Rattle.grid_geometry.specs.Common.{is_held, is_spanned, is_in_box_of_three}
 use Rattle.ring_machine.specs.Common.{has}
 use Rattle.ring_machine.proofs.Common.{and_both, or_true, or_right, position_eq-true, position_eq-refl}
-use Rattle.local_planarity.specs.Common.{least_of, most_of, box_of_three}
+use Rattle.local_planarity.specs.Spans.{least_of, most_of, box_of_three, lies_in}
 
 pub least_most : (a b c : ℤ) → least_of a b c ≤ℤ most_of a b c
 least_most a b c = grind (arith, ints, clamps)
@@ -17,38 +19,48 @@ lo_meets a b c z w h = grind (arith, ints, clamps)
 hi_meets : (a b c z w : ℤ) → is_spanned a b c z ≡ true → (int_le (int_min w z) (most_of a b c) && int_le (least_of a b c) (int_max w z)) ≡ true
 hi_meets a b c z w h = grind (arith, ints, clamps)
 
+-- what a triangle holds lies between its least and greatest coordinates
+spanned : (a b c v : Position) → is_held v a b c ≡ true → (is_spanned a.x b.x c.x v.x ≡ true) × (is_spanned a.y b.y c.y v.y ≡ true)
+spanned a b c v k =
+    let box = and_both (is_in_box_of_three v a b c) _ k in
+    and_both (is_spanned a.x b.x c.x v.x) (is_spanned a.y b.y c.y v.y) box.0
+
 -- a triangle that holds an end of a segment has a box that meets that of the segment
 pub held_end_meets : (t : Segment) (w a b c : Position) → is_end w t ≡ true → is_held w a b c ≡ true → boxes_meet (box_of t) (box_of_three a b c) ≡ true
 held_end_meets t w a b c e h = elim (or_true (position_eq w t.lo) (position_eq w t.hi) e) [
   | inl l ↦
       let same = position_eq-true w t.lo l in
-      let k = spanned t.lo (ap (λ z. is_held z a b c) (sym same) ∙ h) in
+      let k = spanned a b c t.lo (ap (λ z. is_held z a b c) (sym same) ∙ h) in
       λ i. lo_meets a.x b.x c.x t.lo.x t.hi.x k.0 i && lo_meets a.y b.y c.y t.lo.y t.hi.y k.1 i
   | inr r ↦
       let same = position_eq-true w t.hi r in
-      let k = spanned t.hi (ap (λ z. is_held z a b c) (sym same) ∙ h) in
+      let k = spanned a b c t.hi (ap (λ z. is_held z a b c) (sym same) ∙ h) in
       λ i. hi_meets a.x b.x c.x t.hi.x t.lo.x k.0 i && hi_meets a.y b.y c.y t.hi.y t.lo.y k.1 i
 ]
-  where
-    spanned : (v : Position) → is_held v a b c ≡ true → (is_spanned a.x b.x c.x v.x ≡ true) × (is_spanned a.y b.y c.y v.y ≡ true)
-    spanned v k =
-        let box = and_both (is_in_box_of_three v a b c) _ k in
-        and_both (is_spanned a.x b.x c.x v.x) (is_spanned a.y b.y c.y v.y) box.0
 
--- so it holds none of a segment whose box does not meet it
-pub none_held : (these : List Position) (t : Segment) (a b c : Position) → boxes_meet (box_of t) (box_of_three a b c) ≡ false
+-- what a triangle holds lies in its box
+in_span : (a b c z : ℤ) → is_spanned a b c z ≡ true → (int_le (least_of a b c) z && int_le z (most_of a b c)) ≡ true
+in_span a b c z h = grind (arith, ints, clamps)
+
+held_lies_in : (w a b c : Position) → is_held w a b c ≡ true → lies_in w (box_of_three a b c) ≡ true
+held_lies_in w a b c h =
+    let k = spanned a b c w h in
+    λ i. in_span a.x b.x c.x w.x k.0 i && in_span a.y b.y c.y w.y k.1 i
+
+-- so it holds no end of a segment of which no end lies there
+pub none_held : (these : List Position) (t : Segment) (a b c : Position)
+    → (lies_in t.lo (box_of_three a b c) || lies_in t.hi (box_of_three a b c)) ≡ false
     → ((not (has these t.lo) && is_held t.lo a b c) || (not (has these t.hi) && is_held t.hi a b c)) ≡ false
-none_held these t a b c apart = by _ refl
+none_held these t a b c apart =
+    let off = or_parts (lies_in t.lo (box_of_three a b c)) (lies_in t.hi (box_of_three a b c)) apart in
+    λ i. beside t.lo off.0 i || beside t.hi off.1 i
   where
-    meets : (w : Position) → is_end w t ≡ true → (not (has these w) && is_held w a b c) ≡ true → false ≡ true
-    meets w e h = sym apart ∙ held_end_meets t w a b c e (and_both (not (has these w)) (is_held w a b c) h).1
-
-    by : (r : Bool) → ((not (has these t.lo) && is_held t.lo a b c) || (not (has these t.hi) && is_held t.hi a b c)) ≡ r → r ≡ false
-    by false h = refl
-    by true h = absurd (false≢true (elim (or_true (not (has these t.lo) && is_held t.lo a b c) (not (has these t.hi) && is_held t.hi a b c) h) [
-      | inl l ↦ meets t.lo (ap (λ z. z || position_eq t.lo t.hi) (position_eq-refl t.lo)) l
-      | inr r ↦ meets t.hi (or_right (position_eq t.hi t.lo) (position_eq t.hi t.hi) (position_eq-refl t.hi)) r
-    ]))
+    beside : (w : Position) → lies_in w (box_of_three a b c) ≡ false → (not (has these w) && is_held w a b c) ≡ false
+    beside w off = by (is_held w a b c) refl
+      where
+        by : (r : Bool) → is_held w a b c ≡ r → (not (has these w) && is_held w a b c) ≡ false
+        by false h = ap (λ z. not (has these w) && z) h ∙ and-false (not (has these w))
+        by true h = absurd (false≢true (sym off ∙ held_lies_in w a b c h))
 
 -- ---- the box is one of the grid
 

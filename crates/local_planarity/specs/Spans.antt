@@ -1,5 +1,5 @@
--- The box of three positions.
-use Rattle.std.specs.Prelude.{ℤ}
+-- The box of three positions, and when a box has a position.
+use Rattle.std.specs.Prelude.{ℤ, Bool, ◌&&◌, int_le}
 use Rattle.std.specs.Int.{int_min, int_max}
 use Rattle.grid_geometry.specs.Common.{Position, Box}
 
@@ -19,3 +19,7 @@ box_of_three a b c = record {
   x1 = most_of a.x b.x c.x;
   y1 = most_of a.y b.y c.y;
 }
+
+-- a position lies in a box, its sides included
+abbrev pub lies_in : Position → Box → Bool
+lies_in w r = (int_le r.x0 w.x && int_le w.x r.x1) && (int_le r.y0 w.y && int_le w.y r.y1)

@@ -44,3 +44,11 @@ pub(crate) fn box_of_three(a: Pos, b: Pos, c: Pos) -> Rect
         y1: highest(highest(a, b), c).y(),
     }
 }
+
+/// Whether a box has a position.
+pub(crate) fn lies_in(w: Pos, rect: Rect) -> bool
+    ensures { result ≡ spec.lies_in w rect }
+{
+    let (x, y) = (w.x(), w.y());
+    (rect.x0 <= x && x <= rect.x1) && (rect.y0 <= y && y <= rect.y1)
+}

@@ -12,9 +12,9 @@ use crate::conflicts::ROOM;
 use crate::count::TestCount;
 use crate::leaving::Leaving;
 use crate::pairs::conflicts_with;
-use crate::span::box_of_three;
+use crate::span::{box_of_three, lies_in};
 use grid_geometry::{Pos, Seg, held};
-use segment_index::{ListIndex, SegIndex, reaches};
+use segment_index::{ListIndex, SegIndex};
 use std::alloc::{AllocError, Allocator};
 
 /// Whether p is among the positions.
@@ -31,14 +31,6 @@ fn is_other_held(w: Pos, these: &[Pos], a: Pos, b: Pos, c: Pos) -> bool
     !has(these, w) && held(w, a, b, c)
 }
 
-/// Whether the triangle a, b, c holds an end of a segment that is not among these.
-fn is_end_held(t: Seg, these: &[Pos], a: Pos, b: Pos, c: Pos) -> bool
-    ensures { result ≡ ((not (machine.has these.now t.lo) && is_held t.lo a b c)
-        || (not (machine.has these.now t.hi) && is_held t.hi a b c)) }
-{
-    is_other_held(t.lo, these, a, b, c) || is_other_held(t.hi, these, a, b, c)
-}
-
 /// Whether the triangle a, b, c holds an end of one of the segments that is not among these.
 pub fn holds_end(segments: &[Seg], these: &[Pos], a: Pos, b: Pos, c: Pos) -> bool
     ensures { result ≡ list_any (λ t. (not (machine.has these.now t.lo) && is_held t.lo a b c)
@@ -46,7 +38,10 @@ pub fn holds_end(segments: &[Seg], these: &[Pos], a: Pos, b: Pos, c: Pos) -> boo
 {
     let rect = box_of_three(a, b, c);
     for t in segments {
-        if reaches(*t, rect) && is_end_held(*t, these, a, b, c) {
+        if lies_in(t.lo, rect) && is_other_held(t.lo, these, a, b, c) {
+            return true;
+        }
+        if lies_in(t.hi, rect) && is_other_held(t.hi, these, a, b, c) {
             return true;
         }
     }

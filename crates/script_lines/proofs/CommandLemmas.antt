@@ -13,7 +13,7 @@ use Rattle.ring_machine.specs.Common.{Area, At, Neighbours, Rings, Count, Show}
 use Rattle.topo_outline.specs.Common.{IsName}
 use Rattle.map_text.specs.Common.{string_text}
 use Rattle.script_lines.specs.Common.{spaced, spaced_position, spaced_token, spaced_path, most_bound, Gives}
-use Rattle.script_lines.specs.Common.{ArePositions, AreFeatures, AreNaming, word_of, AskedWith, Asks, Says, is_letter}
+use Rattle.script_lines.specs.Common.{ArePositions, AreFeatures, AreNaming, word_of, AskedWith, Asks, Says, is_comment, is_letter}
 use Rattle.script_lines.specs.Common.{EndsWord, NoMark, IsFeature, IsPlace, IsToken, IsPathTail, says_of, IsRefused}
 use Rattle.script_lines.specs.Common.{Finds, FindsCommand, AskedBy, Line}
 use Rattle.script_lines.specs.declared.lines.LineFault.{LineFault}
@@ -129,64 +129,34 @@ bound_far tail word n (pos t) e is h over k =
     over (subst (λ m. m ≤ most_bound) (sym same) k.1)
 bound_far tail word n _ e is h over k = k
 
--- ---- what stands behind a word is UTF-8, and begins with a space
+-- ---- what stands behind a word begins with a space
 
-spaced_ascii : (z : ℤ) → FitsSigned w64 z → IsAscii (spaced z)
-spaced_ascii z f = IsAscii-cons 32 (signed_decimal z) (omega arith) (number_ascii z f)
+positions_end : (tail : List ℕ) (ps : List Position) → ArePositions tail ps → EndsWord tail
+positions_end tail ps h = subst EndsWord (sym h.0) (path_ends ps)
 
-place_ascii : (p : Position) → InRange p → IsAscii (spaced_position p)
-place_ascii p h = IsAscii-append (spaced p.x) (spaced p.y) (spaced_ascii p.x (fits_in_range p.x h.across)) (spaced_ascii p.y (fits_in_range p.y h.upward))
+features_tail : (tail ns : List ℕ) → AreFeatures tail ns → EndsWord tail
+features_tail tail ns h = subst EndsWord (sym h.0) (features_end ns)
 
-feature_ascii : (n : ℕ) → n < 2 ^ 32 → IsAscii (spaced (pos n))
-feature_ascii n h = spaced_ascii (pos n) (record { sfits = omega (arith, h) })
+naming_end : (tail : List ℕ) (n : ℕ) (id : Text) (rest : List ℕ) → AreNaming tail n id rest → EndsWord tail
+naming_end tail n id rest w = subst EndsWord (sym w.whole) refl
 
-path_ascii : (path : List Position) → AllByRecursion InRange path → IsAscii (spaced_path path)
-path_ascii [] h = search rules
-path_ascii (p ∷ ps) h = IsAscii-append (spaced_position p) (spaced_path ps) (place_ascii p h.0) (path_ascii ps h.1)
-
-features_ascii : (ns : List ℕ) → AllByRecursion (λ n. n < 2 ^ 32) ns → IsAscii (flat_map (λ n. spaced (pos n)) ns)
-features_ascii [] h = search rules
-features_ascii (n ∷ ns) h = IsAscii-append (spaced (pos n)) (flat_map (λ m. spaced (pos m)) ns) (feature_ascii n h.0) (features_ascii ns h.1)
-
-token_utf8 : (token id : Text) → Gives token id → IsUtf8 (spaced_token token)
-token_utf8 token id g = IsUtf8-append (codes " ") token (IsUtf8-from_ascii (codes " ") (search rules)) (gives_utf8 token id g)
-
-record IsTail (tail : List ℕ) : Type 0 where
-  ends : EndsWord tail
-  utf8 : IsUtf8 tail
-
-ascii_tail : (tail words : List ℕ) → tail ≡ words → EndsWord words → IsAscii words → IsTail tail
-ascii_tail tail words e ends a = subst IsTail (sym e) (record { ends = ends; utf8 = IsUtf8-from_ascii words a })
-
-positions_tail : (tail : List ℕ) (ps : List Position) → ArePositions tail ps → IsTail tail
-positions_tail tail ps h = ascii_tail tail (spaced_path ps) h.0 (path_ends ps) (path_ascii ps h.1)
-
-features_tail : (tail ns : List ℕ) → AreFeatures tail ns → IsTail tail
-features_tail tail ns h = ascii_tail tail (flat_map (λ n. spaced (pos n)) ns) h.0 (features_end ns) (features_ascii ns h.1)
-
-naming_tail : (tail : List ℕ) (n : ℕ) (id : Text) (rest : List ℕ) → AreNaming tail n id rest → IsAscii rest → IsTail tail
-naming_tail tail n id rest w a =
-    let behind = IsUtf8-append (spaced_token w.token) rest (token_utf8 w.token id w.gives) (IsUtf8-from_ascii rest a) in
-    let all = IsUtf8-append (spaced (pos n)) (spaced_token w.token ++ rest) (IsUtf8-from_ascii (spaced (pos n)) (feature_ascii n w.number)) behind in
-    subst IsTail (sym w.whole) (record { ends = refl; utf8 = all })
-
-asked_tail : (tail : List ℕ) (c : Command) → AskedWith tail c → IsTail tail
-asked_tail tail (Move p q) h = positions_tail tail (p ∷ q ∷ []) h
-asked_tail tail (Insert a b q) h = positions_tail tail (a ∷ b ∷ q ∷ []) h
-asked_tail tail (Remove p) h = positions_tail tail (p ∷ []) h
-asked_tail tail (Thin (pos t)) h = ascii_tail tail (spaced (pos t)) h.0 refl (IsAscii-cons 32 (decimal t) (omega arith) (wide_ascii t (in_bound t h.1)))
-asked_tail tail (Split n id path) h = naming_tail tail n id (spaced_path path) h.0 (path_ascii path h.1.in_range)
-asked_tail tail (Merge n m) h = features_tail tail (n ∷ m ∷ []) h
-asked_tail tail (Rename n id) h = naming_tail tail n id [] h (search rules)
-asked_tail tail (Delete n) h = features_tail tail (n ∷ []) h
-asked_tail tail Undo h = features_tail tail [] (h, tt)
-asked_tail tail (Area n) h = features_tail tail (n ∷ []) h
-asked_tail tail (At p) h = positions_tail tail (p ∷ []) h
-asked_tail tail (Neighbours n) h = features_tail tail (n ∷ []) h
-asked_tail tail (Rings n) h = features_tail tail (n ∷ []) h
-asked_tail tail Count h = features_tail tail [] (h, tt)
-asked_tail tail Show h = features_tail tail [] (h, tt)
-asked_tail tail _ h = absurd h
+asked_end : (tail : List ℕ) (c : Command) → AskedWith tail c → EndsWord tail
+asked_end tail (Move p q) h = positions_end tail (p ∷ q ∷ []) h
+asked_end tail (Insert a b q) h = positions_end tail (a ∷ b ∷ q ∷ []) h
+asked_end tail (Remove p) h = positions_end tail (p ∷ []) h
+asked_end tail (Thin (pos t)) h = subst EndsWord (sym h.0) refl
+asked_end tail (Split n id path) h = naming_end tail n id (spaced_path path) h.0
+asked_end tail (Merge n m) h = features_tail tail (n ∷ m ∷ []) h
+asked_end tail (Rename n id) h = naming_end tail n id [] h
+asked_end tail (Delete n) h = features_tail tail (n ∷ []) h
+asked_end tail Undo h = features_tail tail [] (h, tt)
+asked_end tail (Area n) h = features_tail tail (n ∷ []) h
+asked_end tail (At p) h = positions_end tail (p ∷ []) h
+asked_end tail (Neighbours n) h = features_tail tail (n ∷ []) h
+asked_end tail (Rings n) h = features_tail tail (n ∷ []) h
+asked_end tail Count h = features_tail tail [] (h, tt)
+asked_end tail Show h = features_tail tail [] (h, tt)
+asked_end tail _ h = absurd h
 
 -- ---- the word in front
 
@@ -194,12 +164,10 @@ command_word : (c : Command) → IsWord (word_of c)
 command_word Undo = search rules
 command_word _ = search rules
 
-command_ascii : (c : Command) → IsAscii (word_of c)
-command_ascii Undo = search rules
-command_ascii _ = search rules
-
-asked_utf8 : (line : List ℕ) (c : Command) → Asks line c → IsUtf8 line
-asked_utf8 line c a = subst IsUtf8 (sym a.whole) (IsUtf8-append (word_of c) a.tail (IsUtf8-from_ascii (word_of c) (command_ascii c)) (asked_tail a.tail c a.asked).utf8)
+-- no command begins as a comment does
+unmarked : (c : Command) (tail : List ℕ) → is_comment (word_of c ++ tail) ≡ false
+unmarked Undo tail = refl
+unmarked _ tail = refl
 
 -- ---- the rows of the table, by their words
 
@@ -266,7 +234,7 @@ module _ (line word tail : List ℕ) (taken : word ≡ take_while is_letter line
   -- what a line asks for is asked with its word and what stands behind it
   pub asked_by : (c : Command) → Asks line c → AskedBy word tail c
   asked_by c a =
-      let ends = (asked_tail a.tail c a.asked).ends in
+      let ends = asked_end a.tail c a.asked in
       let front : word ≡ word_of c = taken ∙ ap (take_while is_letter) a.whole ∙ word-taken (word_of c) a.tail (command_word c) ends in
       let back : tail ≡ a.tail = left ∙ ap rest_of a.whole ∙ word-rest (word_of c) a.tail (command_word c) ends in
       (sym front, subst (λ t. AskedWith t c) (sym back) a.asked)
@@ -295,9 +263,10 @@ module _ (line word tail : List ℕ) (taken : word ≡ take_while is_letter line
       by None k = k
       by (Some c) k = asks c (k.0 ∙ sym is, k.1)
 
-pub said_utf8 : (line : List ℕ) (asked : Option Command) → Says line asked → IsUtf8 line
-said_utf8 line None h = h.1.0
-said_utf8 line (Some c) h = asked_utf8 line c h.1
+-- a comment that is not UTF-8 says nothing
+pub bad_comment : (line : List ℕ) (asked : Option Command) → is_comment line ≡ true → ¬ IsUtf8 line → Says line asked → ⊥
+bad_comment line None h bad says = bad says.1.0
+bad_comment line (Some c) h bad says = false≢true (sym (ap is_comment says.1.whole ∙ unmarked c says.1.tail) ∙ h)
 
 -- what a line that is not too long asks for it says
 pub said_asked : (line : List ℕ) (o : Option Command) → length line ≤ 8192 → IsSomeAnd o (Asks line) → Says line o

@@ -212,11 +212,11 @@ pub fn parse_line(heap: Global, line: &[u8]) -> Result<Line, LineFault>
     if line.len() > MAX_LINE {
         return Err(LineFault::BadLine);
     }
-    let Ok(_) = str::from_utf8(line) else {
-        return Err(LineFault::BadLine);
-    };
     if is_comment(line) {
-        return Ok(Line::Skip);
+        return match str::from_utf8(line) {
+            Ok(_) => Ok(Line::Skip),
+            Err(_) => Err(LineFault::BadLine),
+        };
     }
     match by_word(heap, line)? {
         Some(said) => Ok(said),

@@ -38,7 +38,7 @@ type Keys<A> = IndexMap<Pos, VertexKey, RandomState, A>;
 pub struct Vertices<A: Allocator + Copy = Global> {
     slots: Slab<Slot, A>,
     keys: Keys<A>,
-    /// The slot of the vertex that `key_or_add` gave last. No answer depends on it.
+    /// The slot of the vertex that `key_or_add` gave or `shift` moved last. No answer depends on it.
     last: usize,
 }
 
@@ -91,7 +91,22 @@ impl<A: Allocator + Copy> Vertices<A> {
         ensures absent { IfNone result ((k : ℕ) → map.get self.now k ≢ Some p) }
         ensures distinct { AreDistinct self.now }
     {
+        if self.stands(self.last, p) {
+            return Some(VertexKey::new(self.last));
+        }
         self.keys.get(&p).copied()
+    }
+
+    /// The same, where the vertex may well be next to another one on a border: the slots beside that
+    /// of the other are asked first, and nothing is hashed if the vertex stands in one of them.
+    pub fn key_beside(&self, k: VertexKey, p: Pos) -> Option<VertexKey>
+        ensures found { IfSome result (λ k. map.get self.now k ≡ Some p) }
+        ensures absent { IfNone result ((k : ℕ) → map.get self.now k ≢ Some p) }
+    {
+        match self.beside(k.index(), p) {
+            Some(key) => Some(key),
+            None => self.key_of(p),
+        }
     }
 
     /// The position under a key that is held.
@@ -131,7 +146,7 @@ impl<A: Allocator + Copy> Vertices<A> {
         ensures absent { OnErr result ((k : ℕ) → map.get self.old k ≢ Some p) }
         ensures err { OnErr result (self.new ≡ self.old) }
     {
-        if let Some(key) = self.beside(p) {
+        if let Some(key) = self.beside(self.last, p) {
             self.last = key.index();
             return Ok(key);
         }
@@ -161,17 +176,17 @@ impl<A: Allocator + Copy> Vertices<A> {
         }
     }
 
-    /// The key of the vertex at a position, if its slot is the one before the last or the one behind
-    /// it, as where a border is gone along in the other direction. Nothing is hashed.
-    fn beside(&self, p: Pos) -> Option<VertexKey>
+    /// The key of the vertex at a position, if its slot is the one before a slot or the one behind it,
+    /// as along a border in either direction. Nothing is hashed.
+    fn beside(&self, at: usize, p: Pos) -> Option<VertexKey>
         ensures { IfSome result (λ k. map.get self.now k ≡ Some p) }
     {
-        if let Some(before) = self.last.checked_sub(1) {
+        if let Some(before) = at.checked_sub(1) {
             if self.stands(before, p) {
                 return Some(VertexKey::new(before));
             }
         }
-        if let Some(behind) = self.last.checked_add(1) {
+        if let Some(behind) = at.checked_add(1) {
             if self.stands(behind, p) {
                 return Some(VertexKey::new(behind));
             }
@@ -205,7 +220,8 @@ impl<A: Allocator + Copy> Vertices<A> {
             Ok(Entry::Occupied(_held)) => return Err(ShiftFault::Occupied),
             Err(_) => return Err(ShiftFault::OutOfMemory),
         };
-        let slot = self.slots.get_mut(k.index()).unwrap();
+        self.last = k.index();
+        let slot = self.slots.get_mut(self.last).unwrap();
         slot.pos = q;
         let place = slot.place;
         self.keys.swap_remove_index(place); // the new position, which is the last, takes its place

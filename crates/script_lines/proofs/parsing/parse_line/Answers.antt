@@ -1,10 +1,10 @@
 use Rattle.kit_words.proofs.Common.{rules, arith, length, ◌≤◌}
 use Rattle.script_lines.specs.Common.{says_of}
-use Rattle.script_lines.proofs.CommandLemmas.{said_utf8, said_asked}
+use Rattle.script_lines.proofs.CommandLemmas.{bad_comment, said_asked}
 use Rattle.script_lines.proofs.parsing.parse_line.Goals as goal
 
-pub returns-in_default : goal.returns-in_default
-returns-in_default c = λ asked h. c.in_default.ensures.cases.0 (said_utf8 c.args.line.now asked h)
+pub returns-then-is_comment-in_default : goal.returns-then-is_comment-in_default
+returns-then-is_comment-in_default c = λ asked h. bad_comment c.args.line.now asked (sym c.is_comment.ensures ∙ c.if-is_comment.true) c.in_default.ensures.cases.0 h
 
 pub returns-in-Some : goal.returns-in-Some
 returns-in-Some c =

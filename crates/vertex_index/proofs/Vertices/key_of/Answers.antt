@@ -14,3 +14,6 @@ returns-clause-absent g c =
 
 pub returns-clause-distinct : goal.returns-clause-distinct
 returns-clause-distinct g c = distinct _ _ c.self.invariant.0 _ c.self.view_is
+
+pub returns-then-stands-clause-distinct : goal.returns-then-stands-clause-distinct
+returns-then-stands-clause-distinct g c = distinct _ _ c.self.invariant.0 _ c.self.view_is
