@@ -2,7 +2,6 @@
 use Rattle.kit_words.proofs.Common.{◌≡◌, ℤ, ◌≤ℤ◌, Bool, true, false, not, ◌&&◌, ◌||◌, int_le, refl, ap, ◌∙◌, sym, arith}
 use Rattle.kit_words.proofs.Common.{inl, inr, List, int_min, int_max, false≢true, ints, clamps}
 use Rattle.std.proofs.Math.Bool.{and-false}
-use Rattle.std.proofs.lemmas.Bool.{or_parts}
 use Rattle.grid_geometry.specs.Common.{Position, InRange, position_eq, Segment, IsBox, box_of, boxes_meet, is_end}
 use Rattle.grid_geometry.specs.Common.{is_held, is_spanned, is_in_box_of_three}
 use Rattle.ring_machine.specs.Common.{has}
@@ -47,20 +46,14 @@ held_lies_in w a b c h =
     let k = spanned a b c w h in
     λ i. in_span a.x b.x c.x w.x k.0 i && in_span a.y b.y c.y w.y k.1 i
 
--- so it holds no end of a segment of which no end lies there
-pub none_held : (these : List Position) (t : Segment) (a b c : Position)
-    → (lies_in t.lo (box_of_three a b c) || lies_in t.hi (box_of_three a b c)) ≡ false
-    → ((not (has these t.lo) && is_held t.lo a b c) || (not (has these t.hi) && is_held t.hi a b c)) ≡ false
-none_held these t a b c apart =
-    let off = or_parts (lies_in t.lo (box_of_three a b c)) (lies_in t.hi (box_of_three a b c)) apart in
-    λ i. beside t.lo off.0 i || beside t.hi off.1 i
+-- so it holds none that does not lie there
+pub none_held : (these : List Position) (w a b c : Position) → lies_in w (box_of_three a b c) ≡ false
+    → (not (has these w) && is_held w a b c) ≡ false
+none_held these w a b c off = by (is_held w a b c) refl
   where
-    beside : (w : Position) → lies_in w (box_of_three a b c) ≡ false → (not (has these w) && is_held w a b c) ≡ false
-    beside w off = by (is_held w a b c) refl
-      where
-        by : (r : Bool) → is_held w a b c ≡ r → (not (has these w) && is_held w a b c) ≡ false
-        by false h = ap (λ z. not (has these w) && z) h ∙ and-false (not (has these w))
-        by true h = absurd (false≢true (sym off ∙ held_lies_in w a b c h))
+    by : (r : Bool) → is_held w a b c ≡ r → (not (has these w) && is_held w a b c) ≡ false
+    by false h = ap (λ z. not (has these w) && z) h ∙ and-false (not (has these w))
+    by true h = absurd (false≢true (sym off ∙ held_lies_in w a b c h))
 
 -- ---- the box is one of the grid
 

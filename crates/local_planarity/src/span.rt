@@ -1,5 +1,5 @@
 //! The box of three positions.
-ghost use Rattle.std.specs.Prelude.{◌≡◌};
+ghost use Rattle.std.specs.Prelude.{◌≡◌, ◌&&◌, int_le};
 ghost use Rattle.std.specs.Int.{int_min, int_max};
 ghost use Rattle.local_planarity.specs.Spans as spec;
 
@@ -45,10 +45,23 @@ pub(crate) fn box_of_three(a: Pos, b: Pos, c: Pos) -> Rect
     }
 }
 
+/// Whether a box has the x of a position.
+fn lies_across(w: Pos, rect: Rect) -> bool
+    ensures { result ≡ (int_le rect.x0 w.x && int_le w.x rect.x1) }
+{
+    rect.x0 <= w.x() && w.x() <= rect.x1
+}
+
+/// Whether a box has the y of a position.
+fn lies_upward(w: Pos, rect: Rect) -> bool
+    ensures { result ≡ (int_le rect.y0 w.y && int_le w.y rect.y1) }
+{
+    rect.y0 <= w.y() && w.y() <= rect.y1
+}
+
 /// Whether a box has a position.
 pub(crate) fn lies_in(w: Pos, rect: Rect) -> bool
     ensures { result ≡ spec.lies_in w rect }
 {
-    let (x, y) = (w.x(), w.y());
-    (rect.x0 <= x && x <= rect.x1) && (rect.y0 <= y && y <= rect.y1)
+    lies_across(w, rect) && lies_upward(w, rect)
 }
