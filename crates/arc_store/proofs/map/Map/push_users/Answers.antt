@@ -12,11 +12,11 @@ push_names-requires g c =
     let m = c.self.inside in
     let v = c.self.invariant in
     let numbers = c.push_users.new.out.items in
-    let a = c.in-Some-Some.a in
-    let b = c.in-Some-Some.b in
+    let a = c.in-Some.a in
+    let b = c.in-Some-key_beside.b in
     let l : ListsUsers m.rings.borders a b [] numbers = subst (λ z. ListsUsers m.rings.borders a b z numbers) c.new-numbers.ensures.items c.in_ok-push_users.ensures in
     subst (λ z. (r : ℕ) → Contains z r → (name : RingName) × (number_at m.frame.doc name ≡ Some r)) (sym c.as_slice.ensures.value)
-    (listed_names m.frame m.rings.borders m.rings.vertices v.holds.whole a b c.args.a c.args.b c.in-Some-Some.ensures.found c.in-Some-Some.ensures'.found v.holds.formed.numbers numbers l)
+    (listed_names m.frame m.rings.borders m.rings.vertices v.holds.whole a b c.args.a c.args.b c.in-Some.ensures.found c.in-Some-key_beside.ensures.found v.holds.formed.numbers numbers l)
 
 pub returns : goal.returns
 returns g c =
@@ -25,12 +25,20 @@ returns g c =
     let old = c.args.out.now.items in
     let new = c.push_names.new.out.items in
     let numbers = c.push_users.new.out.items in
-    let a = c.in-Some-Some.a in
-    let b = c.in-Some-Some.b in
+    let a = c.in-Some.a in
+    let b = c.in-Some-key_beside.b in
     let l : ListsUsers m.rings.borders a b [] numbers = subst (λ z. ListsUsers m.rings.borders a b z numbers) c.new-numbers.ensures.items c.in_ok-push_users.ensures in
     let names : ListsNames m.frame.doc numbers old new = subst (λ z. ListsNames m.frame.doc z old new) c.as_slice.ensures.value c.in_ok-push_names.ensures in
     subst (λ z. ListsRings z.doc (segment c.args.a c.args.b) old new) c.self.view_is
-    (rings_listed m.frame m.rings.borders m.rings.vertices v.holds.whole a b c.args.a c.args.b c.in-Some-Some.ensures.found c.in-Some-Some.ensures'.found numbers l old new names)
+    (rings_listed m.frame m.rings.borders m.rings.vertices v.holds.whole a b c.args.a c.args.b c.in-Some.ensures.found c.in-Some-key_beside.ensures.found numbers l old new names)
+
+pub returns-in_default-key_beside : goal.returns-in_default-key_beside
+returns-in_default-key_beside g c =
+    let m = c.self.inside in
+    let v = c.self.invariant in
+    let old = c.args.out.now.items in
+    subst (λ z. ListsRings z.doc (segment c.args.a c.args.b) old old) c.self.view_is
+    (none_to m.frame m.rings.borders m.rings.vertices v.holds.whole c.args.a c.args.b c.key_beside.result c.in_default-key_beside.is c.key_beside.ensures.absent old)
 
 pub returns-in_default : goal.returns-in_default
 returns-in_default g c =
@@ -38,12 +46,4 @@ returns-in_default g c =
     let v = c.self.invariant in
     let old = c.args.out.now.items in
     subst (λ z. ListsRings z.doc (segment c.args.a c.args.b) old old) c.self.view_is
-    (none_to m.frame m.rings.borders m.rings.vertices v.holds.whole c.args.a c.args.b c.key_of-2.result c.in_default.is-1 c.key_of-2.ensures.absent old)
-
-pub returns-in_default-2 : goal.returns-in_default-2
-returns-in_default-2 g c =
-    let m = c.self.inside in
-    let v = c.self.invariant in
-    let old = c.args.out.now.items in
-    subst (λ z. ListsRings z.doc (segment c.args.a c.args.b) old old) c.self.view_is
-    (none_from m.frame m.rings.borders m.rings.vertices v.holds.whole c.args.a c.args.b c.key_of.result c.in_default.is-0 c.key_of.ensures.absent old)
+    (none_from m.frame m.rings.borders m.rings.vertices v.holds.whole c.args.a c.args.b c.key_of.result c.in_default.is c.key_of.ensures.absent old)
