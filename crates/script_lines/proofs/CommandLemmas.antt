@@ -12,8 +12,9 @@ use Rattle.ring_machine.specs.Common.{Text, Command, Move, Insert, Remove, Thin,
 use Rattle.ring_machine.specs.Common.{Area, At, Neighbours, Rings, Count, Show}
 use Rattle.topo_outline.specs.Common.{IsName}
 use Rattle.map_text.specs.Common.{string_text}
+use Rattle.script_lines.specs.Lines.{is_comment}
 use Rattle.script_lines.specs.Common.{spaced, spaced_position, spaced_token, spaced_path, most_bound, Gives}
-use Rattle.script_lines.specs.Common.{ArePositions, AreFeatures, AreNaming, word_of, AskedWith, Asks, Says, is_comment, is_letter}
+use Rattle.script_lines.specs.Common.{ArePositions, AreFeatures, AreNaming, word_of, AskedWith, Asks, Says, is_letter}
 use Rattle.script_lines.specs.Common.{EndsWord, NoMark, IsFeature, IsPlace, IsToken, IsPathTail, says_of, IsRefused}
 use Rattle.script_lines.specs.Common.{Finds, FindsCommand, AskedBy, Line}
 use Rattle.script_lines.specs.declared.lines.LineFault.{LineFault}

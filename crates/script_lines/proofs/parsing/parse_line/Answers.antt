@@ -3,8 +3,8 @@ use Rattle.script_lines.specs.Common.{says_of}
 use Rattle.script_lines.proofs.CommandLemmas.{bad_comment, said_asked}
 use Rattle.script_lines.proofs.parsing.parse_line.Goals as goal
 
-pub returns-then-is_comment-in_default : goal.returns-then-is_comment-in_default
-returns-then-is_comment-in_default c = λ asked h. bad_comment c.args.line.now asked (sym c.is_comment.ensures ∙ c.if-is_comment.true) c.in_default.ensures.cases.0 h
+pub returns-in-Err : goal.returns-in-Err
+returns-in-Err c = λ asked h. bad_comment c.args.line.now asked (sym c.is_comment.ensures ∙ c.if-is_comment.true) c.in-Err.ensures.cases.0 h
 
 pub returns-in-Some : goal.returns-in-Some
 returns-in-Some c =
