@@ -1,11 +1,11 @@
 -- The box of three positions meets the box of a segment with an end in it.
-use Rattle.kit_words.proofs.Common.{◌≡◌, ℤ, ◌≤ℤ◌, Bool, true, false, not, ◌&&◌, ◌||◌, int_le, refl, ap, ◌∙◌, sym, arith}
+use Rattle.kit_words.proofs.Common.{◌≡◌, ℤ, ◌≤ℤ◌, Bool, true, false, not, ◌&&◌, int_le, refl, ap, ◌∙◌, sym, arith}
 use Rattle.kit_words.proofs.Common.{inl, inr, List, int_min, int_max, false≢true, ints, clamps}
 use Rattle.std.proofs.Math.Bool.{and-false}
 use Rattle.grid_geometry.specs.Common.{Position, InRange, position_eq, Segment, IsBox, box_of, boxes_meet, is_end}
 use Rattle.grid_geometry.specs.Common.{is_held, is_spanned, is_in_box_of_three}
 use Rattle.ring_machine.specs.Common.{has}
-use Rattle.ring_machine.proofs.Common.{and_both, or_true, or_right, position_eq-true, position_eq-refl}
+use Rattle.ring_machine.proofs.Common.{and_both, or_true, position_eq-true}
 use Rattle.local_planarity.specs.Spans.{least_of, most_of, box_of_three, lies_in}
 
 pub least_most : (a b c : ℤ) → least_of a b c ≤ℤ most_of a b c

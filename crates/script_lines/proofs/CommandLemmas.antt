@@ -1,28 +1,26 @@
 -- Which command a line asks for, by its word.
 use Rattle.kit_words.proofs.Common.{◌≡◌, ℕ, ℤ, pos, ◌<◌, ◌^◌, ◌++◌, refl, sym, ap, ap₂, ◌∙◌, subst, rules, ◌≤◌, List}
-use Rattle.kit_words.proofs.Common.{[], ◌∷◌, length, ◌==◌, false, arith, FitsSigned, w64, Option, None, Some}
-use Rattle.kit_words.proofs.Common.{MatchOption, MatchBool, IsSomeAnd, codes, Bool, true, IsAscii, bytes_eq, false≢true}
-use Rattle.kit_words.proofs.Common.{bytes_eq-Decides, signed_decimal, take_while, flat_map, AllByRecursion}
-use Rattle.kit_words.proofs.Common.{IsUtf8-from_ascii, IsUtf8-append, IsAscii-append}
+use Rattle.kit_words.proofs.Common.{[], ◌∷◌, length, ◌==◌, false, arith, Option, None, Some}
+use Rattle.kit_words.proofs.Common.{MatchOption, MatchBool, IsSomeAnd, codes, Bool, true, bytes_eq, false≢true}
+use Rattle.kit_words.proofs.Common.{bytes_eq-Decides, take_while, flat_map}
 use Rattle.std.specs.Str.{IsUtf8}
 use Rattle.std.specs.Fmt.{decimal}
-use Rattle.std.proofs.lemmas.Str.Ascii.{IsAscii-cons}
-use Rattle.grid_geometry.specs.Common.{Position, InRange}
+use Rattle.grid_geometry.specs.Common.{Position}
 use Rattle.ring_machine.specs.Common.{Text, Command, Move, Insert, Remove, Thin, Split, Merge, Rename, Delete, Undo}
 use Rattle.ring_machine.specs.Common.{Area, At, Neighbours, Rings, Count, Show}
 use Rattle.topo_outline.specs.Common.{IsName}
 use Rattle.map_text.specs.Common.{string_text}
 use Rattle.script_lines.specs.Lines.{is_comment}
-use Rattle.script_lines.specs.Common.{spaced, spaced_position, spaced_token, spaced_path, most_bound, Gives}
+use Rattle.script_lines.specs.Common.{spaced, spaced_position, spaced_token, spaced_path, most_bound}
 use Rattle.script_lines.specs.Common.{ArePositions, AreFeatures, AreNaming, word_of, AskedWith, Asks, Says, is_letter}
 use Rattle.script_lines.specs.Common.{EndsWord, NoMark, IsFeature, IsPlace, IsToken, IsPathTail, says_of, IsRefused}
 use Rattle.script_lines.specs.Common.{Finds, FindsCommand, AskedBy, Line}
 use Rattle.script_lines.specs.declared.lines.LineFault.{LineFault}
 use Rattle.script_lines.specs.declared.lines.LineFault.TheVariants as fault
-use Rattle.script_lines.proofs.WordLemmas.{IsWord, rest_of, word-taken, word-rest, taken-rest, feature_once, place_once, same_behind, number_ascii, fits_in_range, wide_once, wide_ascii}
+use Rattle.script_lines.proofs.WordLemmas.{IsWord, rest_of, word-taken, word-rest, taken-rest, feature_once, place_once, same_behind, wide_once}
 use Rattle.script_lines.proofs.TokenLemmas.{token_once}
 use Rattle.script_lines.proofs.PathLemmas.{path_ends, NoPlace, first_place}
-use Rattle.script_lines.proofs.IdLemmas.{gives, gives_marked, gives_utf8}
+use Rattle.script_lines.proofs.IdLemmas.{gives, gives_marked}
 
 -- what the test says of a list that is not empty
 pub not_empty : (xs : List ℕ) → (length xs == 0) ≡ false → xs ≡ [] → ⊥

@@ -1,7 +1,7 @@
 -- The text that a JSON string stands for.
-use Rattle.kit_words.proofs.Common.{◌≡◌, ℕ, ◌-◌, Bool, true, false, cond, refl, ap, ◌∙◌, subst, List, [], ◌∷◌, ◌++◌}
-use Rattle.kit_words.proofs.Common.{length, take, drop, arith, reverse, IsUtf8, Option, Some, None, is_utf8, take_while}
-use Rattle.kit_words.proofs.Common.{false≢true, IsUtf8-from_is_utf8, reverse-append, take_all, take_while-cons}
+use Rattle.kit_words.proofs.Common.{◌≡◌, ℕ, ◌-◌, true, false, refl, ap, ◌∙◌, subst, List, [], ◌∷◌, ◌++◌}
+use Rattle.kit_words.proofs.Common.{length, take, drop, arith, reverse, Some, None, take_while}
+use Rattle.kit_words.proofs.Common.{false≢true, reverse-append, take_all, take_while-cons}
 use Rattle.ring_machine.specs.Common.{Text}
 use Rattle.json_spans.specs.Common.{is_space, is_nonzero, Chars, quote, ascii, two, three, three_e0, three_ed, four}
 use Rattle.json_spans.specs.Common.{four_f0, four_f4, escape, code, Number, minus, plain_number, zero_first}
@@ -98,15 +98,3 @@ no_text token name never h = never h.string
 -- the id that is written for the text
 pub gives : (token name : List ℕ) → IsName token name → Gives token (string_text name)
 gives token name h = record { name = name; stands = h; written = refl }
-
--- ---- and it is UTF-8
-
-decoded_utf8 : (token name : List ℕ) → decoded token ≡ Some name → IsUtf8 token
-decoded_utf8 token name e = by _ (is_utf8 token) refl e
-  where
-    by : (o : Option (List ℕ)) (t : Bool) → is_utf8 token ≡ t → cond t o None ≡ Some name → IsUtf8 token
-    by o true u h = IsUtf8-from_is_utf8 token u
-    by o false u h = absurd cc
-
-pub gives_utf8 : (token id : Text) → Gives token id → IsUtf8 token
-gives_utf8 token id g = decoded_utf8 token g.name g.stands.says

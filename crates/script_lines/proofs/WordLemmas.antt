@@ -4,7 +4,7 @@ use Rattle.kit_words.proofs.Common.{◌∙◌, subst, List, [], ◌∷◌, ◌++
 use Rattle.kit_words.proofs.Common.{FitsSigned, w64, Result, Ok, Err, unsigned_abs, suc, append_assoc, take_while}
 use Rattle.kit_words.proofs.Common.{nat_lt, nat_le, signed_decimal, digits, FitsUnsignedBits, ParsesUnsigned}
 use Rattle.kit_words.proofs.Common.{digits_value, nat_tests, false≢true, lt-ltb, decimal_by_steps}
-use Rattle.kit_words.proofs.Common.{signed_decimal_injective, IsAscii-signed, IsAscii-decimal_wide, parse-decimal_wide}
+use Rattle.kit_words.proofs.Common.{signed_decimal_injective, IsAscii-decimal_wide, parse-decimal_wide}
 use Rattle.kit_words.proofs.Common.{decimal_is_IsNumeral_wide, IsAscii, bytes_eq, IsUtf8-from_ascii, bytes_eq-Decides}
 use Rattle.kit_words.proofs.Common.{take-append-drop, take_while-cons}
 use Rattle.std.specs.Fmt.{decimal}
@@ -279,6 +279,3 @@ place_once bs r t p q s k =
     let first = spaced_once bs (spaced p.y ++ r) (spaced q.y ++ t) p.x q.x (place_first bs r p s) (place_first bs t q k) in
     let second = spaced_once (spaced p.y ++ r) r t p.y q.y (place_second bs r p s) (subst (λ u. IsSpaced u q.y t) (sym first.1) (place_second bs t q k)) in
     (ap₂ position first.0 second.0, second.1)
-
-pub number_ascii : (z : ℤ) → FitsSigned w64 z → IsAscii (signed_decimal z)
-number_ascii z f = IsAscii-signed z (mag_small z f)

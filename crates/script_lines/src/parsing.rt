@@ -1,4 +1,4 @@
-ghost use Rattle.std.specs.Prelude.{◌≡◌, ◌∷◌, [], IfOk, IsTrue, IsUtf8, ◌↔◌, MatchResult, Option};
+ghost use Rattle.std.specs.Prelude.{◌≡◌, ◌∷◌, [], IfOk, MatchResult, Option};
 ghost use Rattle.std.specs.Prelude.{Some, None};
 ghost use Rattle.map_text.specs.Common.{string_text};
 ghost use Rattle.ring_machine.specs.Command.{Split as Cut, Rename as Name, Thin as Thinning};

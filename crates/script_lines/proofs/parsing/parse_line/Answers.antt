@@ -1,4 +1,4 @@
-use Rattle.kit_words.proofs.Common.{rules, arith, length, ◌≤◌}
+use Rattle.kit_words.proofs.Common.{rules, arith, length, sym, ◌≤◌, ◌∙◌}
 use Rattle.script_lines.specs.Common.{says_of}
 use Rattle.script_lines.proofs.CommandLemmas.{bad_comment, said_asked}
 use Rattle.script_lines.proofs.parsing.parse_line.Goals as goal
