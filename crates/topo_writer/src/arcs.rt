@@ -140,7 +140,7 @@ impl<A: Allocator + Copy> Arcs<A> {
             → Finds self.old arcs → FitAll arcs ring.now
             → indexes.items ≡ indexes_found arcs ring.now) }
     {
-        let mut indexes = Vec::new(alloc);
+        let mut indexes = Vec::with_capacity(alloc, ring.len())?;
         for i in 0..ring.len() {
             let index = self.index(ring.piece(i))?;
             indexes.push(index)?;

@@ -132,7 +132,8 @@ fn way_round<T: Copy, A: Allocator + Copy>(
     ensures { IfOk result (λ way. way.items
         ≡ (drop start ring.now ++ take start ring.now) ++ take 1 (drop start ring.now)) }
 {
-    let mut way = Vec::from_slice(alloc, &ring[start..])?;
+    let mut way = Vec::with_capacity(alloc, ring.len().saturating_add(1))?;
+    way.extend_from_slice(&ring[start..])?;
     way.extend_from_slice(&ring[..start])?;
     way.push(ring[start])?;
     Ok(way)

@@ -79,7 +79,7 @@ pub(crate) fn push_polygon_of<'a, I: SegIndex, A: Allocator + Copy>(
     ensures text { OnOk result (text.new.items
         ≡ text.old.items ++ text_of_polygon map.now arcs.new n polygon) }
 {
-    text.extend_from_slice(b"[")?;
+    text.push(b'[')?;
     for ring in 0..count {
         push_comma(text, ring > 0)?;
         let name = RingName {
@@ -89,6 +89,6 @@ pub(crate) fn push_polygon_of<'a, I: SegIndex, A: Allocator + Copy>(
         };
         push_ring_of(map, arcs, text, name)?;
     }
-    text.extend_from_slice(b"]")?;
+    text.push(b']')?;
     Ok(())
 }

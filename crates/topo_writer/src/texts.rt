@@ -17,8 +17,7 @@ pub fn push_number<A: Allocator + Copy>(
     ensures { OnOk result (text.new.items ≡ text.old.items ++ signed_decimal number) }
 {
     let mut buffer = Buffer::new();
-    text.extend_from_slice(buffer.format(number).as_bytes())?;
-    Ok(())
+    text.extend_from_slice(buffer.format(number).as_bytes())
 }
 
 /// Appends a comma where something stands before.
@@ -26,7 +25,7 @@ pub fn push_comma<A: Allocator + Copy>(text: &mut Vec<u8, A>, more: bool) -> Res
     ensures { OnOk result (text.new.items ≡ text.old.items ++ comma_if more) }
 {
     if more {
-        text.extend_from_slice(b",")?;
+        text.push(b',')?;
     }
     Ok(())
 }
@@ -39,11 +38,11 @@ pub fn push_pair<A: Allocator + Copy>(
 ) -> Result<(), AllocError>
     ensures { OnOk result (text.new.items ≡ text.old.items ++ pair_text (position x y)) }
 {
-    text.extend_from_slice(b"[")?;
+    text.push(b'[')?;
     push_number(text, x)?;
-    text.extend_from_slice(b",")?;
+    text.push(b',')?;
     push_number(text, y)?;
-    text.extend_from_slice(b"]")?;
+    text.push(b']')?;
     Ok(())
 }
 
@@ -83,13 +82,13 @@ fn push_arc<A: Allocator + Copy>(
 ) -> Result<(), AllocError>
     ensures { OnOk result (text.new.items ≡ text.old.items ++ arc_text delta arc.now) }
 {
-    text.extend_from_slice(b"[")?;
+    text.push(b'[')?;
     for i in 0..arc.len() {
         push_comma(text, i > 0)?;
         let (x, y) = pair_at(delta, arc, i);
         push_pair(text, x, y)?;
     }
-    text.extend_from_slice(b"]")?;
+    text.push(b']')?;
     Ok(())
 }
 
@@ -104,8 +103,7 @@ pub(crate) fn push_next<A: Allocator + Copy>(
         ≡ text.old.items ++ (comma_if more ++ arc_text delta arc.now)) }
 {
     push_comma(text, more)?;
-    push_arc(text, delta, arc)?;
-    Ok(())
+    push_arc(text, delta, arc)
 }
 
 /// Appends a ring by the indexes of its arcs.
@@ -115,11 +113,11 @@ pub(crate) fn push_ring<A: Allocator + Copy>(
 ) -> Result<(), AllocError>
     ensures { OnOk result (text.new.items ≡ text.old.items ++ ring_text indexes.now) }
 {
-    text.extend_from_slice(b"[")?;
+    text.push(b'[')?;
     for i in 0..indexes.len() {
         push_comma(text, i > 0)?;
         push_number(text, indexes[i])?;
     }
-    text.extend_from_slice(b"]")?;
+    text.push(b']')?;
     Ok(())
 }

@@ -29,7 +29,7 @@ loop-ring-init g c = record {
   table = c.requires.table;
   few = c.requires.few;
   arcs = refl;
-  text = c.in_ok-extend_from_slice.ensures.items ∙ sym (append-nil (c.args.text.now.items ++ codes "["));
+  text = c.in_ok-push.ensures.items ∙ sym (append-nil (c.args.text.now.items ++ codes "["));
 }
 
 pub loop-ring-preserved : goal.loop-ring-preserved
@@ -59,7 +59,7 @@ returns-clause-text g c =
     let rs = rings_at d c.args.n c.args.polygon in
     let arcs = arcs_in d c.loop-ring.arcs in
     let begun = c.args.text.now.items ++ codes "[" in
-    bracketed c.args.text.now.items (written_rings (is_junction d) arcs rs) begun c.loop-ring.text.items c.extend_from_slice-2.new.self.items refl
+    bracketed c.args.text.now.items (written_rings (is_junction d) arcs rs) begun c.loop-ring.text.items c.push-2.new.self.items refl
     (c.loop-ring.invariant.text ∙ ap (λ z. begun ++ written_rings (is_junction d) arcs z) (take_all c.loop-ring.ring rs (omega (arith, c.requires.count))))
-    c.in_ok-extend_from_slice-2.ensures.items
+    c.in_ok-push-2.ensures.items
     ∙ ap (λ z. c.args.text.now.items ++ z) (polygon_is (is_junction d) arcs rs)

@@ -9,7 +9,7 @@ use Rattle.topo_writer.proofs.Listed.{bracketed, items_step}
 use Rattle.topo_writer.proofs.texts.push_arc.Goals as goal
 
 pub loop-i-init : goal.loop-i-init
-loop-i-init g c = c.in_ok-extend_from_slice.ensures.items ∙ sym (append-nil (c.args.text.now.items ++ codes "["))
+loop-i-init g c = c.in_ok-push.ensures.items ∙ sym (append-nil (c.args.text.now.items ++ codes "["))
 
 pub loop-i-preserved : goal.loop-i-preserved
 loop-i-preserved g c =
@@ -25,4 +25,4 @@ returns g c =
     let begun = c.args.text.now.items ++ codes "[" in
     let all = take_all c.loop-i.i (pairs c.args.delta c.args.arc.now) (omega (arith, pairs-length c.args.delta c.args.arc.now)) in
     bracketed c.args.text.now.items _ begun c.loop-i.text.items _ refl
-    (c.loop-i.invariant ∙ ap (λ z. begun ++ commas (map pair_text z)) all) c.in_ok-extend_from_slice-2.ensures.items
+    (c.loop-i.invariant ∙ ap (λ z. begun ++ commas (map pair_text z)) all) c.in_ok-push-2.ensures.items
