@@ -1,11 +1,12 @@
 -- Texts with commas between them, one after another.
-use Rattle.kit_words.proofs.Common.{◌≡◌, ℕ, suc, ◌+◌, ◌<◌, length, take, List, [], ◌∷◌, ◌++◌, map, true, refl, sym, ap}
+use Rattle.kit_words.proofs.Common.{◌≡◌, ℕ, suc, ◌+◌, ◌<◌, ◌≤◌, length, take, take_all, ap₂, List, [], ◌∷◌, ◌++◌, map, true, refl, sym, ap}
 use Rattle.kit_words.proofs.Common.{◌∙◌, arith, append_assoc, get_or, codes, nat_lt, map-append, take_more}
 use Rattle.kit_words.proofs.Common.{flat_map-append}
 use Rattle.std.proofs.Common.{append-nil}
 use Rattle.ring_machine.specs.Common.{Text}
 use Rattle.map_text.specs.Common.{further, commas, comma_if}
 use Rattle.walk_faults.specs.Common.{each_at}
+use Rattle.place_text.proofs.Appending.{three}
 use Rattle.place_text.proofs.Numbered.{each_next, so_many}
 
 positive : (i : ℕ) → nat_lt 0 (suc i) ≡ true
@@ -57,13 +58,31 @@ pub map_twice : {A B C : Type 0} (f : B → C) (g : A → B) (xs : List A) → m
 map_twice f g [] = refl
 map_twice f g (x ∷ xs) = ap (λ z. f (g x) ∷ z) (map_twice f g xs)
 
--- a text between brackets
-pub bracketed : (o w a b c : Text) → a ≡ o ++ codes "[" → b ≡ a ++ w → c ≡ b ++ codes "]" → c ≡ o ++ (codes "[" ++ (w ++ codes "]"))
-bracketed o w a b c p q r =
-    r ∙ ap (λ z. z ++ codes "]") (q ∙ ap (λ z. z ++ w) p) ∙ append_assoc (o ++ codes "[") w (codes "]") ∙ append_assoc o (codes "[") (w ++ codes "]")
-
 -- elements that are seen as others give what those give
 pub each_map : {A B : Type 0} (f : ℕ → B → Text) (g : A → B) (k : ℕ) (xs : List A)
     → each_at (λ n y. f n y ∷ []) k (map g xs) ≡ each_at (λ n x. f n (g x) ∷ []) k xs
 each_map f g k [] = refl
 each_map f g k (x ∷ xs) = ap (λ z. f k (g x) ∷ z) (each_map f g (suc k) xs)
+
+-- where the numbers do not matter, each element gives what it gives alone
+pub each_is_map : {A B : Type 0} (f : A → B) (k : ℕ) (xs : List A) → each_at (λ n x. f x ∷ []) k xs ≡ map f xs
+each_is_map f k [] = refl
+each_is_map f k (x ∷ xs) = ap (λ z. f x ∷ z) (each_is_map f (suc k) xs)
+
+-- and where they are counted from nought, they are its own
+pub each_from_nought : {A B : Type 0} (f : ℕ → A → B) (k : ℕ) (xs : List A)
+    → each_at (λ n x. f (0 + n) x ∷ []) k xs ≡ each_at (λ n x. f n x ∷ []) k xs
+each_from_nought f k [] = refl
+each_from_nought {B = B} f k (x ∷ xs) =
+    let e : 0 + k ≡ k = omega arith in
+    ap₂ (λ (y : B) (ys : List B). y ∷ ys) (ap (λ n. f n x) e) (each_from_nought f (suc k) xs)
+
+-- a text of all elements, and the end of a collection
+pub collected : {A : Type 0} (f : ℕ → A → Text) (xs : List A) (i : ℕ) → length xs ≤ i → (old head now new : Text)
+    → now ≡ (old ++ head) ++ commas (each_at (λ n x. f n x ∷ []) 0 (take i xs)) → new ≡ now ++ codes "]}"
+    → new ≡ old ++ (head ++ ((commas (each_at (λ n x. f n x ∷ []) 0 xs) ++ codes "]") ++ codes "}"))
+collected f xs i l old head now new p q =
+    let texts : Text = commas (each_at (λ n x. f n x ∷ []) 0 xs) in
+    three old head texts (codes "]}") (old ++ head) now new refl
+    (p ∙ ap (λ z. (old ++ head) ++ commas (each_at (λ n x. f n x ∷ []) 0 z)) (take_all i xs l)) q
+    ∙ ap (λ z. old ++ (head ++ z)) (sym (append_assoc texts (codes "]") (codes "}")))

@@ -16,8 +16,7 @@ pub(crate) fn push_number<A: Allocator, I: Integer>(
     ensures { OnOk result (text.new.items ≡ text.old.items ++ I.text number) }
 {
     let mut buffer = Buffer::new();
-    text.extend_from_slice(buffer.format(number).as_bytes())?;
-    Ok(())
+    text.extend_from_slice(buffer.format(number).as_bytes())
 }
 
 /// Appends a comma where something stands before.
@@ -38,8 +37,7 @@ fn push_pair<A: Allocator>(text: &mut Vec<u8, A>, x: i64, y: i64) -> Result<(), 
     push_number(text, x)?;
     text.extend_from_slice(b",")?;
     push_number(text, y)?;
-    text.extend_from_slice(b"]")?;
-    Ok(())
+    text.extend_from_slice(b"]")
 }
 
 /// Appends a position, as a pair of numbers.

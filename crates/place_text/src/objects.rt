@@ -1,8 +1,10 @@
 // The objects of a topology of places, appended to a text.
-ghost use Rattle.std.specs.Prelude.{◌≡◌, ◌++◌, OnOk};
+ghost use Rattle.std.specs.Prelude.{◌≡◌, ℕ, ◌++◌, OnOk};
+ghost use Rattle.ring_machine.specs.Common.{Text};
 ghost use Rattle.segment_paths.specs.Common.{path_seen};
 ghost use Rattle.map_text.specs.Common.{arc_text};
 ghost use Rattle.place_text.specs.Sides.{ends, way};
+ghost use Rattle.place_text.specs.Owners.{Telling};
 ghost use Rattle.place_text.specs.Tables.{told_by};
 ghost use Rattle.place_text.specs.Text.{kind_text, ring_text, features_text, whose_text};
 ghost use Rattle.place_text.specs.Text.{finding_text, place_text, side_text, path_text};
@@ -84,45 +86,87 @@ fn push_finding<A: Allocator>(
     text.extend_from_slice(b"{\"kind\":")?;
     push_kind(text, kind)?;
     text.extend_from_slice(b",\"number\":")?;
-    push_number(text, number)?;
-    Ok(())
+    push_number(text, number)
 }
 
-/// Appends a place, as a point (TopoJSON 1.0, 2.2.1).
-pub(crate) fn push_place<A: Allocator, B: Allocator + Copy>(
-    text: &mut Vec<u8, A>,
-    owners: &Owners<B>,
-    place: &Place,
-) -> Result<(), AllocError>
-    ensures { OnOk result
-        (text.new.items ≡ text.old.items ++ place_text (told_by owners.now) place.now) }
-{
-    text.extend_from_slice(b"{\"type\":\"Point\",\"properties\":")?;
-    push_finding(text, place.kind, place.number)?;
-    push_whose(text, owners, place)?;
-    text.extend_from_slice(b"},\"coordinates\":")?;
-    push_position(text, place.pos)?;
-    text.extend_from_slice(b"}")?;
-    Ok(())
+/// What a layer lists.
+pub(crate) trait Geometry {
+    ghost geometry: { Telling → ℕ → ℕ → Self → Text };
+
+    /// Appends the one with this number; if it is a line, of the arc with this index.
+    fn push<A: Allocator, B: Allocator + Copy>(
+        &self,
+        text: &mut Vec<u8, A>,
+        owners: &Owners<B>,
+        number: usize,
+        index: usize,
+    ) -> Result<(), AllocError>
+        ensures { OnOk result
+            (text.new.items ≡ text.old.items ++ geometry (told_by owners.now) number index self.now) };
 }
 
-/// Appends a segment, as a line of the arc with this index (TopoJSON 1.0, 2.2.3).
-pub(crate) fn push_side<A: Allocator, B: Allocator + Copy>(
-    text: &mut Vec<u8, A>,
-    owners: &Owners<B>,
-    index: usize,
-    side: Side,
-) -> Result<(), AllocError>
-    ensures { OnOk result
-        (text.new.items ≡ text.old.items ++ side_text (told_by owners.now) index side) }
-{
-    text.extend_from_slice(b"{\"type\":\"LineString\",\"properties\":")?;
-    push_finding(text, side.kind, side.number)?;
-    push_features(text, owners.tables.of_segment(side.segment))?;
-    text.extend_from_slice(b"},\"arcs\":[")?;
-    push_number(text, index)?;
-    text.extend_from_slice(b"]}")?;
-    Ok(())
+// A place is a point (TopoJSON 1.0, 2.2.1).
+impl Geometry for Place {
+    ghost geometry = { λ told number index place. place_text told place };
+
+    fn push<A: Allocator, B: Allocator + Copy>(
+        &self,
+        text: &mut Vec<u8, A>,
+        owners: &Owners<B>,
+        _number: usize,
+        _index: usize,
+    ) -> Result<(), AllocError> {
+        text.extend_from_slice(b"{\"type\":\"Point\",\"properties\":")?;
+        push_finding(text, self.kind, self.number)?;
+        push_whose(text, owners, self)?;
+        text.extend_from_slice(b"},\"coordinates\":")?;
+        push_position(text, self.pos)?;
+        text.extend_from_slice(b"}")?;
+        Ok(())
+    }
+}
+
+// A segment is a line (TopoJSON 1.0, 2.2.3).
+impl Geometry for Side {
+    ghost geometry = { λ told number index side. side_text told index side };
+
+    fn push<A: Allocator, B: Allocator + Copy>(
+        &self,
+        text: &mut Vec<u8, A>,
+        owners: &Owners<B>,
+        _number: usize,
+        index: usize,
+    ) -> Result<(), AllocError> {
+        let side = *self;
+        text.extend_from_slice(b"{\"type\":\"LineString\",\"properties\":")?;
+        push_finding(text, side.kind, side.number)?;
+        push_features(text, owners.tables.of_segment(side.segment))?;
+        text.extend_from_slice(b"},\"arcs\":[")?;
+        push_number(text, index)?;
+        text.extend_from_slice(b"]}")?;
+        Ok(())
+    }
+}
+
+// A path is a line too.
+impl<C: Allocator + Copy> Geometry for SegmentPath<C> {
+    ghost geometry = { λ told number index path. path_text told number index (path_seen path) };
+
+    fn push<A: Allocator, B: Allocator + Copy>(
+        &self,
+        text: &mut Vec<u8, A>,
+        owners: &Owners<B>,
+        number: usize,
+        index: usize,
+    ) -> Result<(), AllocError> {
+        text.extend_from_slice(b"{\"type\":\"LineString\",\"properties\":{\"number\":")?;
+        push_number(text, number)?;
+        push_features(text, owners.tables.of_segment(self.segment))?;
+        text.extend_from_slice(b"},\"arcs\":[")?;
+        push_number(text, index)?;
+        text.extend_from_slice(b"]}")?;
+        Ok(())
+    }
 }
 
 /// Appends a segment, as an arc (TopoJSON 1.0, 2.1.3).
@@ -138,26 +182,6 @@ pub(crate) fn push_arc<A: Allocator>(
     text.extend_from_slice(b",")?;
     push_behind(text, delta, segment.lo, segment.hi)?;
     text.extend_from_slice(b"]")?;
-    Ok(())
-}
-
-/// Appends the path with this number, as a line of the arc with this index (TopoJSON 1.0, 2.2.3).
-pub(crate) fn push_path<A: Allocator, B: Allocator + Copy>(
-    text: &mut Vec<u8, A>,
-    owners: &Owners<B>,
-    number: usize,
-    index: usize,
-    path: &SegmentPath<B>,
-) -> Result<(), AllocError>
-    ensures { OnOk result (text.new.items ≡ text.old.items
-        ++ path_text (told_by owners.now) number index (path_seen path.now)) }
-{
-    text.extend_from_slice(b"{\"type\":\"LineString\",\"properties\":{\"number\":")?;
-    push_number(text, number)?;
-    push_features(text, owners.tables.of_segment(path.segment))?;
-    text.extend_from_slice(b"},\"arcs\":[")?;
-    push_number(text, index)?;
-    text.extend_from_slice(b"]}")?;
     Ok(())
 }
 

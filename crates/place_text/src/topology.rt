@@ -1,16 +1,16 @@
 // The topology of places.
-ghost use Rattle.std.specs.Prelude.{◌≡◌, ◌≤◌, ◌||◌, ◌++◌, nat_lt, map, option_map, IfOk, OnOk};
-ghost use Rattle.map_text.specs.Common.{arc_text, arcs_text, commas, list_text};
+ghost use Rattle.std.specs.Prelude.{◌≡◌, ◌≤◌, ◌+◌, ◌||◌, [], ◌∷◌, ◌++◌, length, nat_lt, map, option_map, IfOk, OnOk};
+ghost use Rattle.map_text.specs.Common.{arc_text, arcs_text, commas};
 ghost use Rattle.segment_paths.specs.Common.{paths_seen};
-ghost use Rattle.walk_faults.specs.Common.{Found, features_seen};
+ghost use Rattle.walk_faults.specs.Common.{Found, each_at, features_seen};
 ghost use Rattle.place_text.specs.Sides.{side_ends, way};
 ghost use Rattle.place_text.specs.Tables.{told_by};
-ghost use Rattle.place_text.specs.Text.{transform_text, place_text, sides_text, paths_text, ways};
+ghost use Rattle.place_text.specs.Text.{transform_text, ways};
 ghost use Rattle.place_text.specs.Text.{behind_if, collection_text, path_layer, topology_text};
 ghost use Rattle.place_text.specs.Text.{IsPlaceText};
 
 use crate::numbers::push_comma;
-use crate::objects::{push_arc, push_path, push_place, push_side, push_way};
+use crate::objects::{Geometry, push_arc, push_way};
 use crate::owners::{Owners, owners_of};
 use crate::places::{Place, places};
 use crate::sides::{Side, sides};
@@ -19,59 +19,24 @@ use segment_paths::SegmentPath;
 use std::alloc::{AllocError, Allocator};
 use walk_faults::Findings;
 
-/// Appends the list of the places.
-fn push_places<A: Allocator, B: Allocator + Copy>(
-    text: &mut Vec<u8, A>,
-    owners: &Owners<B>,
-    places: &[Place],
-) -> Result<(), AllocError>
-    ensures { OnOk result (text.new.items
-        ≡ text.old.items ++ list_text (map (place_text (told_by owners.now)) places.now)) }
-{
-    text.extend_from_slice(b"[")?;
-    for (index, place) in places.iter().enumerate() {
-        push_comma(text, index > 0)?;
-        push_place(text, owners, place)?;
-    }
-    text.extend_from_slice(b"]")?;
-    Ok(())
-}
-
-/// Appends the list of the segments, each as a line of the arc with its index.
-fn push_sides<A: Allocator, B: Allocator + Copy>(
-    text: &mut Vec<u8, A>,
-    owners: &Owners<B>,
-    sides: &[Side],
-) -> Result<(), AllocError>
-    ensures { OnOk result (text.new.items
-        ≡ text.old.items ++ list_text (sides_text (told_by owners.now) sides.now)) }
-{
-    text.extend_from_slice(b"[")?;
-    for (index, side) in sides.iter().enumerate() {
-        push_comma(text, index > 0)?;
-        push_side(text, owners, index, *side)?;
-    }
-    text.extend_from_slice(b"]")?;
-    Ok(())
-}
-
-/// Appends the list of the paths, each as a line of its arc; so many arcs come before theirs.
-fn push_paths<A: Allocator, B: Allocator + Copy>(
+/// Appends a collection of what is listed (TopoJSON 1.0, 2.2.7); so many arcs come before theirs.
+fn push_collection<A: Allocator, B: Allocator + Copy, G: Geometry>(
     text: &mut Vec<u8, A>,
     owners: &Owners<B>,
     others: usize,
-    paths: &[SegmentPath<B>],
+    listed: &[G],
 ) -> Result<(), AllocError>
-    requires { others ≤ 9223372036854775807 }
-    ensures { OnOk result (text.new.items
-        ≡ text.old.items ++ list_text (paths_text (told_by owners.now) others (paths_seen paths.now))) }
+    requires before { others ≤ 9223372036854775807 }
+    requires listed { length listed.now ≤ 9223372036854775807 }
+    ensures { OnOk result (text.new.items ≡ text.old.items ++ collection_text
+        (each_at (λ n g. G.geometry (told_by owners.now) n (others + n) g ∷ []) 0 listed.now)) }
 {
-    text.extend_from_slice(b"[")?;
-    for (number, path) in paths.iter().enumerate() {
+    text.extend_from_slice(b"{\"type\":\"GeometryCollection\",\"geometries\":[")?;
+    for (number, geometry) in listed.iter().enumerate() {
         push_comma(text, number > 0)?;
-        push_path(text, owners, number, others + number, path)?;
+        geometry.push(text, owners, number, others + number)?;
     }
-    text.extend_from_slice(b"]")?;
+    text.extend_from_slice(b"]}")?;
     Ok(())
 }
 
@@ -159,36 +124,6 @@ fn push_transform<A: Allocator>(
     Ok(())
 }
 
-/// Appends the layer of the places.
-fn push_place_layer<A: Allocator, B: Allocator + Copy>(
-    text: &mut Vec<u8, A>,
-    owners: &Owners<B>,
-    places: &[Place],
-) -> Result<(), AllocError>
-    ensures { OnOk result (text.new.items
-        ≡ text.old.items ++ collection_text (map (place_text (told_by owners.now)) places.now)) }
-{
-    text.extend_from_slice(b"{\"type\":\"GeometryCollection\",\"geometries\":")?;
-    push_places(text, owners, places)?;
-    text.extend_from_slice(b"}")?;
-    Ok(())
-}
-
-/// Appends the layer of the segments.
-fn push_side_layer<A: Allocator, B: Allocator + Copy>(
-    text: &mut Vec<u8, A>,
-    owners: &Owners<B>,
-    sides: &[Side],
-) -> Result<(), AllocError>
-    ensures { OnOk result (text.new.items
-        ≡ text.old.items ++ collection_text (sides_text (told_by owners.now) sides.now)) }
-{
-    text.extend_from_slice(b"{\"type\":\"GeometryCollection\",\"geometries\":")?;
-    push_sides(text, owners, sides)?;
-    text.extend_from_slice(b"}")?;
-    Ok(())
-}
-
 /// Appends the layer of the paths, if they are told; so many arcs come before theirs.
 fn push_path_layer<A: Allocator, B: Allocator + Copy>(
     text: &mut Vec<u8, A>,
@@ -203,9 +138,8 @@ fn push_path_layer<A: Allocator, B: Allocator + Copy>(
     let Some(paths) = paths else {
         return Ok(());
     };
-    text.extend_from_slice(b",\"paths\":{\"type\":\"GeometryCollection\",\"geometries\":")?;
-    push_paths(text, owners, others, paths)?;
-    text.extend_from_slice(b"}")?;
+    text.extend_from_slice(b",\"paths\":")?;
+    push_collection(text, owners, others, paths)?;
     Ok(())
 }
 
@@ -234,9 +168,9 @@ fn push_topology<A: Allocator, B: Allocator + Copy>(
     text.extend_from_slice(b"{\"type\":\"Topology\"")?;
     push_transform(text, transform)?;
     text.extend_from_slice(b",\"objects\":{\"places\":")?;
-    push_place_layer(text, layers.owners, layers.places)?;
+    push_collection(text, layers.owners, 0, layers.places)?;
     text.extend_from_slice(b",\"segments\":")?;
-    push_side_layer(text, layers.owners, sides)?;
+    push_collection(text, layers.owners, 0, sides)?;
     push_path_layer(text, layers.owners, sides.len(), layers.paths)?;
     text.extend_from_slice(b"},\"arcs\":")?;
     push_arcs(text, transform.is_some(), sides, layers.paths)?;

@@ -1,11 +1,11 @@
 use Rattle.kit_words.proofs.Common.{ap, ◌∙◌, ◌++◌, codes, decimal}
 use Rattle.place_text.specs.Common.{told_by, finding_text, features_text}
 use Rattle.place_text.proofs.Appending.{six}
-use Rattle.place_text.proofs.objects.push_side.Goals as goal
+use Rattle.place_text.proofs.objects.SideGeometry.push.Goals as goal
 
 pub returns : goal.returns
 returns g c =
-    let s = c.args.side in
+    let s = c.args.self.now in
     let told = told_by c.args.owners.now in
     six c.args.text.now.items (codes "{\"type\":\"LineString\",\"properties\":") (finding_text s.kind s.number) (features_text (told.segment s.segment))
     (codes "},\"arcs\":[") (decimal c.args.index) (codes "]}")

@@ -1,8 +1,0 @@
-use Rattle.kit_words.proofs.Common.{◌≡◌, ◌++◌, take, codes}
-use Rattle.map_text.specs.Common.{commas}
-use Rattle.place_text.specs.Common.{told_by, sides_text}
-use Rattle.place_text.proofs.topology.push_sides.Given as goal
-
--- the lines so far
-abbrev pub invariant-loop-index : goal.invariant-loop-index
-invariant-loop-index g l = l.text.items ≡ (l.fn.text.items ++ codes "[") ++ commas (sides_text (told_by l.owners) (take l.index l.sides))
