@@ -21,7 +21,7 @@ use Rattle.map_text.proofs.GrammarLists.{bytes_of, list_is_json, has_texts}
 use Rattle.map_text.proofs.GrammarObjects.{IsMember, object_is_json}
 use Rattle.map_text.proofs.MembersKnown.{plain_name}
 use Rattle.map_text.proofs.MembersSeen.{seen_value, value_seen, all_seen, object_seen}
-use Rattle.topo_reader.specs.Common.{two_of}
+use Rattle.grid_reader.specs.Common.{two_of}
 use Rattle.topo_reader.proofs.Common.{bind_ok, ok_same}
 use Rattle.exact_decimals.specs.Common.{Parts, parts_of, unsigned, behind_integer, with_exponent, exponent_of}
 use Rattle.exact_decimals.specs.Common.{digits_of, behind_digits, shifted_text}
@@ -193,7 +193,7 @@ pair_numbers n (Some q) p nests h = by (is_number (kind_of q.0.bytes)) refl (is_
     by true e false f k = absurd cc
     by false e b f k = absurd cc
 
-two_nest : (n : ℕ) (ns : List Node) (p : Node × Node) → AllByRecursion (NestsAtMost n) ns → two_of ns ≡ Some p → NestsAtMost n p.0 × NestsAtMost n p.1
+two_nest : (n : ℕ) (ns : List Node) (p : Node × Node) → AllByRecursion (NestsAtMost n) ns → two_of false ns ≡ Some p → NestsAtMost n p.0 × NestsAtMost n p.1
 two_nest n [] p all h = absurd cc
 two_nest n (a ∷ []) p all h = absurd cc
 two_nest n (a ∷ b ∷ []) p all h = let same : (a, b) ≡ p = cc in subst (λ (r : Node × Node). NestsAtMost n r.0 × NestsAtMost n r.1) same (all.0, all.1.0)
@@ -203,10 +203,10 @@ numbers_in : (n : ℕ) (v : Node) (p : Node × Node) → NestsAtMost n v → two
 unfolding two_numbers
 numbers_in n v p nests h = by (is_list v) refl h
   where
-    by : (b : Bool) → is_list v ≡ b → cond b (both_numbers (two_of (items v))) None ≡ Some p → AreNumbers p
+    by : (b : Bool) → is_list v ≡ b → cond b (both_numbers (two_of false (items v))) None ≡ Some p → AreNumbers p
     by true e k =
         let (j, less, all) = list_nests n v nests (list_here n v nests e) in
-        pair_numbers j (two_of (items v)) p (two_nest j (items v) p all) k
+        pair_numbers j (two_of false (items v)) p (two_nest j (items v) p all) k
     by false e k = absurd cc
 
 two_in_numbers : (n : ℕ) (name : List ℕ) (ms : List (Node × Node)) (p : Node × Node) → AllByRecursion (λ m. IsText m.0.bytes × IsValue n m.1.bytes) ms → two_in (value_named name ms) ≡ Ok p → AreNumbers p

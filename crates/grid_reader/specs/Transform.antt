@@ -4,7 +4,7 @@ use Rattle.std.specs.Str.{bytes_eq}
 use Rattle.json_spans.specs.Common.{Node, items, members, kind_of, decoded}
 use Rattle.ring_machine.specs.Common.{Text}
 use Rattle.topo_outline.specs.Common.{is_list, is_number, Fault, bad_member, ◌>>=◌}
-use Rattle.topo_reader.specs.Common.{two_of}
+use Rattle.grid_reader.specs.Fine.{two_of}
 use Rattle.exact_decimals.specs.Common.{Parts, parts_of, shifted_text}
 
 -- ---- what stands in a transform
@@ -29,7 +29,7 @@ both_numbers (Some p) =
 
 -- the items of a list of two numbers
 unfoldable pub two_numbers : Node → Option (Node × Node)
-two_numbers n = if is_list n then both_numbers (two_of (items n)) else None
+two_numbers n = if is_list n then both_numbers (two_of false (items n)) else None
 
 -- what is there
 abbrev pub there : {A : Type 0} → Option A → Result A Fault

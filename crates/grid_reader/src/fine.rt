@@ -15,7 +15,7 @@ use std::alloc::Allocator;
 use topo_outline::OpenFault;
 
 /// How many decimals a unit has, and how many digits stand before them in the greatest coordinate.
-const DIGITS: usize = 36;
+pub(crate) const DIGITS: usize = 36;
 
 /// Whether a coordinate stays within 10^12 on a grid 10^`finer` times as fine.
 fn is_within(finer: usize, units: i128) -> bool
@@ -68,21 +68,14 @@ fn coordinate(finer: usize, before: i128, part: Span<'_>) -> Result<i128, OpenFa
 }
 
 /// The two parts of a list of exactly two, or its first two where further ones are left out.
-fn two<'a>(drop_heights: bool, part: Span<'a>) -> Option<(Span<'a>, Span<'a>)>
+pub(crate) fn two<'a>(drop_heights: bool, part: Span<'a>) -> Option<(Span<'a>, Span<'a>)>
     ensures { option_map (λ p. (node p.0, node p.1)) result
         ≡ two_of drop_heights (items (node part.entry)) }
 {
     let mut parts = items(part);
     let first = parts.next()?;
     let second = parts.next()?;
-    match parts.next() {
-        None => Some((first, second)),
-        Some(_) => if drop_heights {
-            Some((first, second))
-        } else {
-            None
-        },
-    }
+    (parts.next().is_none() || drop_heights).then_some((first, second))
 }
 
 fn pair<'a>(
@@ -95,13 +88,9 @@ fn pair<'a>(
     ensures { Gives fine_seen result
         (pair_of finer (fine_seen before) (node first.entry) (node second.entry)) }
 {
-    match coordinate(finer, before.x, first) {
-        Ok(x) => match coordinate(finer, before.y, second) {
-            Ok(y) => Ok(FinePos { x, y }),
-            Err(fault) => Err(fault),
-        },
-        Err(fault) => Err(fault),
-    }
+    let x = or_return!(coordinate(finer, before.x, first));
+    let y = or_return!(coordinate(finer, before.y, second));
+    Ok(FinePos { x, y })
 }
 
 #[tactic(auto, unfolding(crate::specs::Fine::fine_position))]
@@ -145,13 +134,9 @@ fn fine_positions<'a, A: Allocator + Copy>(
     let mut found = Vec::new(alloc);
     let mut before = origin();
     for part in items(span) {
-        match fine_position(wants, before, part) {
-            Ok(pos) => {
-                found.push(pos)?;
-                before = before_next(delta, pos);
-            }
-            Err(fault) => return Err(fault),
-        }
+        let pos = or_return!(fine_position(wants, before, part));
+        found.push(pos)?;
+        before = before_next(delta, pos);
     }
     Ok(found)
 }
@@ -160,13 +145,7 @@ fn has_two(span: Span<'_>) -> bool
     ensures { result ≡ has_two (items (node span.entry)) }
 {
     let mut parts = items(span);
-    match parts.next() {
-        None => false,
-        Some(_) => match parts.next() {
-            None => false,
-            Some(_) => true,
-        },
-    }
+    parts.next().is_some() && parts.next().is_some()
 }
 
 /// The positions of one arc.
@@ -179,10 +158,7 @@ fn fine_arc<'a, A: Allocator + Copy>(
 ) -> Result<Vec<FinePos, A>, OpenFault<'a>>
     ensures { Gives arc_seen result (fine_arc wants delta (node span.entry)) }
 {
-    if !(kind(span) == Kind::List) {
-        return Err(OpenFault::BadPosition { place: at(span) });
-    }
-    if !has_two(span) {
+    if kind(span) != Kind::List || !has_two(span) {
         return Err(OpenFault::BadPosition { place: at(span) });
     }
     fine_positions(alloc, wants, delta, span)
@@ -200,10 +176,7 @@ pub(crate) fn fine_arcs<'a, A: Allocator + Copy>(
 {
     let mut found = Vec::new(alloc);
     for part in items(span) {
-        match fine_arc(alloc, wants, delta, part) {
-            Ok(arc) => found.push(arc)?,
-            Err(fault) => return Err(fault),
-        }
+        found.push(or_return!(fine_arc(alloc, wants, delta, part)))?;
     }
     Ok(found)
 }

@@ -9,6 +9,7 @@ ghost use Rattle.grid_reader.specs.Near.{IsNear};
 ghost use Rattle.grid_reader.specs.Seen.{fine_seen, arcs_seen};
 ghost use Rattle.grid_reader.specs.Wholes.{is_whole, has_wholes, all_whole};
 
+use crate::fine::DIGITS;
 use crate::fine_pos::FinePos;
 use crate::wants::Wants;
 use exact_decimals::{decimals, is_rounded, rounded};
@@ -16,22 +17,7 @@ use grid_geometry::Pos;
 use json_spans::{Span, items, whole};
 use std::alloc::{AllocError, Allocator};
 
-/// How many decimals a unit has, and how many digits stand before them in the greatest coordinate.
-const DIGITS: usize = 36;
-
 // ---- how many decimals
-
-fn greater(a: usize, b: usize) -> usize
-    ensures { result ≡ greater a b }
-{
-    if a <= b { b } else { a }
-}
-
-fn further(a: u128, b: u128) -> u128
-    ensures { result ≡ greater a b }
-{
-    if a <= b { b } else { a }
-}
 
 /// The most decimals of an arc's coordinates, or of those before them.
 fn most_in_arc(before: usize, arc: &[FinePos]) -> usize
@@ -39,7 +25,7 @@ fn most_in_arc(before: usize, arc: &[FinePos]) -> usize
 {
     let mut most = before;
     for pos in arc {
-        most = greater(greater(most, decimals(pos.x)), decimals(pos.y));
+        most = most.max(decimals(pos.x)).max(decimals(pos.y));
     }
     most
 }
@@ -61,7 +47,7 @@ fn furthest_in_arc(before: u128, arc: &[FinePos]) -> u128
 {
     let mut far = before;
     for pos in arc {
-        far = further(further(far, pos.x.unsigned_abs()), pos.y.unsigned_abs());
+        far = far.max(pos.x.unsigned_abs()).max(pos.y.unsigned_abs());
     }
     far
 }
@@ -92,12 +78,6 @@ fn fitting(finer: usize, far: u128, most: usize) -> usize
     kept
 }
 
-fn lesser(a: usize, b: usize) -> usize
-    ensures { result ≡ lesser a b }
-{
-    if a <= b { a } else { b }
-}
-
 /// How many decimals are kept, where a coordinate has at most so many.
 pub(crate) fn digits_of<A: Allocator + Copy>(
     wants: Wants,
@@ -108,7 +88,7 @@ pub(crate) fn digits_of<A: Allocator + Copy>(
     ensures value { result ≡ digits_of wants (arcs_seen arcs.now) }
     ensures bound { result ≤ 24 }
 {
-    fitting(wants.finer, furthest(arcs), lesser(wants.digits, most))
+    fitting(wants.finer, furthest(arcs), wants.digits.min(most))
 }
 
 // ---- the positions
@@ -215,13 +195,7 @@ fn has_further(span: Span<'_>) -> bool
     ensures { result ≡ has_further (node span.entry) }
 {
     let mut parts = items(span);
-    match parts.next() {
-        None => false,
-        Some(_) => match parts.next() {
-            None => false,
-            Some(_) => parts.next().is_some(),
-        },
-    }
+    parts.next().is_some() && parts.next().is_some() && parts.next().is_some()
 }
 
 fn heights_in_arc(before: usize, arc: Span<'_>) -> Option<usize>

@@ -19,7 +19,7 @@ use crate::told::Told;
 use crate::transform::{Transform, transform_on};
 use crate::wants::Wants;
 use grid_geometry::Pos;
-use json_spans::{ScanFault, Span, scan};
+use json_spans::{Span, scan};
 use std::alloc::{Allocator, Global};
 use topo_outline::{Item, KeptMember, Limit, OpenFault, Outline, RawLayer, Token, read_outline};
 use topo_reader::walks_along;
@@ -150,24 +150,19 @@ pub(crate) fn opened_on<'a, A: Allocator + Copy>(
 {
     let most = most_decimals(fine);
     let digits = digits_of(wants, most, fine);
-    let told = match told_of(wants, most, digits, fine, outline.arcs) {
-        Some(told) => told,
-        None => return Err(OpenFault::OutOfMemory),
+    let Some(told) = told_of(wants, most, digits, fine, outline.arcs) else {
+        return Err(OpenFault::OutOfMemory);
     };
-    let transform = match transform_on(alloc, heap, digits + wants.finer, outline.transform) {
-        Ok(transform) => transform,
-        Err(fault) => return Err(fault),
-    };
-    match polygons(alloc, wants, digits, fine, &outline) {
-        Ok(polygons) => Ok(OnGrid {
-            transform,
-            layers: outline.layers,
-            members: outline.members,
-            polygons,
-            told,
-        }),
-        Err(fault) => Err(fault),
-    }
+    let finer = digits + wants.finer;
+    let transform = or_return!(transform_on(alloc, heap, finer, outline.transform));
+    let polygons = or_return!(polygons(alloc, wants, digits, fine, &outline));
+    Ok(OnGrid {
+        transform,
+        layers: outline.layers,
+        members: outline.members,
+        polygons,
+        told,
+    })
 }
 
 /// The topology whose root this is, on the grid that is asked for.
@@ -180,14 +175,10 @@ fn opened<'a, A: Allocator + Copy>(
     ensures value { Gives view_on_grid result (grid_opening wants (node root.entry)) }
     ensures told { IfOk result (λ read. IsToldAt wants (node root.entry) read.told) }
 {
-    let outline = match read_outline(alloc, heap, root) {
-        Ok(outline) => outline,
-        Err(fault) => return Err(fault),
-    };
-    match fine_arcs(alloc, wants, outline.transform.is_some(), outline.arcs) {
-        Ok(fine) => opened_on(alloc, heap, wants, outline, fine.as_slice()),
-        Err(fault) => Err(fault),
-    }
+    let outline = or_return!(read_outline(alloc, heap, root));
+    let delta = outline.transform.is_some();
+    let fine = or_return!(fine_arcs(alloc, wants, delta, outline.arcs));
+    opened_on(alloc, heap, wants, outline, fine.as_slice())
 }
 
 /// The topology that the bytes are, on the grid that is asked for, or its first fault.
@@ -218,10 +209,6 @@ pub fn read_on_grid<'a, A: Allocator + Copy>(
     if bytes.len() > MAX_BYTES {
         return Err(OpenFault::TooLarge { what: Limit::Bytes });
     }
-    match scan(alloc, bytes) {
-        Ok(root) => opened(alloc, heap, wants, root.span()),
-        Err(ScanFault::NotJson { place }) => Err(OpenFault::NotJson { place }),
-        Err(ScanFault::TooDeep { place }) => Err(OpenFault::TooDeep { place }),
-        Err(ScanFault::OutOfMemory) => Err(OpenFault::OutOfMemory),
-    }
+    let root = scan(alloc, bytes)?;
+    opened(alloc, heap, wants, root.span())
 }

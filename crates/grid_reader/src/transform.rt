@@ -3,12 +3,12 @@ ghost use Rattle.std.specs.Prelude.{◌≡◌, ◌≤◌, Ok, option_map, IfOk, 
 ghost use Rattle.json_spans.specs.Common.{node, items, members, decoded};
 ghost use Rattle.topo_outline.specs.Common.{Gives};
 ghost use Rattle.exact_decimals.specs.Common.{parts, shifted_text};
-ghost use Rattle.topo_reader.specs.Common.{two_of};
 ghost use Rattle.grid_reader.specs.Transform.{says, value_named, two_numbers, two_in, transform_text, divided, transform_on, number};
 ghost use Rattle.grid_reader.specs.TransformView.{view_transform};
 
+use crate::fine::two;
 use exact_decimals::{Decimal, decimal_of, push_shifted};
-use json_spans::{Kind, Span, TextFault, bytes, items, kind, members, text};
+use json_spans::{Kind, Span, TextFault, bytes, kind, members, text};
 use std::alloc::{AllocError, Allocator, Global};
 use topo_outline::{OpenFault, Token};
 
@@ -62,27 +62,11 @@ fn value_named<'a>(
         (Ok (value_named name.now (members (node object.entry)))) }
 {
     for member in members(object) {
-        match says(heap, name, member.0) {
-            Ok(right) => if right {
-                return Ok(Some(member.1));
-            },
-            Err(fault) => return Err(fault),
+        if or_return!(says(heap, name, member.0)) {
+            return Ok(Some(member.1));
         }
     }
     Ok(None)
-}
-
-/// The two parts of a list of exactly two.
-fn two<'a>(part: Span<'a>) -> Option<(Span<'a>, Span<'a>)>
-    ensures { option_map (λ p. (node p.0, node p.1)) result ≡ two_of (items (node part.entry)) }
-{
-    let mut parts = items(part);
-    let first = parts.next()?;
-    let second = parts.next()?;
-    match parts.next() {
-        None => Some((first, second)),
-        Some(_) => None,
-    }
 }
 
 /// The parts of a list of two numbers.
@@ -93,12 +77,8 @@ fn two_numbers<'a>(part: Span<'a>) -> Option<(Span<'a>, Span<'a>)>
     if kind(part) != Kind::List {
         return None;
     }
-    let (first, second) = two(part)?;
-    if kind(first) == Kind::Number && kind(second) == Kind::Number {
-        Some((first, second))
-    } else {
-        None
-    }
+    let (first, second) = two(false, part)?;
+    (kind(first) == Kind::Number && kind(second) == Kind::Number).then_some((first, second))
 }
 
 /// The two numbers of the member with this name.
@@ -166,10 +146,7 @@ fn first<'a, A: Allocator + Copy>(alloc: A, digits: usize) -> Result<Vec<u8, A>,
     requires { digits ≤ 36 }
     ensures { Gives (λ v. v.items) result (divided digits None) }
 {
-    let one = match number(b"1") {
-        Ok(one) => one,
-        Err(fault) => return Err(fault),
-    };
+    let one = or_return!(number(b"1"));
     Ok(made(alloc, digits, (one, one), (b"0", b"0"))?)
 }
 
@@ -184,27 +161,11 @@ fn divided<'a, A: Allocator + Copy>(
     ensures { Gives (λ v. v.items) result (divided digits (Some text.now)) }
 {
     let object = Span { text, at: 0 };
-    let scale = match two_named(heap, b"scale", object) {
-        Ok(scale) => scale,
-        Err(fault) => return Err(fault),
-    };
-    let across = match number(bytes(scale.0)) {
-        Ok(across) => across,
-        Err(fault) => return Err(fault),
-    };
-    let upward = match number(bytes(scale.1)) {
-        Ok(upward) => upward,
-        Err(fault) => return Err(fault),
-    };
-    match two_named(heap, b"translate", object) {
-        Ok(translate) => Ok(made(
-            alloc,
-            digits,
-            (across, upward),
-            (bytes(translate.0), bytes(translate.1)),
-        )?),
-        Err(fault) => Err(fault),
-    }
+    let scale = or_return!(two_named(heap, b"scale", object));
+    let across = or_return!(number(bytes(scale.0)));
+    let upward = or_return!(number(bytes(scale.1)));
+    let (x, y) = or_return!(two_named(heap, b"translate", object));
+    Ok(made(alloc, digits, (across, upward), (bytes(x), bytes(y)))?)
 }
 
 /// The transform of a grid that is finer by 10^`digits`.
@@ -224,8 +185,5 @@ pub(crate) fn transform_on<'a, A: Allocator + Copy>(
         Some(text) => divided(alloc, heap, digits, text),
         None => first(alloc, digits),
     };
-    match made {
-        Ok(made) => Ok(Transform::Made(made)),
-        Err(fault) => Err(fault),
-    }
+    Ok(Transform::Made(or_return!(made)))
 }
