@@ -27,8 +27,12 @@ fn push_segment<A: Allocator>(
     Ok(())
 }
 
-/// Appends the segments of a walk.
-fn push_segments<A: Allocator>(segments: &mut Vec<Seg, A>, walk: &[Pos]) -> Result<(), AllocError>
+/// Appends the segments of a walk: those between neighbours that differ, and between the last position
+/// and the first.
+pub fn push_segments<A: Allocator>(
+    segments: &mut Vec<Seg, A>,
+    walk: &[Pos],
+) -> Result<(), AllocError>
     ensures { OnOk result (segments.new.items ≡ segments.old.items ++ walk_segments walk.now) }
 {
     let [first, rest @ ..] = walk else {
@@ -50,8 +54,8 @@ pub(crate) fn sort_positions<A: Allocator + Copy>(positions: &mut Vec<Pos, A>)
     positions.dedup();
 }
 
-/// The segments ascending, each once.
-pub(crate) fn sort_segments<A: Allocator + Copy>(segments: &mut Vec<Seg, A>)
+/// Puts the segments in their order, each once.
+pub fn sort_segments<A: Allocator + Copy>(segments: &mut Vec<Seg, A>)
     ensures { ListsAll segment_cmp (Contains segments.old.items) segments.new.items }
 {
     segments.sort_unstable();

@@ -13,4 +13,5 @@ mod search;
 mod walks;
 
 pub use findings::{Crossing, FindFault, Findings, Repeat, Touch};
+pub use gathered::{push_segments, sort_segments};
 pub use search::{MOST, find, find_at_most};

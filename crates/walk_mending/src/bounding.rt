@@ -6,10 +6,11 @@ ghost use Rattle.walk_faults.specs.Common.{ListsAll, rings_seen, polygons_seen, 
 ghost use Rattle.walk_mending.specs.Odd.{is_among, is_bounding, is_bounding_in};
 
 use crate::odd::odd_among;
-use crate::segments::{sort_once, sorted};
+use crate::segments::sorted;
 use crate::simple::all_simple;
 use grid_geometry::{Pos, Seg};
 use std::alloc::{AllocError, Allocator};
+use walk_faults::sort_segments;
 
 /// The segments that bound in a polygon.
 fn bounding_in<A: Allocator + Copy>(
@@ -58,6 +59,6 @@ pub fn bounding_segments<A: Allocator + Copy>(
     for feature in polygons {
         push_bounding(alloc, &mut found, feature.as_slice())?;
     }
-    sort_once(&mut found);
+    sort_segments(&mut found);
     Ok(found)
 }
