@@ -1,4 +1,4 @@
-ghost use Rattle.std.specs.Prelude.{◌≡◌, ◌≤◌, [], length, false, OnOk, IfOk, IfErr, None};
+ghost use Rattle.std.specs.Prelude.{◌≡◌, ◌≤◌, [], length, false, true, OnOk, IfOk, IfErr, None};
 ghost use Rattle.ring_machine.specs.Common.{features};
 ghost use Rattle.device_io.specs.Common.{Sends};
 ghost use Rattle.map_text.specs.Common.{text_of, Saved};
