@@ -11,8 +11,8 @@ use Rattle.script_runner.specs.Common.{state_after_all, opened_state, Progress, 
 use Rattle.script_runner.specs.Common.{FeedsPart, IsReplyFront, IsPartAt, Told, Finishes, PutsLast, OpensAs, Runs}
 use Rattle.script_runner.specs.Common.{AnswersAll, AnswersUpTo, AnswersLines, AnswersPart, IsNextLine, IsFront}
 use Rattle.script_runner.specs.Common.{Completes, SavesPart, Ends, Answers, Halts, Summary}
+use Rattle.script_runner.specs.declared.fault.RunFault.{RunFault}
 use Rattle.script_runner.specs.declared.fault.RunFault.TheVariants as fault
-use Rattle.script_runner.specs.declared.stop.Halt.TheVariants as halt
 use Rattle.device_io.specs.Common.{AppendsPrefix}
 use Rattle.map_text.specs.Common.{text_of, Saved}
 use Rattle.arc_store.specs.State.{State as MapState}
@@ -242,19 +242,17 @@ past_limit read room n t left within is less limit = (
 -- ---- the end of a run
 
 module _ (bytes : List ℕ) (depth : ℕ) (opened : MapState) (began : Edited) (is : began ≡ begun opened depth) (opens : OpensAs bytes opened.doc) (coming left : Reader) (taken given : Writer) where
-  -- the reader failed, or gave too much
-  pub ends_lines : Halts halt.Read began.depth began.map.doc coming left taken given → (held : Writer) → Ends fault.Read bytes depth (devices coming taken held) (devices left given held)
-  ends_lines h held = (opened.doc, opens, subst (λ (e : Edited). Halts halt.Read e.depth e.map.doc coming left taken given) is h held, refl)
-
-  -- the writer failed
-  pub ends_part : Halts halt.Write began.depth began.map.doc coming left taken given → given.failed ≡ true → (held : Writer)
-      → Ends fault.Write bytes depth (devices coming taken held) (devices left given held)
-  ends_part h failed held = (opened.doc, opens, subst (λ (e : Edited). Halts halt.Write e.depth e.map.doc coming left taken given) is h held, failed, refl)
-
-  -- memory was refused in an answer
-  pub ends_unsaved : Halts halt.OutOfMemory began.depth began.map.doc coming left taken given → (held : Writer)
-      → Ends fault.OutOfMemory bytes depth (devices coming taken held) (devices left given held)
-  ends_unsaved h held = inr (opened.doc, opens, inl (subst (λ (e : Edited). Halts halt.OutOfMemory e.depth e.map.doc coming left taken given) is h held, refl))
+  -- the answering of the script ended early: by its reader, by its writer, for want of memory
+  pub ends_halted : (f : RunFault) → Halts f began.depth began.map.doc coming left taken given → (held : Writer)
+      → Ends f bytes depth (devices coming taken held) (devices left given held)
+  ends_halted (fault.Open f) h held = absurd h
+  ends_halted fault.Read h held =
+      (opened.doc, opens, subst (λ (e : Edited). Halts fault.Read e.depth e.map.doc coming left taken given) is h held, refl)
+  ends_halted fault.Write (h, failed) held =
+      (opened.doc, opens, subst (λ (e : Edited). Halts fault.OutOfMemory e.depth e.map.doc coming left taken given) is h held, failed, refl)
+  ends_halted fault.Save h held = absurd h
+  ends_halted fault.OutOfMemory h held =
+      inr (opened.doc, opens, inl (subst (λ (e : Edited). Halts fault.OutOfMemory e.depth e.map.doc coming left taken given) is h held, refl))
 
   module _ (ended last : MapState) (held holds : Writer) (s : Summary) (same : last ≡ ended) (answers : Answers began.depth began.map.doc ended.doc coming left taken given s) where
     answers_all : AnswersAll depth opened.doc last.doc (devices coming taken held) (devices left given holds) s

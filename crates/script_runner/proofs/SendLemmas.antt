@@ -7,10 +7,7 @@ use Rattle.device_io.specs.Common.{AppendsPrefix}
 use Rattle.ring_machine.specs.Common.{Document, Show}
 use Rattle.undo_ring.specs.Common.{Edited, machine_of}
 use Rattle.map_text.specs.Common.{text_of}
-use Rattle.script_runner.specs.Common.{answer_text, Asked, reply_text, refusals, RepliedLine, of_writer, stop_of}
-use Rattle.topo_writer.specs.Common.{of_device}
-use Rattle.topo_writer.specs.declared.fault.WriteFault.{WriteFault}
-use Rattle.topo_writer.specs.declared.fault.WriteFault.TheVariants as write
+use Rattle.script_runner.specs.Common.{answer_text, Asked, reply_text, refusals, RepliedLine}
 use Rattle.script_runner.proofs.ReplyLemmas.{step-show}
 
 -- the answer that shows the document
@@ -26,11 +23,6 @@ shown e = record {
 
 pub shown_text : (e : Edited) (d : Document) → d ≡ e.map.doc → text_of d ++ codes "\n" ≡ reply_text e.depth (machine_of e) (Asked Show)
 shown_text e d is = ap (λ z. text_of z ++ codes "\n") is ∙ sym (show_text e)
-
--- a fault of the text of a map stops the runner as its own
-pub stops_alike : (fault : WriteFault) → of_device fault ≡ of_writer (stop_of fault)
-stops_alike write.Device = refl
-stops_alike write.OutOfMemory = refl
 
 -- ---- what stays taken
 

@@ -9,10 +9,8 @@ pub use Rattle.script_runner.specs.Outcome.{IsFront, IsNextLine, IsUnopened, Ope
 pub use Rattle.script_runner.specs.Progress.{ByteStep, Feeds, FeedsPart, IsPartAt, IsReplyFront, KeptMeans, LineStep}
 pub use Rattle.script_runner.specs.Progress.{Progress, PutsPart, Told, line_at, more, start}
 pub use Rattle.script_runner.specs.Replies.{IsShown, IsShownSaved, Replied, RepliedLine, TellsFault, meaning_of_said}
-pub use Rattle.script_runner.specs.Replies.{of_writer, stop_of}
 pub use Rattle.script_runner.specs.Runs.{AllMean, AllShowSaved, AreLines, Asked, Bad, Meaning, Means, NoFeed, NoFeeds}
 pub use Rattle.script_runner.specs.Runs.{ScriptLine, ShowsSaved, answered, answered_by, ended_line, lines_of, open_line}
 pub use Rattle.script_runner.specs.Runs.{opened_state, refusals, refused, refused_by, replies, reply_text, state_after}
 pub use Rattle.script_runner.specs.Runs.{state_after_all, with_feeds, without_return}
 pub use Rattle.script_runner.specs.declared.runner.Summary.{Summary}
-pub use Rattle.script_runner.specs.declared.stop.Stop.TheVariants.{OutOfMemory, Write}

@@ -1,5 +1,5 @@
 -- What the steps of a run leave, for the proof of the run alone.
-use Rattle.std.specs.Prelude.{◌≡◌, ◌≢◌, ℕ, List}
+use Rattle.std.specs.Prelude.{◌≡◌, ◌≢◌, ℕ, List, true}
 use Rattle.ring_machine.specs.Common.{Document}
 use Rattle.topo_reader.specs.Common.{IsFault}
 use Rattle.topo_outline.specs.declared.fault.OpenFault.TheVariants as opening
@@ -10,8 +10,6 @@ use Rattle.script_runner.specs.Outcome.{IsUnopened, AnswersAll, AnswersLines, An
 use Rattle.script_runner.specs.declared.runner.Summary.{Summary}
 use Rattle.script_runner.specs.declared.fault.RunFault.{RunFault}
 use Rattle.script_runner.specs.declared.fault.RunFault.TheVariants as fault
-use Rattle.script_runner.specs.declared.stop.Halt.{Halt}
-use Rattle.script_runner.specs.declared.stop.Halt.TheVariants as halt
 
 -- a script was answered, from the reader `coming` and into the writer `taken` as they were before,
 -- whatever is saved besides
@@ -21,12 +19,15 @@ Answers depth d e coming left taken given summary =
     → AnswersAll depth d e (devices coming taken held) (devices left given holds) summary
 
 -- how far the answers came where the answering ended early
-abbrev pub Halts : Halt → ℕ → Document → Reader → Reader → Writer → Writer → Type 0
-Halts halt.Read depth d coming left taken given =
+abbrev pub Halts : RunFault → ℕ → Document → Reader → Reader → Writer → Writer → Type 0
+Halts (fault.Open f) depth d coming left taken given = ⊥
+Halts fault.Read depth d coming left taken given =
     (held : Writer) → AnswersLines depth d (devices coming taken held) (devices left given held)
-Halts halt.Write depth d coming left taken given =
-    (held : Writer) → AnswersPart depth d (devices coming taken held) (devices left given held)
-Halts halt.OutOfMemory depth d coming left taken given =
+Halts fault.Write depth d coming left taken given =
+    ((held : Writer) → AnswersPart depth d (devices coming taken held) (devices left given held))
+    × (given.failed ≡ true)
+Halts fault.Save depth d coming left taken given = ⊥
+Halts fault.OutOfMemory depth d coming left taken given =
     (held : Writer) → AnswersPart depth d (devices coming taken held) (devices left given held)
 
 -- why a map was not opened, want of memory apart

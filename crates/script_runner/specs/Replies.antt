@@ -9,10 +9,6 @@ use Rattle.script_lines.specs.Common.{says_of}
 use Rattle.arc_store.specs.declared.fault.EditFault.{EditFault}
 use Rattle.script_lines.specs.declared.lines.Line.{Line}
 use Rattle.script_lines.specs.declared.lines.Line.TheVariants as said
-use Rattle.topo_writer.specs.declared.fault.WriteFault.{WriteFault}
-use Rattle.topo_writer.specs.declared.fault.WriteFault.TheVariants as write
-use Rattle.script_runner.specs.declared.stop.Stop.{Stop}
-use Rattle.script_runner.specs.declared.stop.Stop.TheVariants as stop
 
 -- the command is answered: its answer's text was appended, the state after it is the machine's, and
 -- it refuses or not
@@ -47,16 +43,6 @@ IsShownSaved d (Some said.Count) = Unit {0}
 IsShownSaved d (Some said.Document) = Saved (text_of d) d
 IsShownSaved d (Some said.Undo) = Unit {0}
 IsShownSaved d (Some (said.Edit c)) = Unit {0}
-
--- what stops a runner where the text of a map was not written whole
-abbrev pub stop_of : WriteFault → Stop
-stop_of write.Device = stop.Write
-stop_of write.OutOfMemory = stop.OutOfMemory
-
--- whether what stops a runner is the fault of its writer
-abbrev pub of_writer : Stop → Bool
-of_writer stop.Write = true
-of_writer stop.OutOfMemory = false
 
 -- the refusal's text was appended
 abbrev pub TellsFault : EditFault → List ℕ → List ℕ → Type 0

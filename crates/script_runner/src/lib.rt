@@ -8,7 +8,6 @@ mod ring_lists;
 mod runner;
 mod running;
 mod sending;
-mod stop;
 mod texts;
 
 pub use fault::RunFault;

@@ -6,14 +6,13 @@ ghost use Rattle.script_runner.specs.Answers.{position_text, segment_text};
 ghost use Rattle.script_runner.specs.Answers.{answer_text, at_text, neighbours_text};
 ghost use Rattle.script_runner.specs.Replies.{Replied, TellsFault};
 
-use crate::stop::OutOfMemory;
 use crate::texts::{push_features, push_number, push_position, push_segment};
 use arc_store::EditFault;
 use grid_geometry::{Pos, Seg};
 use itoa::Integer;
 use point_queries::{At, Numbers};
 use segment_index::TreeIndex;
-use std::alloc::Allocator;
+use std::alloc::{AllocError, Allocator};
 use undo_ring::{Answer, Command, Editor, UndoFault};
 
 /// Appends the pair of segments in conflict.
@@ -21,41 +20,38 @@ fn push_conflict<A: Allocator + Copy>(
     text: &mut Vec<u8, A>,
     s: Seg,
     t: Seg,
-) -> Result<(), OutOfMemory>
+) -> Result<(), AllocError>
     ensures { OnOk result (text.new.items ≡ text.old.items
         ++ (codes "conflict " ++ (segment_text s ++ (codes " / " ++ segment_text t)))) }
 {
     text.extend_from_slice(b"conflict ")?;
     push_segment(text, s)?;
     text.extend_from_slice(b" / ")?;
-    push_segment(text, t)?;
-    Ok(())
+    push_segment(text, t)
 }
 
 /// Appends how many runs the common segments form.
-fn push_runs<A: Allocator + Copy>(text: &mut Vec<u8, A>, n: usize) -> Result<(), OutOfMemory>
+fn push_runs<A: Allocator + Copy>(text: &mut Vec<u8, A>, n: usize) -> Result<(), AllocError>
     ensures { OnOk result (text.new.items ≡ text.old.items ++ (codes "runs " ++ decimal n)) }
 {
     text.extend_from_slice(b"runs ")?;
-    push_number(text, n)?;
-    Ok(())
+    push_number(text, n)
 }
 
 /// Appends the least common position off the run.
-fn push_common<A: Allocator + Copy>(text: &mut Vec<u8, A>, pos: Pos) -> Result<(), OutOfMemory>
+fn push_common<A: Allocator + Copy>(text: &mut Vec<u8, A>, pos: Pos) -> Result<(), AllocError>
     ensures { OnOk result
         (text.new.items ≡ text.old.items ++ (codes "common else " ++ position_text pos)) }
 {
     text.extend_from_slice(b"common else ")?;
-    push_position(text, pos)?;
-    Ok(())
+    push_position(text, pos)
 }
 
 /// Appends the text of a refusal; want of memory is none.
 fn push_refusal<A: Allocator + Copy>(
     text: &mut Vec<u8, A>,
     fault: EditFault,
-) -> Result<(), OutOfMemory>
+) -> Result<(), AllocError>
     ensures { OnOk result (TellsFault fault text.old.items text.new.items) }
 {
     text.extend_from_slice(b"refused ")?;
@@ -80,7 +76,7 @@ fn push_refusal<A: Allocator + Copy>(
         EditFault::SameSide => text.extend_from_slice(b"same side")?,
         EditFault::Sweeps => text.extend_from_slice(b"sweeps")?,
         EditFault::Conflict { s, t } => push_conflict(text, s, t)?,
-        EditFault::OutOfMemory => return Err(OutOfMemory),
+        EditFault::OutOfMemory => return Err(AllocError),
     }
     Ok(())
 }
@@ -89,7 +85,7 @@ fn push_refusal<A: Allocator + Copy>(
 fn push_ok<A: Allocator + Copy, I: Integer>(
     text: &mut Vec<u8, A>,
     number: I,
-) -> Result<(), OutOfMemory>
+) -> Result<(), AllocError>
     ensures { OnOk result (text.new.items ≡ text.old.items ++ (codes "ok " ++ I.text number)) }
 {
     text.extend_from_slice(b"ok ")?;
@@ -98,7 +94,7 @@ fn push_ok<A: Allocator + Copy, I: Integer>(
 }
 
 /// Appends the features that hold a position, and those on whose borders it lies.
-fn push_at<A: Allocator + Copy>(text: &mut Vec<u8, A>, found: &At<A>) -> Result<(), OutOfMemory>
+fn push_at<A: Allocator + Copy>(text: &mut Vec<u8, A>, found: &At<A>) -> Result<(), AllocError>
     ensures { OnOk result
         (text.new.items ≡ text.old.items ++ at_text found.now.inside found.now.border) }
 {
@@ -113,7 +109,7 @@ fn push_at<A: Allocator + Copy>(text: &mut Vec<u8, A>, found: &At<A>) -> Result<
 fn push_neighbours<A: Allocator + Copy>(
     text: &mut Vec<u8, A>,
     found: &Numbers<A>,
-) -> Result<(), OutOfMemory>
+) -> Result<(), AllocError>
     ensures { OnOk result (text.new.items ≡ text.old.items ++ neighbours_text found.now) }
 {
     text.extend_from_slice(b"neighbours:")?;
@@ -125,7 +121,7 @@ fn push_neighbours<A: Allocator + Copy>(
 fn push_answer<A: Allocator + Copy>(
     text: &mut Vec<u8, A>,
     answer: &Answer<A>,
-) -> Result<(), OutOfMemory>
+) -> Result<(), AllocError>
     ensures { OnOk result
         (text.new.items ≡ text.old.items ++ answer_text (answer_of answer.now)) }
 {
@@ -145,7 +141,7 @@ pub(crate) fn reply_to<A: Allocator + Copy>(
     editor: &mut Editor<'_, TreeIndex<A>, A>,
     command: Command,
     text: &mut Vec<u8, A>,
-) -> Result<bool, OutOfMemory>
+) -> Result<bool, AllocError>
     requires { IsSound command }
     ensures { IfOk result (λ refuses. Replied editor.old editor.new (command_of command)
         text.old.items text.new.items refuses) }
@@ -166,7 +162,7 @@ pub(crate) fn reply_to<A: Allocator + Copy>(
 pub(crate) fn reply_to_undo<A: Allocator + Copy>(
     editor: &mut Editor<'_, TreeIndex<A>, A>,
     text: &mut Vec<u8, A>,
-) -> Result<bool, OutOfMemory>
+) -> Result<bool, AllocError>
     ensures { IfOk result (λ refuses.
         Replied editor.old editor.new Undo text.old.items text.new.items refuses) }
 {
@@ -179,6 +175,6 @@ pub(crate) fn reply_to_undo<A: Allocator + Copy>(
             text.extend_from_slice(b"refused nothing to undo")?;
             Ok(true)
         }
-        Err(UndoFault::OutOfMemory) => Err(OutOfMemory),
+        Err(UndoFault::OutOfMemory) => Err(AllocError),
     }
 }

@@ -5,17 +5,16 @@ ghost use Rattle.map_text.specs.Common.{commas, pair_text};
 ghost use Rattle.script_runner.specs.Answers.{ring_text, polygon_text};
 ghost use Rattle.script_runner.specs.Replies.{IsShown};
 
-use crate::stop::OutOfMemory;
 use arc_store::{Map, RingIter};
 use segment_index::TreeIndex;
-use std::alloc::Allocator;
+use std::alloc::{AllocError, Allocator};
 use topo_writer::{push_comma, push_pair};
 
 /// Appends positions as pairs, with commas between them.
 fn push_positions<A: Allocator + Copy>(
     positions: RingIter<'_, A>,
     text: &mut Vec<u8, A>,
-) -> Result<(), OutOfMemory>
+) -> Result<(), AllocError>
     ensures { OnOk result (text.new.items
         ≡ text.old.items ++ commas (map pair_text positions.entry)) }
 {
@@ -35,7 +34,7 @@ fn push_ring<A: Allocator + Copy>(
     polygon: usize,
     ring: usize,
     text: &mut Vec<u8, A>,
-) -> Result<(), OutOfMemory>
+) -> Result<(), AllocError>
     ensures { OnOk result (text.new.items ≡ text.old.items ++ ring_text
         (get_or (get_or (feature_at map.now.doc f).polygons polygon []) ring [])) }
 {
@@ -56,7 +55,7 @@ fn push_polygon<A: Allocator + Copy>(
     polygon: usize,
     rings: usize,
     text: &mut Vec<u8, A>,
-) -> Result<(), OutOfMemory>
+) -> Result<(), AllocError>
     requires { rings ≡ length (get_or (feature_at map.now.doc f).polygons polygon []) }
     ensures { OnOk result (text.new.items ≡ text.old.items
         ++ polygon_text (get_or (feature_at map.now.doc f).polygons polygon [])) }
@@ -75,7 +74,7 @@ pub(crate) fn reply_to_rings<A: Allocator + Copy>(
     map: &Map<'_, TreeIndex<A>, A>,
     f: u32,
     text: &mut Vec<u8, A>,
-) -> Result<bool, OutOfMemory>
+) -> Result<bool, AllocError>
     ensures { IfOk result (λ refuses.
         IsShown map.now.doc (Rings f) text.old.items text.new.items refuses) }
 {

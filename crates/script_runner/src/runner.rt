@@ -4,20 +4,21 @@ ghost use Rattle.std.specs.Prelude.{[], length, false, true, OnOk, OnErr, IfOk};
 ghost use Rattle.std.specs.Io.KnownBytes.{Keeps};
 ghost use Rattle.device_io.specs.Common.{Stands};
 ghost use Rattle.script_runner.specs.Runs.{without_return, answered_by, NoFeed};
-ghost use Rattle.script_runner.specs.Replies.{meaning_of_said, of_writer};
+ghost use Rattle.script_runner.specs.Replies.{meaning_of_said};
+ghost use Rattle.topo_writer.specs.Common.{of_device};
 ghost use Rattle.script_lines.specs.Common.{SaysSound};
 ghost use Rattle.ring_machine.specs.Common.{features};
 ghost use Rattle.script_runner.specs.Progress.{KeptMeans, LineStep, Feeds, FeedsPart, PutsPart};
 ghost use Rattle.script_runner.specs.Progress.{Told, start};
 
 use crate::sending::send_reply;
-use crate::stop::{OutOfMemory, Stop};
 use device_io::Sink;
 use memchr::memchr;
 use script_lines::{Line, LineFault, parse_line};
 use segment_index::TreeIndex;
-use std::alloc::{Allocator, Global};
+use std::alloc::{AllocError, Allocator, Global};
 use std::marker::Model;
+use topo_writer::WriteFault;
 use undo_ring::Editor;
 
 /// The most bytes of a line that are kept.
@@ -35,7 +36,7 @@ fn without_return(line: &[u8]) -> &[u8]
 
 /// What the kept line says; nothing for a bad line. Fails where there is no memory for an id or a
 /// path.
-fn said(heap: Global, line: &[u8], over: bool, ended: bool) -> Result<Option<Line>, OutOfMemory>
+fn said(heap: Global, line: &[u8], over: bool, ended: bool) -> Result<Option<Line>, AllocError>
     requires { length line.now ≤ 8192 }
     ensures means { IfOk result (λ said. KeptMeans over ended line.now (meaning_of_said said)) }
     ensures sound { IfOk result (λ said. SaysSound said) }
@@ -47,7 +48,7 @@ fn said(heap: Global, line: &[u8], over: bool, ended: bool) -> Result<Option<Lin
     match parse_line(heap, text) {
         Ok(said) => Ok(Some(said)),
         Err(LineFault::BadLine) => Ok(None),
-        Err(LineFault::OutOfMemory) => Err(OutOfMemory),
+        Err(LineFault::OutOfMemory) => Err(AllocError),
     }
 }
 
@@ -128,7 +129,7 @@ impl<'a, A: Allocator + Copy> Runner<'a, A> {
     }
 
     /// Answers the kept line, which a line feed ends or which is the last.
-    fn answer<W: Sink>(&mut self, ended: bool, out: &mut W) -> Result<(), Stop>
+    fn answer<W: Sink>(&mut self, ended: bool, out: &mut W) -> Result<(), WriteFault>
         requires works { W.has_failed out.old ≡ false }
         requires room { self.old.answered < self.old.bytes }
         requires bytes { self.old.bytes < 2 ^ 63 }
@@ -136,7 +137,7 @@ impl<'a, A: Allocator + Copy> Runner<'a, A> {
             (λ text. LineStep ended self.old text self.new)) }
         ensures bytes { OnOk result (self.new.bytes ≡ self.old.bytes) }
         ensures cut { OnErr result (PutsPart ended self.old (W.taken out.old) (W.taken out.new)) }
-        ensures stands { Stands W.Sink of_writer out.new result }
+        ensures stands { Stands W.Sink of_device out.new result }
     {
         let over = self.over;
         let said = said(self.heap, self.line.as_slice(), over, ended)?;
@@ -150,7 +151,7 @@ impl<'a, A: Allocator + Copy> Runner<'a, A> {
     }
 
     /// Keeps bytes of a line, none of them a line feed; of a line over the limit only its front.
-    fn keep(&mut self, bytes: &[u8]) -> Result<(), OutOfMemory>
+    fn keep(&mut self, bytes: &[u8]) -> Result<(), AllocError>
         requires feeds { NoFeed bytes.now }
         requires bytes { self.old.bytes + length bytes.now < 2 ^ 62 }
         ensures ok { OnOk result (Feeds self.old bytes.now [] self.new) }
@@ -165,7 +166,7 @@ impl<'a, A: Allocator + Copy> Runner<'a, A> {
     }
 
     /// Takes the bytes of a line and the line feed behind them, and answers the line.
-    fn feed_line<W: Sink>(&mut self, line: &[u8], out: &mut W) -> Result<(), Stop>
+    fn feed_line<W: Sink>(&mut self, line: &[u8], out: &mut W) -> Result<(), WriteFault>
         requires works { W.has_failed out.old ≡ false }
         requires feeds { NoFeed line.now }
         requires bytes { self.old.bytes + length line.now + 1 < 2 ^ 62 }
@@ -174,7 +175,7 @@ impl<'a, A: Allocator + Copy> Runner<'a, A> {
         ensures bytes { OnOk result (self.new.bytes ≡ self.old.bytes + length line.now + 1) }
         ensures cut { OnErr result
             (FeedsPart (W.taken out.old) (W.taken out.new) self.old (line.now ++ 10 ∷ [])) }
-        ensures stands { Stands W.Sink of_writer out.new result }
+        ensures stands { Stands W.Sink of_device out.new result }
     {
         self.keep(line)?;
         self.bytes += 1;
@@ -183,7 +184,7 @@ impl<'a, A: Allocator + Copy> Runner<'a, A> {
     }
 
     /// Takes the next bytes of a script, and answers each line that ends in them.
-    pub(crate) fn feed<W: Sink>(&mut self, piece: &[u8], out: &mut W) -> Result<(), Stop>
+    pub(crate) fn feed<W: Sink>(&mut self, piece: &[u8], out: &mut W) -> Result<(), WriteFault>
         requires works { W.has_failed out.old ≡ false }
         requires bytes { self.old.bytes + length piece.now < 2 ^ 62 }
         ensures ok { OnOk result (Told (W.taken out.old) (W.taken out.new)
@@ -191,7 +192,7 @@ impl<'a, A: Allocator + Copy> Runner<'a, A> {
         ensures bytes { OnOk result (self.new.bytes ≡ self.old.bytes + length piece.now) }
         ensures cut { OnErr result
             (FeedsPart (W.taken out.old) (W.taken out.new) self.old piece.now) }
-        ensures stands { Stands W.Sink of_writer out.new result }
+        ensures stands { Stands W.Sink of_device out.new result }
     {
         let mut rest = piece;
         while let Some(len) = memchr(b'\n', rest) {
@@ -206,13 +207,16 @@ impl<'a, A: Allocator + Copy> Runner<'a, A> {
     ghost use Rattle.script_runner.specs.Finish.{Finishes, PutsLast, Counts};
 
     /// Sends the answers on, and answers the counts and the map with its history.
-    fn flush<W: Sink>(self, out: &mut W) -> Result<(Summary, Editor<'a, TreeIndex<A>, A>), Stop>
+    fn flush<W: Sink>(
+        self,
+        out: &mut W,
+    ) -> Result<(Summary, Editor<'a, TreeIndex<A>, A>), WriteFault>
         requires { W.has_failed out.old ≡ false }
         ensures kept { Keeps (W.taken out.old) (W.taken out.new) }
         ensures sent { OnOk result (W.is_flushed out.new ≡ true) }
         ensures ends { IfOk result
             (λ done. Counts self.entry done.0 × (done.1.map.doc ≡ self.entry.state.doc)) }
-        ensures stands { Stands W.Sink of_writer out.new result }
+        ensures stands { Stands W.Sink of_device out.new result }
     {
         out.flush()?;
         let Runner {
@@ -233,14 +237,14 @@ impl<'a, A: Allocator + Copy> Runner<'a, A> {
     pub(crate) fn finish<W: Sink>(
         mut self,
         out: &mut W,
-    ) -> Result<(Summary, Editor<'a, TreeIndex<A>, A>), Stop>
+    ) -> Result<(Summary, Editor<'a, TreeIndex<A>, A>), WriteFault>
         requires works { W.has_failed out.old ≡ false }
         requires bytes { self.bytes < 2 ^ 63 }
         ensures ok { IfOk result (λ done. Told (W.taken out.old) (W.taken out.new)
             (λ text. Finishes self.entry text done.0 done.1.map.doc)) }
         ensures cut { OnErr result (PutsLast self.entry (W.taken out.old) (W.taken out.new)) }
         ensures sent { OnOk result (W.is_flushed out.new ≡ true) }
-        ensures stands { Stands W.Sink of_writer out.new result }
+        ensures stands { Stands W.Sink of_device out.new result }
     {
         if self.line.as_slice().is_empty() {
             return self.flush(out);

@@ -1,4 +1,4 @@
-ghost use Rattle.std.specs.Prelude.{◌≡◌, ◌≤◌, [], length, false, true, OnOk, IfOk, IfErr, Err, None};
+ghost use Rattle.std.specs.Prelude.{◌≡◌, ◌≤◌, [], length, false, true, OnOk, IfOk, IfErr, None};
 ghost use Rattle.ring_machine.specs.Common.{features};
 ghost use Rattle.device_io.specs.Common.{Sends};
 ghost use Rattle.map_text.specs.Common.{text_of, Saved};
@@ -9,7 +9,6 @@ ghost use Rattle.script_runner.specs.Ended.{Answers, Halts, IsOpenEnd, IsBuildEn
 
 use crate::fault::RunFault;
 use crate::runner::{Runner, Summary};
-use crate::stop::{Halt, Stop};
 use arc_store::{BuildFault, Map};
 use device_io::{Sink, Source};
 use segment_index::TreeIndex;
@@ -69,7 +68,7 @@ fn answer_script<'a, A: Allocator + Copy, R: Source, W: Sink>(
     editor: Editor<'a, TreeIndex<A>, A>,
     script: &mut R,
     out: &mut W,
-) -> Result<(Summary, Editor<'a, TreeIndex<A>, A>), Halt>
+) -> Result<(Summary, Editor<'a, TreeIndex<A>, A>), RunFault<'a>>
     requires numbered { editor.map.next ≡ length (features editor.map.doc) }
     requires fresh { editor.past ≡ [] }
     requires reader { R.has_failed script.old ≡ false }
@@ -77,10 +76,9 @@ fn answer_script<'a, A: Allocator + Copy, R: Source, W: Sink>(
     ensures done { IfOk result (λ done. Answers editor.entry.depth editor.entry.map.doc
         done.1.map.doc (reader_of R.Source script.old) (reader_of R.Source script.new)
         (writer_of W.Sink out.old) (writer_of W.Sink out.new) done.0) }
-    ensures halted { IfErr result (λ halt. Halts halt editor.entry.depth editor.entry.map.doc
+    ensures halted { IfErr result (λ fault. Halts fault editor.entry.depth editor.entry.map.doc
         (reader_of R.Source script.old) (reader_of R.Source script.new)
         (writer_of W.Sink out.old) (writer_of W.Sink out.new)) }
-    ensures write { result ≡ Err Halt.Write → W.has_failed out.new ≡ true }
 {
     let mut runner = Runner::new(alloc, heap, editor);
     let mut room = [0u8; PIECE];
@@ -88,23 +86,23 @@ fn answer_script<'a, A: Allocator + Copy, R: Source, W: Sink>(
     loop {
         let n = match script.get(&mut room) {
             Ok(n) => n,
-            Err(_) => return Err(Halt::Read),
+            Err(_) => return Err(RunFault::Read),
         };
         if n == 0 {
             return match runner.finish(out) {
                 Ok(done) => Ok(done),
-                Err(Stop::Write) => Err(Halt::Write),
-                Err(Stop::OutOfMemory) => Err(Halt::OutOfMemory),
+                Err(WriteFault::Device) => Err(RunFault::Write),
+                Err(WriteFault::OutOfMemory) => Err(RunFault::OutOfMemory),
             };
         }
         let taken = n.min(left);
         match runner.feed(&room[..taken], out) {
             Ok(()) => {}
-            Err(Stop::Write) => return Err(Halt::Write),
-            Err(Stop::OutOfMemory) => return Err(Halt::OutOfMemory),
+            Err(WriteFault::Device) => return Err(RunFault::Write),
+            Err(WriteFault::OutOfMemory) => return Err(RunFault::OutOfMemory),
         }
         if taken < n {
-            return Err(Halt::Read);
+            return Err(RunFault::Read);
         }
         left -= taken;
     }
@@ -168,9 +166,7 @@ pub fn run<'a, A: Allocator + Copy, R: Source, W: Sink, V: Sink>(
     };
     let (summary, last) = match answer_script(alloc, heap, editor, script, out) {
         Ok(done) => done,
-        Err(Halt::Read) => return Err(RunFault::Read),
-        Err(Halt::Write) => return Err(RunFault::Write),
-        Err(Halt::OutOfMemory) => return Err(RunFault::OutOfMemory),
+        Err(fault) => return Err(fault),
     };
     match save(alloc, last.map(), saved) {
         Ok(()) => Ok(summary),

@@ -4,23 +4,23 @@ ghost use Rattle.device_io.specs.Common.{Sends};
 ghost use Rattle.map_text.specs.Common.{text_of, Saved};
 ghost use Rattle.undo_ring.specs.Common.{machine_of};
 ghost use Rattle.script_runner.specs.Runs.{reply_text};
-ghost use Rattle.script_runner.specs.Replies.{RepliedLine, IsShownSaved, meaning_of_said, of_writer};
+ghost use Rattle.script_runner.specs.Replies.{RepliedLine, IsShownSaved, meaning_of_said};
+ghost use Rattle.topo_writer.specs.Common.{of_device};
 ghost use Rattle.script_lines.specs.Common.{SaysSound};
 
 use crate::questions::reply_to_count;
 use crate::replies::{reply_to, reply_to_undo};
 use crate::ring_lists::reply_to_rings;
-use crate::stop::{OutOfMemory, Stop};
 use arc_store::Map;
 use device_io::{Sink, put_all};
 use script_lines::Line;
 use segment_index::TreeIndex;
-use std::alloc::Allocator;
-use topo_writer::write;
+use std::alloc::{AllocError, Allocator};
+use topo_writer::{WriteFault, write};
 use undo_ring::Editor;
 
 /// Appends the answer to a line that says nothing that is taken. Answers that it counts as refused.
-fn push_bad_line<A: Allocator + Copy>(text: &mut Vec<u8, A>) -> Result<bool, OutOfMemory>
+fn push_bad_line<A: Allocator + Copy>(text: &mut Vec<u8, A>) -> Result<bool, AllocError>
     ensures text { OnOk result (text.new.items ≡ text.old.items ++ codes "bad line") }
     ensures refused { IfOk result (λ refuses. refuses ≡ true) }
 {
@@ -33,9 +33,9 @@ fn send_document<A: Allocator + Copy, W: Sink>(
     alloc: A,
     map: &Map<'_, TreeIndex<A>, A>,
     out: &mut W,
-) -> Result<(), Stop>
+) -> Result<(), WriteFault>
     requires { W.has_failed out.old ≡ false }
-    ensures sends { Sends W.Sink of_writer out.old out.new result
+    ensures sends { Sends W.Sink of_device out.old out.new result
         (text_of map.now.doc ++ codes "\n") }
     ensures saved { Saved (text_of map.now.doc) map.now.doc }
 {
@@ -51,10 +51,10 @@ pub(crate) fn send_reply<A: Allocator + Copy, W: Sink>(
     said: Option<Line>,
     text: &mut Vec<u8, A>,
     out: &mut W,
-) -> Result<bool, Stop>
+) -> Result<bool, WriteFault>
     requires sound { SaysSound said }
     requires works { W.has_failed out.old ≡ false }
-    ensures sends { Sends W.Sink of_writer out.old out.new result
+    ensures sends { Sends W.Sink of_device out.old out.new result
         (reply_text editor.old.depth (machine_of editor.old) (meaning_of_said said)) }
     ensures replied { IfOk result (λ refuses.
         RepliedLine editor.old editor.new (meaning_of_said said) refuses) }
@@ -73,7 +73,7 @@ pub(crate) fn send_reply<A: Allocator + Copy, W: Sink>(
         Some(Line::Edit(command)) => reply_to(editor, command, text)?,
         None => push_bad_line(text)?,
     };
-    text.push(b'\n')?;
+    text.extend_from_slice(b"\n")?;
     put_all(out, text.as_slice())?;
     Ok(refuses)
 }

@@ -2,55 +2,51 @@
 ghost use Rattle.std.specs.Prelude.{◌≡◌, ◌++◌, OnOk};
 ghost use Rattle.script_runner.specs.Answers.{position_text, segment_text, spaced_numbers};
 
-use crate::stop::OutOfMemory;
 use grid_geometry::{Pos, Seg};
 use itoa::{Buffer, Integer};
 use point_queries::Numbers;
-use std::alloc::Allocator;
+use std::alloc::{AllocError, Allocator};
 
 /// Appends a number in decimal.
 pub(crate) fn push_number<A: Allocator + Copy, I: Integer>(
     text: &mut Vec<u8, A>,
     number: I,
-) -> Result<(), OutOfMemory>
+) -> Result<(), AllocError>
     ensures { OnOk result (text.new.items ≡ text.old.items ++ I.text number) }
 {
     let mut buffer = Buffer::new();
-    text.extend_from_slice(buffer.format(number).as_bytes())?;
-    Ok(())
+    text.extend_from_slice(buffer.format(number).as_bytes())
 }
 
 /// Appends both numbers with a space between them.
 pub(crate) fn push_position<A: Allocator + Copy>(
     text: &mut Vec<u8, A>,
     position: Pos,
-) -> Result<(), OutOfMemory>
+) -> Result<(), AllocError>
     ensures { OnOk result (text.new.items ≡ text.old.items ++ position_text position) }
 {
     push_number(text, position.x())?;
     text.extend_from_slice(b" ")?;
-    push_number(text, position.y())?;
-    Ok(())
+    push_number(text, position.y())
 }
 
 /// Appends the lesser end and the greater.
 pub(crate) fn push_segment<A: Allocator + Copy>(
     text: &mut Vec<u8, A>,
     segment: Seg,
-) -> Result<(), OutOfMemory>
+) -> Result<(), AllocError>
     ensures { OnOk result (text.new.items ≡ text.old.items ++ segment_text segment) }
 {
     push_position(text, segment.lo)?;
     text.extend_from_slice(b" ")?;
-    push_position(text, segment.hi)?;
-    Ok(())
+    push_position(text, segment.hi)
 }
 
 /// Appends each number after a space.
 fn push_numbers<A: Allocator + Copy>(
     text: &mut Vec<u8, A>,
     numbers: &[u32],
-) -> Result<(), OutOfMemory>
+) -> Result<(), AllocError>
     ensures { OnOk result (text.new.items ≡ text.old.items ++ spaced_numbers numbers.now) }
 {
     for number in numbers {
@@ -64,7 +60,7 @@ fn push_numbers<A: Allocator + Copy>(
 pub(crate) fn push_features<A: Allocator + Copy>(
     text: &mut Vec<u8, A>,
     features: &Numbers<A>,
-) -> Result<(), OutOfMemory>
+) -> Result<(), AllocError>
     ensures { OnOk result (text.new.items ≡ text.old.items ++ spaced_numbers features.now) }
 {
     push_numbers(text, features.0.as_slice())

@@ -1,7 +1,8 @@
 use Rattle.kit_words.proofs.Common.{◌+◌, ◌++◌, [], ◌∙◌, ap, refl, take, drop, rules, arith, length, ◌≡◌, ◌≤◌, ℕ}
 use Rattle.kit_words.proofs.Common.{Consumes-nil, Appends-nil, length-take-le}
-use Rattle.script_runner.specs.Common.{reader_of, writer_of, devices, Progress, of_writer}
+use Rattle.script_runner.specs.Common.{reader_of, writer_of, devices, Progress}
 use Rattle.device_io.proofs.Common.{Appends-more}
+use Rattle.topo_writer.specs.Common.{of_device}
 use Rattle.script_runner.proofs.StepLemmas.{Feeds-append}
 use Rattle.script_runner.proofs.RunLemmas.{lines_kept, all_answered, end_read, part_at_end, part_in_piece, piece_came, whole_came, past_limit, fed_length, lines_in_piece, piece_fits, rest_fits}
 use Rattle.script_runner.proofs.running.answer_script.Goals as goal
@@ -25,15 +26,18 @@ returns-in-Ok-finish-clause-done g c = λ held holds.
     (end_read _ _ _ read c.get.new.room c.in-Ok.n c.if-n-eq0.true came c.in-Ok.ensures.ok)
     (c.in-Ok.ensures.end c.if-n-eq0.true (omega (arith, c.get.auto.room))) within put c.in-Ok-finish.ensures.ok c.in-Ok-finish.ensures.sent
 
-pub returns-in-Err-Write-clause-halted : goal.returns-in-Err-Write-clause-halted
-returns-in-Err-Write-clause-halted g c = λ held.
-    let (read, text, came, put, fed, counted) = c.loop-n.invariant.so_far in
-    part_at_end c.args.editor.depth c.args.editor.map.doc
-    (devices (reader_of g.R.Source c.args.script.now) (writer_of g.W.Sink c.args.out.now) held)
-    (devices (reader_of g.R.Source c.get.new.self) (writer_of g.W.Sink c.finish.new.out) held)
-    read text c.loop-n.runner (g.W.Sink.taken c.loop-n.out) fed
-    (end_read _ _ _ read c.get.new.room c.in-Ok.n c.if-n-eq0.true came c.in-Ok.ensures.ok)
-    (c.in-Ok.ensures.end c.if-n-eq0.true (omega (arith, c.get.auto.room))) put c.in-Err-Write.ensures.cut
+pub returns-in-Err-Device-clause-halted : goal.returns-in-Err-Device-clause-halted
+returns-in-Err-Device-clause-halted g c = (
+  λ held.
+      let (read, text, came, put, fed, counted) = c.loop-n.invariant.so_far in
+      part_at_end c.args.editor.depth c.args.editor.map.doc
+      (devices (reader_of g.R.Source c.args.script.now) (writer_of g.W.Sink c.args.out.now) held)
+      (devices (reader_of g.R.Source c.get.new.self) (writer_of g.W.Sink c.finish.new.out) held)
+      read text c.loop-n.runner (g.W.Sink.taken c.loop-n.out) fed
+      (end_read _ _ _ read c.get.new.room c.in-Ok.n c.if-n-eq0.true came c.in-Ok.ensures.ok)
+      (c.in-Ok.ensures.end c.if-n-eq0.true (omega (arith, c.get.auto.room))) put c.in-Err-Device.ensures.cut,
+  c.in-Err-Device.ensures.stands ∙ ap of_device c.in-Err-Device.field-0-is,
+)
 
 pub returns-in-Err-OutOfMemory-clause-halted : goal.returns-in-Err-OutOfMemory-clause-halted
 returns-in-Err-OutOfMemory-clause-halted g c = λ held.
@@ -45,17 +49,20 @@ returns-in-Err-OutOfMemory-clause-halted g c = λ held.
     (end_read _ _ _ read c.get.new.room c.in-Ok.n c.if-n-eq0.true came c.in-Ok.ensures.ok)
     (c.in-Ok.ensures.end c.if-n-eq0.true (omega (arith, c.get.auto.room))) put c.in-Err-OutOfMemory.ensures.cut
 
-pub returns-in-Err-Write-feed-clause-halted : goal.returns-in-Err-Write-feed-clause-halted
-returns-in-Err-Write-feed-clause-halted g c = λ held.
-    let (read, text, came, put, fed, counted) = c.loop-n.invariant.so_far in
-    let within : c.min-taken.result ≤ c.in-Ok.n = omega arith in
-    let whole : length c.get.new.room ≡ 4096 = omega (arith, c.get.auto.room) in
-    part_in_piece c.args.editor.depth c.args.editor.map.doc
-    (devices (reader_of g.R.Source c.args.script.now) (writer_of g.W.Sink c.args.out.now) held)
-    (devices (reader_of g.R.Source c.get.new.self) (writer_of g.W.Sink c.feed.new.out) held)
-    read text (take c.min-taken.result c.get.new.room) (drop c.min-taken.result (take c.in-Ok.n c.get.new.room)) c.loop-n.runner (g.W.Sink.taken c.loop-n.out) fed
-    (piece_came _ _ _ read c.get.new.room c.in-Ok.n c.min-taken.result within came c.in-Ok.ensures.ok)
-    (piece_fits c.get.new.room c.in-Ok.n c.min-taken.result whole c.in-Ok.ensures.within within) put c.in-Err-Write-feed.ensures.cut
+pub returns-in-Err-Device-feed-clause-halted : goal.returns-in-Err-Device-feed-clause-halted
+returns-in-Err-Device-feed-clause-halted g c = (
+  λ held.
+      let (read, text, came, put, fed, counted) = c.loop-n.invariant.so_far in
+      let within : c.min-taken.result ≤ c.in-Ok.n = omega arith in
+      let whole : length c.get.new.room ≡ 4096 = omega (arith, c.get.auto.room) in
+      part_in_piece c.args.editor.depth c.args.editor.map.doc
+      (devices (reader_of g.R.Source c.args.script.now) (writer_of g.W.Sink c.args.out.now) held)
+      (devices (reader_of g.R.Source c.get.new.self) (writer_of g.W.Sink c.feed.new.out) held)
+      read text (take c.min-taken.result c.get.new.room) (drop c.min-taken.result (take c.in-Ok.n c.get.new.room)) c.loop-n.runner (g.W.Sink.taken c.loop-n.out) fed
+      (piece_came _ _ _ read c.get.new.room c.in-Ok.n c.min-taken.result within came c.in-Ok.ensures.ok)
+      (piece_fits c.get.new.room c.in-Ok.n c.min-taken.result whole c.in-Ok.ensures.within within) put c.in-Err-Device-feed.ensures.cut,
+  c.in-Err-Device-feed.ensures.stands ∙ ap of_device c.in-Err-Device-feed.field-0-is,
+)
 
 pub returns-in-Err-OutOfMemory-feed-clause-halted : goal.returns-in-Err-OutOfMemory-feed-clause-halted
 returns-in-Err-OutOfMemory-feed-clause-halted g c = λ held.
@@ -111,6 +118,3 @@ loop-n-init g c = record {
   writer = c.requires.writer;
   bytes = ap (λ (p : Progress). p.bytes + 1073741824) c.new-runner.ensures;
 }
-
-pub returns-in-Err-Write-feed-clause-write : goal.returns-in-Err-Write-feed-clause-write
-returns-in-Err-Write-feed-clause-write g c = λ _. c.in-Err-Write-feed.ensures.stands ∙ ap of_writer c.in-Err-Write-feed.field-0-is

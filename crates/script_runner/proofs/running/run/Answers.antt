@@ -1,8 +1,8 @@
-use Rattle.kit_words.proofs.Common.{Err, ap, ◌∙◌}
+use Rattle.kit_words.proofs.Common.{ap, ◌∙◌}
 use Rattle.topo_writer.specs.Common.{of_device}
 use Rattle.script_runner.specs.Common.{reader_of, writer_of, devices_of}
 use Rattle.script_runner.proofs.OpenLemmas.{ends_unopened}
-use Rattle.script_runner.proofs.RunLemmas.{ends_lines, ends_part, ends_unsaved, completes, ends_saving, ends_saved_part}
+use Rattle.script_runner.proofs.RunLemmas.{ends_halted, completes, ends_saving, ends_saved_part}
 use Rattle.script_runner.proofs.running.run.Goals as goal
 
 pub returns-in-Ok-save-clause-done : goal.returns-in-Ok-save-clause-done
@@ -27,24 +27,11 @@ returns-clause-fault g c =
     c.in-Ok-answer_script.done.1.map c.map.result.now (writer_of g.V.Sink c.args.saved.now) (writer_of g.V.Sink c.save.new.saved) c.in-Ok-answer_script.done.0
     c.map.ensures c.in-Ok-answer_script.ensures.done c.in-Err-OutOfMemory-save.ensures.sends.taken c.in-Err-OutOfMemory-save.ensures.saved
 
-pub returns-in-Err-Read-clause-fault : goal.returns-in-Err-Read-clause-fault
-returns-in-Err-Read-clause-fault g c =
-    ends_lines c.args.map.now c.args.depth c.in-Ok.opened c.in-Ok-new.editor c.in-Ok-new.ensures.made c.in-Ok.ensures.opened
+pub returns-in-Err-answer_script-clause-fault : goal.returns-in-Err-answer_script-clause-fault
+returns-in-Err-answer_script-clause-fault g c =
+    ends_halted c.args.map.now c.args.depth c.in-Ok.opened c.in-Ok-new.editor c.in-Ok-new.ensures.made c.in-Ok.ensures.opened
     (reader_of g.R.Source c.args.script.now) (reader_of g.R.Source c.answer_script.new.script) (writer_of g.W.Sink c.args.out.now) (writer_of g.W.Sink c.answer_script.new.out)
-    (rw c.in-Err-Read.field-0-is at c.in-Err-Read.ensures.halted) (writer_of g.V.Sink c.args.saved.now)
-
-pub returns-in-Err-Write-clause-fault : goal.returns-in-Err-Write-clause-fault
-returns-in-Err-Write-clause-fault g c =
-    ends_part c.args.map.now c.args.depth c.in-Ok.opened c.in-Ok-new.editor c.in-Ok-new.ensures.made c.in-Ok.ensures.opened
-    (reader_of g.R.Source c.args.script.now) (reader_of g.R.Source c.answer_script.new.script) (writer_of g.W.Sink c.args.out.now) (writer_of g.W.Sink c.answer_script.new.out)
-    (rw c.in-Err-Write.field-0-is at c.in-Err-Write.ensures.halted) (c.answer_script.ensures.write (c.in-Err-Write.is ∙ ap Err c.in-Err-Write.field-0-is))
-    (writer_of g.V.Sink c.args.saved.now)
-
-pub returns-in-Err-OutOfMemory-clause-fault : goal.returns-in-Err-OutOfMemory-clause-fault
-returns-in-Err-OutOfMemory-clause-fault g c =
-    ends_unsaved c.args.map.now c.args.depth c.in-Ok.opened c.in-Ok-new.editor c.in-Ok-new.ensures.made c.in-Ok.ensures.opened
-    (reader_of g.R.Source c.args.script.now) (reader_of g.R.Source c.answer_script.new.script) (writer_of g.W.Sink c.args.out.now) (writer_of g.W.Sink c.answer_script.new.out)
-    (rw c.in-Err-OutOfMemory.field-0-is at c.in-Err-OutOfMemory.ensures.halted) (writer_of g.V.Sink c.args.saved.now)
+    c.in-Err-answer_script.fault c.in-Err-answer_script.ensures.halted (writer_of g.V.Sink c.args.saved.now)
 
 pub returns-in-Err-clause-fault : goal.returns-in-Err-clause-fault
 returns-in-Err-clause-fault g c =

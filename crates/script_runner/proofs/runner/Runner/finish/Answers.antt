@@ -1,6 +1,6 @@
 use Rattle.kit_words.proofs.Common.{◌≡◌, ◌∙◌, ◌==◌, length, sym, ap, Bool, false, Result, Ok, Err, IsErrAnd}
 use Rattle.kit_words.proofs.Common.{MatchResult, IfOk-weaker}
-use Rattle.script_runner.specs.Common.{of_writer}
+use Rattle.topo_writer.specs.Common.{of_device}
 use Rattle.script_runner.proofs.StepLemmas.{on_last, put_last, put_none, put_some, finished_none, finished_line}
 use Rattle.script_runner.proofs.runner.Runner.finish.Goals as goal
 
@@ -42,4 +42,4 @@ stands_on failed is_its fault (Err e) is h = h ∙ ap is_its (sym is)
 
 pub returns-in_err-answer-clause-stands : goal.returns-in_err-answer-clause-stands
 returns-in_err-answer-clause-stands g c =
-    stands_on (g.W.Sink.has_failed c.answer.new.out) of_writer _ _ c.from_residual.ensures.1 c.in_err-answer.ensures.stands
+    stands_on (g.W.Sink.has_failed c.answer.new.out) of_device _ _ c.from_residual.ensures.1 c.in_err-answer.ensures.stands
