@@ -25,7 +25,7 @@ returns-clause-fault g c =
     ends_saved_part c.args.map.now c.args.depth c.in-Ok.opened c.in-Ok-new.editor c.in-Ok-new.ensures.made c.in-Ok.ensures.opened
     (reader_of g.R.Source c.args.script.now) (reader_of g.R.Source c.answer_script.new.script) (writer_of g.W.Sink c.args.out.now) (writer_of g.W.Sink c.answer_script.new.out)
     c.in-Ok-answer_script.done.1.map c.map.result.now (writer_of g.V.Sink c.args.saved.now) (writer_of g.V.Sink c.save.new.saved) c.in-Ok-answer_script.done.0
-    c.map.ensures c.in-Ok-answer_script.ensures.done c.in-Err-OutOfMemory-save.ensures.sends.taken c.in-Err-OutOfMemory-save.ensures.saved
+    c.map.ensures c.in-Ok-answer_script.ensures.done c.in-Err-OutOfMemory.ensures.sends.taken c.in-Err-OutOfMemory.ensures.saved
 
 pub returns-in-Err-answer_script-clause-fault : goal.returns-in-Err-answer_script-clause-fault
 returns-in-Err-answer_script-clause-fault g c =
