@@ -63,6 +63,30 @@ fn place_at_end(path: &[VertexKey], a: VertexKey, b: VertexKey) -> Option<(usize
     }
 }
 
+/// The place of the segment in a path, where it stands beside this place: behind it in the direction
+/// in which the segment there was gone along, where a ring goes on, or before it.
+fn place_beside(
+    path: &[VertexKey],
+    near: Place,
+    a: VertexKey,
+    b: VertexKey,
+) -> Option<(usize, bool)>
+    ensures { IfSome result (λ p. IsPlace path.now p.0 p.1 a b) }
+{
+    let at = near.at;
+    let before = at..at.saturating_add(1);
+    let after = at.saturating_add(2)..at.saturating_add(3);
+    let (first, second) = if near.back {
+        (before, after)
+    } else {
+        (after, before)
+    };
+    match place_in(path, first, a, b) {
+        Some(place) => Some(place),
+        None => place_in(path, second, a, b),
+    }
+}
+
 /// The place of the segment in one of these arcs, where it is the first or the last one of the arc,
 /// as it mostly is where arcs meet.
 fn find_at_end<A: Allocator + Copy>(
@@ -146,8 +170,7 @@ impl<A: Allocator + Copy> Tables<A> {
         ensures there { IfSome result (λ p. ContainsKey self.now.arcs p.arc) }
     {
         let arc = self.arcs.get(near.arc)?;
-        let ends = near.at..near.at.saturating_add(3);
-        let (at, back) = place_in(arc.keys.as_slice(), ends, a, b)?;
+        let (at, back) = place_beside(arc.keys.as_slice(), near, a, b)?;
         Some(Place {
             arc: near.arc,
             at,
