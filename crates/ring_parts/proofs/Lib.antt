@@ -1,4 +1,5 @@
 pub mod Turning
+pub mod KeptSides
 pub mod Searching
 pub mod PathLists
 pub mod LeastOff

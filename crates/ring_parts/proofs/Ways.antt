@@ -28,7 +28,7 @@ pub ruleset edge_steps = (edge_step, last_step)
 pub edge_turned : (es : List Edge) (e : Edge) → list_any (λ f. edge_eq f e) es ≡ list_any (edge_eq e) es
 edge_turned es e = λ i. list_any (λ f. position_eq-sym f.0 e.0 i && position_eq-sym f.1 e.1 i) es
 
-any_of : {A B : Type 0} (test : B → Bool) (of : A → B) (xs : List A) → list_any test (map of xs) ≡ list_any (λ x. test (of x)) xs
+pub any_of : {A B : Type 0} (test : B → Bool) (of : A → B) (xs : List A) → list_any test (map of xs) ≡ list_any (λ x. test (of x)) xs
 any_of test of [] = refl
 any_of test of (x ∷ xs) = ap (λ b. test (of x) || b) (any_of test of xs)
 

@@ -1,10 +1,10 @@
 -- The edges of rings by their ends, and how common ones follow each other.
-use Rattle.std.specs.Prelude.{ℕ, Bool, not, ◌&&◌, List, [], ◌∷◌, ◌++◌, map}
+use Rattle.std.specs.Prelude.{◌≡◌, ◌⊎◌, reverse, ℕ, Bool, not, ◌&&◌, List, [], ◌∷◌, ◌++◌, map}
 use Rattle.std.specs.List.{zip, count_by, filter}
 use Rattle.std.specs.Ordering.{ordering_then}
 use Rattle.std.specs.declared.cmp.Ordering.{Ordering}
 use Rattle.grid_geometry.specs.Common.{Position, position_cmp, Edge}
-use Rattle.ring_machine.specs.Common.{segment_of}
+use Rattle.ring_machine.specs.Common.{segment_of, is_common}
 
 -- the ends of an edge, the lesser one first
 abbrev pub ends_of : Edge → Edge
@@ -35,3 +35,11 @@ both_ends (e ∷ es) = e.0 ∷ e.1 ∷ both_ends es
 -- both ends of each edge that is common
 abbrev pub run_ends : (Edge → Bool) → List Edge → List Position
 run_ends common es = both_ends (filter common es)
+
+-- the edge's segment is one of both rings
+unfoldable pub is_shared : List Position → List Position → Edge → Bool
+is_shared r s e = is_common r e && is_common s e
+
+-- the ring, or the ring turned round
+abbrev pub IsEitherWay : List Position → List Position → Type 0
+IsEitherWay ring ps = (ps ≡ ring) ⊎ (ps ≡ reverse ring)

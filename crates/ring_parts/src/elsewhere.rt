@@ -2,28 +2,29 @@
 ghost use Rattle.std.specs.Prelude.{◌≡◌, ◌&&◌, not, IfOk};
 ghost use Rattle.ring_machine.specs.Ring as machine;
 ghost use Rattle.ring_machine.specs.Join as spec;
-ghost use Rattle.ring_machine.specs.Common.{is_common};
-ghost use Rattle.ring_parts.specs.Borders.{run_ends};
+ghost use Rattle.ring_parts.specs.Borders.{run_ends, is_shared};
 ghost use Rattle.ring_parts.specs.Seen.{least_that};
 
 use crate::edges::edges;
 use crate::membership::{Members, lesser};
-use crate::sides::Border;
+use crate::shared_sides::SharedSides;
 use grid_geometry::Pos;
 use std::alloc::{AllocError, Allocator};
 
-/// Both ends of each edge whose segment is one of the other ring.
+/// Both ends of each edge whose segment is one of both rings.
 #[tactic(auto, using(crate::proofs::RunEnds::end_steps))]
 fn run_ends<A: Allocator + Copy>(
     alloc: A,
     edges: &[(Pos, Pos)],
-    other: &Border<'_, A>,
+    shared: &SharedSides<'_, A>,
 ) -> Result<Vec<Pos, A>, AllocError>
-    ensures { IfOk result (λ ends. ends.items ≡ run_ends (is_common other.now.ring.now) edges.now) }
+    ensures { IfOk result
+        (λ ends. ends.items
+        ≡ run_ends (is_shared shared.now.first.now shared.now.second.now) edges.now) }
 {
     let mut ends = Vec::new(alloc);
     for edge in edges {
-        if other.has(*edge) {
+        if shared.has(*edge) {
             ends.push(edge.0)?;
             ends.push(edge.1)?;
         }
@@ -54,15 +55,14 @@ fn least_touching<A: Allocator + Copy>(
 /// The least position of both rings that is no end of a common segment.
 pub fn common_else<A: Allocator + Copy>(
     alloc: A,
-    first: &Border<'_, A>,
-    second: &Border<'_, A>,
+    shared: &SharedSides<'_, A>,
 ) -> Result<Option<Pos>, AllocError>
     ensures { IfOk result
-        (λ p. p ≡ spec.common_else first.now.ring.now second.now.ring.now) }
+        (λ p. p ≡ spec.common_else shared.now.first.now shared.now.second.now) }
 {
-    let edges = edges(alloc, first.ring())?;
-    let ends = run_ends(alloc, edges.as_slice(), second)?;
+    let edges = edges(alloc, shared.first)?;
+    let ends = run_ends(alloc, edges.as_slice(), shared)?;
     let run = Members::new(alloc, ends.as_slice())?;
-    let other = Members::new(alloc, second.ring())?;
-    Ok(least_touching(first.ring(), &other, &run))
+    let other = Members::new(alloc, shared.second)?;
+    Ok(least_touching(shared.first, &other, &run))
 }

@@ -1,16 +1,16 @@
 // Two rings joined along their only common run, and two polygons.
 ghost use Rattle.std.specs.Prelude.{◌≡◌, ◌≤◌, ◌++◌, Bool, OnOk, IfOk, not, length, map};
 ghost use Rattle.std.specs.List.{prefix_len};
-ghost use Rattle.grid_geometry.specs.Common.{edges};
+ghost use Rattle.grid_geometry.specs.Common.{Edge, edges};
 ghost use Rattle.ring_machine.specs.Join as spec;
 ghost use Rattle.ring_parts.specs.Borders.{off_ones};
-ghost use Rattle.ring_parts.specs.Merges.{joined_rings};
+ghost use Rattle.ring_parts.specs.Merges.{joined_rings, rests};
 ghost use Rattle.ring_parts.specs.Seen.{rings_seen};
 
 use crate::rotation::begin_at_least;
 use crate::same_sides::{passed_alike, turned};
-use crate::shared_runs::common_edges;
-use crate::sides::Border;
+use crate::shared_runs::shared_edges;
+use crate::shared_sides::SharedSides;
 use grid_geometry::Pos;
 use std::alloc::{AllocError, AllocFailed, Allocator};
 
@@ -47,19 +47,18 @@ fn push_off<A: Allocator + Copy>(
     Ok(())
 }
 
-/// Appends where the edges begin that are off the ring's only run, from the end of the run on.
+/// Appends where the edges begin that are off the ring's only run, from the end of the run on, by
+/// which of its edges are common.
 fn push_rest<A: Allocator + Copy>(
     rest: &mut Vec<Pos, A>,
     alloc: A,
     ring: &[Pos],
-    other: &Border<'_, A>,
+    mut common: Vec<bool, A>,
 ) -> Result<(), AllocError>
-    ensures { OnOk result
-        (rest.new.items
-        ≡ rest.old.items
-        ++ map (λ e. e.0) (spec.off_run (spec.is_common other.now.ring.now) (edges ring.now))) }
+    requires { length common.items ≡ length ring.now }
+    ensures { OnOk result ((is : Edge → Bool) → common.items ≡ map is (edges ring.now)
+        → rest.new.items ≡ rest.old.items ++ map (λ e. e.0) (spec.off_run is (edges ring.now))) }
 {
-    let mut common = common_edges(alloc, ring, other)?;
     let mut begun = Vec::from_slice(alloc, ring)?;
     let place = count_off(common.as_slice());
     common.rotate_left(place);
@@ -69,20 +68,35 @@ fn push_rest<A: Allocator + Copy>(
 }
 
 /// The rest of the first ring, then the rest of the second, which is turned where both pass the run
+/// in the same direction.
+fn rests<A: Allocator + Copy>(
+    alloc: A,
+    shared: &SharedSides<'_, A>,
+    turns: bool,
+) -> Result<Vec<Pos, A>, AllocError>
+    ensures { IfOk result
+        (λ ring. ring.items ≡ rests shared.now.first.now shared.now.second.now turns) }
+{
+    let other = turned(alloc, shared.second, turns)?;
+    let ones = shared_edges(alloc, shared.first, shared)?;
+    let others = shared_edges(alloc, other.as_slice(), shared)?;
+    let mut rest = Vec::new(alloc);
+    push_rest(&mut rest, alloc, shared.first, ones)?;
+    push_rest(&mut rest, alloc, other.as_slice(), others)?;
+    Ok(rest)
+}
+
+/// The rest of the first ring, then the rest of the second, which is turned where both pass the run
 /// in the same direction; begun at its least position.
 pub fn joined<A: Allocator + Copy>(
     alloc: A,
-    first: &Border<'_, A>,
-    second: &Border<'_, A>,
+    shared: &SharedSides<'_, A>,
 ) -> Result<Vec<Pos, A>, AllocError>
     ensures { IfOk result
-        (λ ring. ring.items ≡ spec.joined first.now.ring.now second.now.ring.now) }
+        (λ ring. ring.items ≡ spec.joined shared.now.first.now shared.now.second.now) }
 {
-    let alike = passed_alike(alloc, first.ring(), second.ring())?;
-    let other = turned(alloc, second.ring(), alike)?;
-    let mut rest = Vec::new(alloc);
-    push_rest(&mut rest, alloc, first.ring(), second)?;
-    push_rest(&mut rest, alloc, other.as_slice(), first)?;
+    let alike = passed_alike(alloc, shared)?;
+    let mut rest = rests(alloc, shared, alike)?;
     begin_at_least(&mut rest);
     Ok(rest)
 }
@@ -119,9 +133,8 @@ pub fn join_polygons<A: Allocator + Copy>(
     let [outer_of_other, more @ ..] = other else {
         return Ok(rings);
     };
-    let first = Border::new(alloc, outer.as_slice())?;
-    let second = Border::new(alloc, outer_of_other.as_slice())?;
-    rings.push(joined(alloc, &first, &second)?)?;
+    let shared = SharedSides::new(alloc, outer.as_slice(), outer_of_other.as_slice())?;
+    rings.push(joined(alloc, &shared)?)?;
     push_rings(&mut rings, alloc, holes)?;
     push_rings(&mut rings, alloc, more)?;
     Ok(rings)

@@ -1,32 +1,35 @@
 // Whether the areas of two rings lie on the same side of their common run.
 ghost use Rattle.std.specs.Prelude.{◌≡◌, ◌≤◌, IfOk, length, reverse, if◌then◌else◌};
-ghost use Rattle.std.specs.List.{list_any};
+ghost use Rattle.std.specs.List.{filter, list_any};
 ghost use Rattle.std.specs.List.Sorted.{IsSorted};
-ghost use Rattle.grid_geometry.specs.Common.{Edge};
-ghost use Rattle.grid_geometry.specs.Ring as geometry;
 ghost use Rattle.ring_machine.specs.Common.{edge_eq};
 ghost use Rattle.ring_machine.specs.Join as spec;
-ghost use Rattle.ring_parts.specs.Borders.{edge_cmp};
+ghost use Rattle.ring_parts.specs.Borders.{edge_cmp, is_shared, IsEitherWay};
 
 use crate::edges::edges;
-use crate::shared_runs::all_common;
-use crate::sides::Border;
+use crate::shared_runs::{all_pass, shared_edges};
+use crate::shared_sides::SharedSides;
 use crate::sorted::has_sorted;
 use grid_geometry::{Pos, area2};
 use std::alloc::{AllocError, Allocator};
 
-/// The edges of a ring, sorted.
-fn sorted_edges<A: Allocator + Copy>(
+/// Those of the edges whose segments both rings have.
+#[tactic(auto, using(crate::proofs::KeptSides::kept_edges))]
+fn kept_edges<A: Allocator + Copy>(
     alloc: A,
-    ring: &[Pos],
+    edges: &[(Pos, Pos)],
+    shared: &SharedSides<'_, A>,
 ) -> Result<Vec<(Pos, Pos), A>, AllocError>
-    ensures sorted { IfOk result (λ found. IsSorted edge_cmp found.items) }
-    ensures same { IfOk result
-        (λ found. (e : Edge) → list_any (edge_eq e) found.items
-        ≡ list_any (edge_eq e) (geometry.edges ring.now)) }
+    ensures { IfOk result
+        (λ found. found.items
+        ≡ filter (is_shared shared.now.first.now shared.now.second.now) edges.now) }
 {
-    let mut found = edges(alloc, ring)?;
-    found.sort_unstable();
+    let mut found = Vec::new(alloc);
+    for edge in edges {
+        if shared.has(*edge) {
+            found.push(*edge)?;
+        }
+    }
     Ok(found)
 }
 
@@ -51,17 +54,34 @@ fn any_edge(edges: &[(Pos, Pos)], sorted: &[(Pos, Pos)]) -> bool
     false
 }
 
+/// Whether the first ring and the second one, each as it is or turned round, pass a common segment in
+/// the same direction.
+fn alike<A: Allocator + Copy>(
+    alloc: A,
+    ones: &[Pos],
+    others: &[Pos],
+    shared: &SharedSides<'_, A>,
+) -> Result<bool, AllocError>
+    requires first { IsEitherWay shared.now.first.now ones.now }
+    requires second { IsEitherWay shared.now.second.now others.now }
+    ensures { IfOk result (λ alike. alike ≡ spec.passed_alike ones.now others.now) }
+{
+    let passed = edges(alloc, others)?;
+    let mut sorted = kept_edges(alloc, passed.as_slice(), shared)?;
+    sorted.sort_unstable();
+    let edges = edges(alloc, ones)?;
+    Ok(any_edge(edges.as_slice(), sorted.as_slice()))
+}
+
 /// Whether both rings pass a common segment in the same direction.
 pub fn passed_alike<A: Allocator + Copy>(
     alloc: A,
-    first: &[Pos],
-    second: &[Pos],
+    shared: &SharedSides<'_, A>,
 ) -> Result<bool, AllocError>
-    ensures { IfOk result (λ alike. alike ≡ spec.passed_alike first.now second.now) }
+    ensures { IfOk result
+        (λ alike. alike ≡ spec.passed_alike shared.now.first.now shared.now.second.now) }
 {
-    let sorted = sorted_edges(alloc, second)?;
-    let edges = edges(alloc, first)?;
-    Ok(any_edge(edges.as_slice(), sorted.as_slice()))
+    alike(alloc, shared.first, shared.second, shared)
 }
 
 /// The ring, turned round where `turns`.
@@ -91,33 +111,33 @@ fn positive<A: Allocator + Copy>(alloc: A, ring: &[Pos]) -> Result<Vec<Pos, A>, 
 /// Whether each segment of one ring is one of the other.
 fn same_segments<A: Allocator + Copy>(
     alloc: A,
-    first: &Border<'_, A>,
-    second: &Border<'_, A>,
+    shared: &SharedSides<'_, A>,
 ) -> Result<bool, AllocError>
     ensures { IfOk result
-        (λ same. same ≡ spec.same_segments first.now.ring.now second.now.ring.now) }
+        (λ same. same ≡ spec.same_segments shared.now.first.now shared.now.second.now) }
 {
-    if !all_common(alloc, first.ring(), second)? {
+    let ones = shared_edges(alloc, shared.first, shared)?;
+    if !all_pass(ones.as_slice()) {
         return Ok(false);
     }
-    all_common(alloc, second.ring(), first)
+    let others = shared_edges(alloc, shared.second, shared)?;
+    Ok(all_pass(others.as_slice()))
 }
 
 /// Whether the areas of both rings lie on the same side of their run.
 pub fn same_side<A: Allocator + Copy>(
     alloc: A,
-    first: &Border<'_, A>,
-    second: &Border<'_, A>,
+    shared: &SharedSides<'_, A>,
 ) -> Result<bool, AllocError>
-    requires few_first { length first.now.ring.now ≤ 1099511627776 }
-    requires few_second { length second.now.ring.now ≤ 1099511627776 }
+    requires few_first { length shared.now.first.now ≤ 1099511627776 }
+    requires few_second { length shared.now.second.now ≤ 1099511627776 }
     ensures { IfOk result
-        (λ same. same ≡ spec.same_side first.now.ring.now second.now.ring.now) }
+        (λ same. same ≡ spec.same_side shared.now.first.now shared.now.second.now) }
 {
-    if same_segments(alloc, first, second)? {
+    if same_segments(alloc, shared)? {
         return Ok(true);
     }
-    let ones = positive(alloc, first.ring())?;
-    let others = positive(alloc, second.ring())?;
-    passed_alike(alloc, ones.as_slice(), others.as_slice())
+    let ones = positive(alloc, shared.first)?;
+    let others = positive(alloc, shared.second)?;
+    alike(alloc, ones.as_slice(), others.as_slice(), shared)
 }

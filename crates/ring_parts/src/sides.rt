@@ -14,7 +14,7 @@ use std::alloc::{AllocError, Allocator};
 
 /// A ring with its segments sorted beside it.
 #[derive(Drop)]
-pub struct Border<'r, A: Allocator> {
+pub(crate) struct Border<'r, A: Allocator> {
     ring: &'r [Pos],
     sides: Vec<(Pos, Pos), A>,
     ghost ascending: { IsSorted edge_cmp sides.items },
@@ -24,20 +24,13 @@ pub struct Border<'r, A: Allocator> {
 
 impl<'r, A: Allocator + Copy> Border<'r, A> {
     /// The border of a ring.
-    pub fn new(alloc: A, ring: &'r [Pos]) -> Result<Border<'r, A>, AllocError>
+    pub(crate) fn new(alloc: A, ring: &'r [Pos]) -> Result<Border<'r, A>, AllocError>
         ensures { IfOk result (λ border. border.ring.now ≡ ring.now) }
     {
         let edges = edges(alloc, ring)?;
         let mut sides = all_ends(alloc, edges.as_slice())?;
         sides.sort_unstable();
         Ok(Border { ring, sides })
-    }
-
-    /// Its ring.
-    pub(crate) fn ring(&self) -> &'r [Pos]
-        ensures { result.now ≡ self.now.ring.now }
-    {
-        self.ring
     }
 
     /// Whether the segment of an edge is one of the ring's.

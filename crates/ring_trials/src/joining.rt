@@ -1,7 +1,7 @@
 //! Two rings compared, and joined.
 use crate::given::{BOTH_SQUARES, LEFT, LEFT_BACK, Place, are_at, holds, ring};
 use grid_geometry::Pos;
-use ring_parts::{Border, common_else, has_common, joined, passed_alike, runs, same_side};
+use ring_parts::{SharedSides, common_else, has_common, joined, passed_alike, runs, same_side};
 use std::alloc::Global;
 use std::process::Abort;
 
@@ -79,15 +79,17 @@ const ON_ONE_SIDE_ALIKE: Comparison = Comparison {
 fn have_in_common<R: Abort>(
     rt: &R,
     alloc: Global,
-    first: &Border<'_, Global>,
-    second: &Border<'_, Global>,
+    shared: &SharedSides<'_, Global>,
     want: &Comparison,
 ) {
-    let has = has_common(alloc, first, second).expect(rt, "memory");
-    holds(rt, "a common segment", has == (want.runs > 0));
-    let count = runs(alloc, first, second).expect(rt, "memory");
+    holds(
+        rt,
+        "a common segment",
+        has_common(shared) == (want.runs > 0),
+    );
+    let count = runs(alloc, shared).expect(rt, "memory");
     holds(rt, "runs", count == want.runs);
-    let beside = common_else(alloc, first, second).expect(rt, "memory");
+    let beside = common_else(alloc, shared).expect(rt, "memory");
     let beside = beside.map(|pos| (pos.x(), pos.y()));
     holds(rt, "a common position", beside == want.common_else);
 }
@@ -95,12 +97,11 @@ fn have_in_common<R: Abort>(
 /// That the calls say so of the rings.
 fn rings_compare<R: Abort>(rt: &R, alloc: Global, ones: &[Pos], others: &[Pos], want: &Comparison) {
     assert!(rt; ones.len() < 100 && others.len() < 100);
-    let first = Border::new(alloc, ones).expect(rt, "memory");
-    let second = Border::new(alloc, others).expect(rt, "memory");
-    have_in_common(rt, alloc, &first, &second, want);
-    let side = same_side(alloc, &first, &second).expect(rt, "memory");
+    let shared = SharedSides::new(alloc, ones, others).expect(rt, "memory");
+    have_in_common(rt, alloc, &shared, want);
+    let side = same_side(alloc, &shared).expect(rt, "memory");
     holds(rt, "the same side", side == want.same_side);
-    let alike = passed_alike(alloc, ones, others).expect(rt, "memory");
+    let alike = passed_alike(alloc, &shared).expect(rt, "memory");
     holds(rt, "passed alike", alike == want.passed_alike);
 }
 
@@ -163,9 +164,8 @@ const RIGHT_OF_A_KINK: &[Place] = &[(8, 5), (10, 0), (20, 0), (20, 10), (10, 10)
 
 /// The ring of two that are joined.
 fn joined_ring<R: Abort>(rt: &R, alloc: Global, ones: &[Pos], others: &[Pos]) -> Vec<Pos> {
-    let first = Border::new(alloc, ones).expect(rt, "memory");
-    let second = Border::new(alloc, others).expect(rt, "memory");
-    joined(alloc, &first, &second).expect(rt, "memory")
+    let shared = SharedSides::new(alloc, ones, others).expect(rt, "memory");
+    joined(alloc, &shared).expect(rt, "memory")
 }
 
 /// That two rings of these positions are joined to this one.

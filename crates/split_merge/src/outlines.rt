@@ -6,7 +6,7 @@ ghost use Rattle.split_merge.specs.Conditions.{only_outer};
 
 use arc_store::EditFault;
 use grid_geometry::Pos;
-use ring_parts::{Border, common_else, has_common, runs, same_side};
+use ring_parts::{SharedSides, common_else, has_common, runs, same_side};
 use std::alloc::Allocator;
 
 /// The outer ring of the only one of these polygons.
@@ -36,19 +36,18 @@ pub(crate) fn check_rings<A: Allocator + Copy>(
     ensures refused { IfErr result
         (λ fault. Refuses fault (first_of (ring_refusals (Some one.now) (Some other.now)))) }
 {
-    let one = Border::new(alloc, one)?;
-    let other = Border::new(alloc, other)?;
-    if !has_common(alloc, &one, &other)? {
+    let shared = SharedSides::new(alloc, one, other)?;
+    if !has_common(&shared) {
         return Err(EditFault::NotNeighbours);
     }
-    let n = runs(alloc, &one, &other)?;
+    let n = runs(alloc, &shared)?;
     if 1 < n {
         return Err(EditFault::Runs { n });
     }
-    if let Some(pos) = common_else(alloc, &one, &other)? {
+    if let Some(pos) = common_else(alloc, &shared)? {
         return Err(EditFault::CommonElse { pos });
     }
-    if same_side(alloc, &one, &other)? {
+    if same_side(alloc, &shared)? {
         return Err(EditFault::SameSide);
     }
     Ok(())

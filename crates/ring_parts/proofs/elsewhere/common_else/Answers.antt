@@ -1,18 +1,19 @@
 use Rattle.kit_words.proofs.Common.{◌∙◌, ◌≡◌, ap, ◌&&◌, not}
 use Rattle.grid_geometry.specs.Common.{edges}
 use Rattle.ring_machine.specs.Common.{has, is_common}
-use Rattle.ring_parts.specs.Common.{run_ends, least_that}
+use Rattle.ring_parts.specs.Common.{run_ends, least_that, is_shared}
 use Rattle.ring_parts.proofs.RunEnds.{common_else_is}
+use Rattle.ring_parts.proofs.KeptSides.{first_ends}
 use Rattle.ring_parts.proofs.elsewhere.common_else.Goals as goal
 
 pub returns : goal.returns
 returns g c =
-    let r = c.args.first.now.ring.now in
-    let s = c.args.second.now.ring.now in
-    let other : c.in_ok-other.other.ring.now ≡ s = c.in_ok-other.ensures ∙ c.ring-2.ensures in
+    let r = c.args.shared.now.first.now in
+    let s = c.args.shared.now.second.now in
     let run : c.in_ok-run.run'.ring.now ≡ run_ends (is_common s) (edges r) =
     c.in_ok-run.ensures ∙ c.as_slice-2.ensures.value ∙ c.in_ok-ends.ensures
-    ∙ ap (run_ends (is_common s)) (c.as_slice.ensures.value ∙ c.in_ok-edges.ensures ∙ ap edges c.ring.ensures) in
+    ∙ ap (run_ends (is_shared r s)) (c.as_slice.ensures.value ∙ c.in_ok-edges.ensures)
+    ∙ first_ends r s in
     c.least_touching.ensures
-    ∙ (λ i. least_that (λ p. has (other i) p && not (has (run i) p)) (c.ring-3.ensures i))
+    ∙ (λ i. least_that (λ p. has (c.in_ok-other.ensures i) p && not (has (run i) p)) r)
     ∙ common_else_is r s
