@@ -10,9 +10,8 @@ ghost use Rattle.feature_exchange.specs.Marked.{meets, MarksAlong};
 
 use crate::ring_iter::least_place;
 use grid_geometry::Pos;
-use ring_store::RingTables;
+use ring_store::{Neighbours, RingKeys, RingTables};
 use segment_index::SegIndex;
-use shared_arcs::{Neighbours, RingKeys};
 use std::alloc::{AllocError, Allocator};
 use vertex_index::{VertexKey, Vertices};
 

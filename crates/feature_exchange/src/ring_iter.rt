@@ -8,7 +8,7 @@ ghost use Rattle.ring_machine.specs.Common.{before, least, canonical};
 ghost use Rattle.vertex_index.specs.Common.{place};
 
 use grid_geometry::Pos;
-use shared_arcs::RingKeys;
+use ring_store::RingKeys;
 use std::alloc::{Allocator, Global};
 use std::marker::Model;
 use vertex_index::{VertexKey, Vertices};

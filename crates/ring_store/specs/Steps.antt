@@ -27,10 +27,3 @@ sides places es = map (λ (e : Edge). segment (place places e.0) (place places e
 abbrev pub HoldsWith : Placement → Rings → SegmentSet → List Edge → Type 0
 HoldsWith places rings held es =
     (t : Segment) → IsTrue (set.contains held t) ↔ (IsSide places rings t ⊎ Contains (sides places es) t)
-
--- of these keys those are left that a ring visits; any other key is left as it was
-pub record LeavesVisited (rings : Rings) (keys : List ℕ) (old new : Placement) : Type 0 where
-  pub kept : (k : ℕ) (p : Position) → table.get new k ≡ Some p → table.get old k ≡ Some p
-  pub stays : (k : ℕ) → IsVisited rings k → table.get new k ≡ table.get old k
-  pub others : (k : ℕ) → ¬ (Contains keys k) → table.get new k ≡ table.get old k
-  pub gone : (k : ℕ) → Contains keys k → IsTrue (table.contains_key new k) → IsVisited rings k
