@@ -10,8 +10,7 @@ use Rattle.arc_tables.specs.Common.{Edge, is_seg, Rings, begins, users_of}
 use Rattle.ring_store.specs.Common.{Joined, AreNeighbours, IsVisited, IsSide, AllRound}
 use Rattle.ring_store.specs.declared.neighbours.Neighbours.{Neighbours}
 use Rattle.ring_store.specs.declared.neighbours.Neighbours.TheVariants as neighbours
-use Rattle.ring_store.proofs.Common.{ring_other, ring_here, times_edge, edge_times, edge_ends, is_seg_ends}
-use Rattle.ring_store.proofs.Common.{place_alike}
+use Rattle.ring_store.proofs.Common.{ring_other, ring_here, times_edge, edge_times, edge_ends, is_seg_ends, place_alike}
 use Rattle.ring_store.proofs.Used.{some_user}
 
 -- ---- visited vertices are those that are joined to some other

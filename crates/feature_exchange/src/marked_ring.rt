@@ -1,6 +1,5 @@
 // The positions of a ring, each with whether borders meet there.
-ghost use Rattle.std.specs.Prelude.{◌≡◌, ◌<◌, ◌≤◌, ◌^◌, ◌++◌, ℕ, Bool, true, map, take, drop, length};
-ghost use Rattle.std.specs.Prelude.{Contains, OnOk};
+ghost use Rattle.std.specs.Prelude.{◌≡◌, ◌<◌, ◌≤◌, ◌^◌, ◌++◌, ℕ, Bool, true, map, take, drop, length, Contains, OnOk};
 ghost use Rattle.std.specs.FinMap as table;
 ghost use Rattle.grid_geometry.specs.Common.{Position};
 ghost use Rattle.ring_machine.specs.Common.{canonical};

@@ -1,7 +1,6 @@
 // The positions of a ring, one by one.
-ghost use Rattle.std.specs.Prelude.{◌≡◌, ◌<◌, ◌+◌, ◌^◌, ◌⊎◌, ◌∷◌, []};
-ghost use Rattle.std.specs.Prelude.{ℕ, List, map, length, drop, true};
-ghost use Rattle.std.specs.Prelude.{IfSome, IfNone, Contains};
+ghost use Rattle.std.specs.Prelude.{◌≡◌, ◌<◌, ◌+◌, ◌^◌, ◌⊎◌, ◌∷◌, [], ℕ, List, map, length, drop, true, IfSome, IfNone};
+ghost use Rattle.std.specs.Prelude.{Contains};
 ghost use Rattle.std.specs.FinMap as table;
 ghost use Rattle.std.specs.Iterator.{YieldsFirst, item_count};
 ghost use Rattle.ring_machine.specs.Common.{before, least, canonical};

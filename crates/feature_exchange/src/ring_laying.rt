@@ -1,9 +1,8 @@
 //! Rings laid into the tables.
-ghost use Rattle.std.specs.Prelude.{◌≡◌, ◌≤◌, ◌+◌, [], None, IsTrue, length, map};
-ghost use Rattle.std.specs.Prelude.{IfOk, OnOk, OnErr};
+ghost use Rattle.std.specs.Prelude.{◌≡◌, ◌≤◌, ◌+◌, [], None, IsTrue, length, map, IfOk, OnOk, OnErr, vec_len};
+ghost use Rattle.std.specs.Prelude.{vec_capacity};
 ghost use Rattle.std.specs.List.{list_all, sum_by};
 ghost use Rattle.std.specs.FinMap as table;
-ghost use Rattle.std.specs.Prelude.{vec_len, vec_capacity};
 ghost use Rattle.ring_machine.specs.Common.{is_ring, are_distinct};
 ghost use Rattle.vertex_index.specs.Common.{AreDistinct, place};
 ghost use Rattle.arc_tables.specs.Common.{edges};

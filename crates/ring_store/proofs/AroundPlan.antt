@@ -5,7 +5,8 @@ use Rattle.std.specs.FinMap as table
 use Rattle.grid_geometry.specs.Common.{Position}
 use Rattle.vertex_index.specs.Common.{Placement, place}
 use Rattle.arc_tables.specs.Common.{Rings}
-use Rattle.ring_store.specs.Common.{Joined, AreNeighbours, ListsJoined, ArePlaced, AreAround}
+use Rattle.ring_store.specs.Common.{Joined, AreNeighbours, ListsJoined, AreAround}
+use Rattle.ring_store.specs.Planned.{ArePlaced}
 use Rattle.ring_store.specs.declared.neighbours.Neighbours.TheVariants.{Two}
 use Rattle.ring_store.proofs.Places.{place_is}
 use Rattle.ring_machine.specs.Common.{has}

@@ -16,8 +16,7 @@ use Rattle.arc_tables.proofs.Common.{present, chain_has, chain_uses, any_contain
 use Rattle.arc_tables.proofs.Held.{none_at}
 use Rattle.ring_store.proofs.NeighbourLemmas.{Sees, sees_alike, sees_list, in_flat_map, to_flat_map, ends_times}
 use Rattle.ring_store.proofs.NeighbourLemmas.{times_ends}
-use Rattle.ring_store.proofs.Gathering.{gathered_behind, only_including, themselves_including}
-use Rattle.ring_store.proofs.Gathering.{different_including_all}
+use Rattle.ring_store.proofs.Gathering.{gathered_behind, only_including, themselves_including, different_including_all}
 
 -- a path with a segment of the vertex has the vertex
 pub stands_in : (a b : ℕ) (ps : List ℕ) → 1 ≤ times a b (links ps) → Contains ps a

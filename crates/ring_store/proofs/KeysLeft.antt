@@ -9,7 +9,8 @@ use Rattle.arc_tables.specs.declared.arc.Arc.{Arc}
 use Rattle.arc_tables.specs.declared.arc.Ring.{Ring}
 use Rattle.arc_tables.specs.declared.tables.Tables.{Tables}
 use Rattle.arc_tables.specs.Common.{links, walk, chain, begins, path_in, path_of, uses_in, rings_of}
-use Rattle.ring_store.specs.Common.{from_place, keys_left}
+use Rattle.ring_store.specs.Common.{keys_left}
+use Rattle.ring_store.specs.Coming.{from_place}
 use Rattle.ring_store.proofs.ReadLemmas.{begins_links, length-walk}
 use Rattle.arc_tables.proofs.Common.{ring_here}
 

@@ -7,8 +7,9 @@ use Rattle.slab.specs.Slab.{get, entries}
 use Rattle.slab.proofs.SlabLemmas.{Contains-entries}
 use Rattle.arc_tables.specs.declared.arc.Arc.{Arc}
 use Rattle.arc_tables.specs.declared.tables.Tables.{Tables}
-use Rattle.ring_store.specs.Common.{Neighbours, None, noted, noted_all, ending, other_ends, ends_in, SeesMore, Joined}
+use Rattle.ring_store.specs.Common.{Neighbours, None, noted, noted_all, other_ends, ends_in, SeesMore, Joined}
 use Rattle.ring_store.specs.Common.{AreAllNeighbours}
+use Rattle.ring_store.specs.Neighbours.{ending}
 use Rattle.arc_tables.specs.Common.{links, times, path_in, rings_of}
 use Rattle.ring_store.proofs.NeighbourLemmas.{noted_all-append, in_flat_map, to_flat_map, ends_times, times_ends}
 use Rattle.ring_store.proofs.JoinedLemmas.{EachUsed, arc_joined, joined_arc, neighbours_of}

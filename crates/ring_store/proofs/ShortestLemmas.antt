@@ -8,8 +8,8 @@ use Rattle.slab.specs.Slab.{get}
 use Rattle.slab.proofs.SlabLemmas.{Contains-cons, Contains-cons_cases}
 use Rattle.arc_tables.specs.declared.arc.Use.{Use}
 use Rattle.arc_tables.specs.declared.tables.Tables.{Tables}
-use Rattle.ring_store.specs.Common.{Neighbours, noted_all, other_ends, Passes, is_any, touches, edge_count, less_of}
-use Rattle.ring_store.specs.Common.{least_of, users_at, rings_among}
+use Rattle.ring_store.specs.Common.{Neighbours, noted_all, other_ends, Passes, edge_count, less_of, least_of, users_at}
+use Rattle.ring_store.specs.Shortest.{is_any, touches, rings_among}
 use Rattle.ring_store.specs.declared.neighbours.Neighbours.TheVariants as neighbours
 use Rattle.arc_tables.specs.Common.{Edge, links, walk, chain, times, edges_of, Rings, rings_of, path_of, users_in}
 use Rattle.arc_tables.specs.Common.{uses_in, store, stand_at, Known, Listed, Whole}

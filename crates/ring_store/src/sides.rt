@@ -1,6 +1,5 @@
 // The segments of a ring in the index, where no other ring has them.
-ghost use Rattle.std.specs.Prelude.{◌≡◌, ◌≢◌, ◌≤◌, ◌<◌, ◌+◌, IsTrue, [], length, take};
-ghost use Rattle.std.specs.Prelude.{OnOk, OnErr, slice_index_or};
+ghost use Rattle.std.specs.Prelude.{◌≡◌, ◌≢◌, ◌≤◌, ◌<◌, ◌+◌, IsTrue, [], length, take, OnOk, OnErr, slice_index_or};
 ghost use Rattle.std.specs.FinMap as table;
 ghost use Rattle.grid_geometry.specs.Common.{segment};
 ghost use Rattle.vertex_index.specs.Common.{place};

@@ -1,8 +1,7 @@
 //! The edits of one vertex in every ring at once, and what stands around it.
 ghost use Rattle.std.specs.Prelude.{◌≡◌, ◌≤◌, ◌<◌, ◌^◌, ◌⊎◌, ℕ, List, OnOk, OnErr, IfOk, IfSome, IfNone, option_map, length, min};
 ghost use Rattle.std.specs.FinMap as map;
-ghost use Rattle.arc_tables.specs.Common.{Edge, AreApart, through, collapsed, throughs, gained};
-ghost use Rattle.arc_tables.specs.Common.{ArePuts};
+ghost use Rattle.arc_tables.specs.Common.{Edge, AreApart, through, collapsed, throughs, gained, ArePuts};
 ghost use Rattle.ring_store.specs.Joined.{Joined, Passes, AreNeighbours};
 
 use crate::borders::Borders;

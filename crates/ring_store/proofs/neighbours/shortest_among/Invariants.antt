@@ -1,5 +1,6 @@
 use Rattle.kit_words.proofs.Common.{◌≡◌, take, None}
-use Rattle.ring_store.specs.Common.{edge_counts, least_of, rings_along}
+use Rattle.ring_store.specs.Common.{edge_counts, least_of}
+use Rattle.ring_store.specs.Shortest.{rings_along}
 use Rattle.ring_store.proofs.neighbours.shortest_among.Given as goal
 
 abbrev pub invariant-loop-i : goal.invariant-loop-i
