@@ -10,9 +10,9 @@ use Rattle.ring_machine.specs.Common.{remove_sweeps, del, around, all_equal, is_
 use Rattle.ring_machine.proofs.Common.{In, place_around, has-in, in-has, in-map, same_ends, ring_distinct, any_in}
 use Rattle.ring_machine.proofs.Common.{in_mapped}
 use Rattle.arc_tables.specs.Common.{AreApart, Edge, times, begins}
-use Rattle.shared_arcs.specs.declared.around.Neighbours.TheVariants as Neighbours
-use Rattle.shared_arcs.specs.declared.around.Neighbours.TheVariants.{One, More}
-use Rattle.shared_arcs.specs.Common.{Joined, Three, Passes, AreNeighbours}
+use Rattle.ring_store.specs.declared.neighbours.Neighbours.TheVariants as Neighbours
+use Rattle.ring_store.specs.declared.neighbours.Neighbours.TheVariants.{One, More}
+use Rattle.ring_store.specs.Common.{Joined, Three, Passes, AreNeighbours}
 use Rattle.vertex_index.specs.Common.{place}
 use Rattle.feature_exchange.specs.Common.{Stored, positions_along, document_of, IsWhole}
 use Rattle.ring_store.proofs.Common.{IsKept, place_is, place_kept, one_key, length-canonical, times_edge, edge_times}

@@ -13,11 +13,10 @@ use Rattle.ring_machine.proofs.Common.{mapped_there}
 use Rattle.vertex_index.proofs.Common.{get-inserted}
 use Rattle.segment_index.specs.Candidates.{SegmentSet, has as among}
 use Rattle.arc_tables.specs.Common.{Edge, is_seg, Rings, begins, over, through}
-use Rattle.shared_arcs.specs.Common.{Joined}
+use Rattle.ring_store.specs.Common.{Joined, GoesRound}
 use Rattle.vertex_index.specs.Common.{place}
 use Rattle.feature_exchange.specs.Common.{Stored, positions_along, ring_under, document_of, Visits, IsWhole, IsIndexed}
 use Rattle.feature_exchange.specs.Common.{Holds}
-use Rattle.ring_store.specs.Common.{GoesRound}
 use Rattle.ring_store.proofs.Common.{has-eq, IsKept, place_is, place_kept, one_key, place_alike, insert_other, laid}
 use Rattle.ring_store.proofs.Common.{edge_ends, ends_is_seg, times_edge}
 use Rattle.arc_store.specs.Common.{IsPlaceable}

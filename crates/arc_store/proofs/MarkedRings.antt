@@ -6,9 +6,9 @@ use Rattle.grid_geometry.specs.Common.{Position}
 use Rattle.ring_machine.specs.Common.{is_junction, rings}
 use Rattle.ring_machine.proofs.Common.{in_contains}
 use Rattle.vertex_index.specs.Common.{place}
-use Rattle.shared_arcs.specs.declared.around.Neighbours.{Neighbours}
-use Rattle.shared_arcs.specs.declared.around.Neighbours.TheVariants.{None, One, Two, More}
-use Rattle.shared_arcs.specs.Common.{AreNeighbours, AreAllNeighbours}
+use Rattle.ring_store.specs.declared.neighbours.Neighbours.{Neighbours}
+use Rattle.ring_store.specs.declared.neighbours.Neighbours.TheVariants.{None, One, Two, More}
+use Rattle.ring_store.specs.Common.{AreNeighbours, AreAllNeighbours}
 use Rattle.map_frame.specs.Common.{ring_at}
 use Rattle.feature_exchange.specs.Common.{Stored, document_of, ring_under, IsWhole, is_meeting, MarksAlong}
 use Rattle.feature_exchange.proofs.Common.{along}

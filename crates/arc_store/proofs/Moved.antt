@@ -20,7 +20,7 @@ use Rattle.vertex_index.proofs.Common.{get-inserted}
 use Rattle.segment_index.specs.Candidates.{SegmentSet, AreSingle, has as has_segment, segment_is, times_in}
 use Rattle.segment_index.proofs.Common.{same_segment}
 use Rattle.arc_tables.specs.Common.{Edge, begins}
-use Rattle.shared_arcs.specs.Common.{Joined}
+use Rattle.ring_store.specs.Common.{Joined}
 use Rattle.feature_exchange.specs.Common.{Stored, positions_along, ring_under, document_of, Visits, IsWhole, IsIndexed}
 use Rattle.feature_exchange.specs.Common.{Holds}
 use Rattle.feature_exchange.proofs.Common.{end_of_two, two_ends, joined_back, framed, ring_laid, key_vertex, begin_kept}

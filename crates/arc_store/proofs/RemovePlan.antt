@@ -10,15 +10,14 @@ use Rattle.vertex_index.specs.Common.{Placement, place}
 use Rattle.segment_index.specs.Common.{SegmentSet, AreAmong, AreSingle, segment_is}
 use Rattle.segment_index.specs.Frames.{Frame as GridFrame}
 use Rattle.segment_index.proofs.Common.{same_segment}
-use Rattle.shared_arcs.specs.declared.around.Neighbours.{Neighbours}
-use Rattle.shared_arcs.specs.declared.around.Neighbours.TheVariants as neighbours
-use Rattle.shared_arcs.specs.declared.around.Neighbours.TheVariants.{One, Two, More}
+use Rattle.ring_store.specs.declared.neighbours.Neighbours.{Neighbours}
+use Rattle.ring_store.specs.declared.neighbours.Neighbours.TheVariants as neighbours
+use Rattle.ring_store.specs.declared.neighbours.Neighbours.TheVariants.{One, Two, More}
 use Rattle.arc_tables.specs.Common.{AreApart, Rings, users_of}
-use Rattle.shared_arcs.specs.Common.{Joined, AreNeighbours}
+use Rattle.ring_store.specs.Common.{Joined, AreNeighbours, HasBridging, IsBridging, TakenOut, Exchanges, spokes}
 use Rattle.map_frame.specs.Common.{Framed}
 use Rattle.edit_records.specs.Common.{Record}
 use Rattle.arc_store.specs.Common.{IsLeavable, IsRemovable, IsKept, state_of, State}
-use Rattle.ring_store.specs.Common.{HasBridging, IsBridging, TakenOut, Exchanges, spokes}
 use Rattle.feature_exchange.specs.Common.{IsWhole, IsIndexed, stored, Stored, document_of}
 use Rattle.arc_store.proofs.Around.{bridged_two, segments_two, sweeps_two, unbridged_two}
 use Rattle.arc_store.proofs.Around.{two_apart, neighbours_none, neighbours_one, neighbours_more}

@@ -16,11 +16,10 @@ use Rattle.ring_machine.proofs.Common.{same_answer, is_some-mapped, mapped_there
 use Rattle.ring_machine.proofs.Removal.{g_del, del_is, Beside, others, filter_lacks, onto as drawn_onto}
 use Rattle.segment_index.specs.Candidates.{SegmentSet, has as among}
 use Rattle.arc_tables.specs.Common.{Edge, is_seg, Rings, begins, onto, drawn, collapsed}
-use Rattle.shared_arcs.specs.Common.{Joined}
+use Rattle.ring_store.specs.Common.{Joined, GoesRound}
 use Rattle.vertex_index.specs.Common.{place}
 use Rattle.feature_exchange.specs.Common.{Stored, positions_along, edges_under, ring_under, document_of, IsWhole}
 use Rattle.feature_exchange.specs.Common.{IsIndexed, Holds}
-use Rattle.ring_store.specs.Common.{GoesRound}
 use Rattle.ring_store.proofs.Common.{has-eq, filter-mapped, IsKept, place_is, place_kept, one_key, place_alike}
 use Rattle.ring_store.proofs.Common.{remove_here, remove_other, laid, edge_ends, edge_apart, is_seg_ends, ends_is_seg}
 use Rattle.ring_store.proofs.Common.{in_canonical, of_canonical}

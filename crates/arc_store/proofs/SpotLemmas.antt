@@ -5,9 +5,9 @@ use Rattle.std.specs.FinMap as table
 use Rattle.grid_geometry.specs.Common.{Position, segment}
 use Rattle.ring_machine.specs.Common.{rings, size, is_vertex, canonical, is_junction}
 use Rattle.ring_machine.proofs.Common.{In, contains_in, in_contains}
-use Rattle.shared_arcs.specs.declared.around.Neighbours.{Neighbours}
-use Rattle.shared_arcs.specs.declared.around.Neighbours.TheVariants.{One, Two, More}
-use Rattle.shared_arcs.specs.Common.{Passes, AreNeighbours}
+use Rattle.ring_store.specs.declared.neighbours.Neighbours.{Neighbours}
+use Rattle.ring_store.specs.declared.neighbours.Neighbours.TheVariants.{One, Two, More}
+use Rattle.ring_store.specs.Common.{Passes, AreNeighbours}
 use Rattle.arc_tables.specs.Common.{Edge}
 use Rattle.vertex_index.specs.Common.{place}
 use Rattle.feature_exchange.specs.Common.{Stored, positions_along, document_of, IsWhole}

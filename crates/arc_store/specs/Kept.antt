@@ -6,8 +6,8 @@ use Rattle.segment_index.specs.Common.{SegmentSet}
 use Rattle.segment_index.specs.Frames.{Frame as GridFrame}
 use Rattle.vertex_index.specs.Common.{Placement}
 use Rattle.arc_tables.specs.Common.{Rings}
-use Rattle.shared_arcs.specs.declared.around.Neighbours.{Neighbours}
-use Rattle.shared_arcs.specs.Common.{AreAllNeighbours}
+use Rattle.ring_store.specs.declared.neighbours.Neighbours.{Neighbours}
+use Rattle.ring_store.specs.Common.{AreAllNeighbours}
 use Rattle.map_frame.specs.Common.{Framed}
 use Rattle.feature_exchange.specs.Common.{Stored, stored, document_of, IsWhole, Holds}
 use Rattle.arc_store.specs.State.{State}

@@ -7,8 +7,8 @@ ghost use Rattle.vertex_index.specs.Common.{place};
 
 use crate::map::Map;
 use grid_geometry::Pos;
+use ring_store::Neighbours;
 use segment_index::SegIndex;
-use shared_arcs::Neighbours;
 use std::alloc::Allocator;
 use vertex_index::{VertexKey, Vertices};
 

@@ -5,7 +5,7 @@ use crate::squares::{
 };
 use linked_list_allocator::LocalHeap;
 use refusing_allocator::Refusing;
-use shared_arcs::Borders;
+use ring_store::Borders;
 use std::alloc::{AllocError, Allocator, Global};
 use std::process::Abort;
 use vertex_index::VertexKey;

@@ -1,6 +1,6 @@
 //! How many rings have a side, as squares come and go.
 use crate::squares::{LEFT, MEMORY, RIGHT, RIGHT_TURNED, add, goes_along, key, take, vertex_keys};
-use shared_arcs::Borders;
+use ring_store::Borders;
 use std::alloc::Global;
 use std::process::Abort;
 use vertex_index::VertexKey;

@@ -1,7 +1,7 @@
 //! Squares that share a side, and calls on their borders.
 use fixed_seed::fixed_seed;
 use grid_geometry::Pos;
-use shared_arcs::{Borders, Neighbours, Put};
+use ring_store::{Borders, Neighbours, Put};
 use std::alloc::{AllocError, Allocator, Global};
 use std::process::Abort;
 use vertex_index::{VertexKey, Vertices};

@@ -17,9 +17,8 @@ use Rattle.ring_machine.proofs.Common.{contains_in, in_contains, in_mapped, in_f
 use Rattle.ring_machine.proofs.Common.{same_answer, there}
 use Rattle.vertex_index.specs.Common.{Placement, AreDistinct, place}
 use Rattle.arc_tables.specs.Common.{Edge, begins}
-use Rattle.shared_arcs.specs.Common.{Joined}
+use Rattle.ring_store.specs.Common.{Joined, GoesRound}
 use Rattle.feature_exchange.specs.Common.{Stored, positions_along, ring_under, document_of, IsWhole}
-use Rattle.ring_store.specs.Common.{GoesRound}
 use Rattle.ring_store.proofs.Common.{IsKept, place_is, kept_place, place_kept, one_key, distinct_places}
 use Rattle.ring_store.proofs.Common.{edge_of_canonical, edge_in_canonical, in_canonical, of_canonical, laid}
 use Rattle.ring_store.proofs.Common.{begins_round, edges_round, edge_ends, edge_apart, times_edge, edge_times}

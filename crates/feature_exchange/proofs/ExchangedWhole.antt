@@ -10,12 +10,13 @@ use Rattle.map_frame.specs.Common.{IsOf, feature_numbers, Framed, ArePlaced}
 use Rattle.edit_records.specs.Common.{has_place, exchanged, IsMap}
 use Rattle.segment_index.specs.Common.{SegmentSet}
 use Rattle.topo_outline.specs.Common.{KeepsTexts}
-use Rattle.ring_store.specs.Common.{numbers_of, ring_at, AreAdded, AreGone, KeepsPlaces, Stands}
-use Rattle.ring_store.specs.declared.laid.LaidRing.{LaidRing}
-use Rattle.ring_store.proofs.Common.{number_there, there_none, added_first}
-use Rattle.feature_exchange.specs.Common.{seen, changed_as, places_after, next_after, frame_after, MayGrow, Holds}
-use Rattle.feature_exchange.specs.Common.{AreLaid, asked_rings, length_of, coming, IsReady, FitsForm, all_numbered}
-use Rattle.feature_exchange.specs.Common.{put_in, stored, Stored, ring_under, document_of, rings_under, Change}
+use Rattle.feature_exchange.specs.Common.{numbers_of, AreAdded, AreGone, KeepsPlaces, seen, changed_as, places_after}
+use Rattle.feature_exchange.specs.Common.{next_after, frame_after, MayGrow, Holds, AreLaid, asked_rings, length_of}
+use Rattle.feature_exchange.specs.Common.{coming, IsReady, FitsForm, all_numbered, put_in, stored, Stored, ring_under}
+use Rattle.feature_exchange.specs.Common.{document_of, rings_under, Change}
+use Rattle.ring_store.specs.Common.{ring_at, Stands}
+use Rattle.feature_exchange.specs.declared.laid.LaidRing.{LaidRing}
+use Rattle.feature_exchange.proofs.Series.{number_there, there_none, added_first}
 use Rattle.feature_exchange.proofs.Asked.{AreFor, asked_are_rings, asked_size, asked_fit, for_coming, for_numbers}
 use Rattle.feature_exchange.proofs.ExchangedFeatures.{exchanged_document, exchanged_map}
 use Rattle.feature_exchange.proofs.Exchanges.{Exchanged}

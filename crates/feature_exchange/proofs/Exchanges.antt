@@ -7,10 +7,11 @@ use Rattle.ring_machine.specs.Common.{rings, size, Proper, canonical, WellFormed
 use Rattle.ring_machine.proofs.Common.{In, contains_in, in_contains}
 use Rattle.topo_outline.specs.Common.{KeepsTexts}
 use Rattle.segment_index.specs.Common.{SegmentSet}
-use Rattle.ring_store.proofs.Common.{same_map, ring_at-stays}
-use Rattle.ring_store.specs.Common.{AreAdded, AreGone, KeepsPlaces, ring_at, Stands}
-use Rattle.ring_store.proofs.Numbered.{contained_or}
-use Rattle.feature_exchange.specs.Common.{Holds, Stored, ring_under, document_of}
+use Rattle.ring_store.proofs.Common.{same_map}
+use Rattle.feature_exchange.proofs.Staying.{ring_at-stays}
+use Rattle.feature_exchange.specs.Common.{AreAdded, AreGone, KeepsPlaces, Holds, Stored, ring_under, document_of}
+use Rattle.ring_store.specs.Common.{ring_at, Stands}
+use Rattle.feature_exchange.proofs.Numbered.{contained_or}
 use Rattle.feature_exchange.proofs.Changes.{Changes}
 use Rattle.feature_exchange.proofs.Whole.{tables_stand, map_holds}
 

@@ -7,10 +7,11 @@ use Rattle.ring_machine.proofs.Common.{distinct-append, in_contains, there}
 use Rattle.vertex_index.specs.Common.{Placement}
 use Rattle.segment_index.specs.Common.{SegmentSet}
 use Rattle.arc_tables.specs.Common.{Rings, edges}
-use Rattle.ring_store.specs.Common.{numbers_of, AreThere, AreAdded, KeepsPlaces, Stands}
-use Rattle.ring_store.specs.declared.laid.LaidRing.{LaidRing}
-use Rattle.ring_store.proofs.Common.{number_there, there_still, there_none, added_first, added_twice, ring_at-stays}
-use Rattle.feature_exchange.specs.Common.{AreLaid}
+use Rattle.feature_exchange.specs.Common.{numbers_of, AreThere, AreAdded, KeepsPlaces, AreLaid}
+use Rattle.ring_store.specs.Common.{Stands}
+use Rattle.feature_exchange.specs.declared.laid.LaidRing.{LaidRing}
+use Rattle.feature_exchange.proofs.Series.{number_there, there_still, there_none, added_first}
+use Rattle.feature_exchange.proofs.Staying.{added_twice, ring_at-stays}
 
 module _ {A : Type 0} where
   pub laid_none : (p : Placement) (m : Rings) (laid : List (LaidRing A)) → AreLaid p m laid p m laid

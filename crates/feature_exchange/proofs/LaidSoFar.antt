@@ -4,11 +4,12 @@ use Rattle.kit_words.proofs.Common.{length, get_or, append_assoc, flat_map, list
 use Rattle.kit_words.proofs.Common.{flat_map-append}
 use Rattle.grid_geometry.specs.Common.{Position}
 use Rattle.ring_machine.proofs.Common.{In, in_right, all_in, in-flat_map, in_at, pass_all}
-use Rattle.ring_store.proofs.Common.{same_map, number_there}
-use Rattle.ring_store.specs.Common.{numbers_of, AreThere, AreStanding, ring_in}
-use Rattle.ring_store.specs.declared.laid.LaidRing.{LaidRing}
+use Rattle.ring_store.proofs.Common.{same_map}
+use Rattle.feature_exchange.proofs.Series.{number_there}
+use Rattle.feature_exchange.specs.Common.{numbers_of, AreThere, LaysMore}
+use Rattle.ring_store.specs.Common.{AreStanding, ring_in}
+use Rattle.feature_exchange.specs.declared.laid.LaidRing.{LaidRing}
 use Rattle.ring_store.specs.declared.tables.RingTables.{RingTables}
-use Rattle.feature_exchange.specs.Common.{LaysMore}
 use Rattle.feature_exchange.proofs.LaidBeside.{laid_none, laid_twice}
 
 -- one list more was laid

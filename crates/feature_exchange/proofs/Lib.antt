@@ -1,3 +1,10 @@
+pub mod Visited
+pub mod Unvisited
+pub mod Gathered
+pub mod Exchanged
+pub mod Numbered
+pub mod Series
+pub mod Staying
 pub mod Ends
 pub mod Base
 pub mod Under

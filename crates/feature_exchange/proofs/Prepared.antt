@@ -7,8 +7,8 @@ use Rattle.ring_machine.proofs.Common.{In, contains_in, in_contains}
 use Rattle.arc_tables.specs.Common.{Rings}
 use Rattle.map_frame.specs.Common.{IsOf, feature_numbers, Framed, ArePlaced}
 use Rattle.segment_index.specs.Common.{SegmentSet}
-use Rattle.ring_store.specs.Common.{AreAdded}
-use Rattle.feature_exchange.specs.Common.{seen, Holds, coming, IsReady, FitsForm, all_numbered, Stored, Change}
+use Rattle.feature_exchange.specs.Common.{AreAdded, seen, Holds, coming, IsReady, FitsForm, all_numbered, Stored}
+use Rattle.feature_exchange.specs.Common.{Change}
 use Rattle.feature_exchange.proofs.Asked.{AreFor, for_coming, for_numbers, for_own, for_below, for_fits}
 use Rattle.map_frame.proofs.Common.{of_in, in_get}
 

@@ -6,8 +6,9 @@ use Rattle.grid_geometry.specs.Common.{Position}
 use Rattle.vertex_index.specs.Common.{Placement}
 use Rattle.arc_tables.specs.Common.{Rings}
 use Rattle.ring_parts.specs.Common.{polygons_seen}
-use Rattle.ring_store.specs.Common.{numbers_of, ring_at, AreThere, AreAdded, KeepsPlaces}
-use Rattle.ring_store.specs.declared.laid.LaidRing.{LaidRing}
+use Rattle.feature_exchange.specs.Laid.{numbers_of, AreThere, AreAdded, KeepsPlaces}
+use Rattle.ring_store.specs.Common.{ring_at}
+use Rattle.feature_exchange.specs.declared.laid.LaidRing.{LaidRing}
 use Rattle.ring_store.specs.declared.tables.RingTables.{RingTables}
 use Rattle.feature_exchange.specs.declared.change.Change.{Change}
 use Rattle.feature_exchange.specs.declared.change.WholeFeature.{WholeFeature}

@@ -7,4 +7,5 @@ pub mod Laying
 pub mod Ready
 pub mod RingPlaces
 pub mod Marked
+pub mod Laid
 pub mod Common

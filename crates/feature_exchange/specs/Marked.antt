@@ -3,8 +3,8 @@ use Rattle.std.specs.Prelude.{ℕ, ◌≡◌, Bool, true, false, List, get_or, C
 use Rattle.grid_geometry.specs.Common.{Position}
 use Rattle.vertex_index.specs.Common.{Placement, place}
 use Rattle.arc_tables.specs.Common.{Rings, begins}
-use Rattle.shared_arcs.specs.declared.around.Neighbours.{Neighbours}
-use Rattle.shared_arcs.specs.declared.around.Neighbours.TheVariants.{None, One, Two, More}
+use Rattle.ring_store.specs.declared.neighbours.Neighbours.{Neighbours}
+use Rattle.ring_store.specs.declared.neighbours.Neighbours.TheVariants.{None, One, Two, More}
 use Rattle.feature_exchange.specs.Stored.{edges_under}
 
 -- a vertex has not exactly two neighbours

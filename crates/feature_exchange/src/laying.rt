@@ -4,13 +4,17 @@ ghost use Rattle.std.specs.List.{list_all, flat_map};
 ghost use Rattle.ring_machine.specs.Common.{is_ring};
 ghost use Rattle.map_frame.specs.Common.{polygon_numbers, feature_numbers};
 ghost use Rattle.ring_parts.specs.Common.{rings_seen, polygons_seen};
-ghost use Rattle.ring_store.specs.Common.{numbers_of, AreThere, AreStanding, ring_in};
+ghost use Rattle.feature_exchange.specs.Laid.{numbers_of, AreThere};
+ghost use Rattle.ring_store.specs.Common.{AreStanding, ring_in};
 ghost use Rattle.feature_exchange.specs.Laying.{LaysMore, asked, asked_rings, polygons_in};
 
 use crate::change::{Change, WholeFeature};
+use crate::laid::LaidRing;
 use crate::numbers::laid_numbers;
+use crate::ring_laying::lay_rings;
+use crate::taking::take_out_rings;
 use grid_geometry::Pos;
-use ring_store::{LaidRing, RingTables, lay_rings, take_out_rings};
+use ring_store::RingTables;
 use segment_index::SegIndex;
 use std::alloc::{AllocError, Allocator};
 

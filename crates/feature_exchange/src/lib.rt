@@ -8,17 +8,24 @@
 mod change;
 mod counting;
 mod exchanging;
+mod laid;
 mod laying;
+mod lonely;
 mod marked_ring;
 mod numbers;
 mod reading;
 mod ring_iter;
+mod ring_laying;
+mod taking;
 mod vertex_list;
 
 pub use change::{Change, WholeFeature, one_change, one_polygon, two_changes};
 pub use counting::count_changes;
 pub use exchanging::exchange_features;
+pub use laid::{LaidRing, gather_rings};
 pub use marked_ring::push_marked_ring;
 pub use reading::read_polygons;
 pub use ring_iter::RingIter;
+pub use ring_laying::lay_rings;
+pub use taking::take_out_rings;
 pub use vertex_list::read_vertices;

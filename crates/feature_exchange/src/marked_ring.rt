@@ -1,6 +1,5 @@
 // The positions of a ring, each with whether borders meet there.
-ghost use Rattle.std.specs.Prelude.{◌≡◌, ◌<◌, ◌≤◌, ◌^◌, ◌++◌, ℕ, Bool, true, map, take, drop, length};
-ghost use Rattle.std.specs.Prelude.{Contains, OnOk};
+ghost use Rattle.std.specs.Prelude.{◌≡◌, ◌<◌, ◌≤◌, ◌^◌, ◌++◌, ℕ, Bool, true, map, take, drop, length, Contains, OnOk};
 ghost use Rattle.std.specs.FinMap as table;
 ghost use Rattle.grid_geometry.specs.Common.{Position};
 ghost use Rattle.ring_machine.specs.Common.{canonical};
@@ -10,9 +9,8 @@ ghost use Rattle.feature_exchange.specs.Marked.{meets, MarksAlong};
 
 use crate::ring_iter::least_place;
 use grid_geometry::Pos;
-use ring_store::RingTables;
+use ring_store::{Neighbours, RingKeys, RingTables};
 use segment_index::SegIndex;
-use shared_arcs::{Neighbours, RingKeys};
 use std::alloc::{AllocError, Allocator};
 use vertex_index::{VertexKey, Vertices};
 

@@ -2,12 +2,12 @@
 ghost use Rattle.std.specs.Prelude.{◌≡◌, ◌++◌, IfOk, OnOk};
 ghost use Rattle.std.specs.List.{flat_map};
 ghost use Rattle.map_frame.specs.Common.{polygon_numbers};
-ghost use Rattle.ring_store.specs.Common.{numbers_of};
+ghost use Rattle.feature_exchange.specs.Laid.{numbers_of};
 ghost use Rattle.feature_exchange.specs.Under.{rings_under};
 
 use crate::change::Change;
+use crate::laid::LaidRing;
 use map_frame::Frame;
-use ring_store::LaidRing;
 use std::alloc::{AllocError, Allocator};
 
 /// Appends the numbers of the rings of these polygons.

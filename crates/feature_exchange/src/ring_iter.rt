@@ -1,14 +1,13 @@
 // The positions of a ring, one by one.
-ghost use Rattle.std.specs.Prelude.{◌≡◌, ◌<◌, ◌+◌, ◌^◌, ◌⊎◌, ◌∷◌, []};
-ghost use Rattle.std.specs.Prelude.{ℕ, List, map, length, drop, true};
-ghost use Rattle.std.specs.Prelude.{IfSome, IfNone, Contains};
+ghost use Rattle.std.specs.Prelude.{◌≡◌, ◌<◌, ◌+◌, ◌^◌, ◌⊎◌, ◌∷◌, [], ℕ, List, map, length, drop, true, IfSome, IfNone};
+ghost use Rattle.std.specs.Prelude.{Contains};
 ghost use Rattle.std.specs.FinMap as table;
 ghost use Rattle.std.specs.Iterator.{YieldsFirst, item_count};
 ghost use Rattle.ring_machine.specs.Common.{before, least, canonical};
 ghost use Rattle.vertex_index.specs.Common.{place};
 
 use grid_geometry::Pos;
-use shared_arcs::RingKeys;
+use ring_store::RingKeys;
 use std::alloc::{Allocator, Global};
 use std::marker::Model;
 use vertex_index::{VertexKey, Vertices};

@@ -13,9 +13,8 @@ ghost use Rattle.feature_exchange.specs.Stored.{stored_in, document_of, edges_un
 use crate::reading::positions_under;
 use grid_geometry::Pos;
 use map_frame::Frame;
-use ring_store::RingTables;
+use ring_store::{Borders, RingTables};
 use segment_index::SegIndex;
-use shared_arcs::Borders;
 use std::alloc::{AllocError, Allocator};
 use vertex_index::VertexKey;
 

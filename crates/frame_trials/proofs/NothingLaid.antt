@@ -11,7 +11,7 @@ use Rattle.vertex_index.specs.Placement.{Placement}
 use Rattle.arc_tables.specs.Ways.{Edge}
 use Rattle.arc_tables.specs.Rings.{Rings}
 use Rattle.ring_store.specs.Standing.{Stands}
-use Rattle.ring_store.proofs.Visited.{none_some}
+use Rattle.feature_exchange.proofs.Visited.{none_some}
 
 pub stands_none : (places : Placement) (rings : Rings) (held : SegmentSet) → places ≡ table.empty
     → rings ≡ table.empty → held ≡ set.empty → Stands places rings held

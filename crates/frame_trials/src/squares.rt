@@ -3,15 +3,15 @@ ghost use Rattle.std.specs.Prelude.{◌≡◌, IfOk, IsTrue, map};
 ghost use Rattle.std.specs.List.{list_all};
 ghost use Rattle.grid_geometry.specs.Position.{position};
 ghost use Rattle.ring_machine.specs.Ring.{is_ring};
-ghost use Rattle.ring_store.specs.Laid.{AreThere};
+ghost use Rattle.feature_exchange.specs.Laid.{AreThere};
 ghost use Rattle.ring_store.specs.Tables.{AreStanding};
 
+use feature_exchange::{LaidRing, gather_rings, lay_rings, take_out_rings};
 use fixed_seed::fixed_seed;
 use grid_geometry::Pos;
 use refusing_allocator::Refusing;
-use ring_store::{Counted, LaidRing, RingTables, gather_rings, lay_rings, take_out_rings};
+use ring_store::{Borders, Counted, RingTables};
 use segment_index::ListIndex;
-use shared_arcs::Borders;
 use std::alloc::{AllocError, Allocator, Global};
 use std::hash::RandomState;
 use std::process::Abort;

@@ -1,7 +1,7 @@
 // The junctions of a map that is to be laid: where borders are to end.
 ghost use Rattle.std.specs.Prelude.{◌≡◌, ◌<◌, OnOk, length};
 
-use shared_arcs::Borders;
+use ring_store::Borders;
 use std::alloc::{AllocError, Allocator};
 use vertex_index::VertexKey;
 

@@ -5,12 +5,12 @@ use Rattle.std.specs.FinMap as table
 use Rattle.grid_geometry.specs.Common.{Position}
 use Rattle.vertex_index.specs.Common.{Placement, place}
 use Rattle.arc_tables.specs.Common.{Rings}
-use Rattle.shared_arcs.specs.Common.{Joined, AreNeighbours, ListsJoined}
-use Rattle.shared_arcs.specs.declared.around.Neighbours.TheVariants.{Two}
+use Rattle.ring_store.specs.Common.{Joined, AreNeighbours, ListsJoined, AreAround}
+use Rattle.ring_store.specs.Planned.{ArePlaced}
+use Rattle.ring_store.specs.declared.neighbours.Neighbours.TheVariants.{Two}
 use Rattle.ring_store.proofs.Places.{place_is}
 use Rattle.ring_machine.specs.Common.{has}
 use Rattle.ring_machine.proofs.Common.{In, in_mapped, in_contains, has-in}
-use Rattle.ring_store.specs.Common.{ArePlaced, AreAround}
 use Rattle.ring_store.proofs.Planned.{all_different}
 
 module _ (places : Placement) (m : Rings) (k : ℕ) (old new : List ℕ) (lists : ListsJoined m k old new) (none : old ≡ []) where

@@ -10,6 +10,4 @@ pub use Rattle.ring_store.proofs.Places.{IsKept, distinct_places, insert_other, 
 pub use Rattle.ring_store.proofs.Places.{place_alike, place_is, place_kept, remove_here, remove_other}
 pub use Rattle.ring_store.proofs.Pushed.{at_contains, map_more, map_pushed}
 pub use Rattle.ring_store.proofs.SegmentLists.{has-eq, has_all, or_nothing, segment_is-eq, single_all}
-pub use Rattle.ring_store.proofs.Series.{added_first, back_again, number_there, there_none, there_still}
-pub use Rattle.ring_store.proofs.Staying.{added_twice, ring_at-stays}
 pub use Rattle.ring_store.proofs.Sums.{filter-mapped, sum_by-map, sum_more}

@@ -11,8 +11,7 @@ use Rattle.ring_machine.specs.Common.{is_distinct, are_distinct}
 use Rattle.vertex_index.specs.Common.{Placement, AreDistinct, place}
 use Rattle.arc_tables.specs.Common.{Edge, links, edges, begins}
 use Rattle.ring_store.specs.Common.{GoesRound, IsRound, sides}
-use Rattle.ring_store.proofs.KeyRings.{begins_edges, begins_round, edges_round, edge_apart, edge_ends, laid}
-use Rattle.ring_store.proofs.KeyRings.{goes_round}
+use Rattle.ring_store.proofs.KeyRings.{begins_edges, begins_round, edges_round, edge_apart, edge_ends, laid, goes_round}
 use Rattle.ring_store.proofs.Places.{IsKept, distinct_places}
 
 -- ---- the edge at a place

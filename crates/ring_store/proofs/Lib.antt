@@ -1,3 +1,11 @@
+pub mod ReadLemmas
+pub mod KeysLeft
+pub mod Gathering
+pub mod NeighbourLemmas
+pub mod JoinedLemmas
+pub mod ShortestLemmas
+pub mod SeenLemmas
+pub mod CallerLemmas
 pub mod Pushed
 pub mod Sums
 pub mod KeyRings
@@ -10,14 +18,7 @@ pub mod Used
 pub mod CountLemmas
 pub mod Held
 pub mod SideSteps
-pub mod Visited
-pub mod Unvisited
-pub mod Gathered
-pub mod Exchanged
-pub mod Numbered
 pub mod Keys
-pub mod Series
-pub mod Staying
 pub mod Planned
 pub mod AroundPlan
 pub mod TableLemmas

@@ -9,7 +9,7 @@ use Rattle.grid_geometry.proofs.Common.{segment-comm}
 use Rattle.ring_machine.proofs.Common.{In, contains_in, in_contains, any_in, same_ends}
 use Rattle.vertex_index.specs.Common.{Placement, place}
 use Rattle.arc_tables.specs.Common.{Edge, is_seg, Rings, has_segment, users_of, begins}
-use Rattle.shared_arcs.proofs.CallerLemmas.{unused_apart}
+use Rattle.ring_store.proofs.CallerLemmas.{unused_apart}
 use Rattle.ring_store.proofs.KeyRings.{is_seg_ends, edge_times, edge_ends}
 use Rattle.ring_store.proofs.Places.{IsKept, one_key}
 use Rattle.ring_store.specs.Common.{IsSide}

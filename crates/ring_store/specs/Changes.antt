@@ -4,9 +4,9 @@ use Rattle.std.specs.FinMap as table
 use Rattle.grid_geometry.specs.Common.{Position, Segment, segment}
 use Rattle.vertex_index.specs.Common.{Placement, place, IsOccupied}
 use Rattle.arc_tables.specs.Common.{through, collapsed, Rings}
-use Rattle.shared_arcs.specs.Common.{Joined, AreNeighbours}
-use Rattle.shared_arcs.specs.declared.around.Neighbours.{Neighbours}
-use Rattle.shared_arcs.specs.declared.around.Neighbours.TheVariants.{Two}
+use Rattle.ring_store.specs.Joined.{Joined, AreNeighbours}
+use Rattle.ring_store.specs.declared.neighbours.Neighbours.{Neighbours}
+use Rattle.ring_store.specs.declared.neighbours.Neighbours.TheVariants.{Two}
 use Rattle.ring_store.specs.Planned.{ArePlaced, AreAround, spokes}
 
 -- ---- what is read around a vertex

@@ -1,11 +1,15 @@
 pub mod Changes
 pub mod Counted
 pub mod Keyed
-pub mod Laid
 pub mod Many
 pub mod Planned
 pub mod Round
 pub mod Standing
 pub mod Steps
 pub mod Tables
+pub mod Neighbours
+pub mod Coming
+pub mod Joined
+pub mod Listing
+pub mod Shortest
 pub mod Common

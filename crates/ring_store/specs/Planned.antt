@@ -8,7 +8,7 @@ use Rattle.ring_machine.specs.Common.{are_distinct}
 use Rattle.vertex_index.specs.Common.{Placement, place}
 use Rattle.segment_index.specs.Common.{SegmentSet, has}
 use Rattle.arc_tables.specs.Common.{Rings}
-use Rattle.shared_arcs.specs.Common.{Joined}
+use Rattle.ring_store.specs.Joined.{Joined}
 
 -- each vertex that is joined to k is kept
 abbrev pub ArePlaced : Placement → Rings → ℕ → Type 0

@@ -2,7 +2,7 @@
 use Rattle.std.specs.Prelude.{ℕ, ◌≡◌, ◌↔◌, ◌⊎◌, List, map, Some, IsTrue, Contains}
 use Rattle.std.specs.FinMap as table
 use Rattle.std.specs.FinSet as set
-use Rattle.grid_geometry.specs.Common.{Position, Segment, segment}
+use Rattle.grid_geometry.specs.Common.{Segment, segment}
 use Rattle.vertex_index.specs.Common.{Placement, AreDistinct, place}
 use Rattle.segment_index.specs.Common.{SegmentSet}
 use Rattle.arc_tables.specs.Common.{Edge, Rings}
@@ -27,10 +27,3 @@ sides places es = map (λ (e : Edge). segment (place places e.0) (place places e
 abbrev pub HoldsWith : Placement → Rings → SegmentSet → List Edge → Type 0
 HoldsWith places rings held es =
     (t : Segment) → IsTrue (set.contains held t) ↔ (IsSide places rings t ⊎ Contains (sides places es) t)
-
--- of these keys those are left that a ring visits; any other key is left as it was
-pub record LeavesVisited (rings : Rings) (keys : List ℕ) (old new : Placement) : Type 0 where
-  pub kept : (k : ℕ) (p : Position) → table.get new k ≡ Some p → table.get old k ≡ Some p
-  pub stays : (k : ℕ) → IsVisited rings k → table.get new k ≡ table.get old k
-  pub others : (k : ℕ) → ¬ (Contains keys k) → table.get new k ≡ table.get old k
-  pub gone : (k : ℕ) → Contains keys k → IsTrue (table.contains_key new k) → IsVisited rings k

@@ -3,16 +3,16 @@ ghost use Rattle.std.specs.FinMap as table;
 ghost use Rattle.std.specs.FinSet as set;
 ghost use Rattle.segment_index.specs.Common.{AreAmong, AreSingle};
 ghost use Rattle.arc_tables.specs.Common.{AreApart, users_of};
-ghost use Rattle.shared_arcs.specs.Common.{Joined};
+ghost use Rattle.ring_store.specs.Joined.{Joined};
 ghost use Rattle.ring_store.specs.Changes.{HasBridging, IsBridging, TakenOut};
 ghost use Rattle.ring_store.specs.Planned.{Exchanges};
 
 use crate::around::spokes;
+use crate::neighbours::Neighbours;
 use crate::segments::discard_all;
 use crate::tables::RingTables;
 use grid_geometry::{Pos, Seg};
 use segment_index::SegIndex;
-use shared_arcs::Neighbours;
 use std::alloc::{AllocError, Allocator};
 use vertex_index::VertexKey;
 

@@ -1,6 +1,5 @@
 // A vertex under a key at each position of a ring.
-ghost use Rattle.std.specs.Prelude.{◌≡◌, ◌≤◌, ◌+◌, [], OnOk, IsTrue, length, map};
-ghost use Rattle.std.specs.Prelude.{vec_len, vec_capacity};
+ghost use Rattle.std.specs.Prelude.{◌≡◌, ◌≤◌, ◌+◌, [], OnOk, IsTrue, length, map, vec_len, vec_capacity};
 ghost use Rattle.ring_machine.specs.Common.{is_distinct, are_distinct};
 ghost use Rattle.vertex_index.specs.Common.{AreDistinct, place};
 ghost use Rattle.ring_store.specs.Keyed.{ArePut};

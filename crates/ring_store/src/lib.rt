@@ -7,31 +7,35 @@
 //! one fail, and then nothing has changed.
 #![tactic(auto)]
 
+mod all_around;
 mod around;
+mod borders;
 mod bridging;
 mod counted;
+mod joined;
 mod keying;
-mod laid;
-mod laying;
-mod lonely;
 mod many;
 mod moving;
+mod neighbours;
 mod parting;
+mod reading;
 mod removal;
+mod ring_keys;
 mod segments;
 mod sides;
 mod tables;
-mod taking;
+mod vertex_edits;
 
+pub use arc_tables::{Place, Put};
+pub use borders::Borders;
 pub use bridging::{Bridging, read_bridging, take_out};
 pub use counted::Counted;
 pub use keying::key_ring;
-pub use laid::{LaidRing, gather_rings};
-pub use laying::lay_rings;
 pub use many::put_all;
 pub use moving::{Moving, read_moving, shift};
+pub use neighbours::Neighbours;
 pub use parting::{Parting, put_in, read_parting};
 pub use removal::Removal;
-pub use sides::{edge_at, side};
+pub use ring_keys::RingKeys;
+pub use sides::{add_sides, drop_sides, edge_at, side};
 pub use tables::RingTables;
-pub use taking::take_out_rings;

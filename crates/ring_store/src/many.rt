@@ -7,18 +7,18 @@ ghost use Rattle.vertex_index.specs.Common.{Placement, IsOccupied};
 ghost use Rattle.segment_index.specs.Common.{AreSingle, has};
 ghost use Rattle.arc_tables.specs.Common.{gained, throughs, ArePuts};
 ghost use Rattle.arc_tables.specs.declared.batch.Put.{Put};
-ghost use Rattle.shared_arcs.specs.Common.{Joined};
+ghost use Rattle.ring_store.specs.Joined.{Joined};
 ghost use Rattle.ring_store.specs.Many.{ArePlaceable, comings, goings, AreKeyed, ArePutBack};
 ghost use Rattle.ring_store.specs.Planned.{AreNew, Gains, Exchanges};
 ghost use Rattle.ring_store.specs.declared.removal.Removal.{Removal};
 
+use crate::borders::Borders;
 use crate::removal::Removal;
 use crate::segments::{add_all, discard_all};
 use crate::tables::RingTables;
 use arc_tables::Put;
 use grid_geometry::{Pos, Seg};
 use segment_index::SegIndex;
-use shared_arcs::Borders;
 use std::alloc::{AllocError, Allocator};
 use vertex_index::Vertices;
 

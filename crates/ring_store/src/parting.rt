@@ -4,16 +4,16 @@ ghost use Rattle.std.specs.FinSet as set;
 ghost use Rattle.ring_machine.specs.Ring as machine;
 ghost use Rattle.segment_index.specs.Common.{AreSingle};
 ghost use Rattle.arc_tables.specs.Common.{AreApart, users_of};
-ghost use Rattle.shared_arcs.specs.Common.{Joined};
+ghost use Rattle.ring_store.specs.Joined.{Joined};
 ghost use Rattle.ring_store.specs.Changes.{IsParting, PutBetween};
 ghost use Rattle.ring_store.specs.Planned.{AreNew, Exchanges};
 
 use crate::around::spokes;
+use crate::borders::Borders;
 use crate::segments::{add_all, discard_all};
 use crate::tables::RingTables;
 use grid_geometry::{Pos, Seg};
 use segment_index::SegIndex;
-use shared_arcs::Borders;
 use std::alloc::{AllocError, Allocator};
 use vertex_index::{VertexKey, Vertices};
 

@@ -1,6 +1,5 @@
 // The segments of a ring in the index, where no other ring has them.
-ghost use Rattle.std.specs.Prelude.{◌≡◌, ◌≢◌, ◌≤◌, ◌<◌, ◌+◌, IsTrue, [], length, take};
-ghost use Rattle.std.specs.Prelude.{OnOk, OnErr, slice_index_or};
+ghost use Rattle.std.specs.Prelude.{◌≡◌, ◌≢◌, ◌≤◌, ◌<◌, ◌+◌, IsTrue, [], length, take, OnOk, OnErr, slice_index_or};
 ghost use Rattle.std.specs.FinMap as table;
 ghost use Rattle.grid_geometry.specs.Common.{segment};
 ghost use Rattle.vertex_index.specs.Common.{place};
@@ -8,9 +7,10 @@ ghost use Rattle.arc_tables.specs.Common.{edges};
 ghost use Rattle.ring_store.specs.Round.{IsRound};
 ghost use Rattle.ring_store.specs.Steps.{AreKeyed, HoldsWith};
 
+use crate::borders::Borders;
+use arc_tables::Place;
 use grid_geometry::Seg;
 use segment_index::SegIndex;
-use shared_arcs::{Borders, Place};
 use std::alloc::{AllocError, Allocator};
 use vertex_index::{VertexKey, Vertices};
 
@@ -89,7 +89,7 @@ fn drop_side<I: SegIndex, A: Allocator + Copy>(
 }
 
 /// Takes the segments of a ring's first so many edges out of the index, unless a ring has them.
-pub(crate) fn drop_sides<I: SegIndex, A: Allocator + Copy>(
+pub fn drop_sides<I: SegIndex, A: Allocator + Copy>(
     vertices: &Vertices<A>,
     borders: &Borders<A>,
     index: &mut I,
@@ -114,7 +114,7 @@ pub(crate) fn drop_sides<I: SegIndex, A: Allocator + Copy>(
 
 /// Puts the segments of a ring into the index, unless a ring has them already. Where that fails the
 /// index holds what it held.
-pub(crate) fn add_sides<I: SegIndex, A: Allocator + Copy>(
+pub fn add_sides<I: SegIndex, A: Allocator + Copy>(
     vertices: &Vertices<A>,
     borders: &Borders<A>,
     index: &mut I,

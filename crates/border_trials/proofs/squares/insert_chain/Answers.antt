@@ -17,7 +17,7 @@ use Rattle.arc_tables.specs.Edited.{AreApart, IsOff, ArePuts, through, gained}
 use Rattle.arc_tables.proofs.Counting.{segment_times, times_segment}
 use Rattle.arc_tables.proofs.Inserting.{with_q}
 use Rattle.arc_tables.proofs.Putting.{off_through}
-use Rattle.shared_arcs.specs.Joined.{Joined}
+use Rattle.ring_store.specs.Joined.{Joined}
 use Rattle.border_trials.proofs.squares.insert_chain.Goals as goal
 
 -- ---- the rings of a map

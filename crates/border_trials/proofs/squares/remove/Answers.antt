@@ -1,6 +1,6 @@
 use Rattle.std.proofs.Common.{sym, ◌∙◌, arith}
 use Rattle.std.proofs.lemmas.Bool.Decides.{nat_tests}
-use Rattle.shared_arcs.proofs.CallerLemmas.{unused_apart}
+use Rattle.ring_store.proofs.CallerLemmas.{unused_apart}
 use Rattle.border_trials.proofs.squares.remove.Goals as goal
 
 pub remove-requires-clause-between : goal.remove-requires-clause-between

@@ -1,9 +1,10 @@
 use Rattle.kit_words.proofs.Common.{◌++◌, ◌∙◌, sym, ap, subst, length, flat_map, length-map}
 use Rattle.ring_machine.specs.Common.{feature_at}
 use Rattle.ring_parts.specs.Common.{polygons_seen}
-use Rattle.ring_store.specs.Common.{numbers_of, ring_at, AreThere}
-use Rattle.ring_store.proofs.Common.{there_still, back_again}
-use Rattle.feature_exchange.specs.Common.{seen, all_had, stored, ring_under, document_of, rings_under}
+use Rattle.feature_exchange.specs.Common.{numbers_of, AreThere, seen, all_had, stored, ring_under, document_of}
+use Rattle.feature_exchange.specs.Common.{rings_under}
+use Rattle.ring_store.specs.Common.{ring_at}
+use Rattle.feature_exchange.proofs.Series.{there_still, back_again}
 use Rattle.map_frame.specs.Common.{Framed}
 use Rattle.feature_exchange.proofs.Asked.{for_length, had_seen}
 use Rattle.feature_exchange.proofs.ExchangedWhole.{grows_frame, whole_rings, whole_ready, whole_document, whole_holds}

@@ -1,6 +1,6 @@
 use Rattle.kit_words.proofs.Common.{sym, ap, subst}
 use Rattle.map_frame.specs.Common.{IsOf}
-use Rattle.ring_store.specs.Common.{numbers_of}
+use Rattle.feature_exchange.specs.Common.{numbers_of}
 use Rattle.feature_exchange.proofs.exchanging.lay_ready.Goals as goal
 
 pub returns-in-Ok-make_room-clause-room : goal.returns-in-Ok-make_room-clause-room

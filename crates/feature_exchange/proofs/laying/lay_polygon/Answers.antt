@@ -1,6 +1,6 @@
 use Rattle.kit_words.proofs.Common.{ap, ◌∙◌}
-use Rattle.ring_store.specs.Common.{numbers_of}
-use Rattle.ring_store.proofs.Common.{back_again}
+use Rattle.feature_exchange.specs.Common.{numbers_of}
+use Rattle.feature_exchange.proofs.Series.{back_again}
 use Rattle.feature_exchange.proofs.LaidBeside.{laid_more, laid_as}
 use Rattle.feature_exchange.proofs.laying.lay_polygon.Goals as goal
 

@@ -1,6 +1,6 @@
 use Rattle.kit_words.proofs.Common.{[], ◌∷◌, ◌++◌, ◌∙◌, sym, ap, take_all}
 use Rattle.ring_store.proofs.Common.{map_more}
-use Rattle.ring_store.specs.Common.{numbers_of}
+use Rattle.feature_exchange.specs.Common.{numbers_of}
 use Rattle.feature_exchange.proofs.numbers.laid_numbers.Goals as goal
 
 pub loop-ring-preserved : goal.loop-ring-preserved

@@ -1,5 +1,5 @@
 use Rattle.kit_words.proofs.Common.{◌≡◌, take}
-use Rattle.ring_store.specs.Common.{numbers_of}
+use Rattle.feature_exchange.specs.Common.{numbers_of}
 use Rattle.feature_exchange.proofs.numbers.laid_numbers.Given as goal
 
 -- the numbers so far

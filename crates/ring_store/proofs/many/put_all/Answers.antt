@@ -1,7 +1,6 @@
 use Rattle.kit_words.proofs.Common.{ℕ, sym, subst}
 use Rattle.arc_tables.specs.Common.{ArePuts}
-use Rattle.shared_arcs.specs.Common.{Joined}
-use Rattle.ring_store.specs.Common.{AreKeyed}
+use Rattle.ring_store.specs.Common.{Joined, AreKeyed}
 use Rattle.ring_store.proofs.PuttingBack.{puts_fit}
 use Rattle.ring_store.proofs.many.put_all.Goals as goal
 

@@ -1,6 +1,0 @@
-use Rattle.kit_words.proofs.Common.{◌≡◌, take, None}
-use Rattle.shared_arcs.specs.Common.{edge_counts, least_of, rings_along}
-use Rattle.shared_arcs.proofs.around.shortest_among.Given as goal
-
-abbrev pub invariant-loop-i : goal.invariant-loop-i
-invariant-loop-i g l = l.least ≡ least_of None (edge_counts l.arcs l.rings (rings_along l.arcs (take l.i-index l.among) l.k))

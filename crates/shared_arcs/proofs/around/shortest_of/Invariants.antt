@@ -1,6 +1,0 @@
-use Rattle.kit_words.proofs.Common.{◌≡◌, take}
-use Rattle.shared_arcs.specs.Common.{edge_counts, least_of}
-use Rattle.shared_arcs.proofs.around.shortest_of.Given as goal
-
-abbrev pub invariant-loop-r : goal.invariant-loop-r
-invariant-loop-r g l = l.least ≡ least_of l.fn.best (edge_counts l.arcs l.rings (take l.r-index l.users))
