@@ -1,7 +1,7 @@
 -- What passes the level of a position behind it: edges of a ring that holds it, and the rings of given segments.
 use Rattle.kit_words.proofs.Common.{◌≡◌, ◌<◌, ◌+◌, ◌⊎◌, ℕ, Bool, true, false, not, refl, sym, ap, ap₂, ◌∙◌, subst, cond}
 use Rattle.kit_words.proofs.Common.{◌&&◌, pos, ℤ, List, [], ◌∷◌, ◌++◌, take, get_or, length, int_lt, inl, inr, arith}
-use Rattle.kit_words.proofs.Common.{is_gt, false≢true, take_more}
+use Rattle.kit_words.proofs.Common.{is_gt, false≢true, take_more, Contains}
 use Rattle.grid_geometry.specs.Common.{orientation, Position, position_cmp, Edge, edges, links, is_counted}
 use Rattle.grid_geometry.specs.Common.{is_odd_count, is_inside, xor, Segment, segment}
 use Rattle.ring_machine.specs.Common.{Document}
@@ -67,10 +67,10 @@ some_behind p (a ∷ rest) h =
 
 -- ---- the rings of segments, a segment at a time
 
-pub behind_none : (d : Document) (p : Position) → AreBehind d p [] []
-behind_none d p = record {
+pub behind_none : (d : Document) (p : Position) (suspects : List RingName) → AreBehind d p suspects [] []
+behind_none d p suspects = record {
   among = λ name c. absurd (contains_in [] name c);
-  covers = λ name s c. absurd (contains_in [] s c);
+  covers = λ name s q c. absurd (contains_in [] s c);
 }
 
 in_more : {X : Type 0} (x d : X) (xs : List X) (i : ℕ) → i < length xs → In x (take (i + 1) xs) → In x (take i xs) ⊎ (x ≡ get_or xs i d)
@@ -81,30 +81,34 @@ in_more x d xs i l h =
       | inr (inr k) ↦ absurd k
     ]
 
-module _ (d : Document) (p : Position) (ss : List Segment) (i : ℕ) (s other : Segment) (old : List RingName) (l : i < length ss) (here : s ≡ get_or ss i other)
-    (before : AreBehind d p (take i ss) old) where
-  pub behind_more : (new : List RingName) → is_behind p s ≡ true → ListsRings d (segment s.lo s.hi) old new → AreBehind d p (take (i + 1) ss) new
+module _ (d : Document) (p : Position) (suspects : List RingName) (ss : List Segment) (i : ℕ) (s other : Segment) (old : List RingName) (l : i < length ss)
+    (here : s ≡ get_or ss i other) (before : AreBehind d p suspects (take i ss) old) where
+  pub behind_more : (new : List RingName) → is_behind p s ≡ true → ListsRings d (segment s.lo s.hi) old new → AreBehind d p suspects (take (i + 1) ss) new
   behind_more new it listed = record {
     among = λ name c.
         elim (in-append name old listed.found (subst (In name) listed.appended (contains_in new name c))) [
           | inl k ↦ before.among name (in_contains old name k)
           | inr k ↦ (s, has_of d s name ((listed.all name).0 (in_contains listed.found name k)), it)
         ];
-    covers = λ name t c h k. in_contains new name (subst (In name) (sym listed.appended)
+    covers = λ name t q c h k. in_contains new name (subst (In name) (sym listed.appended)
         (elim (in_more t other ss i l (contains_in (take (i + 1) ss) t c)) [
-          | inl j ↦ in_left name old listed.found (contains_in old name (before.covers name t (in_contains (take i ss) t j) h k))
+          | inl j ↦ in_left name old listed.found (contains_in old name (before.covers name t q (in_contains (take i ss) t j) h k))
           | inr e ↦
               let same : t ≡ s = e ∙ sym here in
               in_right name old listed.found (contains_in listed.found name ((listed.all name).1 (of_has d s name (subst (λ u. ring_has d name u ≡ true) same h))))
         ]));
   }
 
-  pub behind_same : is_behind p s ≡ false → AreBehind d p (take (i + 1) ss) old
+  pub behind_same : is_behind p s ≡ false → AreBehind d p suspects (take (i + 1) ss) old
   behind_same none = record {
     among = before.among;
-    covers = λ name t c h k.
+    covers = λ name t q c h k.
         elim (in_more t other ss i l (contains_in (take (i + 1) ss) t c)) [
-          | inl j ↦ before.covers name t (in_contains (take i ss) t j) h k
+          | inl j ↦ before.covers name t q (in_contains (take i ss) t j) h k
           | inr e ↦ absurd (false≢true (sym none ∙ ap (is_behind p) (sym (e ∙ sym here)) ∙ k))
         ];
   }
+
+  -- each suspect is among them already
+  pub behind_seen : ((name : RingName) → Contains suspects name → Contains old name) → AreBehind d p suspects (take (i + 1) ss) old
+  behind_seen seen = record { among = before.among; covers = λ name t q c h k. seen name q }

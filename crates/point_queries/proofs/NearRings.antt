@@ -111,10 +111,10 @@ module _ (d : Document) (are_rings : list_all is_ring (rings d) ≡ true) (p : P
   holding_has : (ring : List Position) (i : In ring (rings d)) → is_inside p ring ≡ true → lies_in (covers ring (in_contains (rings d) ring i)).by p ≡ true
   holding_has ring i inside = let c = covers ring (in_contains (rings d) ring i) in holds_in_diagonal c.by ring p c.within inside
 
-  module _ (ss : List Segment) (near : ListsNear d (ray_back p r.x0) [] ss) (behind : List RingName) (are : AreBehind d p ss behind) where
-    -- a ring that holds the position has an edge behind it
-    is_told : (name : RingName) (ring : List Position) → ring_of d name ≡ Some ring → is_inside p ring ≡ true → list_any (λ other. is_name other name) behind ≡ true
-    is_told name ring e inside =
+  module _ (ss : List Segment) (near : ListsNear d (ray_back p r.x0) [] ss) (suspects behind : List RingName) (are : AreBehind d p suspects ss behind) where
+    -- a suspect that holds the position has an edge behind it
+    is_told : (name : RingName) (ring : List Position) → Contains suspects name → ring_of d name ≡ Some ring → is_inside p ring ≡ true → list_any (λ other. is_name other name) behind ≡ true
+    is_told name ring q e inside =
         let i = ring_there d name ring e in
         let edge = some_behind p ring inside in
         let t = segment (edge.0).0 (edge.0).1 in
@@ -125,7 +125,7 @@ module _ (d : Document) (are_rings : list_all is_ring (rings d) ≡ true) (p : P
         let has : ring_has d name t ≡ true =
         ap₂ (λ (z : Segment) (o : Option (List Position)). list_any (segment_eq z) (segments (unwrap_or o []))) (of_ends d t in_all) e
         ∙ in_any (segment_eq t) t (segments ring) in_ring (segment_ordered.eq-refl t) in
-        in_any (λ other. is_name other name) name behind (contains_in behind name (are.covers name t given has (behind_is p (edge.0).0 (edge.0).1 ∙ edge.2))) (is_name-refl name)
+        in_any (λ other. is_name other name) name behind (contains_in behind name (are.covers name t q given has (behind_is p (edge.0).0 (edge.0).1 ∙ edge.2))) (is_name-refl name)
 
     -- one of which an odd number of segments count, and that has an edge behind the position, holds it
     both_hold : (name : RingName) → odd (is_name name) names ≡ true → list_any (λ other. is_name other name) behind ≡ true → holds d p name ≡ true
@@ -152,7 +152,7 @@ module _ (d : Document) (are_rings : list_all is_ring (rings d) ≡ true) (p : P
         ap (λ (o : Option (List Position)). is_inside p (unwrap_or o [])) ring.there ∙ sym (suspect ring.positions i has name ring.there) ∙ odds
 
     module _ (sorted : List RingName) (alike : (y : RingName) → odd (is_name y) sorted ≡ odd (is_name y) names)
-        (among : (y : RingName) → In y sorted → In y names) (suspects : List RingName) (odds : HaveOdd sorted suspects) where
+        (among : (y : RingName) → In y sorted → In y names) (odds : HaveOdd sorted suspects) where
       abbrev told : RingName → Bool
       told name = list_any (λ other. is_name other name) behind
 
@@ -177,7 +177,10 @@ module _ (d : Document) (are_rings : list_all is_ring (rings d) ≡ true) (p : P
               → (told name && odd (is_name name) names) ≡ is_inside p ring
           by name ring e true k =
               let i = ring_there d name ring e in
-              ap₂ (λ y z. y && z) (is_told name ring e k) (suspect ring i (holding_has ring i k) name e ∙ k) ∙ sym k
+              let odd_there = suspect ring i (holding_has ring i k) name e ∙ k in
+              let other = odd-some (is_name name) suspects (odds.odds name ∙ alike name ∙ odd_there) in
+              let there = in_contains suspects name (subst (λ z. In z suspects) (sym (is_name-true name other.0 other.2)) other.1) in
+              ap₂ (λ y z. y && z) (is_told name ring there e k) odd_there ∙ sym k
           by name ring e false k =
               neither (told name) (odd (is_name name) names) (is_inside p ring) k
               (λ v u. sym (ap (λ (o : Option (List Position)). is_inside p (unwrap_or o [])) e) ∙ both_hold name v u) ∙ sym k

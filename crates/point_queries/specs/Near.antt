@@ -17,13 +17,14 @@ ray_back p x = record { x0 = x; y0 = p.y; x1 = p.x; y1 = p.y }
 abbrev pub is_behind : Position → Segment → Bool
 is_behind p s = xor (int_lt p.y s.lo.y) (int_lt p.y s.hi.y) && not (is_passed p s)
 
--- the rings that have one of the segments which pass the level of p behind it
-pub record AreBehind (d : Document) (p : Position) (ss : List Segment) (names : List RingName)
-    : Type 0 where
+-- rings that have one of the segments which pass the level of p behind it, among them each suspect
+-- that has one of these
+pub record AreBehind (d : Document) (p : Position) (suspects : List RingName) (ss : List Segment)
+    (names : List RingName) : Type 0 where
   pub among : (name : RingName) → Contains names name
       → (s : Segment) × IsTrue (ring_has d name s) × IsTrue (is_behind p s)
-  pub covers : (name : RingName) (s : Segment) → Contains ss s → IsTrue (ring_has d name s)
-      → IsTrue (is_behind p s) → Contains names name
+  pub covers : (name : RingName) (s : Segment) → Contains suspects name → Contains ss s
+      → IsTrue (ring_has d name s) → IsTrue (is_behind p s) → Contains names name
 
 -- the name stands once more, or once less
 abbrev pub Cancels : RingName → List RingName → List RingName → Type 0

@@ -1,5 +1,5 @@
 // The features at a position, by the segments that count for it as far as the boxes that have it.
-ghost use Rattle.std.specs.Prelude.{◌≡◌, ◌≤◌, ◌⊎◌, true, int_le, unsigned_abs, Contains, IfOk};
+ghost use Rattle.std.specs.Prelude.{◌≡◌, ◌≤◌, ◌⊎◌, true, int_le, unsigned_abs, Contains, IfOk, IsTrue};
 ghost use Rattle.std.specs.Prelude.{OnOk, IfSome};
 ghost use Rattle.std.specs.List.{filter, list_any};
 ghost use Rattle.std.specs.List.Sorted.{IsPermutation};
@@ -101,18 +101,32 @@ fn is_behind(p: Pos, s: Seg) -> bool
     (p.y() < s.lo.y()) != (p.y() < s.hi.y()) && !counts(p, s.lo, s.hi)
 }
 
-/// The rings that have one of those of these segments which pass the level of p behind it.
+/// Whether each of these names is among others.
+fn has_each(others: &[RingName], names: &[RingName]) -> bool
+    ensures { IsTrue result → (name : RingName) → Contains names.now name → Contains others.now name }
+{
+    for name in names {
+        if !others.contains(name) {
+            return false;
+        }
+    }
+    true
+}
+
+/// The rings that have one of those of these segments which pass the level of p behind it, until
+/// each of the suspects is among them.
 fn rings_behind<'a, I: SegIndex, A: Allocator + Copy>(
     alloc: A,
     map: &Map<'a, I, A>,
     p: Pos,
     near: &[Seg],
+    suspects: &[RingName],
 ) -> Result<Vec<RingName, A>, AllocError>
-    ensures { IfOk result (λ names. AreBehind map.now.doc p near.now names.items) }
+    ensures { IfOk result (λ names. AreBehind map.now.doc p suspects.now near.now names.items) }
 {
     let mut names = Vec::new(alloc);
     for s in near {
-        if is_behind(p, *s) {
+        if is_behind(p, *s) && !has_each(names.as_slice(), suspects) {
             map.push_users(s.lo, s.hi, &mut names)?;
         }
     }
@@ -162,7 +176,7 @@ fn near_rings<'a, I: SegIndex, A: Allocator + Copy>(
     }
     let mut near = Vec::new(alloc);
     map.candidates(ray_back(p, bounds.x0), &mut near)?;
-    let behind = rings_behind(alloc, map, p, near.as_slice())?;
+    let behind = rings_behind(alloc, map, p, near.as_slice(), suspects.as_slice())?;
     let found = common(alloc, suspects.as_slice(), behind.as_slice())?;
     Ok(Some(found))
 }

@@ -210,15 +210,15 @@ none-at_home l n m columns e i j t some =
 short_home : (l : Lines) (b : Box) (i j : ℕ) → home_of l b ≡ Some (i, j) → (l.column b.x1 ≤ l.column b.x0 + 1) × (l.row b.y1 ≤ l.row b.y0 + 1)
 short_home l b i j h = step (leb (l.column b.x1) (l.column b.x0 + 1)) (leb (l.row b.y1) (l.row b.y0 + 1)) refl refl h
   where
-    step : (p q : Bool) → leb (l.column b.x1) (l.column b.x0 + 1) ≡ p → leb (l.row b.y1) (l.row b.y0 + 1) ≡ q → cond {A = Option (ℕ × ℕ)} (p && q) (Some (l.column b.x0, l.row b.y0)) None ≡ Some (i, j) → (l.column b.x1 ≤ l.column b.x0 + 1) × (l.row b.y1 ≤ l.row b.y0 + 1)
+    step : (p q : Bool) → leb (l.column b.x1) (l.column b.x0 + 1) ≡ p → leb (l.row b.y1) (l.row b.y0 + 1) ≡ q → cond {A = Option (ℕ × ℕ)} (p && q) (Some (l.row b.y0, l.column b.x0)) None ≡ Some (i, j) → (l.column b.x1 ≤ l.column b.x0 + 1) × (l.row b.y1 ≤ l.row b.y0 + 1)
     step true true e f g = (grind (arith, e), grind (arith, f))
     step true false e f g = absurd (cc)
     step false q e f g = absurd (cc)
 
-at_least : (l : Lines) (b : Box) (i j : ℕ) → home_of l b ≡ Some (i, j) → home_of l b ≡ Some (l.column b.x0, l.row b.y0)
+at_least : (l : Lines) (b : Box) (i j : ℕ) → home_of l b ≡ Some (i, j) → home_of l b ≡ Some (l.row b.y0, l.column b.x0)
 at_least l b i j h = step (is_short l b) h
   where
-    step : (p : Bool) → cond {A = Option (ℕ × ℕ)} p (Some (l.column b.x0, l.row b.y0)) None ≡ Some (i, j) → cond {A = Option (ℕ × ℕ)} p (Some (l.column b.x0, l.row b.y0)) None ≡ Some (l.column b.x0, l.row b.y0)
+    step : (p : Bool) → cond {A = Option (ℕ × ℕ)} p (Some (l.row b.y0, l.column b.x0)) None ≡ Some (i, j) → cond {A = Option (ℕ × ℕ)} p (Some (l.row b.y0, l.column b.x0)) None ≡ Some (l.row b.y0, l.column b.x0)
     step true e = refl
     step false e = absurd (cc)
 
@@ -227,23 +227,23 @@ in_block a b c d e f g h p q r s t u = grind arith
 
 -- a segment whose box meets another stands in the block of that
 block-full : (l : Lines) → AreMonotone l → (columns : List (List (List Segment))) (rect : Box) (t : Segment) → AreAtHome l columns → boxes_meet (box_of t) rect ≡ true → times_in (every columns) t ≤ total (λ i j. times_in (cell (column columns i) j) t) (block_of l rect)
-block-full l mono columns rect t at_home m = step (times_in (cell (column columns (l.column (box_of t).x0)) (l.row (box_of t).y0)) t) refl
+block-full l mono columns rect t at_home m = step (times_in (cell (column columns (l.row (box_of t).y0)) (l.column (box_of t).x0)) t) refl
   where
-    step : (n : ℕ) → times_in (cell (column columns (l.column (box_of t).x0)) (l.row (box_of t).y0)) t ≡ n → times_in (every columns) t ≤ total (λ i j. times_in (cell (column columns i) j) t) (block_of l rect)
+    step : (n : ℕ) → times_in (cell (column columns (l.row (box_of t).y0)) (l.column (box_of t).x0)) t ≡ n → times_in (every columns) t ≤ total (λ i j. times_in (cell (column columns i) j) t) (block_of l rect)
     step zero e =
         let none : times_in (every columns) t ≡ 0 = every-none columns t (λ i j. not_some _ (λ some.
-        let at : home_of l (box_of t) ≡ Some (l.column (box_of t).x0, l.row (box_of t).y0) = at_least l (box_of t) i j (at_home i j t some) in
-        let is = at_its_home l columns (l.column (box_of t).x0) (l.row (box_of t).y0) i j t at_home at some in
+        let at : home_of l (box_of t) ≡ Some (l.row (box_of t).y0, l.column (box_of t).x0) = at_least l (box_of t) i j (at_home i j t some) in
+        let is = at_its_home l columns (l.row (box_of t).y0) (l.column (box_of t).x0) i j t at_home at some in
         rw (is.0, is.1) e)) in
         omega (arith, none)
     step (suc n) e =
         let b = box_of t in
-        let home = at_home (l.column b.x0) (l.row b.y0) t (omega (arith, e)) in
-        let short = short_home l b (l.column b.x0) (l.row b.y0) home in
+        let home = at_home (l.row b.y0) (l.column b.x0) t (omega (arith, e)) in
+        let short = short_home l b (l.row b.y0) (l.column b.x0) home in
         let p = meet_parts (int_le b.x0 rect.x1) (int_le rect.x0 b.x1) (int_le b.y0 rect.y1) (int_le rect.y0 b.y1) m in
-        let here : has_cell (block_of l rect) (l.column b.x0) (l.row b.y0) ≡ true = in_block (l.column b.x0) (l.column b.x1) (l.column rect.x0) (l.column rect.x1) (l.row b.y0) (l.row b.y1) (l.row rect.y0) (l.row rect.y1)
-        (mono.across _ _ (le_from _ _ p.0)) (mono.across _ _ (le_from _ _ p.1)) short.0 (mono.upward _ _ (le_from _ _ p.2)) (mono.upward _ _ (le_from _ _ p.3)) short.1 in
-        omega (arith, every-home l columns (l.column b.x0) (l.row b.y0) t at_home home, total-one (λ i j. times_in (cell (column columns i) j) t) (block_of l rect) (l.column b.x0) (l.row b.y0) here)
+        let here : has_cell (block_of l rect) (l.row b.y0) (l.column b.x0) ≡ true = in_block (l.row b.y0) (l.row b.y1) (l.row rect.y0) (l.row rect.y1) (l.column b.x0) (l.column b.x1) (l.column rect.x0) (l.column rect.x1)
+        (mono.upward _ _ (le_from _ _ p.2)) (mono.upward _ _ (le_from _ _ p.3)) short.1 (mono.across _ _ (le_from _ _ p.0)) (mono.across _ _ (le_from _ _ p.1)) short.0 in
+        omega (arith, every-home l columns (l.row b.y0) (l.column b.x0) t at_home home, total-one (λ i j. times_in (cell (column columns i) j) t) (block_of l rect) (l.row b.y0) (l.column b.x0) here)
 
 pub gathers-block : (l : Lines) → AreMonotone l → (columns : List (List (List Segment))) (rect : Box) (a b : List Segment) (all : Bool) → AreAtHome l columns → Gathers (λ t. total (λ i j. times_in (cell (column columns i) j) t) (block_of l rect)) rect a b all → Gathers (times_in (every columns)) rect a b all
 gathers-block l mono columns rect a b all at_home p = record {

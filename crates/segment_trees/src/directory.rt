@@ -76,7 +76,7 @@ impl<A: Allocator + Copy> Directory<A> {
         ensures unchanged { OnErr result (IsSame self.old self.new) }
     {
         match home_in(&self.strips, &self.region, entry.rect()) {
-            Some((column, row)) => self.strips[column].put(row, alloc, entry),
+            Some((strip, place)) => self.strips[strip].put(place, alloc, entry),
             None => self.rest.put(alloc, entry),
         }
     }
@@ -86,8 +86,8 @@ impl<A: Allocator + Copy> Directory<A> {
         ensures { Loses entry.now self.old self.new }
     {
         match home_in(&self.strips, &self.region, entry.rect()) {
-            Some((column, row)) => {
-                if !self.strips[column].take_out(row, entry) {
+            Some((strip, place)) => {
+                if !self.strips[strip].take_out(place, entry) {
                     self.rest.take_out(entry);
                 }
             }
@@ -117,22 +117,22 @@ impl<A: Allocator + Copy> Directory<A> {
     }
 }
 
-/// A strip without segments for each column of a region.
+/// A strip without segments for each row of a region.
 fn empty_strips<A: Allocator + Copy>(
     alloc: A,
     region: &Region,
 ) -> Result<Vec<Strip<A>, A>, AllocError>
     ensures { IfOk result
-        (λ r. r.items ≡ replicate region.now.columns (replicate region.now.rows [])) }
+        (λ r. r.items ≡ replicate region.now.rows (replicate region.now.columns [])) }
 {
-    let mut strips = Vec::with_capacity(alloc, region.columns())?;
-    for _ in 0..region.columns() {
-        strips.push(Strip::new(alloc, region.rows())?)?;
+    let mut strips = Vec::with_capacity(alloc, region.rows())?;
+    for _ in 0..region.rows() {
+        strips.push(Strip::new(alloc, region.columns())?)?;
     }
     Ok(strips)
 }
 
-/// The column and the row of the home of a box, if there is a cell.
+/// The strip and the place in it of the home of a box, if there is a cell.
 fn home_in<A: Allocator + Copy>(
     strips: &Vec<Strip<A>, A>,
     region: &Region,
@@ -143,9 +143,9 @@ fn home_in<A: Allocator + Copy>(
     ensures none { result ≡ None → (i j : ℕ) → home_of (lines_in region.now) rect ≡ Some (i, j)
         → length (column strips.now.items i) ≤ j }
 {
-    let (column, row) = region.home(rect)?;
-    if column < strips.len() && row < strips[column].len() {
-        Some((column, row))
+    let (strip, place) = region.home(rect)?;
+    if strip < strips.len() && place < strips[strip].len() {
+        Some((strip, place))
     } else {
         None
     }
@@ -175,7 +175,7 @@ fn gather_block<A: Allocator + Copy, B: Allocator>(
     Ok(())
 }
 
-/// Appends the segments of a strip, if there is one, from a row up to below another, whose box meets
+/// Appends the segments of a strip, if there is one, from a place up to below another, whose box meets
 /// the asked one.
 fn gather_at<A: Allocator + Copy, B: Allocator>(
     strips: &Vec<Strip<A>, A>,

@@ -91,7 +91,7 @@ impl Region {
         }
     }
 
-    /// The column and the row of the least corner of a box, if it reaches at most one column and one
+    /// The row and the column of the least corner of a box, if it reaches at most one column and one
     /// row further.
     pub(crate) fn home(&self, rect: Rect) -> Option<(usize, usize)>
         ensures { result ≡ home_of (lines_in self.now) rect }
@@ -100,13 +100,14 @@ impl Region {
         if cover.right.saturating_sub(cover.left) <= 2
             && cover.high.saturating_sub(cover.low) <= 2
         {
-            Some((cover.left, cover.low))
+            Some((cover.low, cover.left))
         } else {
             None
         }
     }
 
-    /// The cells that can be the home of a box which meets another.
+    /// The cells that can be the home of a box which meets another: their strips, which are rows, and
+    /// their places in these.
     pub(crate) fn block(&self, rect: Rect) -> Cover
         ensures value { result ≡ block_of (lines_in self.now) rect }
         ensures across { result.left ≤ result.right }
@@ -114,10 +115,10 @@ impl Region {
     {
         let cover = self.cover(rect);
         Cover {
-            left: cover.left.saturating_sub(1),
-            right: cover.right,
-            low: cover.low.saturating_sub(1),
-            high: cover.high,
+            left: cover.low.saturating_sub(1),
+            right: cover.high,
+            low: cover.left.saturating_sub(1),
+            high: cover.right,
         }
     }
 }

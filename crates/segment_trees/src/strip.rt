@@ -15,7 +15,7 @@ use grid_geometry::{Rect, Seg};
 use std::alloc::{AllocError, Allocator, Global};
 use std::marker::Model;
 
-/// The buckets of one column of a directory, and a box that all their segments lie in; none where none
+/// The buckets of one row of a directory, from column to column, and a box that all their segments lie in; none where none
 /// was put.
 #[derive(Drop)]
 pub(crate) struct Strip<A: Allocator + Copy = Global> {
@@ -42,11 +42,11 @@ impl<A: Allocator + Copy> Model for Strip<A> {
 
 impl<A: Allocator + Copy> Strip<A> {
     /// A strip of so many buckets without segments.
-    pub(crate) fn new(alloc: A, rows: usize) -> Result<Self, AllocError>
-        ensures { IfOk result (λ r. r ≡ replicate rows []) }
+    pub(crate) fn new(alloc: A, count: usize) -> Result<Self, AllocError>
+        ensures { IfOk result (λ r. r ≡ replicate count []) }
     {
         Ok(Self {
-            buckets: empty_buckets(alloc, rows)?,
+            buckets: empty_buckets(alloc, count)?,
             bounds: None,
         })
     }
@@ -58,26 +58,26 @@ impl<A: Allocator + Copy> Strip<A> {
         self.buckets.len()
     }
 
-    /// Puts a segment into the bucket of a row.
-    pub(crate) fn put(&mut self, row: usize, alloc: A, entry: &Entry) -> Result<(), AllocError>
-        requires { row < length self.old }
-        ensures put { OnOk result (ChangesAt row (Gains entry.now) self.old self.new) }
-        ensures unchanged { OnErr result (ChangesAt row IsSame self.old self.new) }
+    /// Puts a segment into the bucket at a place.
+    pub(crate) fn put(&mut self, place: usize, alloc: A, entry: &Entry) -> Result<(), AllocError>
+        requires { place < length self.old }
+        ensures put { OnOk result (ChangesAt place (Gains entry.now) self.old self.new) }
+        ensures unchanged { OnErr result (ChangesAt place IsSame self.old self.new) }
     {
         self.bounds = joined(self.bounds, Some(entry.rect()));
-        self.buckets[row].put(alloc, entry)
+        self.buckets[place].put(alloc, entry)
     }
 
-    /// Takes a segment out of the bucket of a row, once, if it is there, and answers whether it was.
-    pub(crate) fn take_out(&mut self, row: usize, entry: &Entry) -> bool
-        requires { row < length self.old }
-        ensures lost { ChangesAt row (Loses entry.now) self.old self.new }
-        ensures found { result ≡ has (cell self.old row) entry.now }
+    /// Takes a segment out of the bucket at a place, once, if it is there, and answers whether it was.
+    pub(crate) fn take_out(&mut self, place: usize, entry: &Entry) -> bool
+        requires { place < length self.old }
+        ensures lost { ChangesAt place (Loses entry.now) self.old self.new }
+        ensures found { result ≡ has (cell self.old place) entry.now }
     {
-        self.buckets[row].take_out(entry)
+        self.buckets[place].take_out(entry)
     }
 
-    /// Appends the segments of the buckets from a row up to below another whose box meets the asked
+    /// Appends the segments of the buckets from a place up to below another whose box meets the asked
     /// one.
     pub(crate) fn gather<B: Allocator>(
         &self,

@@ -37,8 +37,9 @@ returns g c =
     let near : ListsNear d (ray_back p r.x0) [] ss =
     subst (λ (z : Box). ListsNear d z [] ss) (c.ray_back.ensures ∙ ap (ray_back p) (read_back r.x0 c.bounds.invariant.least.across))
     (subst (λ z. ListsNear d c.ray_back.result z ss) c.new-near.ensures.items c.in_ok-candidates.ensures.near) in
-    let are : AreBehind d p ss behind = subst (λ z. AreBehind d p z behind) c.as_slice-2.ensures.value c.in_ok-behind.ensures in
-    tells_near d c.frame.ensures.proper.are_rings p c.args.boxes.now c.requires r around.has_each names h ss near behind are sorted
-    (λ y. odd-permuted (is_name y) names sorted c.sort_names.ensures) (in_permuted names sorted c.sort_names.ensures) suspects odds
+    let are : AreBehind d p suspects ss behind = subst (λ z. AreBehind d p suspects z behind) c.as_slice-2.ensures.value
+    (subst (λ z. AreBehind d p z c.as_slice-2.result.now behind) c.as_slice-3.ensures.value c.in_ok-behind.ensures) in
+    tells_near d c.frame.ensures.proper.are_rings p c.args.boxes.now c.requires r around.has_each names h ss near suspects behind are sorted
+    (λ y. odd-permuted (is_name y) names sorted c.sort_names.ensures) (in_permuted names sorted c.sort_names.ensures) odds
     c.in_ok-found.found.items
     (c.in_ok-found.ensures ∙ ap₂ (λ os xs. filter (λ name. list_any (λ other. is_name other name) os) xs) c.as_slice-4.ensures.value c.as_slice-3.ensures.value)

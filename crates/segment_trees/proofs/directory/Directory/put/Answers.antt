@@ -9,22 +9,22 @@ pub invariant_of-self : goal.invariant_of-self
 invariant_of-self g c =
     let columns = c.self.inside.strips.items in
     let some = rw c.rect.ensures at c.in-Some.ensures.some in
-    let read : c.index_mut.result.now ≡ column columns c.in-Some.column = c.index_mut.ensures.value ∙ get_or_default columns c.in-Some.column _ _ some.1 in
-    home-put c.put.result (lines_in c.self.inside.region) columns c.in-Some.column c.in-Some.row c.put.new.self c.args.entry.now some.1 some.2 some.0 c.self.invariant (rw read at c.put.ensures.put) (rw read at c.put.ensures.unchanged)
+    let read : c.index_mut.result.now ≡ column columns c.in-Some.strip = c.index_mut.ensures.value ∙ get_or_default columns c.in-Some.strip _ _ some.1 in
+    home-put c.put.result (lines_in c.self.inside.region) columns c.in-Some.strip c.in-Some.place c.put.new.self c.args.entry.now some.1 some.2 some.0 c.self.invariant (rw read at c.put.ensures.put) (rw read at c.put.ensures.unchanged)
 
 pub returns-in-Some-clause-put : goal.returns-in-Some-clause-put
 returns-in-Some-clause-put g c =
     let columns = c.self.inside.strips.items in
     let some = rw c.rect.ensures at c.in-Some.ensures.some in
-    let read : c.index_mut.result.now ≡ column columns c.in-Some.column = c.index_mut.ensures.value ∙ get_or_default columns c.in-Some.column _ _ some.1 in
-    rw (← c.self.view_is) (gained-at_home c.put.result columns c.in-Some.column c.in-Some.row c.put.new.self c.self.inside.rest c.args.entry.now some.1 some.2 (rw read at c.put.ensures.put))
+    let read : c.index_mut.result.now ≡ column columns c.in-Some.strip = c.index_mut.ensures.value ∙ get_or_default columns c.in-Some.strip _ _ some.1 in
+    rw (← c.self.view_is) (gained-at_home c.put.result columns c.in-Some.strip c.in-Some.place c.put.new.self c.self.inside.rest c.args.entry.now some.1 some.2 (rw read at c.put.ensures.put))
 
 pub returns-in-Some-clause-unchanged : goal.returns-in-Some-clause-unchanged
 returns-in-Some-clause-unchanged g c =
     let columns = c.self.inside.strips.items in
     let some = rw c.rect.ensures at c.in-Some.ensures.some in
-    let read : c.index_mut.result.now ≡ column columns c.in-Some.column = c.index_mut.ensures.value ∙ get_or_default columns c.in-Some.column _ _ some.1 in
-    rw (← c.self.view_is) (same-at_home c.put.result columns c.in-Some.column c.in-Some.row c.put.new.self c.self.inside.rest some.1 some.2 (rw read at c.put.ensures.unchanged))
+    let read : c.index_mut.result.now ≡ column columns c.in-Some.strip = c.index_mut.ensures.value ∙ get_or_default columns c.in-Some.strip _ _ some.1 in
+    rw (← c.self.view_is) (same-at_home c.put.result columns c.in-Some.strip c.in-Some.place c.put.new.self c.self.inside.rest some.1 some.2 (rw read at c.put.ensures.unchanged))
 
 pub returns-in-None-clause-put : goal.returns-in-None-clause-put
 returns-in-None-clause-put g c =

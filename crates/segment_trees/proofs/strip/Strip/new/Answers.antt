@@ -2,4 +2,4 @@ use Rattle.segment_trees.proofs.Homes.{strip-empty}
 use Rattle.segment_trees.proofs.strip.Strip.new.Goals as goal
 
 pub invariant_of-result : goal.invariant_of-result
-invariant_of-result g c = λ t. strip-empty c.args.rows c.in_ok-empty_buckets.field-0.items t c.in_ok-empty_buckets.ensures
+invariant_of-result g c = λ t. strip-empty c.args.count c.in_ok-empty_buckets.field-0.items t c.in_ok-empty_buckets.ensures
