@@ -1,5 +1,5 @@
-//! Features exchanged in the tables of a map: other rings come for those of a feature, a feature
-//! goes, and the tables still belong together.
+//! Features exchanged in the tables of a map: rings are laid and taken out, other rings come for
+//! those of a feature, a feature goes, and the tables still belong together.
 //!
 //! A call costs what its rings are long, and what a look into arcs and cells costs; it never goes
 //! through the whole map. It fails for want of memory alone, and then the map is as it was.

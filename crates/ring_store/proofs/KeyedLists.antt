@@ -1,6 +1,6 @@
 -- What was put under keys part by part was put under the keys of all parts.
 use Rattle.kit_words.proofs.Common.{◌≡◌, ◌⊎◌, ◌<◌, ℕ, zero, suc, refl, sym, subst, ap, ap₂, ◌∙◌, List, [], ◌∷◌, ◌++◌}
-use Rattle.kit_words.proofs.Common.{map, inl, inr, Some, None, arith, Contains, is_some, slice_index_or, ℕ_discrete}
+use Rattle.kit_words.proofs.Common.{map, inl, inr, Some, arith, Contains, is_some, slice_index_or, ℕ_discrete}
 use Rattle.kit_words.proofs.Common.{flat_map, append-nil, map-append, map-id, flat_map-append, flat_map_single}
 use Rattle.kit_words.proofs.Common.{Contains-append_left, Contains-append_right, Contains-append_cases}
 use Rattle.std.specs.FinMap as table

@@ -1,7 +1,6 @@
 -- Keys of the positions of a ring, and that they differ as the positions do.
 use Rattle.kit_words.proofs.Common.{◌≡◌, ℕ, zero, suc, true, false, refl, sym, ap, ap₂, ◌∙◌, subst, List, [], ◌∷◌, map}
 use Rattle.kit_words.proofs.Common.{take, length, ◌||◌, ◌&&◌, inl, arith, not, length-map}
-use Rattle.std.specs.FinMap as table
 use Rattle.grid_geometry.specs.Common.{Position, position_eq}
 use Rattle.ring_machine.specs.Common.{has, is_distinct, is_ring, are_distinct}
 use Rattle.ring_machine.proofs.Common.{and_both, none_parts, not_true, ring_long}

@@ -1,4 +1,4 @@
-// What stands around a vertex.
+// The positions around a vertex, and the segments from them.
 ghost use Rattle.std.specs.Prelude.{◌≡◌, false, IfOk};
 ghost use Rattle.ring_machine.specs.Ring as machine;
 ghost use Rattle.ring_store.specs.Planned as planned;

@@ -1,6 +1,7 @@
 //! The rings of a map: a vertex under a key at each position, each border once along the keys, and
-//! the segments in an index. Rings are laid into them and taken out, and vertices move, come between
-//! two that are joined, go from between two, and come back.
+//! the segments in an index. Of the borders the edges of each ring are seen; where they are cut can't
+//! be seen. Vertices move, come between two that are joined, go from between two, and come back, and
+//! the segments of a ring come into the index and go.
 //!
 //! A call costs what its rings are long, or what stands around its vertex, and what a look into arcs
 //! and cells costs; it never goes through the whole map. It tests nothing. Only want of memory makes

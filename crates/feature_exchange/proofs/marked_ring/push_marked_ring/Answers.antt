@@ -1,10 +1,7 @@
-use Rattle.kit_words.proofs.Common.{◌≡◌, List, ℕ, arith, sym, ap, ◌∙◌, subst, ◌++◌, map, take, drop, length, Contains}
-use Rattle.kit_words.proofs.Common.{true}
-use Rattle.std.specs.FinMap as table
+use Rattle.kit_words.proofs.Common.{◌≡◌, arith, sym, ap, ◌∙◌, subst, ◌++◌, map, take, drop, length, Contains}
 use Rattle.ring_machine.specs.Common.{canonical}
 use Rattle.vertex_index.specs.Common.{place}
-use Rattle.arc_tables.specs.Common.{begins}
-use Rattle.feature_exchange.specs.Common.{meets, edges_under}
+use Rattle.feature_exchange.specs.Common.{meets}
 use Rattle.feature_exchange.proofs.PolygonsRead.{keys_found}
 use Rattle.feature_exchange.proofs.MarkedRing.{walk_found, walk_there, marked_parts}
 use Rattle.feature_exchange.proofs.marked_ring.push_marked_ring.Goals as goal
