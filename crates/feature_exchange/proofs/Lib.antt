@@ -29,5 +29,6 @@ pub mod PlacesAfter
 pub mod ExchangedWhole
 pub mod ChangesCounted
 pub mod RingAround
+pub mod StillUsed
 pub mod MarkedRing
 pub mod Common

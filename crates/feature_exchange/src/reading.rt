@@ -2,7 +2,7 @@
 ghost use Rattle.std.specs.Prelude.{◌≡◌, ℕ, true, map, Contains, IfOk};
 ghost use Rattle.std.specs.FinMap as table;
 ghost use Rattle.std.specs.List.{flat_map};
-ghost use Rattle.ring_machine.specs.Common.{feature_at};
+ghost use Rattle.ring_machine.specs.Common.{canonical, feature_at};
 ghost use Rattle.map_frame.specs.Common.{polygon_numbers};
 ghost use Rattle.ring_parts.specs.Common.{rings_seen, polygons_seen};
 ghost use Rattle.vertex_index.specs.Common.{place};
@@ -13,7 +13,7 @@ ghost use Rattle.feature_exchange.specs.Along.{AlongVertices, ring_in};
 use crate::change::Change;
 use grid_geometry::Pos;
 use map_frame::Frame;
-use ring_parts::canonical;
+use ring_parts::begin_at_least;
 use ring_store::RingTables;
 use segment_index::SegIndex;
 use std::alloc::{AllocError, Allocator};
@@ -38,6 +38,14 @@ pub(crate) fn positions_under<A: Allocator + Copy>(
     Ok(found)
 }
 
+/// The ring, begun at its least position.
+fn begun<A: Allocator + Copy>(mut ring: Vec<Pos, A>) -> Vec<Pos, A>
+    ensures { result.items ≡ canonical ring.items }
+{
+    begin_at_least(&mut ring);
+    ring
+}
+
 /// The ring with a number, from its least position on. Fails for want of memory alone.
 fn ring_positions<I: SegIndex, A: Allocator + Copy>(
     tables: &RingTables<I, A>,
@@ -50,7 +58,7 @@ fn ring_positions<I: SegIndex, A: Allocator + Copy>(
     let mut keys = Vec::with_capacity(tables.alloc, ROOM)?;
     tables.borders.push_keys(r, &mut keys)?;
     let found = positions_under(tables.alloc, &tables.vertices, keys.as_slice())?;
-    canonical(tables.alloc, found.as_slice())
+    Ok(begun(found))
 }
 
 /// The rings with these numbers, in order. Fails for want of memory alone.

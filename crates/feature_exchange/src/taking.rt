@@ -1,18 +1,35 @@
 //! Rings taken out of the tables.
-ghost use Rattle.std.specs.Prelude.{◌≡◌, ℕ, Some, IsTrue};
+ghost use Rattle.std.specs.Prelude.{◌≡◌, ◌≢◌, ◌≤◌, ℕ, Some, Contains, IsTrue, length};
 ghost use Rattle.std.specs.FinMap as table;
-ghost use Rattle.arc_tables.specs.Common.{edges};
+ghost use Rattle.arc_tables.specs.Common.{Edge, edges, users_of};
 ghost use Rattle.feature_exchange.specs.Laid.{numbers_of, AreThere, AreGone, KeepsPlaces};
 ghost use Rattle.ring_store.specs.Common.{Stands, AreStanding};
 
 use crate::laid::LaidRing;
 use crate::lonely::remove_all_lonely;
-use ring_store::{Borders, RingTables, drop_sides};
+use ring_store::{Borders, RingTables, drop_sides, edge_at};
 use segment_index::SegIndex;
 use std::alloc::Allocator;
 use vertex_index::{VertexKey, Vertices};
 
-/// Takes out a ring that goes along these keys.
+/// Whether some ring has each segment along these keys.
+fn all_used<A: Allocator + Copy>(borders: &Borders<A>, keys: &[VertexKey]) -> bool
+    requires { 1 ≤ length keys.now }
+    ensures { IsTrue result → (e : Edge) → Contains (edges keys.now) e
+        → users_of borders.now e.0 e.1 ≢ 0 }
+{
+    let mut near = None;
+    for at in 0..keys.len() {
+        let (a, b) = edge_at(keys, at);
+        if borders.uses_along(&mut near, a, b) == 0 {
+            return false;
+        }
+    }
+    true
+}
+
+/// Takes out a ring that goes along these keys. Where other rings have all its segments, as those of
+/// its parts do, all its vertices and segments stay.
 fn take_out_ring<I: SegIndex, A: Allocator + Copy>(
     vertices: &mut Vertices<A>,
     borders: &mut Borders<A>,
@@ -28,6 +45,9 @@ fn take_out_ring<I: SegIndex, A: Allocator + Copy>(
     ensures cells { I.cells index.new ≡ I.cells index.old }
 {
     borders.take_out(number);
+    if all_used(borders, keys) {
+        return;
+    }
     drop_sides(vertices, borders, index, keys, keys.len());
     remove_all_lonely(vertices, borders, keys);
 }

@@ -8,7 +8,7 @@ use Rattle.ring_machine.specs.Common.{Document}
 use Rattle.ring_machine.proofs.Common.{In, in-append, in_left, in_right, contains_in, in_contains}
 use Rattle.map_frame.specs.declared.names.RingName.{RingName}
 use Rattle.arc_store.specs.Common.{ListsRings}
-use Rattle.point_queries.specs.Common.{is_behind, AreBehind, odd, ring_has}
+use Rattle.point_queries.specs.Common.{is_behind, AreBehind, SeesMore, odd, ring_has}
 use Rattle.point_queries.proofs.Holding.{passes_level, behind_edge, xor_through}
 use Rattle.point_queries.proofs.OddRings.{has_of, of_has}
 use Rattle.point_queries.proofs.Odds.{odd-some, odd-xor, xor-comm, xor-false, xor-same}
@@ -83,7 +83,7 @@ in_more x d xs i l h =
 
 module _ (d : Document) (p : Position) (suspects : List RingName) (ss : List Segment) (i : ℕ) (s other : Segment) (old : List RingName) (l : i < length ss)
     (here : s ≡ get_or ss i other) (before : AreBehind d p suspects (take i ss) old) where
-  pub behind_more : (new : List RingName) → is_behind p s ≡ true → ListsRings d (segment s.lo s.hi) old new → AreBehind d p suspects (take (i + 1) ss) new
+  behind_more : (new : List RingName) → is_behind p s ≡ true → ListsRings d (segment s.lo s.hi) old new → AreBehind d p suspects (take (i + 1) ss) new
   behind_more new it listed = record {
     among = λ name c.
         elim (in-append name old listed.found (subst (In name) listed.appended (contains_in new name c))) [
@@ -110,5 +110,9 @@ module _ (d : Document) (p : Position) (suspects : List RingName) (ss : List Seg
   }
 
   -- each suspect is among them already
-  pub behind_seen : ((name : RingName) → Contains suspects name → Contains old name) → AreBehind d p suspects (take (i + 1) ss) old
+  behind_seen : ((name : RingName) → Contains suspects name → Contains old name) → AreBehind d p suspects (take (i + 1) ss) old
   behind_seen seen = record { among = before.among; covers = λ name t q c h k. seen name q }
+
+  pub behind_on : (new : List RingName) → is_behind p s ≡ true → SeesMore d s suspects old new → AreBehind d p suspects (take (i + 1) ss) new
+  behind_on new it (inl listed) = behind_more new it listed
+  behind_on new it (inr seen) = subst (AreBehind d p suspects (take (i + 1) ss)) (sym seen.0) (behind_seen seen.1)

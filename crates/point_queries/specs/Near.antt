@@ -1,6 +1,7 @@
 -- A ray that ends, and the names that stand an odd number of times.
-use Rattle.std.specs.Prelude.{◌≡◌, ◌&&◌, not, ℤ, int_lt, Bool, List, Contains, IsTrue}
-use Rattle.grid_geometry.specs.Common.{Position, xor, Segment, Box}
+use Rattle.std.specs.Prelude.{◌≡◌, ◌⊎◌, ◌&&◌, not, ℤ, int_lt, Bool, List, Contains, IsTrue}
+use Rattle.grid_geometry.specs.Common.{Position, xor, Segment, Box, segment}
+use Rattle.arc_store.specs.Common.{ListsRings}
 use Rattle.ring_machine.specs.Common.{Document}
 use Rattle.map_frame.specs.declared.names.RingName.{RingName}
 use Rattle.point_queries.specs.Odd.{odd, is_name, is_passed, ring_has}
@@ -25,6 +26,12 @@ pub record AreBehind (d : Document) (p : Position) (suspects : List RingName) (s
       → (s : Segment) × IsTrue (ring_has d name s) × IsTrue (is_behind p s)
   pub covers : (name : RingName) (s : Segment) → Contains suspects name → Contains ss s
       → IsTrue (ring_has d name s) → IsTrue (is_behind p s) → Contains names name
+
+-- the rings that have the segment come to the names, where one of the suspects is not among these
+abbrev pub SeesMore : Document → Segment → List RingName → List RingName → List RingName → Type 0
+SeesMore d s suspects old new =
+    ListsRings d (segment s.lo s.hi) old new
+    ⊎ ((new ≡ old) × ((name : RingName) → Contains suspects name → Contains old name))
 
 -- the name stands once more, or once less
 abbrev pub Cancels : RingName → List RingName → List RingName → Type 0

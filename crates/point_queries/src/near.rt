@@ -8,7 +8,7 @@ ghost use Rattle.ring_machine.specs.Query as query;
 ghost use Rattle.ring_boxes.specs.Common.{Covers};
 ghost use Rattle.point_queries.specs.Odd as odd;
 ghost use Rattle.map_frame.specs.declared.names.RingName.{RingName};
-ghost use Rattle.point_queries.specs.Near.{ray_to, ray_back, is_behind, AreBehind, Cancels, HaveOdd};
+ghost use Rattle.point_queries.specs.Near.{ray_to, ray_back, is_behind, AreBehind, SeesMore, Cancels, HaveOdd};
 
 use crate::border::border_at;
 use crate::inside::{inside_at, inside_of};
@@ -113,6 +113,21 @@ fn has_each(others: &[RingName], names: &[RingName]) -> bool
     true
 }
 
+/// Appends the rings that have a segment, unless each of the suspects is there already.
+fn push_unseen<'a, I: SegIndex, A: Allocator + Copy>(
+    map: &Map<'a, I, A>,
+    s: Seg,
+    suspects: &[RingName],
+    names: &mut Vec<RingName, A>,
+) -> Result<(), AllocError>
+    ensures { OnOk result (SeesMore map.now.doc s suspects.now names.old.items names.new.items) }
+{
+    if has_each(names.as_slice(), suspects) {
+        return Ok(());
+    }
+    map.push_users(s.lo, s.hi, names)
+}
+
 /// The rings that have one of those of these segments which pass the level of p behind it, until
 /// each of the suspects is among them.
 fn rings_behind<'a, I: SegIndex, A: Allocator + Copy>(
@@ -126,8 +141,8 @@ fn rings_behind<'a, I: SegIndex, A: Allocator + Copy>(
 {
     let mut names = Vec::new(alloc);
     for s in near {
-        if is_behind(p, *s) && !has_each(names.as_slice(), suspects) {
-            map.push_users(s.lo, s.hi, &mut names)?;
+        if is_behind(p, *s) {
+            push_unseen(map, *s, suspects, &mut names)?;
         }
     }
     Ok(names)

@@ -1,4 +1,4 @@
-use Rattle.kit_words.proofs.Common.{◌≡◌, ℕ, true, sym, ap, ◌∙◌, subst, map, Contains, IfOk}
+use Rattle.kit_words.proofs.Common.{◌≡◌, ℕ, true, sym, ap, ◌∙◌, subst, map, Contains}
 use Rattle.std.specs.FinMap as table
 use Rattle.ring_machine.specs.Common.{canonical}
 use Rattle.vertex_index.specs.Common.{place}
@@ -13,7 +13,6 @@ positions_under-requires g c =
 
 pub returns : goal.returns
 returns g c =
-    subst (λ ps. IfOk c.canonical.result (λ ring. ring.items ≡ canonical ps))
-    (c.as_slice-2.ensures.value ∙ c.in_ok-found.ensures
+    c.begun.ensures
+    ∙ ap canonical (c.in_ok-found.ensures
     ∙ ap (map (place c.args.tables.now.vertices)) (c.as_slice.ensures.value ∙ keys_found c.args.tables.now.borders c.args.r c.requires.held c.in_ok-keys.keys.items c.push_keys.new.out.items c.in_ok-keys.ensures.items c.in_ok-push_keys.ensures))
-    c.canonical.ensures

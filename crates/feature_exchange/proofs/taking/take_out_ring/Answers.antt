@@ -1,9 +1,26 @@
+use Rattle.kit_words.proofs.Common.{arith}
 use Rattle.feature_exchange.proofs.Exchanged.{ring_there, ring_round, keyed_without, holds_without, stands_without}
+use Rattle.feature_exchange.proofs.StillUsed.{sides_stay, vertices_stay}
 use Rattle.feature_exchange.proofs.taking.take_out_ring.Goals as goal
 
 pub take_out-requires : goal.take_out-requires
 take_out-requires g c =
     ring_there c.args.vertices.now c.args.borders.now (g.I.SegIndex.held c.args.index.now) c.requires.stands c.args.number c.args.keys.now c.requires.there
+
+pub all_used-requires : goal.all_used-requires
+all_used-requires g c =
+    let round = ring_round c.args.vertices.now c.args.borders.now (g.I.SegIndex.held c.args.index.now) c.requires.stands c.args.number c.args.keys.now c.requires.there in
+    omega (arith, round.long)
+
+pub returns-then-all_used-clause-stands : goal.returns-then-all_used-clause-stands
+returns-then-all_used-clause-stands g c =
+    let p = c.args.vertices.now in
+    let held = g.I.SegIndex.held c.args.index.now in
+    let keyed = keyed_without p c.args.borders.now held c.requires.stands c.args.number c.args.keys.now c.requires.there c.take_out.new.self c.take_out.ensures in
+    let used = c.all_used.ensures c.if-all_used.true in
+    stands_without p c.args.borders.now held c.requires.stands c.args.number c.args.keys.now c.requires.there c.take_out.new.self c.take_out.ensures held p
+    (sides_stay p c.take_out.new.self c.args.keys.now used held (holds_without p c.args.borders.now held c.requires.stands c.args.number c.args.keys.now c.requires.there c.take_out.new.self c.take_out.ensures))
+    (vertices_stay p c.take_out.new.self c.args.keys.now used keyed.round)
 
 pub drop_sides-requires-clause-keyed : goal.drop_sides-requires-clause-keyed
 drop_sides-requires-clause-keyed g c =
