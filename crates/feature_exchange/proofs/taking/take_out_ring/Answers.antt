@@ -1,4 +1,8 @@
-use Rattle.kit_words.proofs.Common.{arith}
+use Rattle.kit_words.proofs.Common.{◌≤◌, arith, length, subst}
+use Rattle.std.proofs.Common.{take_all}
+use Rattle.arc_tables.specs.Common.{edges}
+use Rattle.ring_store.specs.Common.{HoldsWith}
+use Rattle.ring_store.proofs.Common.{length-edges}
 use Rattle.feature_exchange.proofs.Exchanged.{ring_there, ring_round, keyed_without, holds_without, stands_without}
 use Rattle.feature_exchange.proofs.StillUsed.{sides_stay, vertices_stay}
 use Rattle.feature_exchange.proofs.taking.take_out_ring.Goals as goal
@@ -17,9 +21,12 @@ returns-then-all_used-clause-stands g c =
     let p = c.args.vertices.now in
     let held = g.I.SegIndex.held c.args.index.now in
     let keyed = keyed_without p c.args.borders.now held c.requires.stands c.args.number c.args.keys.now c.requires.there c.take_out.new.self c.take_out.ensures in
+    let round = ring_round p c.args.borders.now held c.requires.stands c.args.number c.args.keys.now c.requires.there in
     let used = c.all_used.ensures c.if-all_used.true in
     stands_without p c.args.borders.now held c.requires.stands c.args.number c.args.keys.now c.requires.there c.take_out.new.self c.take_out.ensures held p
-    (sides_stay p c.take_out.new.self c.args.keys.now used held (holds_without p c.args.borders.now held c.requires.stands c.args.number c.args.keys.now c.requires.there c.take_out.new.self c.take_out.ensures))
+    (sides_stay p c.take_out.new.self c.args.keys.now used held
+    (subst (HoldsWith p c.take_out.new.self held) (take_all (length c.args.keys.now) (edges c.args.keys.now) (omega (arith, length-edges c.args.keys.now (omega (arith, round.long)))))
+    (holds_without p c.args.borders.now held c.requires.stands c.args.number c.args.keys.now c.requires.there c.take_out.new.self c.take_out.ensures)))
     (vertices_stay p c.take_out.new.self c.args.keys.now used keyed.round)
 
 pub drop_sides-requires-clause-keyed : goal.drop_sides-requires-clause-keyed
