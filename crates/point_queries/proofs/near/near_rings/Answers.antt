@@ -42,4 +42,4 @@ returns g c =
     tells_near d c.frame.ensures.proper.are_rings p c.args.boxes.now c.requires r around.has_each names h ss near suspects behind are sorted
     (λ y. odd-permuted (is_name y) names sorted c.sort_names.ensures) (in_permuted names sorted c.sort_names.ensures) odds
     c.in_ok-found.found.items
-    (c.in_ok-found.ensures ∙ ap₂ (λ os xs. filter (λ name. list_any (λ other. is_name other name) os) xs) c.as_slice-4.ensures.value c.as_slice-3.ensures.value)
+    (c.in_ok-found.ensures ∙ ap₂ (λ os xs. filter (λ name. list_any (λ other. is_name other name) os) xs) c.as_slice-5.ensures.value c.as_slice-4.ensures.value)

@@ -15,15 +15,15 @@ loop-s-preserved g c =
     let p = c.args.p in
     let near = c.args.near.now in
     let i = c.loop-s.s-index in
-    let s : Segment = record { lo = c.s.inside.lo; hi = c.s.inside.hi } in
+    let s : Segment = c.s-item.result in
     let old = c.loop-s.names.items in
     let within : i < length near = omega (arith, c.loop-s-test.true) in
     elim c.if-is_behind.branch [
       | then-is_behind+in_ok-push_unseen w ↦
-          rw w.names-is (behind_on d p c.args.suspects.now near i s c.s-item.result old within (c.s.view_is ∙ c.s-item.is) c.loop-s.invariant w.push_unseen.new.names.items
+          rw w.names-is (behind_on d p c.args.suspects.now near i s c.s-item.result old within c.s-item.is c.loop-s.invariant w.push_unseen.new.names.items
           (sym c.is_behind.ensures ∙ w.if-is_behind.true) w.in_ok-push_unseen.ensures)
       | else-is_behind w ↦
-          rw w.names-is (behind_same d p c.args.suspects.now near i s c.s-item.result old within (c.s.view_is ∙ c.s-item.is) c.loop-s.invariant (sym c.is_behind.ensures ∙ w.if-is_behind.false))
+          rw w.names-is (behind_same d p c.args.suspects.now near i s c.s-item.result old within c.s-item.is c.loop-s.invariant (sym c.is_behind.ensures ∙ w.if-is_behind.false))
     ]
 
 pub returns : goal.returns
