@@ -29,7 +29,8 @@ pub use Rattle.ring_machine.proofs.Neighbours.{in-flat_map, in-has, in-map, none
 pub use Rattle.ring_machine.proofs.Neighbours.{vertex_in}
 pub use Rattle.ring_machine.proofs.Numbered.{AreNumbered, numbered-append, numbered_distinct}
 pub use Rattle.ring_machine.proofs.Once.{one, times, times-append}
-pub use Rattle.ring_machine.proofs.Order.{and_both, or_right, or_true, position_eq-refl, position_eq-true}
+pub use Rattle.ring_machine.proofs.Order.{and_both, edge_eq-refl, edge_eq-true, or_right, or_true, position_eq-refl}
+pub use Rattle.ring_machine.proofs.Order.{position_eq-true}
 pub use Rattle.ring_machine.proofs.Order.{position_lt-apart, position_lt-asym, position_lt-irrefl, position_lt-total}
 pub use Rattle.ring_machine.proofs.Order.{position_lt-trans, refuted, same_position}
 pub use Rattle.ring_machine.proofs.Orders.{pair_ordered, segment_ordered}

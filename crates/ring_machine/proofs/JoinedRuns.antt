@@ -1,11 +1,11 @@
 -- Two rings with one common run: the one passes it, and the other passes it in reverse.
-use Rattle.kit_words.proofs.Common.{◌≡◌, ◌≤◌, Bool, true, false, refl, sym, ap, ap₂, ◌∙◌, subst, cond, List, [], ◌∷◌}
-use Rattle.kit_words.proofs.Common.{◌++◌, reverse, ◌&&◌, ◌⊎◌, inl, inr, arith, list_any, list_all, false≢true}
+use Rattle.kit_words.proofs.Common.{◌≡◌, ◌≤◌, Bool, true, false, refl, sym, ap, ◌∙◌, subst, cond, List, [], ◌∷◌}
+use Rattle.kit_words.proofs.Common.{◌++◌, reverse, ◌⊎◌, inl, inr, arith, list_any, list_all, false≢true}
 use Rattle.kit_words.proofs.Common.{map-append}
-use Rattle.grid_geometry.specs.Common.{Position, position_eq, Segment, Edge, edges}
+use Rattle.grid_geometry.specs.Common.{Position, Segment, Edge, edges}
 use Rattle.grid_geometry.proofs.Common.{segment-comm}
 use Rattle.ring_machine.specs.Common.{edge_eq, is_distinct, is_ring, segment_of, Chain, is_common, passed_alike, runs}
-use Rattle.ring_machine.proofs.Order.{and_both, position_eq-true, position_eq-refl, refuted}
+use Rattle.ring_machine.proofs.Order.{edge_eq-true, edge_eq-refl, refuted}
 use Rattle.ring_machine.proofs.Edges.{starts}
 use Rattle.ring_machine.proofs.Arcs.{flip, flipped}
 use Rattle.ring_machine.proofs.Once.{times, times-append}
@@ -41,14 +41,6 @@ pub record Shared (r s : List Position) : Type 0 where
   pub are_others : list_any (is_common r) others ≡ false
 
 -- ---- edges of both rings
-
-edge_eq-true : (e f : Edge) → edge_eq e f ≡ true → e ≡ f
-edge_eq-true e f h =
-    let k = and_both (position_eq e.0 f.0) (position_eq e.1 f.1) h in
-    λ i. (position_eq-true e.0 f.0 k.0 i, position_eq-true e.1 f.1 k.1 i)
-
-edge_eq-refl : (e : Edge) → edge_eq e e ≡ true
-edge_eq-refl e = ap₂ (λ y z. y && z) (position_eq-refl e.0) (position_eq-refl e.1)
 
 pub alike_in : (r s : List Position) → passed_alike r s ≡ true
     → (e : Edge) × In e (edges r) × In e (edges s)

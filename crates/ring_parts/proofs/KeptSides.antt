@@ -3,9 +3,9 @@ use Rattle.kit_words.proofs.Common.{◌≡◌, ℕ, ◌+◌, ◌<◌, ◌≤◌,
 use Rattle.kit_words.proofs.Common.{◌∷◌, ◌++◌, length, drop, get_or, append_assoc, drop_of_length-le, ◌&&◌, ◌||◌, ◌⊎◌, inl, inr}
 use Rattle.kit_words.proofs.Common.{list_any, list_all, filter, map, at_drop_more, append-nil, int_lt, pos, reverse, reverse-reverse}
 use Rattle.kit_words.proofs.Common.{not, ◌==◌, cases_Bool, arith, nat_tests}
-use Rattle.grid_geometry.specs.Common.{Position, Edge, edges, signed_area, position_eq}
+use Rattle.grid_geometry.specs.Common.{Position, Edge, edges, signed_area}
 use Rattle.ring_machine.specs.Common.{edge_eq, is_common, passed_alike, positive}
-use Rattle.ring_machine.proofs.Common.{In, flip, and_both, position_eq-true}
+use Rattle.ring_machine.proofs.Common.{In, flip, and_both, edge_eq-true}
 use Rattle.std.proofs.Math.Bool.{and-true, and-false, and-or_distrib_right}
 use Rattle.ring_machine.proofs.JoinedRuns.{in_reverse}
 use Rattle.ring_machine.proofs.Passed.{in_common, common-flip}
@@ -79,11 +79,6 @@ filter_there f g (x ∷ xs) h = ap₂ (λ b ys. cond b (x ∷ ys) ys) (h x (inl 
 
 -- ---- what both rings have, by the ends of segments
 
-edge_same : (e f : Edge) → edge_eq e f ≡ true → e ≡ f
-edge_same e f h =
-    let k = and_both (position_eq e.0 f.0) (position_eq e.1 f.1) h in
-    λ i. (position_eq-true e.0 f.0 k.0 i, position_eq-true e.1 f.1 k.1 i)
-
 any_and : {A : Type 0} (t : A → Bool) (b : Bool) (xs : List A) → list_any (λ x. t x && b) xs ≡ (list_any t xs && b)
 any_and t b [] = refl
 any_and t b (x ∷ xs) = ap (λ c. (t x && b) || c) (any_and t b xs) ∙ sym (and-or_distrib_right (t x) (list_any t xs) b)
@@ -91,7 +86,7 @@ any_and t b (x ∷ xs) = ap (λ c. (t x && b) || c) (any_and t b xs) ∙ sym (an
 -- segments with the same ends are the same
 same_common : (s : List Position) (e f : Edge) → edge_eq (ends_of e) (ends_of f) ≡ true → is_common s f ≡ is_common s e
 same_common s e f h =
-    sym (common_by_ends s f) ∙ ap (λ x. list_any (edge_eq x) (map ends_of (edges s))) (sym (edge_same (ends_of e) (ends_of f) h)) ∙ common_by_ends s e
+    sym (common_by_ends s f) ∙ ap (λ x. list_any (edge_eq x) (map ends_of (edges s))) (sym (edge_eq-true (ends_of e) (ends_of f) h)) ∙ common_by_ends s e
 
 module _ (r s : List Position) where
   pub kept_by_ends : (e : Edge) → list_any (edge_eq (ends_of e)) (map ends_of (filter (is_common s) (edges r))) ≡ is_shared r s e
@@ -147,7 +142,7 @@ module _ (r s : List Position) where
     where
       both : (e f : Edge) → In e (edges ps) → In f (edges qs) → (b : Bool) → edge_eq e f ≡ b → (is_shared r s f && b) ≡ b
       both e f i j false h = and-false (is_shared r s f)
-      both e f i j true h = and-true (is_shared r s f) ∙ of_second qs w f j ∙ ap (is_common r) (sym (edge_same e f h)) ∙ own r ps v e i
+      both e f i j true h = and-true (is_shared r s f) ∙ of_second qs w f j ∙ ap (is_common r) (sym (edge_eq-true e f h)) ∙ own r ps v e i
 
   pub first_all : (bs : List Bool) → bs ≡ map (is_shared r s) (edges r) → list_all (λ b. b) bs ≡ list_all (is_common s) (edges r)
   first_all bs h = ap (list_all (λ b. b)) (h ∙ first_tests) ∙ all_mapped (is_common s) (edges r)

@@ -2,18 +2,10 @@
 use Rattle.kit_words.proofs.Common.{◌≡◌, ℕ, ◌+◌, Bool, true, false, refl, sym, ap, ap₂, ◌∙◌, cond, List, [], ◌∷◌, ◌++◌}
 use Rattle.kit_words.proofs.Common.{arith, length, ◌<◌, get_or, Option, Some, None, ℤ, pos, negsuc, is_some}
 use Rattle.kit_words.proofs.Common.{get_or_default}
-use Rattle.grid_geometry.specs.Common.{Position, position, position_eq, Edge}
+use Rattle.grid_geometry.specs.Common.{Position, position, Edge}
 use Rattle.ring_machine.specs.Common.{edge_eq}
-use Rattle.ring_machine.proofs.Common.{and_both, position_eq-true, position_eq-refl}
+use Rattle.ring_machine.proofs.Common.{edge_eq-true, edge_eq-refl}
 use Rattle.topo_writer.specs.Common.{first_edge, last_edge, found_from, found, with_found, at_place}
-
-pub edge_eq-true : (e f : Edge) → edge_eq e f ≡ true → e ≡ f
-edge_eq-true e f h =
-    let k = and_both (position_eq e.0 f.0) (position_eq e.1 f.1) h in
-    λ i. (position_eq-true e.0 f.0 k.0 i, position_eq-true e.1 f.1 k.1 i)
-
-pub edge_eq-refl : (e : Edge) → edge_eq e e ≡ true
-edge_eq-refl e = rw (position_eq-refl e.0) (position_eq-refl e.1)
 
 abbrev or_else : Option ℤ → Option ℤ → Option ℤ
 or_else None o = o

@@ -6,13 +6,12 @@ use Rattle.kit_words.proofs.Common.{Option, Some, None, ℤ, pos, negsuc, map, i
 use Rattle.kit_words.proofs.Common.{false≢true, drop_more, reverse-reverse, get_or-reverse, length-reverse}
 use Rattle.grid_geometry.specs.Common.{Position, position, position_eq}
 use Rattle.ring_machine.specs.Common.{edge_eq}
-use Rattle.ring_machine.proofs.Common.{same_answer, and_both, position_eq-true, IsPiece, same_piece, reversed}
+use Rattle.ring_machine.proofs.Common.{same_answer, and_both, edge_eq-refl, position_eq-true, IsPiece, same_piece, reversed}
 use Rattle.map_text.specs.Common.{begun, cut_round, pieces, led_from, cut_way, are_equal, index_from, is_arc}
 use Rattle.map_text.specs.Common.{with_piece, with_pieces, index_of}
 use Rattle.map_text.proofs.Common.{becomes_arc, each-append, are_equal-true, are_equal-refl}
 use Rattle.topo_writer.specs.Common.{first_edge, last_edge, found_from, found, with_found, Fits, at_place, cut_after}
 use Rattle.topo_writer.specs.Common.{all_found, indexes_found, FitAll}
-use Rattle.topo_writer.proofs.FoundLaws.{edge_eq-refl}
 use Rattle.topo_writer.proofs.Later.{index_kept, with_pieces_new}
 
 -- ---- cutting
