@@ -62,7 +62,7 @@ fn gives<R: Abort, I: SegIndex>(
 }
 
 /// An empty index gives a segment once for a box, until it is taken out; a copy keeps it.
-#[tactic(auto, using(segment_trees::proofs::Singles::contains_none, segment_trees::proofs::Singles::contains_inserted))]
+#[tactic(auto, using(segment_sets::proofs::Singles::contains_none, segment_sets::proofs::Singles::contains_inserted))]
 fn gives_once<R: Abort, I: SegIndex>(rt: &R, alloc: Global, index: &mut I, s: Seg, asked: Rect)
     requires { I.held index.old ≡ set.empty }
 {
@@ -265,7 +265,7 @@ fn are_all(found: &[Seg], s: Seg, times: usize) -> bool {
 }
 
 /// Whether a new grid gives its segment so often.
-#[tactic(auto, using(segment_trees::proofs::Singles::contains_none))]
+#[tactic(auto, using(segment_sets::proofs::Singles::contains_none))]
 fn is_given<R: Abort>(rt: &R, alloc: Global, (extent, ends, asked, times): &Times) -> bool {
     let s = seg(rt, *ends);
     let mut grid = grid(rt, alloc, *extent);
@@ -319,7 +319,7 @@ fn add_twice<R: Abort, I: SegIndex>(
 }
 
 /// Whether an empty index, whose heap has so many bytes left, is refused its first segment.
-#[tactic(auto, using(segment_trees::proofs::Singles::contains_none))]
+#[tactic(auto, using(segment_sets::proofs::Singles::contains_none))]
 fn add_is_refused<R: Abort, I: SegIndex>(
     rt: &R,
     alloc: Global,
@@ -382,7 +382,7 @@ fn copy_is_refused<R: Abort, I: SegIndex>(
 }
 
 #[test]
-#[tactic(auto, using(segment_trees::proofs::Singles::contains_none))]
+#[tactic(auto, using(segment_sets::proofs::Singles::contains_none))]
 fn a_list_refused_a_copy_stays(rt: HostRuntime) {
     let heap = heap(&rt, rt.alloc());
     let mut list = ListIndex::new(&heap);
@@ -395,7 +395,7 @@ fn a_list_refused_a_copy_stays(rt: HostRuntime) {
 }
 
 #[test]
-#[tactic(auto, using(segment_trees::proofs::Singles::contains_none))]
+#[tactic(auto, using(segment_sets::proofs::Singles::contains_none))]
 fn a_grid_refused_a_copy_stays(rt: HostRuntime) {
     let heap = heap(&rt, rt.alloc());
     let mut grid = GridIndex::new(&heap, None).expect(&rt, MEMORY);
@@ -434,7 +434,7 @@ fn asking_is_refused<R: Abort, I: SegIndex>(
 
 // 4 by 4 common cells
 #[test]
-#[tactic(auto, using(segment_trees::proofs::Singles::contains_none))]
+#[tactic(auto, using(segment_sets::proofs::Singles::contains_none))]
 fn candidates_refused_leave_the_index(rt: HostRuntime) {
     let s = seg(&rt, ((0, 0), (3, 3)));
     let mut list = ListIndex::new(rt.alloc());

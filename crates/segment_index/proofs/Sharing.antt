@@ -2,9 +2,9 @@
 use Rattle.kit_words.proofs.Common.{◌≡◌, ◌≤◌, ◌+◌, ◌≤ℤ◌, ℤ, ℕ, max, Bool, true, false, cond, ◌&&◌, refl, ap, arith}
 use Rattle.kit_words.proofs.Common.{int_le, None, Some, int_min, int_max, ints}
 use Rattle.grid_geometry.specs.Common.{Segment, Box, box_of, boxes_meet}
-use Rattle.segment_trees.specs.Common.{Lines, AreMonotone, cover_of, within, has_cell, shared}
+use Rattle.segment_sets.specs.Common.{Lines, AreMonotone, cover_of, within, has_cell, shared}
 use Rattle.segment_index.specs.Common.{Frame, IsFrame, lines_of, shared_cells, times_by}
-use Rattle.segment_trees.proofs.Common.{meet_parts, le_from, line-mono, total-one}
+use Rattle.segment_sets.proofs.Common.{meet_parts, le_from, line-mono, total-one}
 
 -- the only fact about columns and rows that a grid rests on
 pub frame-monotone : (f : Frame) → IsFrame f → AreMonotone (lines_of f)

@@ -1,0 +1,10 @@
+pub mod Candidates
+pub mod Gathers
+pub mod Covers
+pub mod Cells
+pub mod Bounds
+pub mod Trees
+pub mod Directories
+pub mod Frames
+pub mod Times
+pub mod Common

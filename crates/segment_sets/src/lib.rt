@@ -1,0 +1,24 @@
+//! Finite sets of segments that find the candidates for a box, the segments that may meet it: in trees
+//! of boxes, one for each cell of the plane, and by a list.
+#![tactic(auto)]
+
+mod bounds;
+mod bucket;
+mod cell;
+mod cover;
+mod directory;
+mod entry;
+mod index;
+mod list_index;
+mod region;
+mod strip;
+mod tree;
+mod tree_index;
+mod way;
+
+pub use bounds::{reaches, widen};
+pub use cell::Cell;
+pub use cover::Cover;
+pub use index::SegIndex;
+pub use list_index::ListIndex;
+pub use tree_index::TreeIndex;

@@ -1,6 +1,0 @@
-use Rattle.kit_words.proofs.Common.{sym, ◌∙◌}
-use Rattle.segment_trees.proofs.Branches.{around-within}
-use Rattle.segment_trees.proofs.bounds.widen.Goals as goal
-
-pub returns-else-not-holds : goal.returns-else-not-holds
-returns-else-not-holds c = sym (around-within c.args.bounds.now c.args.rect (sym c.holds.ensures ∙ c.if-not-holds.false))

@@ -1,6 +1,0 @@
-use Rattle.kit_words.proofs.Common.{take}
-use Rattle.segment_trees.specs.Common.{LiesIn}
-use Rattle.segment_trees.proofs.cell.bounds_of.Given as goal
-
-abbrev pub invariant-loop-s : goal.invariant-loop-s
-invariant-loop-s l = LiesIn l.bounds (take l.s-index l.items)

@@ -1,6 +1,0 @@
-use Rattle.kit_words.proofs.Common.{◌≡◌, take, false}
-use Rattle.segment_trees.specs.Common.{has}
-use Rattle.segment_trees.proofs.cell.place_of.Given as goal
-
-abbrev pub invariant-loop-place : goal.invariant-loop-place
-invariant-loop-place l = has (take l.place l.items) l.s ≡ false
