@@ -71,7 +71,7 @@ const MARKED: Picture = Picture {
     shown: &[
         r#"<path class="conflict" stroke-width="3" d="M 1 1 11 11M 1 11 11 1"/>"#,
         "conflict 0 0 10 10 / 0 10 10 0</text>",
-        "<circle cx=\"281\" cy=\"281\" r=\"14\"/>",
+        r#"<circle cx="281" cy="281" r="14"/>"#,
     ],
     others: &[],
 };

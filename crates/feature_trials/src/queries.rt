@@ -10,16 +10,16 @@ use std::process::Abort;
 
 // two squares with a common side
 const SQUARES: &str =
-    "{\"type\":\"Topology\",\"objects\":{\"land\":{\"type\":\"GeometryCollection\",\"geometries\":[{\"type\":\"Polygon\",\"arcs\":[[0,1]]},{\"arcs\":[[-1,2]],\"type\":\"Polygon\"}]}},\"arcs\":[[[10,0],[10,10]],[[10,10],[0,10],[0,0],[10,0]],[[10,0],[20,0],[20,10],[10,10]]]}";
+    r#"{"type":"Topology","objects":{"land":{"type":"GeometryCollection","geometries":[{"type":"Polygon","arcs":[[0,1]]},{"arcs":[[-1,2]],"type":"Polygon"}]}},"arcs":[[[10,0],[10,10]],[[10,10],[0,10],[0,0],[10,0]],[[10,0],[20,0],[20,10],[10,10]]]}"#;
 
 // a square with a hole, an island that fills the hole, a square that touches the first at a corner,
 // and a feature without a polygon
 const DONUT: &str =
-    "{\"type\":\"Topology\",\"objects\":{\"land\":{\"type\":\"GeometryCollection\",\"geometries\":[{\"type\":\"Polygon\",\"arcs\":[[0],[1]]},{\"type\":\"MultiPolygon\",\"arcs\":[[[-2]]]},{\"type\":\"Polygon\",\"arcs\":[[2]]},{\"type\":null}]}},\"arcs\":[[[0,0],[30,0],[30,30],[0,30],[0,0]],[[10,10],[10,20],[20,20],[20,10],[10,10]],[[30,30],[40,30],[40,40],[30,40],[30,30]]]}";
+    r#"{"type":"Topology","objects":{"land":{"type":"GeometryCollection","geometries":[{"type":"Polygon","arcs":[[0],[1]]},{"type":"MultiPolygon","arcs":[[[-2]]]},{"type":"Polygon","arcs":[[2]]},{"type":null}]}},"arcs":[[[0,0],[30,0],[30,30],[0,30],[0,0]],[[10,10],[10,20],[20,20],[20,10],[10,10]],[[30,30],[40,30],[40,40],[30,40],[30,30]]]}"#;
 
 // a feature of two triangles
 const TWO_POLYGONS: &str =
-    "{\"type\":\"Topology\",\"objects\":{\"land\":{\"type\":\"MultiPolygon\",\"arcs\":[[[0]],[[1]]]}},\"arcs\":[[[0,0],[4,0],[0,4],[0,0]],[[20,0],[24,0],[20,4],[20,0]]]}";
+    r#"{"type":"Topology","objects":{"land":{"type":"MultiPolygon","arcs":[[[0]],[[1]]]}},"arcs":[[[0,0],[4,0],[0,4],[0,0]],[[20,0],[24,0],[20,4],[20,0]]]}"#;
 
 /// The numbers of the neighbours, and none where there is no such feature.
 fn found<R: Abort>(rt: &R, alloc: Global, map: &Map<'_, GridIndex>, f: u32) -> Option<Numbers> {

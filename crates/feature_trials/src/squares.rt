@@ -19,7 +19,7 @@ const SIDE: u32 = 1_000_000;
 /// Appends the square of this number as a feature, with the arc of that number.
 fn push_feature(alloc: Global, text: &mut String, n: u32) -> Result<(), AllocError> {
     let comma = if n == 0 { "" } else { "," };
-    let feature = format!(in alloc; "{comma}{{\"type\":\"Polygon\",\"id\":{n},\"arcs\":[[{n}]]}}")?;
+    let feature = format!(in alloc; r#"{comma}{{"type":"Polygon","id":{n},"arcs":[[{n}]]}}"#)?;
     let pushed = text.push_str(feature.as_str());
     drop(feature);
     pushed
@@ -42,7 +42,7 @@ fn push_arc(alloc: Global, text: &mut String, n: u32) -> Result<(), AllocError> 
 /// Appends the text of the squares, which are features, each with an arc of its own.
 fn push_squares(alloc: Global, text: &mut String) -> Result<(), AllocError> {
     text.push_str(
-        "{\"type\":\"Topology\",\"objects\":{\"m\":{\"type\":\"GeometryCollection\",\"geometries\":[",
+        r#"{"type":"Topology","objects":{"m":{"type":"GeometryCollection","geometries":["#,
     )?;
     for n in 0..COLUMNS * COLUMNS {
         push_feature(alloc, text, n)?;

@@ -67,12 +67,12 @@ fn put_arc(text: &mut String, n: u32) -> Result<(), AllocError> {
 /// other.
 fn put_square_and_row(text: &mut String) -> Result<(), AllocError> {
     text.push_str(
-        "{\"type\":\"Topology\",\"objects\":{\"m\":{\"type\":\"GeometryCollection\",\"geometries\":[{\"type\":\"Polygon\",\"arcs\":[[0]]},{\"type\":\"MultiPolygon\",\"arcs\":[[[1]]",
+        r#"{"type":"Topology","objects":{"m":{"type":"GeometryCollection","geometries":[{"type":"Polygon","arcs":[[0]]},{"type":"MultiPolygon","arcs":[[[1]]"#,
     )?;
     for n in 2..2001u32 {
         write!(text, ",[[{n}]]")?;
     }
-    text.push_str("]}]}},\"arcs\":[[[200010,0],[200020,0],[200020,10],[200010,10],[200010,0]]")?;
+    text.push_str(r#"]}]}},"arcs":[[[200010,0],[200020,0],[200020,10],[200010,10],[200010,0]]"#)?;
     for n in 1..2001u32 {
         put_arc(text, n)?;
     }

@@ -33,10 +33,10 @@ const POSITIONS: &[Case] = &[
     (
         "one arc too many",
         (
-            "{\"type\":\"Topology\",\"objects\":{\"a\":{\"type\":\"Polygon\",\"arcs\":[[0",
+            r#"{"type":"Topology","objects":{"a":{"type":"Polygon","arcs":[[0"#,
             ",0",
             800_000,
-            "]]}},\"arcs\":[[[0,0],[10,0],[10,10],[0,10],[0,0]]]}",
+            r#"]]}},"arcs":[[[0,0],[10,0],[10,10],[0,10],[0,0]]]}"#,
         ),
         "",
         "open: too large positions",
@@ -44,10 +44,10 @@ const POSITIONS: &[Case] = &[
     (
         "the last arc that can be",
         (
-            "{\"type\":\"Topology\",\"objects\":{\"a\":{\"type\":\"Polygon\",\"arcs\":[[0",
+            r#"{"type":"Topology","objects":{"a":{"type":"Polygon","arcs":[[0"#,
             ",0",
             799_999,
-            "]]}},\"arcs\":[[[0,0],[10,0],[10,10],[0,10],[0,0]]]}",
+            r#"]]}},"arcs":[[[0,0],[10,0],[10,10],[0,10],[0,0]]]}"#,
         ),
         "",
         "open: ring repeats 0 0 0 at 0 0",
@@ -55,10 +55,10 @@ const POSITIONS: &[Case] = &[
     (
         "800,000 rings, a position more in each, and then one too many in each",
         (
-            "{\"type\":\"Topology\",\"objects\":{\"a\":{\"type\":\"GeometryCollection\",\"geometries\":[{\"type\":\"MultiPolygon\",\"arcs\":[[[0]]",
+            r#"{"type":"Topology","objects":{"a":{"type":"GeometryCollection","geometries":[{"type":"MultiPolygon","arcs":[[[0]]"#,
             ",[[0]]",
             799_999,
-            "]}]}},\"arcs\":[[[0,0],[10,0],[10,10],[0,10],[0,0]]]}",
+            r#"]}]}},"arcs":[[[0,0],[10,0],[10,10],[0,10],[0,0]]]}"#,
         ),
         "insert 0 0 10 0 5 0\ninsert 5 0 10 0 7 0\nsplit 0 \"c\" 0 0 10 10\narea 0",
         "ok\nrefused too large\nrefused too large\n160000000\nanswered 4, refused 2",
@@ -68,14 +68,14 @@ const POSITIONS: &[Case] = &[
 const NULL: &str = ",{\"type\":null}";
 
 const NULLS: &str =
-    "{\"type\":\"Topology\",\"objects\":{\"a\":{\"type\":\"GeometryCollection\",\"geometries\":[{\"type\":null}";
+    r#"{"type":"Topology","objects":{"a":{"type":"GeometryCollection","geometries":[{"type":null}"#;
 
 const NULLS_END: &str = "]}},\"arcs\":[]}";
 
 const SQUARE_AND_NULLS: &str =
-    "{\"type\":\"Topology\",\"objects\":{\"a\":{\"type\":\"GeometryCollection\",\"geometries\":[{\"type\":\"Polygon\",\"arcs\":[[0]]}";
+    r#"{"type":"Topology","objects":{"a":{"type":"GeometryCollection","geometries":[{"type":"Polygon","arcs":[[0]]}"#;
 
-const SQUARE_END: &str = "]}},\"arcs\":[[[0,0],[10,0],[10,10],[0,10],[0,0]]]}";
+const SQUARE_END: &str = r#"]}},"arcs":[[[0,0],[10,0],[10,10],[0,10],[0,0]]]}"#;
 
 /// Features that have no polygons, alone and behind a square.
 const FEATURES: &[Case] = &[

@@ -18,11 +18,11 @@ use topo_reader::read;
 
 // a polygon with a hole at its corner, and another hole that turns right
 const HOLES: &str =
-    "{\"type\":\"Topology\",\"objects\":{\"h\":{\"type\":\"GeometryCollection\",\"geometries\":[{\"type\":\"Polygon\",\"arcs\":[[0],[1],[2]]}]}},\"arcs\":[[[0,0],[10,0],[20,0],[20,10],[10,10],[0,10],[0,0]],[[0,0],[2,4],[4,2],[0,0]],[[14,4],[14,6],[16,6],[16,4],[14,4]]]}";
+    r#"{"type":"Topology","objects":{"h":{"type":"GeometryCollection","geometries":[{"type":"Polygon","arcs":[[0],[1],[2]]}]}},"arcs":[[[0,0],[10,0],[20,0],[20,10],[10,10],[0,10],[0,0]],[[0,0],[2,4],[4,2],[0,0]],[[14,4],[14,6],[16,6],[16,4],[14,4]]]}"#;
 
 // two neighbours with a gap between them
 const TWO_RUNS: &str =
-    "{\"type\":\"Topology\",\"objects\":{\"l\":{\"type\":\"GeometryCollection\",\"geometries\":[{\"type\":\"Polygon\",\"arcs\":[[0,1,2,3]]},{\"type\":\"Polygon\",\"arcs\":[[-1,4,-3,5]]}]}},\"arcs\":[[[10,0],[10,3]],[[10,3],[8,5],[10,7]],[[10,7],[10,10]],[[10,10],[0,10],[0,0],[10,0]],[[10,0],[20,0],[20,10],[10,10]],[[10,7],[12,5],[10,3]]]}";
+    r#"{"type":"Topology","objects":{"l":{"type":"GeometryCollection","geometries":[{"type":"Polygon","arcs":[[0,1,2,3]]},{"type":"Polygon","arcs":[[-1,4,-3,5]]}]}},"arcs":[[[10,0],[10,3]],[[10,3],[8,5],[10,7]],[[10,7],[10,10]],[[10,10],[0,10],[0,0],[10,0]],[[10,0],[20,0],[20,10],[10,10]],[[10,7],[12,5],[10,3]]]}"#;
 
 /// An edit of one vertex.
 #[derive(Clone, Copy, Debug)]

@@ -12,7 +12,7 @@ use topo_reader::read;
 /// Appends the polygon of this number, which has the arc of that number.
 fn push_polygon(alloc: Global, text: &mut String, n: u32) -> Result<(), AllocError> {
     let comma = if n == 0 { "" } else { "," };
-    let polygon = format!(in alloc; "{comma}{{\"type\":\"Polygon\",\"arcs\":[[{n}]]}}")?;
+    let polygon = format!(in alloc; r#"{comma}{{"type":"Polygon","arcs":[[{n}]]}}"#)?;
     let pushed = text.push_str(polygon.as_str());
     drop(polygon);
     pushed
@@ -34,7 +34,7 @@ fn push_arc(alloc: Global, text: &mut String, n: u32) -> Result<(), AllocError> 
 /// Appends the text of so many squares in a row, each of side 10, every 100.
 fn push_squares(alloc: Global, text: &mut String, count: u32) -> Result<(), AllocError> {
     text.push_str(
-        "{\"type\":\"Topology\",\"objects\":{\"m\":{\"type\":\"GeometryCollection\",\"geometries\":[",
+        r#"{"type":"Topology","objects":{"m":{"type":"GeometryCollection","geometries":["#,
     )?;
     for n in 0..count {
         push_polygon(alloc, text, n)?;

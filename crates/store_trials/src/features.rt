@@ -12,27 +12,27 @@ use topo_reader::read;
 
 // a square, and below it a polygon with a dent, each the geometry of its layer
 const ALONE: &str =
-    "{\"type\":\"Topology\",\"objects\":{\"a\":{\"type\":\"Polygon\",\"arcs\":[[0]]},\"b\":{\"type\":\"Polygon\",\"arcs\":[[1]]}},\"arcs\":[[[0,0],[10,0],[10,10],[0,10],[0,0]],[[0,-10],[10,-10],[10,0],[5,-2],[0,0],[0,-10]]]}";
+    r#"{"type":"Topology","objects":{"a":{"type":"Polygon","arcs":[[0]]},"b":{"type":"Polygon","arcs":[[1]]}},"arcs":[[[0,0],[10,0],[10,10],[0,10],[0,0]],[[0,-10],[10,-10],[10,0],[5,-2],[0,0],[0,-10]]]}"#;
 
 // two squares, and a layer that is their union
 const UNION: &str =
-    "{\"type\":\"Topology\",\"objects\":{\"l\":{\"type\":\"GeometryCollection\",\"geometries\":[{\"type\":\"Polygon\",\"arcs\":[[0]]},{\"type\":\"Polygon\",\"arcs\":[[1]]}]},\"s\":{\"type\":\"Polygon\",\"arcs\":[[2]]}},\"arcs\":[[[0,0],[10,0],[10,10],[0,10],[0,0]],[[10,0],[20,0],[20,10],[10,10],[10,0]],[[0,0],[10,0],[20,0],[20,10],[10,10],[0,10],[0,0]]]}";
+    r#"{"type":"Topology","objects":{"l":{"type":"GeometryCollection","geometries":[{"type":"Polygon","arcs":[[0]]},{"type":"Polygon","arcs":[[1]]}]},"s":{"type":"Polygon","arcs":[[2]]}},"arcs":[[[0,0],[10,0],[10,10],[0,10],[0,0]],[[10,0],[20,0],[20,10],[10,10],[10,0]],[[0,0],[10,0],[20,0],[20,10],[10,10],[0,10],[0,0]]]}"#;
 
 // neighbours with a gap between them
 const GAP: &str =
-    "{\"type\":\"Topology\",\"objects\":{\"l\":{\"type\":\"GeometryCollection\",\"geometries\":[{\"type\":\"Polygon\",\"arcs\":[[0]]},{\"type\":\"Polygon\",\"arcs\":[[1]]}]}},\"arcs\":[[[0,0],[10,0],[10,3],[8,5],[10,7],[10,10],[0,10],[0,0]],[[10,0],[20,0],[20,10],[10,10],[10,7],[12,5],[10,3],[10,0]]]}";
+    r#"{"type":"Topology","objects":{"l":{"type":"GeometryCollection","geometries":[{"type":"Polygon","arcs":[[0]]},{"type":"Polygon","arcs":[[1]]}]}},"arcs":[[[0,0],[10,0],[10,3],[8,5],[10,7],[10,10],[0,10],[0,0]],[[10,0],[20,0],[20,10],[10,10],[10,7],[12,5],[10,3],[10,0]]]}"#;
 
 // neighbours that also touch at a position
 const TOUCHING: &str =
-    "{\"type\":\"Topology\",\"objects\":{\"l\":{\"type\":\"GeometryCollection\",\"geometries\":[{\"type\":\"Polygon\",\"arcs\":[[0]]},{\"type\":\"Polygon\",\"arcs\":[[1]]}]}},\"arcs\":[[[0,0],[4,0],[4,4],[0,4],[0,0]],[[0,4],[2,6],[4,4],[4,0],[8,0],[8,8],[0,8],[0,4]]]}";
+    r#"{"type":"Topology","objects":{"l":{"type":"GeometryCollection","geometries":[{"type":"Polygon","arcs":[[0]]},{"type":"Polygon","arcs":[[1]]}]}},"arcs":[[[0,0],[4,0],[4,4],[0,4],[0,0]],[[0,4],[2,6],[4,4],[4,0],[8,0],[8,8],[0,8],[0,4]]]}"#;
 
 // a triangle, and an object whose type is null
 const NULL: &str =
-    "{\"type\":\"Topology\",\"objects\":{\"l\":{\"type\":\"GeometryCollection\",\"geometries\":[{\"type\":\"Polygon\",\"arcs\":[[0]]},{\"type\":null}]}},\"arcs\":[[[0,0],[5,0],[5,5],[0,0]]]}";
+    r#"{"type":"Topology","objects":{"l":{"type":"GeometryCollection","geometries":[{"type":"Polygon","arcs":[[0]]},{"type":null}]}},"arcs":[[[0,0],[5,0],[5,5],[0,0]]]}"#;
 
 // a polygon with a hole at a corner, and one that turns right
 const HOLES: &str =
-    "{\"type\":\"Topology\",\"objects\":{\"l\":{\"type\":\"GeometryCollection\",\"geometries\":[{\"type\":\"Polygon\",\"arcs\":[[0],[1],[2]]}]}},\"arcs\":[[[0,0],[10,0],[20,0],[20,10],[10,10],[0,10],[0,0]],[[0,0],[2,4],[4,2],[0,0]],[[14,4],[14,6],[16,6],[16,4],[14,4]]]}";
+    r#"{"type":"Topology","objects":{"l":{"type":"GeometryCollection","geometries":[{"type":"Polygon","arcs":[[0],[1],[2]]}]}},"arcs":[[[0,0],[10,0],[20,0],[20,10],[10,10],[0,10],[0,0]],[[0,0],[2,4],[4,2],[0,0]],[[14,4],[14,6],[16,6],[16,4],[14,4]]]}"#;
 
 const ACROSS: &[(i64, i64)] = &[(0, 0), (10, 10)];
 

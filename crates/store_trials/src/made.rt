@@ -118,13 +118,13 @@ fn push_cell(
 pub(crate) fn cells_text(alloc: Global, cells: Cells) -> Result<String, AllocError> {
     let mut text = String::from_str(
         alloc,
-        "{\"type\":\"Topology\",\"objects\":{\"m\":{\"type\":\"GeometryCollection\",\"geometries\":[",
+        r#"{"type":"Topology","objects":{"m":{"type":"GeometryCollection","geometries":["#,
     )?;
     let count = cells.columns.wrapping_mul(cells.rows);
     for n in 0..count {
         let comma = if n == 0 { "" } else { "," };
         text.push_str(format!(in alloc;
-            "{comma}{{\"type\":\"Polygon\",\"arcs\":[[{n}]]}}"
+            r#"{comma}{{"type":"Polygon","arcs":[[{n}]]}}"#
         )?.as_str())?;
     }
     text.push_str("]}},\"arcs\":[")?;

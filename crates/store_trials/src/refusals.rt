@@ -22,11 +22,11 @@ pub(crate) const MANY: u64 = 2000;
 
 // two neighbours, and one that shares a long border with both; a junction has three neighbours
 pub(crate) const THREE: &str =
-    "{\"type\":\"Topology\",\"objects\":{\"l\":{\"type\":\"GeometryCollection\",\"geometries\":[{\"type\":\"Polygon\",\"arcs\":[[0]]},{\"type\":\"Polygon\",\"arcs\":[[1]]},{\"type\":\"Polygon\",\"arcs\":[[2]]}]}},\"arcs\":[[[0,0],[10,0],[10,5],[10,10],[0,10],[0,0]],[[10,0],[20,0],[20,10],[10,10],[10,5],[10,0]],[[0,0],[0,-10],[20,-10],[20,0],[10,0],[0,0]]]}";
+    r#"{"type":"Topology","objects":{"l":{"type":"GeometryCollection","geometries":[{"type":"Polygon","arcs":[[0]]},{"type":"Polygon","arcs":[[1]]},{"type":"Polygon","arcs":[[2]]}]}},"arcs":[[[0,0],[10,0],[10,5],[10,10],[0,10],[0,0]],[[10,0],[20,0],[20,10],[10,10],[10,5],[10,0]],[[0,0],[0,-10],[20,-10],[20,0],[10,0],[0,0]]]}"#;
 
 // two squares with a common side
 const TWO: &str =
-    "{\"type\":\"Topology\",\"objects\":{\"l\":{\"type\":\"GeometryCollection\",\"geometries\":[{\"type\":\"Polygon\",\"arcs\":[[0]]},{\"type\":\"Polygon\",\"arcs\":[[1]]}]}},\"arcs\":[[[0,0],[10,0],[10,10],[0,10],[0,0]],[[10,0],[20,0],[20,10],[10,10],[10,0]]]}";
+    r#"{"type":"Topology","objects":{"l":{"type":"GeometryCollection","geometries":[{"type":"Polygon","arcs":[[0]]},{"type":"Polygon","arcs":[[1]]}]}},"arcs":[[[0,0],[10,0],[10,10],[0,10],[0,0]],[[10,0],[20,0],[20,10],[10,10],[10,0]]]}"#;
 
 /// How many rings have the segment from each position of a ring to the next, one after the other.
 fn uses_along<I: SegIndex, A: Allocator + Copy>(

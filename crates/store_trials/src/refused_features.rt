@@ -16,7 +16,7 @@ use topo_outline::KeptMember;
 // a square with a hole, its neighbours to the right and below, an object without a geometry, a
 // point, a collection in the collection, and a square that is itself a layer
 const SQUARES: &str =
-    "{\"type\":\"Topology\",\"objects\":{\"l\":{\"type\":\"GeometryCollection\",\"geometries\":[{\"type\":\"Polygon\",\"id\":\"A\",\"properties\":{\"n\":1},\"arcs\":[[0],[1]]},{\"type\":\"Polygon\",\"id\":7,\"k\":[1],\"arcs\":[[2]]},{\"type\":null,\"id\":\"N\"},{\"type\":\"Point\",\"coordinates\":[3,4]},{\"type\":\"GeometryCollection\",\"id\":\"c\",\"m\":0,\"geometries\":[{\"type\":\"Polygon\",\"arcs\":[[3]]}]}]},\"s\":{\"type\":\"Polygon\",\"arcs\":[[4]]}},\"arcs\":[[[0,0],[10,0],[10,5],[10,10],[0,10],[0,0]],[[4,4],[4,6],[6,6],[6,4],[4,4]],[[10,0],[20,0],[20,10],[10,10],[10,5],[10,0]],[[0,-10],[20,-10],[20,0],[10,0],[0,0],[0,-10]],[[30,0],[40,0],[40,10],[30,10],[30,0]]],\"note\":\"kept\"}";
+    r#"{"type":"Topology","objects":{"l":{"type":"GeometryCollection","geometries":[{"type":"Polygon","id":"A","properties":{"n":1},"arcs":[[0],[1]]},{"type":"Polygon","id":7,"k":[1],"arcs":[[2]]},{"type":null,"id":"N"},{"type":"Point","coordinates":[3,4]},{"type":"GeometryCollection","id":"c","m":0,"geometries":[{"type":"Polygon","arcs":[[3]]}]}]},"s":{"type":"Polygon","arcs":[[4]]}},"arcs":[[[0,0],[10,0],[10,5],[10,10],[0,10],[0,0]],[[4,4],[4,6],[6,6],[6,4],[4,4]],[[10,0],[20,0],[20,10],[10,10],[10,5],[10,0]],[[0,-10],[20,-10],[20,0],[10,0],[0,0],[0,-10]],[[30,0],[40,0],[40,10],[30,10],[30,0]]],"note":"kept"}"#;
 
 /// Each position of these squares, and those of the paths below.
 const POSITIONS: [(i64, i64); 20] = [

@@ -154,7 +154,7 @@ fn each_place_is_told(rt: HostRuntime) -> Result<(), Fail> {
             ..
         } = row;
         let want = format!(in rt.alloc();
-            "{{\"type\":\"Topology\",\"objects\":{{\"places\":{{\"type\":\"GeometryCollection\",\"geometries\":[{points}]}},\"segments\":{{\"type\":\"GeometryCollection\",\"geometries\":[{lines}]}}}},\"arcs\":[{arcs}]}}"
+            r#"{{"type":"Topology","objects":{{"places":{{"type":"GeometryCollection","geometries":[{points}]}},"segments":{{"type":"GeometryCollection","geometries":[{lines}]}}}},"arcs":[{arcs}]}}"#
         )?;
         is_told(&rt, rt.alloc(), row.given, None, want.as_str()).expect(&rt, "memory");
     }
@@ -171,7 +171,7 @@ fn arcs_are_differences_under_a_transform(rt: HostRuntime) -> Result<(), Fail> {
             ..
         } = row;
         let want = format!(in rt.alloc();
-            "{{\"type\":\"Topology\",\"transform\":{TRANSFORM},\"objects\":{{\"places\":{{\"type\":\"GeometryCollection\",\"geometries\":[{points}]}},\"segments\":{{\"type\":\"GeometryCollection\",\"geometries\":[{lines}]}}}},\"arcs\":[{differences}]}}"
+            r#"{{"type":"Topology","transform":{TRANSFORM},"objects":{{"places":{{"type":"GeometryCollection","geometries":[{points}]}},"segments":{{"type":"GeometryCollection","geometries":[{lines}]}}}},"arcs":[{differences}]}}"#
         )?;
         let transform = Some(TRANSFORM.as_bytes());
         is_told(&rt, rt.alloc(), row.given, transform, want.as_str()).expect(&rt, "memory");
