@@ -1,43 +1,18 @@
 //! The words of the program.
 ghost use Rattle.std.specs.Prelude.{◌≡◌, ◌≢◌, ◌≤◌, ℕ, [], Some, false, map, codes, string_bytes, unwrap_or};
-ghost use Rattle.std.specs.Prelude.{option_map, IfOk, MatchBool, MatchOption};
+ghost use Rattle.std.specs.Prelude.{option_map, IfOk, MatchOption};
 ghost use Rattle.clap.specs.Words.{app_of, rule_of};
 ghost use Rattle.border_mend.specs.Asked.{option_rule, program, text_of, IsCount, dropped};
 ghost use Rattle.border_mend.specs.Asked.{IsAsked, AreApart};
 
 use crate::asked::Words;
-use crate::help::{ABOUT, LINES};
+use crate::help;
 use clap::error::ErrorKind;
 use clap::{Arg, ArgAction, Command};
 use grid_reader::Wants;
 use mend_report::Asked;
-use program_ends::VERSION;
-use std::alloc::{AllocError, Global};
-
-/// A number that a word asks for: the one without the word, and the greatest that it may be.
-#[derive(Clone, Copy, Debug)]
-struct Count {
-    usual: usize,
-    greatest: usize,
-}
-
-/// How many lines of one kind the report has at most.
-const MOST: Count = Count {
-    usual: 1000,
-    greatest: 4_000_000,
-};
-
-/// How many decimals are kept at most.
-const DIGITS: Count = Count {
-    usual: 24,
-    greatest: 24,
-};
-
-/// By which power of ten the grid is made finer.
-const FINER: Count = Count {
-    usual: 0,
-    greatest: 12,
-};
+use program_ends::{VERSION, copied, is_file};
+use std::alloc::Global;
 
 /// An argument that takes a value behind its name.
 fn option<'a>(alloc: Global, name: &'static str, value: &'static str, help: &'static str) -> Arg<'a>
@@ -59,67 +34,31 @@ fn command<'a>(alloc: Global) -> Result<Command<'a>, clap::Error>
         .help("The TopoJSON topology to look at")
         .required(true)
         .action(ArgAction::Set);
-    let most = option(
-        alloc,
-        "most",
-        "N",
-        "How many lines of one kind are told at most, from 0 to 4000000; 1000 if absent",
-    );
-    let places = option(
-        alloc,
-        "places",
-        "FILE",
-        "The file that the places of it all are written in, as a topology of points and lines",
-    );
-    let out = option(
-        alloc,
-        "out",
-        "FILE",
-        "The file that the mended map is saved in; it may be MAP",
-    );
-    let digits = option(
-        alloc,
-        "digits",
-        "K",
-        "How many decimals of coordinates are kept at most, from 0 to 24; all that fit if absent",
-    );
-    let refine = option(
-        alloc,
-        "refine",
-        "K",
-        "Makes the grid 10^K times as fine, K from 0 to 12, so that borders bend less",
-    );
-    let drop = option(
-        alloc,
-        "drop",
-        "WHAT",
-        "What is left out: heights (the further numbers of positions), lines, or heights,lines",
-    );
     let command = Command::new(alloc, "border_mend")
-        .about(ABOUT)
+        .about(help::ABOUT)
         .version(VERSION)
-        .after_help(LINES)
+        .after_help(help::LINES)
         .arg(map)?
-        .arg(most)?
-        .arg(places)?
-        .arg(out)?
-        .arg(digits)?
-        .arg(refine)?
-        .arg(drop)?;
+        .arg(option(alloc, "most", "N", help::MOST))?
+        .arg(option(alloc, "places", "FILE", help::PLACES))?
+        .arg(option(alloc, "out", "FILE", help::OUT))?
+        .arg(option(alloc, "digits", "K", help::DIGITS))?
+        .arg(option(alloc, "refine", "K", help::REFINE))?
+        .arg(option(alloc, "drop", "WHAT", help::DROP))?;
     Ok(command)
 }
 
-/// The number that a value says, or the usual one without a value.
-fn count_of(given: Option<&str>, count: Count) -> Option<usize>
+/// The number that a value says, up to the greatest, or the usual one without a value.
+fn count_of(given: Option<&str>, usual: usize, greatest: usize) -> Option<usize>
     ensures { MatchOption result
-        ((n : ℕ) → ¬ IsCount count.usual count.greatest (option_map (λ text. text.now) given.entry) n)
-        (λ n. IsCount count.usual count.greatest (option_map (λ text. text.now) given.entry) n) }
+        ((n : ℕ) → ¬ IsCount usual greatest (option_map (λ text. text.now) given.entry) n)
+        (λ n. IsCount usual greatest (option_map (λ text. text.now) given.entry) n) }
 {
     let Some(text) = given else {
-        return Some(count.usual);
+        return Some(usual);
     };
     match text.parse::<usize>() {
-        Ok(number) if number <= count.greatest => Some(number),
+        Ok(number) if number <= greatest => Some(number),
         _ => None,
     }
 }
@@ -142,32 +81,6 @@ fn dropped(given: Option<&str>) -> Option<(bool, bool)>
         Some((true, true))
     } else {
         None
-    }
-}
-
-/// A copy of a text, where there is one.
-fn copied(alloc: Global, given: Option<&str>) -> Result<Option<String>, AllocError>
-    ensures { IfOk result (λ copy.
-        option_map string_bytes copy ≡ option_map (λ text. text.now) given.entry) }
-{
-    match given {
-        Some(text) => {
-            let copy = String::from_str(alloc, text)?;
-            Ok(Some(copy))
-        }
-        None => Ok(None),
-    }
-}
-
-/// Whether a file is given, and is another one: their paths are the same text.
-fn is_file(given: Option<&str>, other: &str) -> bool
-    ensures { MatchBool result
-        (option_map (λ text. text.now) given.entry ≡ Some other.now)
-        (option_map (λ text. text.now) given.entry ≢ Some other.now) }
-{
-    match given {
-        Some(path) => path == other,
-        None => false,
     }
 }
 
@@ -194,13 +107,13 @@ fn asked_of(
         (option_map (λ text. text.now) digits.entry) (option_map (λ text. text.now) refine.entry)
         (option_map (λ text. text.now) drop.entry) pair.0 pair.1) }
 {
-    let Some(most) = count_of(most, MOST) else {
+    let Some(most) = count_of(most, 1000, 4_000_000) else {
         return Err("--most takes a whole number from 0 to 4000000");
     };
-    let Some(digits) = count_of(digits, DIGITS) else {
+    let Some(digits) = count_of(digits, 24, 24) else {
         return Err("--digits takes a whole number from 0 to 24");
     };
-    let Some(finer) = count_of(refine, FINER) else {
+    let Some(finer) = count_of(refine, 0, 12) else {
         return Err("--refine takes a whole number from 0 to 12");
     };
     let Some((drop_heights, drop_lines)) = dropped(drop) else {

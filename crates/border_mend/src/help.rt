@@ -32,3 +32,21 @@ can't be read as a map, or not be mended; 3 a file or memory fails; 64 the words
 Example: border_mend map.json --most 20 --places places.json
          border_mend map.json --out mended.json
          border_mend map.json --digits 5 --out mended.json";
+
+// What each argument asks for.
+pub(crate) const MOST: &str =
+    "How many lines of one kind are told at most, from 0 to 4000000; 1000 if absent";
+
+pub(crate) const PLACES: &str =
+    "The file that the places of it all are written in, as a topology of points and lines";
+
+pub(crate) const OUT: &str = "The file that the mended map is saved in; it may be MAP";
+
+pub(crate) const DIGITS: &str =
+    "How many decimals of coordinates are kept at most, from 0 to 24; all that fit if absent";
+
+pub(crate) const REFINE: &str =
+    "Makes the grid 10^K times as fine, K from 0 to 12, so that borders bend less";
+
+pub(crate) const DROP: &str =
+    "What is left out: heights (the further numbers of positions), lines, or heights,lines";

@@ -5,7 +5,7 @@ use crate::asked::{Part, Words};
 use clap::error::ErrorKind;
 use clap::{Arg, ArgAction, ArgMatches, Command};
 use grid_geometry::Pos;
-use program_ends::VERSION;
+use program_ends::{VERSION, copied};
 use std::alloc::{AllocError, Global};
 
 /// The most that a part is wide: twice the grid.
@@ -64,14 +64,6 @@ fn part_of(values: &[&str]) -> Option<Part> {
         Some(Part { middle, width })
     } else {
         None
-    }
-}
-
-/// A copy of the text, where there is one.
-fn copied(alloc: Global, text: Option<&str>) -> Result<Option<String>, AllocError> {
-    match text {
-        Some(text) => Ok(Some(String::from_str(alloc, text)?)),
-        None => Ok(None),
     }
 }
 

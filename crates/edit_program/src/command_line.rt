@@ -1,6 +1,6 @@
 //! The words of the program.
 ghost use Rattle.std.specs.Prelude.{◌≡◌, ◌≢◌, ◌≤◌, ℕ, [], Some, map, codes, string_bytes, unwrap_or};
-ghost use Rattle.std.specs.Prelude.{option_map, IfOk, MatchBool, MatchOption};
+ghost use Rattle.std.specs.Prelude.{option_map, IfOk, MatchOption};
 ghost use Rattle.clap.specs.Words.{app_of};
 ghost use Rattle.edit_program.specs.Asked.{program, text_of, flag_of, IsDepth, IsFlag};
 
@@ -8,8 +8,8 @@ use crate::asked::Words;
 use crate::help::{ABOUT, LINES};
 use clap::error::ErrorKind;
 use clap::{Arg, ArgAction, Command};
-use program_ends::VERSION;
-use std::alloc::{AllocError, Global};
+use program_ends::{VERSION, copied, is_file};
+use std::alloc::Global;
 
 /// How many changes can be taken back where the words say nothing of it.
 const DEPTH: usize = 100;
@@ -74,32 +74,6 @@ fn depth_of(given: Option<&str>) -> Option<usize>
     match text.parse::<usize>() {
         Ok(depth) if 1 <= depth && depth <= MOST_DEPTH => Some(depth),
         _ => None,
-    }
-}
-
-/// A copy of a text, where there is one.
-fn copied(alloc: Global, given: Option<&str>) -> Result<Option<String>, AllocError>
-    ensures { IfOk result (λ copy.
-        option_map string_bytes copy ≡ option_map (λ text. text.now) given.entry) }
-{
-    match given {
-        Some(text) => {
-            let copy = String::from_str(alloc, text)?;
-            Ok(Some(copy))
-        }
-        None => Ok(None),
-    }
-}
-
-/// Whether FILE2 is given, and is FILE: their paths are the same text.
-fn is_file(refused: Option<&str>, out: &str) -> bool
-    ensures { MatchBool result
-        (option_map (λ text. text.now) refused.entry ≡ Some out.now)
-        (option_map (λ text. text.now) refused.entry ≢ Some out.now) }
-{
-    match refused {
-        Some(path) => path == out,
-        None => false,
     }
 }
 

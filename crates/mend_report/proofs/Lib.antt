@@ -4,5 +4,6 @@ pub mod OpeningLemmas
 pub mod WholeLemmas
 pub mod PlaceLemmas
 pub mod AreaLemmas
+pub mod CopiedWalks
 pub mod EditorOpens
 mod Examples

@@ -5,7 +5,10 @@ use Rattle.segment_paths.specs.Common.{Path, paths_seen}
 use Rattle.topo_reader.specs.Common.{Opened, Polygons}
 use Rattle.walk_faults.specs.declared.findings.Findings.{Findings}
 use Rattle.place_text.specs.Common.{IsPlaceText}
-use Rattle.mend_report.specs.Common.{PlacesRemade, Remade}
+use Rattle.mend_report.specs.Common.{PlacesRemade, Remade, OpensOn}
+use Rattle.mend_report.specs.Looking.{HasPlaces}
+use Rattle.grid_reader.specs.declared.wants.Wants.{Wants}
+use Rattle.ring_machine.specs.Common.{Text}
 use Rattle.walk_faults.specs.Common.{Found}
 
 -- where nothing is asked for, all that is asked for holds
@@ -19,10 +22,18 @@ pub remade_placed : {A : Type 0} (o : Opened) (found : Findings A) (remade : Rem
 remade_placed o found remade None is_found h = h
 remade_placed o found remade (Some text) is_found h = (found, is_found, h)
 
--- what is told of walks that are those of the map is told of the map
-pub walks_same : {A : Type 0} (o : Opened) (found : Findings A) (walks : List Polygons) (given paths : Option (List Path)) (places : Option (Vec ℕ A))
-    → walks ≡ o.polygons → given ≡ paths
-    → IfSome places (λ text. IsPlaceText o.transform walks found given text.items) → IfSome places (λ text. IsPlaceText o.transform o.polygons found paths text.items)
-walks_same o found walks given paths places p q h =
+-- what is told of the transform and the walks of the map is told of the map
+pub placed_same : {A : Type 0} (o : Opened) (found : Findings A) (transform : Option Text) (walks : List Polygons) (given paths : Option (List Path)) (places : Option (Vec ℕ A))
+    → transform ≡ o.transform → walks ≡ o.polygons → given ≡ paths
+    → IfSome places (λ text. IsPlaceText transform walks found given text.items) → IfSome places (λ text. IsPlaceText o.transform o.polygons found paths text.items)
+placed_same o found transform walks given paths places t p q h =
     subst (λ z. IfSome places (λ text. IsPlaceText o.transform o.polygons found z text.items)) q
-    (subst (λ z. IfSome places (λ text. IsPlaceText o.transform z found given text.items)) p h)
+    (subst (λ z. IfSome places (λ text. IsPlaceText o.transform z found given text.items)) p
+    (subst (λ z. IfSome places (λ text. IsPlaceText z walks found given text.items)) t h))
+
+-- and of the bytes that the map is opened from
+pub placed_at : {A : Type 0} (wants : Wants) (bytes : List ℕ) (o : Opened) (found : Findings A) (paths : Option (List Path)) (places : Option (Vec ℕ A))
+    → OpensOn wants bytes o → IfSome places (λ text. IsPlaceText o.transform o.polygons found paths text.items)
+    → IfSome places (λ text. HasPlaces wants bytes found paths text.items)
+placed_at wants bytes o found paths None opens h = tt
+placed_at wants bytes o found paths (Some text) opens h = (o, opens, h)

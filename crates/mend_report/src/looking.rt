@@ -1,11 +1,13 @@
 //! From the bytes of a map to all that keeps it from opening.
-ghost use Rattle.std.specs.Prelude.{IfErr, IfOk};
-ghost use Rattle.grid_reader.specs.Common.{ReadsOnGrid, IsTold, view_on_grid};
+ghost use Rattle.std.specs.Prelude.{◌≡◌, IfErr, IfOk};
+ghost use Rattle.grid_reader.specs.Common.{ReadsOnGrid, IsTold};
 ghost use Rattle.topo_reader.specs.Common.{document_of, IsOfWalks, view_raw};
 ghost use Rattle.walk_faults.specs.Common.{Found};
 ghost use Rattle.mend_report.specs.Looking.{OpensOn, IsEnd, EndsLook};
+ghost use Rattle.mend_report.specs.SeenView.{opened_of};
 
-use grid_reader::{OnGrid, Told, Wants, read_on_grid};
+use crate::asked::{Asked, Report};
+use grid_reader::{OnGrid, Transform, read_on_grid};
 use segment_index::TreeIndex;
 use std::alloc::{AllocError, Allocator, Global};
 use topo_outline::OpenFault;
@@ -34,46 +36,12 @@ impl<'a> From<AllocError> for LookFault<'a> {
     }
 }
 
-/// The map that the bytes are on the grid that is asked for, with walks in the place of its rings.
-///
-/// It is read as `grid_reader` reads it: up to and with the test that the arcs of each ring meet
-/// (TopoJSON 1.0, 2.1.4). Fails with `Open` where it can't be read.
-pub(crate) fn map_of<'a, A: Allocator + Copy>(
-    alloc: A,
-    heap: Global,
-    bytes: &'a [u8],
-    wants: Wants,
-) -> Result<OnGrid<'a, A>, LookFault<'a>>
-    ensures opened { IfOk result (λ read. OpensOn wants bytes.now (view_on_grid read)) }
-    ensures of_walks { IfOk result (λ read. IsOfWalks (view_on_grid read)) }
-    ensures reads { IfOk result (λ read.
-        ReadsOnGrid wants bytes.now (document_of (view_on_grid read))) }
-    ensures told { IfOk result (λ read. IsTold wants bytes.now read.told) }
-    ensures refused { IfErr result (λ fault. IsEnd fault wants bytes.now) }
-{
-    match read_on_grid(alloc, heap, bytes, wants) {
-        Ok(read) => Ok(read),
-        Err(OpenFault::OutOfMemory) => Err(LookFault::OutOfMemory),
-        Err(fault) => Err(LookFault::Open(fault)),
-    }
-}
-
-/// A map with walks in the place of its rings, without its transform; the grid that it was put on; how
-/// many lines of one kind are told of it at most, and how many of its own were left out.
-#[derive(Drop)]
-pub(crate) struct Seen<'a, A: Allocator + Copy = Global> {
-    pub(crate) map: RawDoc<'a, A>,
-    pub(crate) grid: Told,
-    pub(crate) most: usize,
-    pub(crate) dropped: usize,
-}
-
 /// All that keeps a map of walks from opening, beside what keeps it from being read.
 ///
 /// Rings with fewer than three positions, or with one twice (RFC 7946, 3.1.6), and segments in
 /// conflict are found, all of them. Fails with `TooMany` where there are more than 4,000,000 findings
 /// of one kind.
-pub(crate) fn look<A: Allocator + Copy>(
+fn look<A: Allocator + Copy>(
     alloc: A,
     heap: Global,
     map: &RawDoc<'_, A>,
@@ -87,4 +55,61 @@ pub(crate) fn look<A: Allocator + Copy>(
         Err(FindFault::TooMany) => Err(LookFault::TooMany),
         Err(FindFault::OutOfMemory) => Err(LookFault::OutOfMemory),
     }
+}
+
+/// A map that was looked through: walks in the place of its rings, its transform beside it, and what is
+/// told of it.
+#[derive(Drop)]
+pub(crate) struct Seen<'a, A: Allocator + Copy = Global> {
+    pub(crate) transform: Transform<'a, A>,
+    pub(crate) map: RawDoc<'a, A>,
+    pub(crate) report: Report<A>,
+}
+
+/// The map that the bytes are on the grid that is asked for, looked through.
+///
+/// It is read as `grid_reader` reads it: up to and with the test that the arcs of each ring meet
+/// (TopoJSON 1.0, 2.1.4). Fails with `Open` where it can't be read, and as `look` does.
+pub(crate) fn looked_through<'a, A: Allocator + Copy>(
+    alloc: A,
+    heap: Global,
+    bytes: &'a [u8],
+    asked: Asked,
+) -> Result<Seen<'a, A>, LookFault<'a>>
+    ensures opened { IfOk result (λ seen. OpensOn asked.grid bytes.now (opened_of seen)) }
+    ensures of_walks { IfOk result (λ seen. IsOfWalks (opened_of seen)) }
+    ensures reads { IfOk result (λ seen.
+        ReadsOnGrid asked.grid bytes.now (document_of (opened_of seen))) }
+    ensures found { IfOk result (λ seen. Found (opened_of seen).polygons seen.report.findings) }
+    ensures told { IfOk result (λ seen. IsTold asked.grid bytes.now seen.report.grid) }
+    ensures dropped { IfOk result (λ seen. seen.report.dropped ≡ asked.dropped) }
+    ensures refused { IfErr result (λ fault. IsEnd fault asked.grid bytes.now) }
+{
+    let OnGrid {
+        transform,
+        layers,
+        members,
+        polygons,
+        told,
+    } = match read_on_grid(alloc, heap, bytes, asked.grid) {
+        Ok(read) => read,
+        Err(OpenFault::OutOfMemory) => return Err(LookFault::OutOfMemory),
+        Err(fault) => return Err(LookFault::Open(fault)),
+    };
+    let map = RawDoc {
+        transform: None,
+        layers,
+        members,
+        polygons,
+    };
+    let report = Report {
+        grid: told,
+        dropped: asked.dropped,
+        findings: or_return!(look(alloc, heap, &map)),
+    };
+    Ok(Seen {
+        transform,
+        map,
+        report,
+    })
 }

@@ -1,90 +1,29 @@
 //! The report of what keeps a map from opening.
-ghost use Rattle.std.specs.Prelude.{◌≡◌, ◌↔◌, ◌++◌, ◌&&◌, [], length, take, flat_map, is_some, Ok, None};
-ghost use Rattle.std.specs.Prelude.{option_map, IfErr, IfOk, IfSome};
-ghost use Rattle.std.specs.Prelude.{OnOk};
+ghost use Rattle.std.specs.Prelude.{◌≡◌, ◌↔◌, ◌++◌, ◌&&◌, [], is_some, Ok, None};
+ghost use Rattle.std.specs.Prelude.{option_map, IfErr, IfOk, IfSome, OnOk};
 ghost use Rattle.walk_faults.specs.Common.{features_seen, Found};
 ghost use Rattle.place_text.specs.Common.{IsPlaceText};
-ghost use Rattle.mend_report.specs.Report.{short_line, repeat_line, touch_line, crossing_line};
-ghost use Rattle.mend_report.specs.Report.{is_plain, is_clear, opens_line, report_of, findings_text, grid_text};
-ghost use Rattle.mend_report.specs.Report.{path_line, parts_line, area_line, mended_report};
+ghost use Rattle.mend_report.specs.Report.{is_plain, is_clear, report_of, findings_text, grid_text, mended_report};
 ghost use Rattle.mend_report.specs.Remaking.{Remakes, RemakesWhole, TellsMending, PlacesMending, IsMendEnd};
-ghost use Rattle.mend_report.specs.Remaking.{IsRemade, TellsRemade, PlacesRemade, EndsMending};
-ghost use Rattle.topo_reader.specs.Common.{document_of, IsOfWalks, view_raw};
+ghost use Rattle.topo_reader.specs.Common.{view_raw};
 ghost use Rattle.segment_paths.specs.Common.{paths_seen};
-ghost use Rattle.mend_report.specs.Looking.{under, Looked, HasPlaces, MapOpens, EditorOpens, HasWalks, IsEnd, EndsLook};
+ghost use Rattle.mend_report.specs.Looking.{under, Looked, HasPlaces, MapOpens, EditorOpens, HasWalks, IsEnd};
 ghost use Rattle.mend_report.specs.Status.{is_open, status_of};
 ghost use Rattle.grid_reader.specs.Common.{IsTold};
 
 use crate::asked::{Asked, Report};
-use crate::copying::copied;
-use crate::lines::{
-    FindingCounts, push_all_counts, push_area, push_counts, push_crossing, push_decimals,
-    push_heights, push_lines, push_parts, push_path, push_repeat, push_short, push_touch,
-};
-use crate::looking::{LookFault, Seen, look, map_of};
+use crate::lines::{push_decimals, push_first, push_found, push_heights, push_lines, push_opens};
+use crate::looking::{LookFault, Seen, looked_through};
 use crate::remaking::{Remade, RemakeFault, remake};
-use area_changes::AreaChange;
+use crate::texts::push_number;
 use grid_geometry::Pos;
-use grid_reader::{OnGrid, Told};
-use map_mending::Parted;
+use grid_reader::Told;
 use place_text::text_of_places;
 use segment_paths::SegmentPath;
 use std::alloc::{AllocError, Allocator, Global};
 use std::hash::RandomState;
-use topo_outline::RingAt;
 use topo_reader::RawDoc;
-use walk_faults::{Crossing, Findings, Repeat, Touch};
-
-/// The first elements of a list, at most so many.
-fn first<T>(list: &[T], most: usize) -> &[T]
-    ensures { result.now ≡ take most list.now }
-{
-    list.get(..most).unwrap_or(list)
-}
-
-/// Appends a line for each ring of fewer than three positions.
-fn push_all_short<A: Allocator>(text: &mut Vec<u8, A>, rings: &[RingAt]) -> Result<(), AllocError>
-    ensures { OnOk result (text.new.items ≡ text.old.items ++ flat_map short_line rings.now) }
-{
-    for ring in rings {
-        push_short(text, *ring)?;
-    }
-    Ok(())
-}
-
-/// Appends a line for each position that a ring passes more than once.
-fn push_repeats<A: Allocator>(text: &mut Vec<u8, A>, repeats: &[Repeat]) -> Result<(), AllocError>
-    ensures { OnOk result (text.new.items ≡ text.old.items ++ flat_map repeat_line repeats.now) }
-{
-    for repeat in repeats {
-        push_repeat(text, *repeat)?;
-    }
-    Ok(())
-}
-
-/// Appends a line for each vertex on a segment.
-fn push_touches<A: Allocator>(text: &mut Vec<u8, A>, touches: &[Touch]) -> Result<(), AllocError>
-    ensures { OnOk result (text.new.items ≡ text.old.items ++ flat_map touch_line touches.now) }
-{
-    for touch in touches {
-        push_touch(text, *touch)?;
-    }
-    Ok(())
-}
-
-/// Appends a line for each pair of segments that cross.
-fn push_crossings<A: Allocator>(
-    text: &mut Vec<u8, A>,
-    crossings: &[Crossing],
-) -> Result<(), AllocError>
-    ensures { OnOk result
-        (text.new.items ≡ text.old.items ++ flat_map crossing_line crossings.now) }
-{
-    for crossing in crossings {
-        push_crossing(text, *crossing)?;
-    }
-    Ok(())
-}
+use walk_faults::Findings;
 
 /// Whether every coordinate is written as a whole number, and nothing was left out.
 fn is_plain(grid: Told) -> bool
@@ -111,16 +50,6 @@ pub fn is_open<A: Allocator + Copy>(report: &Report<A>) -> bool
     is_plain(report.grid) && report.dropped == 0 && is_clear(&report.findings)
 }
 
-/// Appends the line of a map that opens, where it does.
-fn push_opens<A: Allocator>(text: &mut Vec<u8, A>, is_clear: bool) -> Result<(), AllocError>
-    ensures { OnOk result (text.new.items ≡ text.old.items ++ opens_line is_clear) }
-{
-    if is_clear {
-        text.extend_from_slice(b"opens\n")?;
-    }
-    Ok(())
-}
-
 /// Appends what the grid is, and how many lines were left out.
 fn push_grid<A: Allocator>(
     text: &mut Vec<u8, A>,
@@ -129,10 +58,7 @@ fn push_grid<A: Allocator>(
 ) -> Result<(), AllocError>
     ensures { OnOk result (text.new.items ≡ text.old.items ++ grid_text grid dropped) }
 {
-    push_decimals(text, grid)?;
-    push_heights(text, grid)?;
-    push_lines(text, dropped)?;
-    Ok(())
+    append!(text; push_decimals(grid) push_heights(grid) push_lines(dropped))
 }
 
 /// Appends what the grid is, and what was found, of each kind at most so many lines.
@@ -146,30 +72,11 @@ fn push_findings<A: Allocator, B: Allocator + Copy>(
         found.touches.items found.crossings.items) }
 {
     let findings = &report.findings;
-    push_opens(text, is_open(report))?;
-    push_grid(text, report.grid, report.dropped)?;
-    push_all_short(text, first(findings.short.as_slice(), most))?;
-    push_repeats(text, first(findings.repeats.as_slice(), most))?;
-    push_touches(text, first(findings.touches.as_slice(), most))?;
-    push_crossings(text, first(findings.crossings.as_slice(), most))?;
-    Ok(())
-}
-
-/// How many findings there are of each kind.
-fn counts_of<A: Allocator + Copy>(findings: &Findings<A>) -> FindingCounts
-    ensures { let found = findings.now in result ≡ record {
-      short = length found.short.items;
-      repeats = length found.repeats.items;
-      touches = length found.touches.items;
-      crossings = length found.crossings.items;
-    } }
-{
-    FindingCounts {
-        short: findings.short.len(),
-        repeats: findings.repeats.len(),
-        touches: findings.touches.len(),
-        crossings: findings.crossings.len(),
-    }
+    append!(text; push_opens(is_open(report)) push_grid(report.grid, report.dropped)
+        push_first(findings.short.as_slice(), most)
+        push_first(findings.repeats.as_slice(), most)
+        push_first(findings.touches.as_slice(), most)
+        push_first(findings.crossings.as_slice(), most))
 }
 
 /// Appends the report of what was found, of each kind at most so many lines.
@@ -181,43 +88,7 @@ fn push_report<A: Allocator, B: Allocator + Copy>(
     ensures { OnOk result (text.new.items
         ≡ text.old.items ++ report_of most report.now.grid report.now.dropped report.now.findings) }
 {
-    push_findings(text, report, most)?;
-    push_counts(text, counts_of(&report.findings))?;
-    Ok(())
-}
-
-/// Appends a line for each path.
-fn push_paths<A: Allocator, B: Allocator + Copy>(
-    text: &mut Vec<u8, A>,
-    paths: &[SegmentPath<B>],
-) -> Result<(), AllocError>
-    ensures { OnOk result (text.new.items ≡ text.old.items
-        ++ flat_map path_line (paths_seen paths.now)) }
-{
-    for path in paths {
-        push_path(text, path)?;
-    }
-    Ok(())
-}
-
-/// Appends a line for each polygon that was taken apart.
-fn push_parted<A: Allocator>(text: &mut Vec<u8, A>, parted: &[Parted]) -> Result<(), AllocError>
-    ensures { OnOk result (text.new.items ≡ text.old.items ++ flat_map parts_line parted.now) }
-{
-    for polygon in parted {
-        push_parts(text, *polygon)?;
-    }
-    Ok(())
-}
-
-/// Appends a line for each feature whose area changes, or whose borders sweep over something.
-fn push_areas<A: Allocator>(text: &mut Vec<u8, A>, areas: &[AreaChange]) -> Result<(), AllocError>
-    ensures { OnOk result (text.new.items ≡ text.old.items ++ flat_map area_line areas.now) }
-{
-    for change in areas {
-        push_area(text, *change)?;
-    }
-    Ok(())
+    append!(text; push_findings(report, most) push_found(&report.findings) b"\n")
 }
 
 /// Appends the report of what was found in a map, and of what was done about it, of each kind at most
@@ -232,18 +103,14 @@ fn push_mended<A: Allocator, B: Allocator + Copy>(
         ++ mended_report most report.now.grid report.now.dropped report.now.findings
         (paths_seen remade.now.paths.items) remade.now.parted.items remade.now.areas.items) }
 {
-    push_findings(text, report, most)?;
-    push_paths(text, first(remade.paths.as_slice(), most))?;
-    push_parted(text, first(remade.parted.as_slice(), most))?;
-    push_areas(text, first(remade.areas.as_slice(), most))?;
-    push_all_counts(
-        text,
-        counts_of(&report.findings),
-        remade.paths.len(),
-        remade.parted.len(),
-        remade.areas.len(),
-    )?;
-    Ok(())
+    append!(text; push_findings(report, most)
+        push_first(remade.paths.as_slice(), most)
+        push_first(remade.parted.as_slice(), most)
+        push_first(remade.areas.as_slice(), most)
+        push_found(&report.findings)
+        b" paths " push_number(remade.paths.len())
+        b" parts " push_number(remade.parted.len())
+        b" areas " push_number(remade.areas.len()) b"\n")
 }
 
 /// What is written of a map.
@@ -263,11 +130,7 @@ impl<A: Allocator + Copy> Texts<A> {
     {
         Texts {
             report: Vec::new(alloc),
-            places: if with_places {
-                Some(Vec::new(alloc))
-            } else {
-                None
-            },
+            places: with_places.then(|| Vec::new(alloc)),
         }
     }
 }
@@ -296,49 +159,6 @@ fn put_places<'f, A: Allocator + Copy>(
     Ok(())
 }
 
-/// Looks at a map that was read, and reports it as `report_map` says.
-fn report_read<A: Allocator + Copy>(
-    alloc: A,
-    heap: Global,
-    transform: Option<&[u8]>,
-    seen: Seen<'_, A>,
-    texts: &mut Texts<A>,
-) -> Result<Report<A>, LookFault<'static>>
-    ensures found { IfOk result (λ report.
-        Found (view_raw seen.entry.map).polygons report.findings) }
-    ensures grid { IfOk result (λ report. report.grid ≡ seen.entry.grid) }
-    ensures dropped { IfOk result (λ report. report.dropped ≡ seen.entry.dropped) }
-    ensures told { IfOk result (λ report. texts.new.report.items
-        ≡ texts.old.report.items ++ report_of seen.entry.most report.grid report.dropped report.findings) }
-    ensures asked { OnOk result (is_some texts.new.places ≡ is_some texts.old.places) }
-    ensures placed { IfOk result (λ report. IfSome texts.new.places (λ places.
-        IsPlaceText (option_map (λ t. t.now) transform.entry) (view_raw seen.entry.map).polygons
-        report.findings None places.items)) }
-    ensures refused { IfErr result (λ fault.
-        EndsLook fault (view_raw seen.entry.map).polygons) }
-{
-    let Seen {
-        map,
-        grid,
-        most,
-        dropped,
-    } = seen;
-    let findings = match look(alloc, heap, &map) {
-        Ok(findings) => findings,
-        Err(fault) => return Err(fault),
-    };
-    let report = Report {
-        grid,
-        dropped,
-        findings,
-    };
-    push_report(&mut texts.report, &report, most)?;
-    let walks = map.polygons.as_slice();
-    let found = &report.findings;
-    put_places(alloc, transform, walks, found, None, &mut texts.places)?;
-    Ok(report)
-}
-
 /// Looks at a map on the grid that is asked for, appends the report of that grid and of all that keeps
 /// the map from opening to `texts.report`, of each kind at most `asked.most` lines, and puts the places
 /// of it all into `texts.places`, where they are asked for. What is told is answered: nothing, and so
@@ -365,28 +185,22 @@ pub fn report_map<'a, A: Allocator + Copy>(
         (λ places. HasPlaces asked.grid bytes.now report.findings None places.items)) }
     ensures refused { IfErr result (λ fault. IsEnd fault asked.grid bytes.now) }
 {
-    let OnGrid {
+    let Seen {
         transform,
-        layers,
-        members,
-        polygons,
-        told,
-    } = match map_of(alloc, heap, bytes, asked.grid) {
-        Ok(read) => read,
-        Err(fault) => return Err(fault),
-    };
-    let seen = Seen {
-        map: RawDoc {
-            transform: None,
-            layers,
-            members,
-            polygons,
-        },
-        grid: told,
-        most: asked.most,
-        dropped: asked.dropped,
-    };
-    report_read(alloc, heap, transform.text(), seen, texts)
+        map,
+        report,
+    } = or_return!(looked_through(alloc, heap, bytes, asked));
+    push_report(&mut texts.report, &report, asked.most)?;
+    let (text, walks) = (transform.text(), map.polygons.as_slice());
+    put_places(
+        alloc,
+        text,
+        walks,
+        &report.findings,
+        None,
+        &mut texts.places,
+    )?;
+    Ok(report)
 }
 
 /// Why a map is not mended.
@@ -425,56 +239,6 @@ fn with_transform<'x, 'a: 'x, A: Allocator + Copy>(
     }
 }
 
-/// Mends a map that was read, and reports it as `mend_map` says.
-fn mend_read<'x, 'a: 'x, A: Allocator + Copy>(
-    alloc: A,
-    heap: Global,
-    seed: RandomState,
-    transform: Option<&'x [u8]>,
-    seen: Seen<'a, A>,
-    texts: &mut Texts<A>,
-) -> Result<Remade<A>, RepairFault<'static>>
-    requires { IsOfWalks (under (option_map (λ t. t.now) transform) (view_raw seen.map)) }
-    ensures remade { IfOk result (IsRemade (document_of
-        (under (option_map (λ t. t.now) transform.entry) (view_raw seen.entry.map)))) }
-    ensures told { IfOk result (λ remade. TellsRemade seen.entry.most seen.entry.dropped
-        (under (option_map (λ t. t.now) transform.entry) (view_raw seen.entry.map))
-        seen.entry.grid remade texts.old.report.items texts.new.report.items) }
-    ensures asked { OnOk result (is_some texts.new.places ≡ is_some texts.old.places) }
-    ensures placed { IfOk result (λ remade. PlacesRemade
-        (under (option_map (λ t. t.now) transform.entry) (view_raw seen.entry.map))
-        remade texts.new.places) }
-    ensures refused { IfErr result (λ fault. EndsMending fault
-        (under (option_map (λ t. t.now) transform.entry) (view_raw seen.entry.map))) }
-{
-    let Seen {
-        map,
-        grid,
-        most,
-        dropped,
-    } = seen;
-    let findings = match look(alloc, heap, &map) {
-        Ok(findings) => findings,
-        Err(fault) => return Err(RepairFault::Look(fault)),
-    };
-    let report = Report {
-        grid,
-        dropped,
-        findings,
-    };
-    let walks = copied(alloc, map.polygons.as_slice())?;
-    let map = with_transform(transform, map);
-    let remade = match remake(alloc, heap, seed, map, walks.as_slice()) {
-        Ok(remade) => remade,
-        Err(fault) => return Err(RepairFault::Remake(fault)),
-    };
-    let paths = Some(remade.paths.as_slice());
-    let (walks, found) = (walks.as_slice(), &report.findings);
-    put_places(alloc, transform, walks, found, paths, &mut texts.places)?;
-    push_mended(&mut texts.report, &report, &remade, most)?;
-    Ok(remade)
-}
-
 /// Looks at a map on the grid that is asked for, and mends it. Appends the report of that grid, of all
 /// that kept the map from opening, and of what was done about it, to `texts.report`, of each kind at most
 /// `asked.most` lines, and puts the places of what was found, and the paths, into `texts.places`, where
@@ -500,26 +264,24 @@ pub fn mend_map<'a, A: Allocator + Copy>(
         PlacesMending asked.grid bytes.now remade texts.new.places) }
     ensures refused { IfErr result (λ fault. IsMendEnd fault asked.grid bytes.now) }
 {
-    let OnGrid {
+    let Seen {
         transform,
-        layers,
-        members,
-        polygons,
-        told,
-    } = match map_of(alloc, heap, bytes, asked.grid) {
-        Ok(read) => read,
+        map,
+        report,
+    } = match looked_through(alloc, heap, bytes, asked) {
+        Ok(seen) => seen,
         Err(fault) => return Err(RepairFault::Look(fault)),
     };
-    let seen = Seen {
-        map: RawDoc {
-            transform: None,
-            layers,
-            members,
-            polygons,
-        },
-        grid: told,
-        most: asked.most,
-        dropped: asked.dropped,
+    let walks = map.polygons.clone()?;
+    let transform = transform.text();
+    let map = with_transform(transform, map);
+    let remade = match remake(alloc, heap, seed, map, walks.as_slice()) {
+        Ok(remade) => remade,
+        Err(fault) => return Err(RepairFault::Remake(fault)),
     };
-    mend_read(alloc, heap, seed, transform.text(), seen, texts)
+    let paths = Some(remade.paths.as_slice());
+    let (walks, found) = (walks.as_slice(), &report.findings);
+    put_places(alloc, transform, walks, found, paths, &mut texts.places)?;
+    push_mended(&mut texts.report, &report, &remade, asked.most)?;
+    Ok(remade)
 }

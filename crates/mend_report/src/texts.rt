@@ -16,20 +16,14 @@ pub(crate) fn push_number<A: Allocator, I: Integer>(
     ensures { OnOk result (text.new.items ≡ text.old.items ++ I.text number) }
 {
     let mut buffer = Buffer::new();
-    text.extend_from_slice(buffer.format(number).as_bytes())?;
-    Ok(())
+    text.extend_from_slice(buffer.format(number).as_bytes())
 }
 
 /// Appends the numbers of the feature, of the polygon and of the ring, with spaces between them.
 pub(crate) fn push_ring<A: Allocator>(text: &mut Vec<u8, A>, ring: RingAt) -> Result<(), AllocError>
     ensures { OnOk result (text.new.items ≡ text.old.items ++ ring_text ring) }
 {
-    push_number(text, ring.feature)?;
-    text.extend_from_slice(b" ")?;
-    push_number(text, ring.polygon)?;
-    text.extend_from_slice(b" ")?;
-    push_number(text, ring.ring)?;
-    Ok(())
+    append!(text; push_number(ring.feature) b" " push_number(ring.polygon) b" " push_number(ring.ring))
 }
 
 /// Appends both numbers, with a space between them.
@@ -39,10 +33,7 @@ pub(crate) fn push_position<A: Allocator>(
 ) -> Result<(), AllocError>
     ensures { OnOk result (text.new.items ≡ text.old.items ++ position_text position) }
 {
-    push_number(text, position.x())?;
-    text.extend_from_slice(b" ")?;
-    push_number(text, position.y())?;
-    Ok(())
+    append!(text; push_number(position.x()) b" " push_number(position.y()))
 }
 
 /// Appends the lesser end and the greater, with a space between them.
@@ -52,8 +43,5 @@ pub(crate) fn push_segment<A: Allocator>(
 ) -> Result<(), AllocError>
     ensures { OnOk result (text.new.items ≡ text.old.items ++ segment_text segment) }
 {
-    push_position(text, segment.lo)?;
-    text.extend_from_slice(b" ")?;
-    push_position(text, segment.hi)?;
-    Ok(())
+    append!(text; push_position(segment.lo) b" " push_position(segment.hi))
 }

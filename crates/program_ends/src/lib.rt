@@ -6,11 +6,13 @@ mod diagnostic;
 mod ending;
 mod files;
 mod stop;
+mod texts;
 
 pub use diagnostic::Diagnostic;
 pub use ending::Ending;
 pub use files::{end, end_stopped, given_words, hash_seed, map_bytes};
 pub use stop::Stop;
+pub use texts::{copied, is_file};
 
 /// The version of the programs.
 pub const VERSION: &str = "1.0.0";

@@ -7,12 +7,7 @@ use std::test::Fail;
 
 /// A map with points and what is asked for: how many decimals are kept, how much finer the grid is, and
 /// whether heights and lines are left out.
-struct Given {
-    map: &'static str,
-    digits: usize,
-    finer: usize,
-    drops: bool,
-}
+type Given = (&'static str, usize, usize, bool);
 
 /// A polygon with decimals, and points in a layer of their own and in a collection.
 const DECIMALS: &str =
@@ -37,55 +32,26 @@ const STAYS: &str =
 /// What is given, the lines before the last of the report, and what it is saved as.
 const SAVED: &[(Given, &str, &str)] = &[
     (
-        Given {
-            map: DECIMALS,
-            digits: 24,
-            finer: 0,
-            drops: false,
-        },
+        (DECIMALS, 24, 0, false),
         "decimals 2 digits 2 rounded 0\n",
         r#"{"type":"Topology","transform":{"scale":[1e-2,1e-2],"translate":[0,0]},"objects":{"land":{"type":"Polygon","arcs":[[0]]},"town":{"type":"Point","id":"T","coordinates":[50, 25]},"posts":{"type":"MultiPoint","coordinates":[[75,50],[150,0]]},"more":{"type":"GeometryCollection","geometries":[{"coordinates":[10,-25],"type":"Point"}]}},"arcs":[[[0,0],[150,0],[0,25],[-150,75],[0,-100]]]}"#,
     ),
     (
-        Given {
-            map: WHOLE,
-            digits: 24,
-            finer: 2,
-            drops: false,
-        },
+        (WHOLE, 24, 2, false),
         "opens\n",
         r#"{"type":"Topology","transform":{"scale":[5e-3,2e-2],"translate":[10,20]},"objects":{"land":{"type":"Polygon","arcs":[[0]]},"posts":{"type":"MultiPoint","coordinates":[[300,-400],[100,100]]}},"arcs":[[[0,0],[1000,0],[0,1000],[-1000,-1000]]]}"#,
     ),
     (
-        Given {
-            map: HALVES,
-            digits: 1,
-            finer: 0,
-            drops: false,
-        },
+        (HALVES, 1, 0, false),
         "decimals 2 digits 1 rounded 1\n",
         r#"{"type":"Topology","transform":{"scale":[1e-1,1e-1],"translate":[0,0]},"objects":{"land":{"type":"Polygon","arcs":[[0]]},"posts":{"type":"MultiPoint","coordinates":[[3,-2],[2,-3],[1,0],[150,-20]]}},"arcs":[[[0,0],[15,0],[0,3],[-15,7],[0,-10]]]}"#,
     ),
     (
-        Given {
-            map: HEIGHTS,
-            digits: 24,
-            finer: 0,
-            drops: true,
-        },
+        (HEIGHTS, 24, 0, true),
         "decimals 1 digits 1 rounded 0\nheights 2\nlines 1\n",
         r#"{"type":"Topology","transform":{"scale":[1e-1,1e-1],"translate":[0,0]},"objects":{"way":{"type":null,"id":7},"top":{"type":"Point","coordinates":[5,5,12.5]},"land":{"type":"Polygon","arcs":[[0]]}},"arcs":[[[0,0],[15,0],[0,15],[-15,-15]]]}"#,
     ),
-    (
-        Given {
-            map: STAYS,
-            digits: 24,
-            finer: 0,
-            drops: false,
-        },
-        "opens\n",
-        STAYS,
-    ),
+    ((STAYS, 24, 0, false), "opens\n", STAYS),
 ];
 
 /// A coordinate that is no number.
@@ -102,43 +68,20 @@ const NO_ARC: &str =
 
 /// What is given, and the line on standard error.
 const REFUSED: &[(Given, &str)] = &[
-    (
-        Given {
-            map: NO_NUMBER,
-            digits: 24,
-            finer: 0,
-            drops: false,
-        },
-        "open: not whole at 72\n",
-    ),
-    (
-        Given {
-            map: BEYOND,
-            digits: 24,
-            finer: 12,
-            drops: false,
-        },
-        "open: out of range at 70\n",
-    ),
-    (
-        Given {
-            map: NO_ARC,
-            digits: 24,
-            finer: 0,
-            drops: false,
-        },
-        "open: bad arc index at 112\n",
-    ),
+    ((NO_NUMBER, 24, 0, false), "open: not whole at 72\n"),
+    ((BEYOND, 24, 12, false), "open: out of range at 70\n"),
+    ((NO_ARC, 24, 0, false), "open: bad arc index at 112\n"),
 ];
 
 /// What is asked of a map, which is mended in its place.
 fn asked_for(rt: &HostRuntime, given: &Given) -> Result<Words, Fail> {
+    let (_, digits, finer, drops) = *given;
     let mut words = mending_for(rt, "points")?;
-    words.drop_lines = given.drops;
+    words.drop_lines = drops;
     words.asked.grid = Wants {
-        digits: given.digits.min(24),
-        finer: given.finer.min(12),
-        drop_heights: given.drops,
+        digits: digits.min(24),
+        finer: finer.min(12),
+        drop_heights: drops,
         points_lie: false,
     };
     Ok(words)
@@ -151,7 +94,7 @@ const COUNTS: &str = "counts short 0 repeats 0 on 0 cross 0 paths 0 parts 0 area
 fn is_saved(rt: &HostRuntime, row: &(Given, &str, &str)) -> Result<bool, Fail> {
     let (given, lines, saved) = row;
     let words = asked_for(rt, given)?;
-    let (told, found) = told_of(rt, &words, given.map)?;
+    let (told, found) = told_of(rt, &words, given.0)?;
     let report = format!(in rt.alloc(); "{lines}{COUNTS}")?;
     Ok(told.is(0, report.as_str(), "") && found.as_slice() == saved.as_bytes())
 }
@@ -168,8 +111,8 @@ fn points_are_put_on_the_grid(rt: HostRuntime) -> Result<(), Fail> {
 /// Whether a map is refused with this line, and stays as it was.
 fn is_refused(rt: &HostRuntime, given: &Given, line: &str) -> Result<bool, Fail> {
     let words = asked_for(rt, given)?;
-    let (told, kept) = told_of(rt, &words, given.map)?;
-    Ok(told.is(2, "", line) && kept.as_slice() == given.map.as_bytes())
+    let (told, kept) = told_of(rt, &words, given.0)?;
+    Ok(told.is(2, "", line) && kept.as_slice() == given.0.as_bytes())
 }
 
 /// A point that can't be put there is told, and so is what can't be read, by their places in the map,

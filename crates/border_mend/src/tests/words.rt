@@ -33,12 +33,9 @@ const MOST: &[(&str, usize)] = &[
 ];
 
 fn has_most(alloc: Global, line: &str, most: usize) -> bool {
-    match read(alloc, line) {
-        Some(words) => {
-            words.map.as_str() == "map.json" && words.asked.most == most && words.places.is_none()
-        }
-        None => false,
-    }
+    read(alloc, line).is_some_and(|words| {
+        words.map.as_str() == "map.json" && words.asked.most == most && words.places.is_none()
+    })
 }
 
 #[test]
@@ -50,10 +47,7 @@ fn a_map_and_the_most_are_taken(rt: HostRuntime) {
 
 /// Whether this is the path.
 fn is_path(path: &Option<String>, want: &str) -> bool {
-    match path {
-        Some(path) => path.as_str() == want,
-        None => false,
-    }
+    path.as_ref().is_some_and(|path| path.as_str() == want)
 }
 
 const PLACES: &[&str] = &[
@@ -63,10 +57,9 @@ const PLACES: &[&str] = &[
 ];
 
 fn has_places(alloc: Global, line: &str) -> bool {
-    match read(alloc, line) {
-        Some(words) => words.map.as_str() == "map.json" && is_path(&words.places, "places.json"),
-        None => false,
-    }
+    read(alloc, line).is_some_and(|words| {
+        words.map.as_str() == "map.json" && is_path(&words.places, "places.json")
+    })
 }
 
 #[test]
@@ -87,10 +80,8 @@ const OUT: &[(&str, &str)] = &[
 ];
 
 fn has_out(alloc: Global, line: &str, out: &str) -> bool {
-    match read(alloc, line) {
-        Some(words) => words.map.as_str() == "map.json" && is_path(&words.out, out),
-        None => false,
-    }
+    read(alloc, line).is_some_and(|words| words.map.as_str() == "map.json"
+        && is_path(&words.out, out))
 }
 
 #[test]
@@ -116,13 +107,10 @@ const GRIDS: &[(&str, (usize, usize, bool, bool))] = &[
 ];
 
 fn has_grid(alloc: Global, line: &str, want: (usize, usize, bool, bool)) -> bool {
-    match read(alloc, line) {
-        Some(words) => {
-            let grid = words.asked.grid;
-            (grid.digits, grid.finer, grid.drop_heights, words.drop_lines) == want
-        }
-        None => false,
-    }
+    read(alloc, line).is_some_and(|words| {
+        let grid = words.asked.grid;
+        (grid.digits, grid.finer, grid.drop_heights, words.drop_lines) == want
+    })
 }
 
 #[test]

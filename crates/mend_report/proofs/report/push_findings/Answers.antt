@@ -17,11 +17,11 @@ returns g c =
     six c.args.text.now.items (opens_line (is_plain grid && dropped == 0 && is_clear short repeats touches crossings)) (grid_text grid dropped)
     (lines most short_line short) (lines most repeat_line repeats)
     (lines most touch_line touches) (lines most crossing_line crossings)
-    c.push_opens.new.text.items c.push_grid.new.text.items c.push_all_short.new.text.items c.push_repeats.new.text.items c.push_touches.new.text.items
-    c.push_crossings.new.text.items
+    c.push_opens.new.text.items c.push_grid.new.text.items c.push_first.new.text.items c.push_first-2.new.text.items c.push_first-3.new.text.items
+    c.push_first-4.new.text.items
     (opened _ _ _ _ c.is_open.ensures c.in_ok-push_opens.ensures)
     c.in_ok-push_grid.ensures
-    (told most short_line short _ _ _ _ c.first.ensures c.as_slice.ensures.value c.in_ok-push_all_short.ensures)
-    (told most repeat_line repeats _ _ _ _ c.first-2.ensures c.as_slice-2.ensures.value c.in_ok-push_repeats.ensures)
-    (told most touch_line touches _ _ _ _ c.first-3.ensures c.as_slice-3.ensures.value c.in_ok-push_touches.ensures)
-    (told most crossing_line crossings _ _ _ _ c.first-4.ensures c.as_slice-4.ensures.value c.in_ok-push_crossings.ensures)
+    (told most short_line short _ _ _ c.as_slice.ensures.value c.in_ok-push_first.ensures)
+    (told most repeat_line repeats _ _ _ c.as_slice-2.ensures.value c.in_ok-push_first-2.ensures)
+    (told most touch_line touches _ _ _ c.as_slice-3.ensures.value c.in_ok-push_first-3.ensures)
+    (told most crossing_line crossings _ _ _ c.as_slice-4.ensures.value c.in_ok-push_first-4.ensures)

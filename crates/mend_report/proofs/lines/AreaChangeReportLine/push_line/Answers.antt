@@ -1,10 +1,10 @@
 use Rattle.kit_words.proofs.Common.{ap, ◌∙◌, ◌++◌, rules, FitsSigned, w128, codes, decimal, signed_decimal, to_z-of_z}
 use Rattle.mend_report.proofs.Appending.{nine}
-use Rattle.mend_report.proofs.lines.push_area.Goals as goal
+use Rattle.mend_report.proofs.lines.AreaChangeReportLine.push_line.Goals as goal
 
 pub returns : goal.returns
 returns g c =
-    let x = c.args.change in
+    let x = c.args.self.now in
     let was : FitsSigned w128 x.before = search rules in
     let is : FitsSigned w128 x.after = search rules in
     nine c.args.text.now.items (codes "area ") (decimal x.feature) (codes " ") (signed_decimal x.before) (codes " ") (signed_decimal x.after) (codes " ") (decimal x.swept) (codes "\n")
