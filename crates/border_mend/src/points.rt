@@ -29,11 +29,15 @@ pub(crate) fn with_points_on_grid(
     let mut asked = asked;
     let digits = point_digits(alloc, alloc, text.as_slice(), asked.grid)?;
     asked.grid.points_lie = true;
-    let Some(digits) = digits else {
-        return Ok((text, asked));
-    };
-    let text = rounded_points(alloc, alloc, text.as_slice(), digits, asked.grid.finer)?;
-    Ok((text, asked))
+    match digits {
+        Some(digits) => {
+            match rounded_points(alloc, alloc, text.as_slice(), digits, asked.grid.finer) {
+                Ok(text) => Ok((text, asked)),
+                Err(fault) => Err(fault),
+            }
+        }
+        None => Ok((text, asked)),
+    }
 }
 
 /// Why a map is not looked through where a point is not put on the grid: as it is where a coordinate of

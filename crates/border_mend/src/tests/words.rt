@@ -33,9 +33,12 @@ const MOST: &[(&str, usize)] = &[
 ];
 
 fn has_most(alloc: Global, line: &str, most: usize) -> bool {
-    read(alloc, line).is_some_and(|words| {
-        words.map.as_str() == "map.json" && words.asked.most == most && words.places.is_none()
-    })
+    match read(alloc, line) {
+        Some(words) => {
+            words.map.as_str() == "map.json" && words.asked.most == most && words.places.is_none()
+        }
+        None => false,
+    }
 }
 
 #[test]
@@ -47,7 +50,10 @@ fn a_map_and_the_most_are_taken(rt: HostRuntime) {
 
 /// Whether this is the path.
 fn is_path(path: &Option<String>, want: &str) -> bool {
-    path.as_ref().is_some_and(|path| path.as_str() == want)
+    match path {
+        Some(path) => path.as_str() == want,
+        None => false,
+    }
 }
 
 const PLACES: &[&str] = &[
@@ -57,9 +63,10 @@ const PLACES: &[&str] = &[
 ];
 
 fn has_places(alloc: Global, line: &str) -> bool {
-    read(alloc, line).is_some_and(|words| {
-        words.map.as_str() == "map.json" && is_path(&words.places, "places.json")
-    })
+    match read(alloc, line) {
+        Some(words) => words.map.as_str() == "map.json" && is_path(&words.places, "places.json"),
+        None => false,
+    }
 }
 
 #[test]
@@ -80,8 +87,10 @@ const OUT: &[(&str, &str)] = &[
 ];
 
 fn has_out(alloc: Global, line: &str, out: &str) -> bool {
-    read(alloc, line).is_some_and(|words| words.map.as_str() == "map.json"
-        && is_path(&words.out, out))
+    match read(alloc, line) {
+        Some(words) => words.map.as_str() == "map.json" && is_path(&words.out, out),
+        None => false,
+    }
 }
 
 #[test]
@@ -107,10 +116,13 @@ const GRIDS: &[(&str, (usize, usize, bool, bool))] = &[
 ];
 
 fn has_grid(alloc: Global, line: &str, want: (usize, usize, bool, bool)) -> bool {
-    read(alloc, line).is_some_and(|words| {
-        let grid = words.asked.grid;
-        (grid.digits, grid.finer, grid.drop_heights, words.drop_lines) == want
-    })
+    match read(alloc, line) {
+        Some(words) => {
+            let grid = words.asked.grid;
+            (grid.digits, grid.finer, grid.drop_heights, words.drop_lines) == want
+        }
+        None => false,
+    }
 }
 
 #[test]

@@ -24,23 +24,23 @@ returns c =
     ap rule_of c.action-map.ensures ∙ ap taken (ap rule_of c.required.ensures ∙ ap wanted (ap rule_of c.help.ensures ∙ map_new)) in
     let map_local : c.action-map.result.global ≡ false =
     ap is_global c.action-map.ensures ∙ (ap is_global c.required.ensures ∙ (ap is_global c.help.ensures ∙ c.new.ensures.optional.1)) in
-    let most_is : rule_of c.option-most.result ≡ option_rule (codes "most") = c.option-most.ensures.rule ∙ ap option_rule (search rules) in
-    let places_is : rule_of c.option-places.result ≡ option_rule (codes "places") = c.option-places.ensures.rule ∙ ap option_rule (search rules) in
-    let out_is : rule_of c.option-out.result ≡ option_rule (codes "out") = c.option-out.ensures.rule ∙ ap option_rule (search rules) in
-    let digits_is : rule_of c.option-digits.result ≡ option_rule (codes "digits") = c.option-digits.ensures.rule ∙ ap option_rule (search rules) in
-    let refine_is : rule_of c.option-refine.result ≡ option_rule (codes "refine") = c.option-refine.ensures.rule ∙ ap option_rule (search rules) in
-    let drop_is : rule_of c.option-drop.result ≡ option_rule (codes "drop") = c.option-drop.ensures.rule ∙ ap option_rule (search rules) in
+    let most_is : rule_of c.option.result ≡ option_rule (codes "most") = c.option.ensures.rule ∙ ap option_rule (search rules) in
+    let places_is : rule_of c.option-2.result ≡ option_rule (codes "places") = c.option-2.ensures.rule ∙ ap option_rule (search rules) in
+    let out_is : rule_of c.option-3.result ≡ option_rule (codes "out") = c.option-3.ensures.rule ∙ ap option_rule (search rules) in
+    let digits_is : rule_of c.option-4.result ≡ option_rule (codes "digits") = c.option-4.ensures.rule ∙ ap option_rule (search rules) in
+    let refine_is : rule_of c.option-5.result ≡ option_rule (codes "refine") = c.option-5.ensures.rule ∙ ap option_rule (search rules) in
+    let drop_is : rule_of c.option-6.result ≡ option_rule (codes "drop") = c.option-6.ensures.rule ∙ ap option_rule (search rules) in
     let new_is : app_of c.new-2.result ≡ new_app (codes "border_mend") = search rules in
     let about_is : app_of c.about.result ≡ new_app (codes "border_mend") = ap app_of_fields c.about.ensures ∙ new_is in
     let version_is : app_of c.version.result ≡ with_version (new_app (codes "border_mend")) =
     ap app_of_fields c.version.ensures ∙ ap with_version about_is in
     let after_is : app_of c.after_help.result ≡ with_version (new_app (codes "border_mend")) =
     ap app_of_fields c.after_help.ensures ∙ version_is in
-    c.in_ok-command.ensures.shape c.option-drop.ensures.local
-    ∙ ap₂ with_rule (c.in_ok-arg-6.ensures.shape c.option-refine.ensures.local
-    ∙ ap₂ with_rule (c.in_ok-arg-5.ensures.shape c.option-digits.ensures.local
-    ∙ ap₂ with_rule (c.in_ok-arg-4.ensures.shape c.option-out.ensures.local
-    ∙ ap₂ with_rule (c.in_ok-arg-3.ensures.shape c.option-places.ensures.local
-    ∙ ap₂ with_rule (c.in_ok-arg-2.ensures.shape c.option-most.ensures.local
+    c.in_ok-command.ensures.shape c.option-6.ensures.local
+    ∙ ap₂ with_rule (c.in_ok-arg-6.ensures.shape c.option-5.ensures.local
+    ∙ ap₂ with_rule (c.in_ok-arg-5.ensures.shape c.option-4.ensures.local
+    ∙ ap₂ with_rule (c.in_ok-arg-4.ensures.shape c.option-3.ensures.local
+    ∙ ap₂ with_rule (c.in_ok-arg-3.ensures.shape c.option-2.ensures.local
+    ∙ ap₂ with_rule (c.in_ok-arg-2.ensures.shape c.option.ensures.local
     ∙ ap₂ with_rule (c.in_ok-arg.ensures.shape map_local ∙ ap₂ with_rule after_is map_is)
     most_is) places_is) out_is) digits_is) refine_is) drop_is
