@@ -1,9 +1,8 @@
-use Rattle.kit_words.proofs.Common.{◌≡◌, sym, subst, ap, ◌∙◌, Some, Ok}
+use Rattle.kit_words.proofs.Common.{sym, subst, ap, ◌∙◌, Some, Ok}
 use Rattle.topo_reader.specs.Common.{document_of, IsOfWalks, view_raw}
 use Rattle.segment_paths.specs.Common.{paths_seen}
 use Rattle.walk_faults.specs.Common.{Found, features_seen}
 use Rattle.mend_report.specs.Common.{under, IsRemade}
-use Rattle.mend_report.specs.Faults.{IsRemakeFault}
 use Rattle.mend_report.specs.SeenView.{opened_of}
 use Rattle.mend_report.proofs.CopiedWalks.{walks_copied}
 use Rattle.mend_report.proofs.PlaceLemmas.{remade_placed, placed_same}
@@ -23,18 +22,6 @@ pub put_places-requires : goal.put_places-requires
 put_places-requires g c =
     subst (λ ps. Found ps c.in-Ok.seen.report.findings)
     (sym (ap features_seen c.as_slice-walks.ensures.value ∙ walks_copied _ _ c.in_ok-walks.ensures.cases.0)) c.in-Ok.ensures.found
-
-pub returns-in-Err-remake-clause-refused : goal.returns-in-Err-remake-clause-refused
-returns-in-Err-remake-clause-refused g c =
-    (document_of (opened_of c.in-Ok.seen), c.in-Ok.ensures.reads,
-    subst (λ o. IsRemakeFault (document_of o) c.in-Err-remake.fault)
-    (c.with_transform-map.ensures ∙ ap (λ t. under t (view_raw c.in-Ok.seen.map)) c.text-transform.ensures) c.in-Err-remake.ensures)
-
-pub returns-clause-mended : goal.returns-clause-mended
-returns-clause-mended g c =
-    (document_of (opened_of c.in-Ok.seen), c.in-Ok.ensures.reads,
-    subst (λ o. IsRemade (document_of o) c.in-Ok-remake.remade)
-    (c.with_transform-map.ensures ∙ ap (λ t. under t (view_raw c.in-Ok.seen.map)) c.text-transform.ensures) c.in-Ok-remake.ensures.remade)
 
 pub returns-clause-whole : goal.returns-clause-whole
 returns-clause-whole g c =

@@ -8,7 +8,7 @@ use Rattle.mend_report.proofs.report.report_map.Goals as goal
 
 -- the walks that are told are those of the map
 pub put_places-requires : goal.put_places-requires
-put_places-requires g c = subst (λ ps. Found (features_seen ps) c.in-Ok.value.report.findings) (sym c.as_slice.ensures.value) c.in-Ok.ensures.found
+put_places-requires g c = subst (λ ps. Found (features_seen ps) c.in-Ok.value.report.findings) (sym c.as_slice-walks.ensures.value) c.in-Ok.ensures.found
 
 pub returns-clause-looked : goal.returns-clause-looked
 returns-clause-looked g c = (opened_of c.in-Ok.value, c.in-Ok.ensures.opened, c.in-Ok.ensures.found)
@@ -27,5 +27,5 @@ returns-clause-editor g c =
 pub returns-clause-placed : goal.returns-clause-placed
 returns-clause-placed g c =
     placed_at c.args.asked.grid c.args.bytes.now (opened_of c.in-Ok.value) c.in-Ok.value.report.findings None c.put_places.new.places c.in-Ok.ensures.opened
-    (placed_same (opened_of c.in-Ok.value) c.in-Ok.value.report.findings _ _ None None c.put_places.new.places c.text.ensures
-    (ap features_seen c.as_slice.ensures.value) refl c.in_ok-put_places.ensures.placed)
+    (placed_same (opened_of c.in-Ok.value) c.in-Ok.value.report.findings _ _ None None c.put_places.new.places c.text-text.ensures
+    (ap features_seen c.as_slice-walks.ensures.value) refl c.in_ok-put_places.ensures.placed)
