@@ -87,13 +87,6 @@ module _ {X : Type 0} (key : X → Segment) (inner : X → List Position) where
         | inr b ↦ greater_differs s (key (get_or xs k d)) (point.1 k d b l)
       ])
 
-  -- where nothing is found there is none
-  pub none_found : (given xs : List X) (r : Result ℕ ℕ) (s : Segment) → given ≡ xs → IsStrictlySortedBy segment_cmp (keys xs) → is_ok r ≡ false
-      → IsBinarySearchResult (λ x. segment_cmp (key x) s) given r → inner_of (map seen xs) s ≡ []
-  none_found given xs (Ok i) s e h none_there k = cc
-  none_found given xs (Err i) s e h none_there k =
-      subst (λ zs. inner_of (map seen zs) s ≡ []) e (not_found given i s (subst (λ zs. IsStrictlySortedBy segment_cmp (keys zs)) (sym e) h) k)
-
   -- one path alone
   pub one_ascends : (xs : List X) (x : X) → xs ≡ x ∷ [] → IsStrictlySortedBy segment_cmp (keys xs)
   unfolding IsStrictlySortedBy

@@ -3,5 +3,5 @@ pub use Rattle.segment_paths.specs.Faults.{HasMore, IsPathFault, StillConflict}
 pub use Rattle.segment_paths.specs.Paths.{ArePaths, IsKnown, IsWay, Path, crossing, inner_of, inner_positions, links_of}
 pub use Rattle.segment_paths.specs.Paths.{segments_of, vertex}
 pub use Rattle.segment_paths.specs.Seen.{path_seen, paths_seen}
-pub use Rattle.segment_paths.specs.Stops.{AreOwners, AreWays, IsOf, IsPair, IsPiece, IsStop}
+pub use Rattle.segment_paths.specs.Stops.{AreOwners, AreWays, IsOf, IsPair, IsPiece, IsRound, IsStop}
 pub use Rattle.segment_paths.specs.declared.path.SegmentPath.{SegmentPath}

@@ -1,10 +1,12 @@
 -- What the search holds of paths that it makes.
-use Rattle.std.specs.Prelude.{◌≡◌, List, Contains, Option, Some, IfSome}
+use Rattle.std.specs.Prelude.{◌≡◌, [], List, Contains, Option, Some, None, IfSome}
 use Rattle.std.specs.List.{All}
 use Rattle.grid_geometry.specs.Common.{Segment}
+use Rattle.ring_machine.specs.Common.{least_conflict}
 use Rattle.segment_paths.specs.declared.stop.Stop.{Stop}
 use Rattle.segment_paths.specs.declared.link.Piece.{Piece}
 use Rattle.segment_paths.specs.declared.ways.Ways.{Ways}
+use Rattle.segment_paths.specs.declared.round.Round.{Round}
 use Rattle.segment_paths.specs.Paths.{Path, IsKnown, ArePaths, links_of}
 use Rattle.segment_paths.specs.Faults.{StillConflict}
 use Rattle.segment_paths.specs.Seen.{paths_seen}
@@ -41,3 +43,10 @@ pub record AreWays {A : Type 0} (ss : List Segment) (ways : Ways A) : Type 0 whe
 -- two segments of which links conflict, if a pair is given
 abbrev pub IsPair : {A : Type 0} → List Segment → Ways A → Option (Segment × Segment) → Type 0
 IsPair ss ways pair = IfSome pair (λ p. StillConflict ss (paths_seen ways.paths.items) p.0 p.1)
+
+-- what a round over these paths found so far: stops for their segments, and two segments of which
+-- links conflict, if it found any; none before the first paths where no two segments conflict
+pub record IsRound {A : Type 0} (ways : Ways A) (round : Round A) : Type 0 where
+  pub stops : (ss : List Segment) → AreWays ss ways → All (IsStop ss) round.stops.items
+  pub needed : ways.links.items ≡ [] → least_conflict ways.segments.now ≡ None → round.conflict ≡ None
+  pub conflict : (ss : List Segment) → AreWays ss ways → IsPair ss ways round.conflict

@@ -10,5 +10,5 @@ mod stop;
 mod ways;
 
 pub use fault::PathFault;
-pub use path::SegmentPath;
+pub use path::{SegmentPath, positions_between};
 pub use search::find_paths;

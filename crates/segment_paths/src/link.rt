@@ -1,5 +1,5 @@
 // Links of paths.
-ghost use Rattle.std.specs.Prelude.{◌≡◌, ◌≤◌, [], List, Contains, IfOk, OnOk, length};
+ghost use Rattle.std.specs.Prelude.{◌≡◌, [], List, Contains, IfOk, OnOk};
 ghost use Rattle.std.specs.List.{All};
 ghost use Rattle.grid_geometry.specs.Common.{Segment, segment};
 ghost use Rattle.segment_paths.specs.Paths as spec;
@@ -80,34 +80,6 @@ pub(crate) fn links_of<A: Allocator + Copy>(
     Ok(links)
 }
 
-/// Where the pieces of a link begin in a sorted list.
-fn begin_of(links: &[Piece], link: Seg) -> usize
-    ensures { result ≤ length links.now }
-{
-    links.partition_point(|piece| piece.link < link)
-}
-
-/// Appends the first pieces, up to one of another link.
-fn push_run<A: Allocator + Copy>(
-    found: &mut Vec<Piece, A>,
-    pieces: &[Piece],
-    link: Seg,
-) -> Result<(), AllocError>
-    ensures kept { OnOk result ((ss : List Segment) (paths : List Path)
-        → All (IsPiece ss paths) found.old.items → All (IsPiece ss paths) pieces.now
-        → All (IsPiece ss paths) found.new.items) }
-    ensures same { OnOk result (All (IsOf link) found.old.items → All (IsOf link) found.new.items) }
-    ensures none { OnOk result (pieces.now ≡ [] → found.new.items ≡ found.old.items) }
-{
-    for piece in pieces {
-        if piece.link != link {
-            break;
-        }
-        found.push(*piece)?;
-    }
-    Ok(())
-}
-
 /// Appends the pieces of a link in a sorted list.
 pub(crate) fn push_pieces<A: Allocator + Copy>(
     found: &mut Vec<Piece, A>,
@@ -120,7 +92,13 @@ pub(crate) fn push_pieces<A: Allocator + Copy>(
     ensures same { OnOk result (All (IsOf link) found.old.items → All (IsOf link) found.new.items) }
     ensures none { OnOk result (links.now ≡ [] → found.new.items ≡ found.old.items) }
 {
-    let (_, run) = links.split_at(begin_of(links, link));
-    push_run(found, run, link)?;
+    let begin = links.partition_point(|piece| piece.link < link);
+    let (_, run) = links.split_at(begin);
+    for piece in run {
+        if piece.link != link {
+            break;
+        }
+        found.push(*piece)?;
+    }
     Ok(())
 }

@@ -1,15 +1,14 @@
 // A round of the search: what is put in where links conflict.
-ghost use Rattle.std.specs.Prelude.{◌≡◌, ◌⊎◌, [], List, IsTrue, None, IfErr, IfOk, OnOk, length};
+ghost use Rattle.std.specs.Prelude.{◌≡◌, ◌⊎◌, List, IsTrue, IfErr, IfOk, OnOk, length};
 ghost use Rattle.std.specs.List.{All};
 ghost use Rattle.grid_geometry.specs.Common.{Segment};
 ghost use Rattle.grid_geometry.specs.Conflict as geometry;
-ghost use Rattle.ring_machine.specs.Common.{least_conflict};
 ghost use Rattle.segment_paths.specs.Faults.{IsPathFault};
 ghost use Rattle.segment_paths.specs.Paths.{Path, IsKnown};
-ghost use Rattle.segment_paths.specs.Stops.{IsStop, IsPiece, AreOwners, AreWays, IsPair};
+ghost use Rattle.segment_paths.specs.Stops.{IsStop, IsPiece, AreOwners, AreWays, IsRound};
 
 use crate::fault::PathFault;
-use crate::link::{Piece, comes_between};
+use crate::link::Piece;
 use crate::stop::{Stop, push_stop, sort_stops};
 use crate::ways::{Ways, paths_of, room_after};
 use grid_geometry::{Pos, Seg, conflict, cross};
@@ -36,11 +35,10 @@ fn join_end<A: Allocator + Copy>(
         → All (IsStop ss) stops.old.items → IsPiece ss paths piece.now → IsKnown ss end
         → All (IsStop ss) stops.new.items) }
 {
-    if !comes_between(piece, end) || !meets_square(piece.owner, end) {
+    if !meets_square(piece.owner, end) {
         return Ok(false);
     }
-    let is_joined = push_stop(stops, piece.owner, end)?;
-    Ok(is_joined)
+    push_stop(stops, piece, end)
 }
 
 /// The same for both ends of another piece; tells whether it is led over one of them.
@@ -58,23 +56,6 @@ fn join_ends<A: Allocator + Copy>(
     Ok(lesser || greater)
 }
 
-/// Leads the path of a piece over a crossing of its segment, where that comes between the ends of
-/// the link.
-fn join_crossing<A: Allocator + Copy>(
-    stops: &mut Vec<Stop, A>,
-    piece: &Piece,
-    crossing: Pos,
-) -> Result<(), AllocError>
-    ensures { OnOk result ((ss : List Segment) (paths : List Path)
-        → All (IsStop ss) stops.old.items → IsPiece ss paths piece.now → IsKnown ss crossing
-        → All (IsStop ss) stops.new.items) }
-{
-    if comes_between(piece, crossing) {
-        push_stop(stops, piece.owner, crossing)?;
-    }
-    Ok(())
-}
-
 /// Parts two pieces whose links conflict: by the ends of the one that the other can be led over, or
 /// else by the crossing of both segments.
 fn part<A: Allocator + Copy>(
@@ -90,8 +71,8 @@ fn part<A: Allocator + Copy>(
     let others = join_ends(stops, other, one)?;
     if !ends && !others && cross(one.owner, other.owner) {
         let crossing = rounded_crossing(one.owner, other.owner);
-        join_crossing(stops, one, crossing)?;
-        join_crossing(stops, other, crossing)?;
+        push_stop(stops, one, crossing)?;
+        push_stop(stops, other, crossing)?;
     }
     Ok(())
 }
@@ -151,12 +132,7 @@ impl<A: Allocator + Copy> Round<A> {
         other: Seg,
     ) -> Result<(), AllocError>
         requires { IsTrue (geometry.conflict one other) }
-        ensures stops { OnOk result ((ss : List Segment) → AreWays ss ways.now
-            → All (IsStop ss) self.old.stops.items → All (IsStop ss) self.new.stops.items) }
-        ensures needed { OnOk result (ways.now.links.items ≡ [] → self.old.conflict ≡ None
-            → least_conflict ways.now.segments.now ≡ None → self.new.conflict ≡ None) }
-        ensures conflict { OnOk result ((ss : List Segment) → AreWays ss ways.now
-            → IsPair ss ways.now self.old.conflict → IsPair ss ways.now self.new.conflict) }
+        ensures { OnOk result (IsRound ways.now self.old → IsRound ways.now self.new) }
     {
         let ones = ways.pieces_of(alloc, one)?;
         let others = ways.pieces_of(alloc, other)?;
@@ -173,12 +149,7 @@ impl<A: Allocator + Copy> Round<A> {
         link: Seg,
         near: &[Seg],
     ) -> Result<(), AllocError>
-        ensures stops { OnOk result ((ss : List Segment) → AreWays ss ways.now
-            → All (IsStop ss) self.old.stops.items → All (IsStop ss) self.new.stops.items) }
-        ensures needed { OnOk result (ways.now.links.items ≡ [] → self.old.conflict ≡ None
-            → least_conflict ways.now.segments.now ≡ None → self.new.conflict ≡ None) }
-        ensures conflict { OnOk result ((ss : List Segment) → AreWays ss ways.now
-            → IsPair ss ways.now self.old.conflict → IsPair ss ways.now self.new.conflict) }
+        ensures { OnOk result (IsRound ways.now self.old → IsRound ways.now self.new) }
     {
         for other in near {
             if conflict(link, *other) {
@@ -219,12 +190,7 @@ pub(crate) fn play<I: SegIndex, A: Allocator + Copy>(
     fresh: &[Seg],
     most: usize,
 ) -> Result<Round<A>, PathFault>
-    ensures stops { IfOk result (λ round. (ss : List Segment) → AreWays ss ways.now
-        → All (IsStop ss) round.stops.items) }
-    ensures needed { IfOk result (λ round. ways.now.links.items ≡ []
-        → least_conflict ways.now.segments.now ≡ None → round.conflict ≡ None) }
-    ensures conflict { IfOk result (λ round. (ss : List Segment) → AreWays ss ways.now
-        → IsPair ss ways.now round.conflict) }
+    ensures round { IfOk result (IsRound ways.now) }
     ensures fault { IfErr result (λ fault. (ss : List Segment) → AreWays ss ways.now
         → IsPathFault ss most fault) }
 {

@@ -1,10 +1,11 @@
 // Positions that segments are led over.
-ghost use Rattle.std.specs.Prelude.{◌≡◌, ◌++◌, List, Contains, IsTrue, IfOk, OnOk};
+ghost use Rattle.std.specs.Prelude.{◌≡◌, ◌++◌, List, IfOk, OnOk};
 ghost use Rattle.std.specs.List.{All};
 ghost use Rattle.grid_geometry.specs.Common.{Segment};
-ghost use Rattle.segment_paths.specs.Paths.{IsKnown};
-ghost use Rattle.segment_paths.specs.Stops.{IsStop};
+ghost use Rattle.segment_paths.specs.Paths.{Path, IsKnown};
+ghost use Rattle.segment_paths.specs.Stops.{IsStop, IsPiece};
 
+use crate::link::{Piece, comes_between};
 use grid_geometry::{Pos, Seg};
 use snap_geometry::{along, is_near};
 use std::alloc::{AllocError, Allocator};
@@ -18,16 +19,19 @@ pub(crate) struct Stop {
     pub(crate) pos: Pos,
 }
 
-/// Appends a stop, where the position is near the segment; tells whether it is.
+/// Leads the path of a piece over a position that is near the segment and comes between the ends of
+/// the link; tells whether it is such.
 pub(crate) fn push_stop<A: Allocator + Copy>(
     stops: &mut Vec<Stop, A>,
-    segment: Seg,
+    piece: &Piece,
     pos: Pos,
 ) -> Result<bool, AllocError>
-    ensures { OnOk result ((ss : List Segment) → All (IsStop ss) stops.old.items
-        → Contains ss segment → IsKnown ss pos → All (IsStop ss) stops.new.items) }
+    ensures { OnOk result ((ss : List Segment) (paths : List Path)
+        → All (IsStop ss) stops.old.items → IsPiece ss paths piece.now → IsKnown ss pos
+        → All (IsStop ss) stops.new.items) }
 {
-    if !is_near(pos, segment) {
+    let segment = piece.owner;
+    if !comes_between(piece, pos) || !is_near(pos, segment) {
         return Ok(false);
     }
     let along = along(segment, pos);

@@ -1,5 +1,5 @@
 // The paths so far.
-ghost use Rattle.std.specs.Prelude.{◌≡◌, ◌≤◌, ◌<◌, ◌+◌, [], List, Contains, IsTrue, IsFalse, IfOk, OnOk};
+ghost use Rattle.std.specs.Prelude.{◌≡◌, ◌≤◌, ◌<◌, ◌+◌, [], List, Contains, IsTrue, IfOk, OnOk};
 ghost use Rattle.std.specs.Prelude.{length, ◌++◌, ◌∷◌, ◌<ℤ◌, MatchOption};
 ghost use Rattle.std.specs.List.Sorted.{IsStrictlySortedBy};
 ghost use Rattle.std.specs.List.{All};
@@ -12,7 +12,7 @@ ghost use Rattle.segment_paths.specs.Seen.{paths_seen};
 ghost use Rattle.segment_paths.specs.Stops.{IsStop, IsPiece, IsOf, AreWays};
 
 use crate::link::{Piece, links_of, push_pieces};
-use crate::path::SegmentPath;
+use crate::path::{SegmentPath, positions_between};
 use crate::stop::{Stop, joined};
 use grid_geometry::{Pos, Seg};
 use snap_geometry::{along, is_near};
@@ -184,18 +184,6 @@ impl<'s, A: Allocator + Copy> Ways<'s, A> {
         })
     }
 
-    /// Whether something is put into the segment: else it is its own link.
-    fn is_bent(&self, segment: Seg) -> bool
-        ensures { IsFalse result
-            → IsStrictlySortedBy segment_cmp (segments_of (paths_seen self.now.paths.items))
-            → Contains (spec.links_of (paths_seen self.now.paths.items) segment) segment }
-    {
-        let ends = (segment.lo, segment.hi);
-        self.paths
-            .binary_search_by_key(&ends, |path| (path.segment.lo, path.segment.hi))
-            .is_ok()
-    }
-
     /// Whether it is one of the segments, and nothing is put into it: then it is its own link.
     fn is_whole(&self, link: Seg) -> bool
         ensures among { IsTrue result → Contains self.now.segments.now link }
@@ -204,7 +192,7 @@ impl<'s, A: Allocator + Copy> Ways<'s, A> {
             → Contains (spec.links_of (paths_seen self.now.paths.items) link) link }
     {
         match self.segments.binary_search(&link) {
-            Ok(_) => !self.is_bent(link),
+            Ok(_) => positions_between(self.paths.as_slice(), link.lo, link.hi).is_empty(),
             Err(_) => false,
         }
     }

@@ -15,11 +15,11 @@ loop-link-init g c = record {
 
 pub loop-link-preserved : goal.loop-link-preserved
 loop-link-preserved g c =
-    let v = c.loop-link.invariant in
+    let parted = c.in_ok-part_near.ensures c.loop-link.invariant in
     record {
-      stops = λ ss h. c.in_ok-keep_few.ensures.stops ss (c.in_ok-part_near.ensures.stops ss h (v.stops ss h));
-      needed = λ links least. c.in_ok-keep_few.ensures.conflict ∙ c.in_ok-part_near.ensures.needed links (v.needed links least) least;
-      conflict = λ ss h. subst (IsPair ss c.args.ways.now) (sym c.in_ok-keep_few.ensures.conflict) (c.in_ok-part_near.ensures.conflict ss h (v.conflict ss h));
+      stops = λ ss h. c.in_ok-keep_few.ensures.stops ss (parted.stops ss h);
+      needed = λ links least. c.in_ok-keep_few.ensures.conflict ∙ parted.needed links least;
+      conflict = λ ss h. subst (IsPair ss c.args.ways.now) (sym c.in_ok-keep_few.ensures.conflict) (parted.conflict ss h);
     }
 
 pub add-requires : goal.add-requires
@@ -32,4 +32,4 @@ pub returns-in_err-keep_few-clause-fault : goal.returns-in_err-keep_few-clause-f
 returns-in_err-keep_few-clause-fault g c =
     handed (λ fault. (ss : List Segment) → AreWays ss c.args.ways.now → IsPathFault ss c.args.most fault) c.in_err-keep_few.field-0.0 c.from_residual-in_err-keep_few.result
     c.from_residual-in_err-keep_few.ensures.1
-    (λ ss h. c.in_err-keep_few.ensures.fault ss (c.in_ok-part_near.ensures.stops ss h (c.loop-link.invariant.stops ss h)))
+    (λ ss h. c.in_err-keep_few.ensures.fault ss ((c.in_ok-part_near.ensures c.loop-link.invariant).stops ss h))

@@ -11,9 +11,9 @@ pub loop-round-init : goal.loop-round-init
 loop-round-init g c = record {
   ways = c.none-ways.ensures.ways;
   room = omega (arith, ap (λ ps. inner_positions (paths_seen ps)) c.none-ways.ensures.paths);
-  stops = c.in_ok-round.ensures.stops c.args.segments.now c.none-ways.ensures.ways;
-  needed = λ least. (c.in_ok-round.ensures.needed c.none-ways.ensures.links (subst (λ ss. least_conflict ss ≡ None) (sym c.none-ways.ensures.ways.segments) least), c.none-ways.ensures.paths);
-  conflict = c.in_ok-round.ensures.conflict c.args.segments.now c.none-ways.ensures.ways;
+  stops = c.in_ok-round.ensures.round.stops c.args.segments.now c.none-ways.ensures.ways;
+  needed = λ least. (c.in_ok-round.ensures.round.needed c.none-ways.ensures.links (subst (λ ss. least_conflict ss ≡ None) (sym c.none-ways.ensures.ways.segments) least), c.none-ways.ensures.paths);
+  conflict = c.in_ok-round.ensures.round.conflict c.args.segments.now c.none-ways.ensures.ways;
 }
 
 pub loop-round-preserved : goal.loop-round-preserved
@@ -24,9 +24,9 @@ loop-round-preserved g c =
     record {
       ways = ways;
       room = subst (λ ps. c.in-Some-room_after.left + inner_positions (paths_seen ps) ≡ c.args.most) c.as_slice-in-Some.ensures.value c.in-Some-room_after.ensures;
-      stops = c.in_ok-round-2.ensures.stops ss ways;
+      stops = c.in_ok-round-2.ensures.round.stops ss ways;
       needed = λ least. absurd (no_pair _ _ (v.needed least).0 c.in-Some.is);
-      conflict = c.in_ok-round-2.ensures.conflict ss ways;
+      conflict = c.in_ok-round-2.ensures.round.conflict ss ways;
     }
 
 pub returns-in_err-round-clause-fault : goal.returns-in_err-round-clause-fault
