@@ -6,12 +6,11 @@ ghost use Rattle.grid_geometry.specs.Common.{edges, segment_cmp};
 ghost use Rattle.snap_geometry.specs.Common.{along};
 ghost use Rattle.segment_paths.specs.Common.{IsWay, segments_of, paths_seen};
 ghost use Rattle.topo_reader.specs.Common.{positions_of, polygon_positions};
-ghost use Rattle.segment_paths.specs.Paths as led;
 ghost use Rattle.area_changes.specs.Swept as spec;
 ghost use Rattle.area_changes.specs.Swept.{IsBeside};
 
 use grid_geometry::{Pos, Seg, orient};
-use segment_paths::SegmentPath;
+use segment_paths::{SegmentPath, positions_between};
 use std::alloc::Allocator;
 
 /// Twice the area of the triangle of a step along the path of a segment and the segment's end. It is
@@ -42,17 +41,6 @@ fn swept_along(segment: Seg, inner: &[Pos]) -> u128
     sum
 }
 
-/// The positions between the ends of a segment on its path; none where it has none.
-fn inner_of<A: Allocator + Copy>(paths: &[SegmentPath<A>], lo: Pos, hi: Pos) -> &[Pos]
-    requires { IsStrictlySortedBy segment_cmp (segments_of (paths_seen paths.now)) }
-    ensures { result.now ≡ led.inner_of (paths_seen paths.now) (record { lo = lo; hi = hi }) }
-{
-    match paths.binary_search_by_key(&(lo, hi), |path| (path.segment.lo, path.segment.hi)) {
-        Ok(place) => paths[place].inner.as_slice(),
-        Err(_) => &[],
-    }
-}
-
 /// What an edge sweeps over, twice as large.
 fn swept_by<A: Allocator + Copy>(paths: &[SegmentPath<A>], from: Pos, to: Pos) -> u128
     requires ascending { IsStrictlySortedBy segment_cmp (segments_of (paths_seen paths.now)) }
@@ -61,7 +49,7 @@ fn swept_by<A: Allocator + Copy>(paths: &[SegmentPath<A>], from: Pos, to: Pos) -
     ensures bound { result ≤ 36893488147419103232000000000000 }
 {
     match Seg::new(from, to) {
-        Some(segment) => swept_along(segment, inner_of(paths, segment.lo, segment.hi)),
+        Some(segment) => swept_along(segment, positions_between(paths, segment.lo, segment.hi)),
         None => 0,
     }
 }

@@ -10,7 +10,7 @@ pub swept_along-requires : goal.swept_along-requires
 swept_along-requires g c =
     let paths = paths_seen c.args.paths.now in
     let s = c.in-Some.segment in
-    let is : c.inner_of.result.now ≡ inner_of paths s = path_found paths s _ c.inner_of.result.now c.segment.view_is c.inner_of.ensures in
+    let is : c.positions_between.result.now ≡ inner_of paths s = path_found paths s _ c.positions_between.result.now c.segment.view_is (c.positions_between.ensures c.requires.ascending) in
     subst (λ (inner : List Position). 0 < length inner → IsWay s inner) (sym is) (way_of paths s c.requires.ways)
 
 pub returns-in-None-clause-value : goal.returns-in-None-clause-value
