@@ -1,10 +1,11 @@
--- Lines, one after another, as a loop meets them.
+-- Geometries, one after another, as a loop meets them.
 use Rattle.kit_words.proofs.Common.{◌≡◌, ℕ, zero, suc, ◌+◌, ◌<◌, ◌≤◌, ◌-◌, ◌≢◌, List, [], ◌∷◌, ◌++◌, length, map, drop}
 use Rattle.kit_words.proofs.Common.{get_or, Bool, true, false, refl, sym, ◌∙◌, sub-one, add-one, drop-cons, append-nil}
 use Rattle.kit_words.proofs.Common.{map-append, drop_all, flat_map, fold}
 use Rattle.json_spans.specs.Common.{Node, node, items, members}
 use Rattle.json_spans.specs.declared.span.Span.{Span}
-use Rattle.line_dropping.specs.Common.{says, value_named, is_line, parts_of, lines_in, without_line}
+use Rattle.line_dropping.specs.Common.{says, value_named, is_of, parts_of, geometries_in, without_line}
+use Rattle.line_dropping.specs.declared.geometries.Shape.{Shape}
 
 -- ---- members
 
@@ -22,33 +23,33 @@ no_value name left whole e h = rw e at h
 
 -- ---- a geometry
 
-pub lines_at_end : (d : ℕ) (n : Node) (old : List Node) → d ≡ 0 → old ≡ old ++ lines_in d n
-unfolding lines_in
-lines_at_end d n old z = rw (z, append-nil) refl
+pub at_end : (k : Shape) (d : ℕ) (n : Node) (old : List Node) → d ≡ 0 → old ≡ old ++ geometries_in k d n
+unfolding geometries_in
+at_end k d n old z = rw (z, append-nil) refl
 
-lines_of_line : (d : ℕ) (n : Node) → d ≢ 0 → is_line n ≡ true → lines_in d n ≡ n ∷ []
-unfolding lines_in
-lines_of_line zero n z is = absurd (z refl)
-lines_of_line (suc d) n z is = rw is refl
+of_shape : (k : Shape) (d : ℕ) (n : Node) → d ≢ 0 → is_of k n ≡ true → geometries_in k d n ≡ n ∷ []
+unfolding geometries_in
+of_shape k zero n z is = absurd (z refl)
+of_shape k (suc d) n z is = rw is refl
 
-pub line_pushed : (d : ℕ) (s : Span) (old new : List Span) (b : Bool) → d ≢ 0 → b ≡ is_line (node s) → b ≡ true → new ≡ old ++ s ∷ [] → map node new ≡ map node old ++ lines_in d (node s)
-line_pushed d s old new b z is right e = rw (e, map-append, lines_of_line d (node s) z (sym is ∙ right)) refl
+pub shape_pushed : (k : Shape) (d : ℕ) (s : Span) (old new : List Span) (b : Bool) → d ≢ 0 → b ≡ is_of k (node s) → b ≡ true → new ≡ old ++ s ∷ [] → map node new ≡ map node old ++ geometries_in k d (node s)
+shape_pushed k d s old new b z is right e = rw (e, map-append, of_shape k d (node s) z (sym is ∙ right)) refl
 
-lines_of_parts : (d : ℕ) (n : Node) (parts : List Node) → d ≢ 0 → is_line n ≡ false → parts ≡ parts_of n → lines_in d n ≡ flat_map (lines_in (d - 1)) (flat_map items parts)
-unfolding lines_in
-lines_of_parts zero n parts z is e = absurd (z refl)
-lines_of_parts (suc d) n parts z is e = let back : suc d - 1 ≡ d = sub-one (suc d) in rw (is, ← e, back) refl
+of_parts : (k : Shape) (d : ℕ) (n : Node) (parts : List Node) → d ≢ 0 → is_of k n ≡ false → parts ≡ parts_of n → geometries_in k d n ≡ flat_map (geometries_in k (d - 1)) (flat_map items parts)
+unfolding geometries_in
+of_parts k zero n parts z is e = absurd (z refl)
+of_parts k (suc d) n parts z is e = let back : suc d - 1 ≡ d = sub-one (suc d) in rw (is, ← e, back) refl
 
-pub lines_of_none : (d : ℕ) (n : Node) (old : List Node) (b : Bool) → d ≢ 0 → b ≡ is_line n → b ≡ false → [] ≡ parts_of n → old ≡ old ++ lines_in d n
-lines_of_none d n old b z is wrong e = rw (lines_of_parts d n [] z (sym is ∙ wrong) e, append-nil) refl
+pub of_none : (k : Shape) (d : ℕ) (n : Node) (old : List Node) (b : Bool) → d ≢ 0 → b ≡ is_of k n → b ≡ false → [] ≡ parts_of n → old ≡ old ++ geometries_in k d n
+of_none k d n old b z is wrong e = rw (of_parts k d n [] z (sym is ∙ wrong) e, append-nil) refl
 
-pub lines_of_items : (d : ℕ) (n list : Node) (old left : List Node) (b : Bool) → d ≢ 0 → b ≡ is_line n → b ≡ false → list ∷ [] ≡ parts_of n → left ≡ items list → old ++ flat_map (lines_in (d - 1)) left ≡ old ++ lines_in d n
-lines_of_items d n list old left b z is wrong e l = rw (lines_of_parts d n (list ∷ []) z (sym is ∙ wrong) e, l, append-nil (items list)) refl
+pub of_items : (k : Shape) (d : ℕ) (n list : Node) (old left : List Node) (b : Bool) → d ≢ 0 → b ≡ is_of k n → b ≡ false → list ∷ [] ≡ parts_of n → left ≡ items list → old ++ flat_map (geometries_in k (d - 1)) left ≡ old ++ geometries_in k d n
+of_items k d n list old left b z is wrong e l = rw (of_parts k d n (list ∷ []) z (sym is ∙ wrong) e, l, append-nil (items list)) refl
 
 -- ---- the layers
 
-pub no_layer : (layers : List Node) → [] ≡ layers → [] ≡ flat_map (λ m. lines_in 100 m.1) (flat_map members layers)
-no_layer layers e = rw (← e) refl
+pub no_layer : (k : Shape) (layers : List Node) → [] ≡ layers → [] ≡ flat_map (λ m. geometries_in k 100 m.1) (flat_map members layers)
+no_layer k layers e = rw (← e) refl
 
 -- ---- line after line
 

@@ -3,7 +3,8 @@
 use Rattle.std.specs.Prelude.{ℕ, ◌+◌, ◌-◌, if◌then◌else◌, List, [], ◌∷◌, length, take, replicate, slice_set, codes, Option, Some, None}
 use Rattle.std.specs.List.{fold}
 use Rattle.json_spans.specs.Common.{Node, members, trimmed}
-use Rattle.line_dropping.specs.Lines.{says, value_in, all_lines}
+use Rattle.line_dropping.specs.declared.geometries.Shape.TheVariants as shape
+use Rattle.line_dropping.specs.Geometries.{says, value_in, all_geometries}
 
 -- the text with these bytes in the place of as many from place n on, up to its end
 unfoldable pub put : ℕ → List ℕ → List ℕ → List ℕ
@@ -46,6 +47,10 @@ without_line text n =
 -- the whole text as a value, without the spaces round it (RFC 8259, 2)
 abbrev pub root_of : List ℕ → Node
 root_of bytes = trimmed (record { at_byte = 0; bytes = bytes })
+
+-- the lines of a topology (TopoJSON 1.0, 2.2.3 and 2.2.4)
+abbrev pub all_lines : Node → List Node
+all_lines = all_geometries shape.Lines
 
 -- the text without its lines
 abbrev pub without_lines : List ℕ → List ℕ

@@ -1,4 +1,4 @@
-pub mod Lines
+pub mod Geometries
 pub mod Dropped
 pub mod Found
 pub mod Common

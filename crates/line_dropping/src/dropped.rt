@@ -3,10 +3,9 @@ ghost use Rattle.std.specs.Prelude.{◌≡◌, ◌⊎◌, ◌+◌, ◌-◌, ◌<
 ghost use Rattle.std.specs.List.{fold};
 ghost use Rattle.json_spans.specs.Common.{members, node, Json};
 ghost use Rattle.line_dropping.specs.Found.{found};
-ghost use Rattle.line_dropping.specs.Lines.{all_lines};
-ghost use Rattle.line_dropping.specs.Dropped.{put, end_of, behind, range_of, blanked, nulled, without_line, root_of, without_lines};
+ghost use Rattle.line_dropping.specs.Dropped.{all_lines, put, end_of, behind, range_of, blanked, nulled, without_line, root_of, without_lines};
 
-use crate::lines::{all_lines, says, value_in};
+use crate::geometries::{Shape, all_geometries, says, value_in};
 use json_spans::{ScanFault, Span, members, scan};
 use std::alloc::{AllocError, Allocator, Global};
 
@@ -118,19 +117,8 @@ fn without_line(heap: Global, text: &mut [u8], line: Span<'_>) -> Result<(), All
     Ok(())
 }
 
-/// The text without the lines at these places.
-#[tactic(auto, using(crate::proofs::Walking::fold_step, crate::proofs::Walking::fold_end))]
-fn without_each(heap: Global, text: &mut [u8], lines: &[Span<'_>]) -> Result<(), AllocError>
-    ensures { OnOk result (text.new ≡ fold without_line text.old (map node lines.now)) }
-{
-    for line in lines {
-        without_line(heap, text, *line)?;
-    }
-    Ok(())
-}
-
 /// The text without the lines of the topology whose root this is.
-#[tactic(auto, using(crate::proofs::Putting::length_without))]
+#[tactic(auto, using(crate::proofs::Putting::length_without, crate::proofs::Walking::fold_step, crate::proofs::Walking::fold_end))]
 fn text_without<A: Allocator + Copy>(
     alloc: A,
     heap: Global,
@@ -142,22 +130,14 @@ fn text_without<A: Allocator + Copy>(
     ensures lines { IfOk result (λ dropped. dropped.lines ≡ length (all_lines (node root.entry))) }
     ensures long { IfOk result (λ dropped. length dropped.text.items ≡ length bytes.now) }
 {
-    let lines = all_lines(alloc, heap, root)?;
+    let lines = all_geometries(alloc, heap, Shape::Lines, root)?;
     let mut text = Vec::from_slice(alloc, bytes)?;
-    without_each(heap, text.as_mut_slice(), lines.as_slice())?;
+    for line in lines.as_slice() {
+        without_line(heap, text.as_mut_slice(), *line)?;
+    }
     Ok(Dropped {
         text,
         lines: lines.len(),
-    })
-}
-
-/// The text as it is.
-fn unchanged<A: Allocator + Copy>(alloc: A, bytes: &[u8]) -> Result<Dropped<A>, AllocError>
-    ensures { IfOk result (λ dropped. (dropped.text.items ≡ bytes.now) × (dropped.lines ≡ 0)) }
-{
-    Ok(Dropped {
-        text: Vec::from_slice(alloc, bytes)?,
-        lines: 0,
     })
 }
 
@@ -182,7 +162,8 @@ pub fn without_lines<A: Allocator + Copy>(
     match scan(alloc, bytes) {
         Ok(root) => text_without(alloc, heap, bytes, root.span()),
         Err(ScanFault::NotJson { place: _ } | ScanFault::TooDeep { place: _ }) => {
-            unchanged(alloc, bytes)
+            let text = Vec::from_slice(alloc, bytes)?;
+            Ok(Dropped { text, lines: 0 })
         }
         Err(ScanFault::OutOfMemory) => Err(AllocError),
     }

@@ -2,9 +2,11 @@
 //!
 //! Each line becomes a geometry whose `type` is `null`. It is done in the text: the value of `type`
 //! becomes `null` and spaces, the member `arcs` becomes spaces, and every other value keeps its place.
+//! The walk over the geometries of a text is given to others too.
 #![tactic(auto)]
 
 mod dropped;
-mod lines;
+mod geometries;
 
 pub use dropped::{Dropped, without_lines};
+pub use geometries::{Shape, all_geometries, has_type, value_in};

@@ -1,5 +1,5 @@
 use Rattle.line_dropping.proofs.Walking.{value_there, value_later, no_value}
-use Rattle.line_dropping.proofs.lines.value_in.Goals as goal
+use Rattle.line_dropping.proofs.geometries.value_in.Goals as goal
 
 pub returns-then-named : goal.returns-then-named
 returns-then-named c = value_there c.args.name.now _ _ _ _ _ c.in-Some.ensures.steps c.in_ok-named.ensures c.if-named.true c.loop-member.invariant

@@ -1,9 +1,11 @@
--- The lines of a topology (TopoJSON 1.0, 2.2.3 and 2.2.4): where they stand in its text. Defined
--- for any bytes.
+-- The geometries of a topology (TopoJSON 1.0, 2.2): where they stand in its text. Defined for any
+-- bytes.
 use Rattle.std.specs.Prelude.{ℕ, zero, suc, ◌||◌, Bool, false, if◌then◌else◌, List, [], ◌∷◌, codes, Option, Some, None}
 use Rattle.std.specs.List.{flat_map}
 use Rattle.std.specs.Str.{bytes_eq}
 use Rattle.json_spans.specs.Common.{Node, items, members, decoded}
+use Rattle.line_dropping.specs.declared.geometries.Shape.{Shape}
+use Rattle.line_dropping.specs.declared.geometries.Shape.TheVariants as shape
 
 -- a string stands for this text (RFC 8259, 7)
 abbrev pub is_text : List ℕ → Option (List ℕ) → Bool
@@ -29,23 +31,24 @@ says_type name (n ∷ ns) = says name n
 abbrev pub has_type : List ℕ → Node → Bool
 has_type name n = says_type name (value_in (codes "type") n)
 
--- a line, or several lines
-abbrev pub is_line : Node → Bool
-is_line n = has_type (codes "LineString") n || has_type (codes "MultiLineString") n
+-- whether a geometry is of this shape: one of it, or several
+abbrev pub is_of : Shape → Node → Bool
+is_of shape.Points n = has_type (codes "Point") n || has_type (codes "MultiPoint") n
+is_of shape.Lines n = has_type (codes "LineString") n || has_type (codes "MultiLineString") n
 
 -- the list of what stands in a collection, as a list of at most one
 abbrev pub parts_of : Node → List Node
 parts_of n =
     if has_type (codes "GeometryCollection") n then value_in (codes "geometries") n else []
 
--- the lines of a geometry, collections walked depth first; the depth is more than any text of 100
--- levels has
-unfoldable pub lines_in : ℕ → Node → List Node
-lines_in zero n = []
-lines_in (suc d) n =
-    if is_line n then (n ∷ []) else flat_map (lines_in d) (flat_map items (parts_of n))
+-- the geometries of this shape that a geometry is or holds, collections walked depth first; the
+-- depth is more than any text of 100 levels has
+unfoldable pub geometries_in : Shape → ℕ → Node → List Node
+geometries_in s zero n = []
+geometries_in s (suc d) n =
+    if is_of s n then (n ∷ []) else flat_map (geometries_in s d) (flat_map items (parts_of n))
 
--- the lines of all layers of a topology
-abbrev pub all_lines : Node → List Node
-all_lines root =
-    flat_map (λ m. lines_in 100 m.1) (flat_map members (value_in (codes "objects") root))
+-- the geometries of this shape in all layers of a topology
+abbrev pub all_geometries : Shape → Node → List Node
+all_geometries s root =
+    flat_map (λ m. geometries_in s 100 m.1) (flat_map members (value_in (codes "objects") root))

@@ -1,8 +1,8 @@
-// Where the lines of a topology stand in its text (TopoJSON 1.0, 2.2.3 and 2.2.4).
+// Where the geometries of a topology stand in its text (TopoJSON 1.0, 2.2).
 ghost use Rattle.std.specs.Prelude.{◌≡◌, ◌++◌, map, IfOk, OnOk};
 ghost use Rattle.json_spans.specs.Common.{node};
 ghost use Rattle.line_dropping.specs.Found.{found};
-ghost use Rattle.line_dropping.specs.Lines.{says, value_in, has_type, is_line, parts_of, lines_in, all_lines};
+ghost use Rattle.line_dropping.specs.Geometries.{says, value_in, has_type, is_of, parts_of, geometries_in, all_geometries};
 
 use json_spans::{Span, TextFault, items, members, text};
 use std::alloc::{AllocError, Allocator, Global};
@@ -19,7 +19,7 @@ pub(crate) fn says(heap: Global, name: &str, span: Span<'_>) -> Result<bool, All
 }
 
 /// The value of the first member of this name.
-pub(crate) fn value_in<'a>(
+pub fn value_in<'a>(
     heap: Global,
     name: &str,
     span: Span<'a>,
@@ -36,7 +36,7 @@ pub(crate) fn value_in<'a>(
 }
 
 /// Whether the member `type` of an object is this text.
-fn has_type(heap: Global, name: &str, span: Span<'_>) -> Result<bool, AllocError>
+pub fn has_type(heap: Global, name: &str, span: Span<'_>) -> Result<bool, AllocError>
     ensures { IfOk result (λ b. b ≡ has_type name.now (node span.entry)) }
 {
     match value_in(heap, "type", span)? {
@@ -45,15 +45,29 @@ fn has_type(heap: Global, name: &str, span: Span<'_>) -> Result<bool, AllocError
     }
 }
 
-/// Whether it is a line or several lines.
-fn is_line(heap: Global, span: Span<'_>) -> Result<bool, AllocError>
-    ensures { IfOk result (λ b. b ≡ is_line (node span.entry)) }
+/// What a geometry is made of.
+#[derive(Clone, Copy, Debug)]
+pub enum Shape {
+    /// A point or several (TopoJSON 1.0, 2.2.1 and 2.2.2).
+    Points,
+    /// A line or several (TopoJSON 1.0, 2.2.3 and 2.2.4).
+    Lines,
+}
+
+/// Whether a geometry is of this shape.
+fn is_of(heap: Global, shape: Shape, span: Span<'_>) -> Result<bool, AllocError>
+    ensures { IfOk result (λ b. b ≡ is_of shape (node span.entry)) }
 {
-    Ok(has_type(heap, "LineString", span)? || has_type(heap, "MultiLineString", span)?)
+    match shape {
+        Shape::Points => Ok(has_type(heap, "Point", span)? || has_type(heap, "MultiPoint", span)?),
+        Shape::Lines => {
+            Ok(has_type(heap, "LineString", span)? || has_type(heap, "MultiLineString", span)?)
+        }
+    }
 }
 
 /// The list of what stands in a collection.
-fn geometries(heap: Global, span: Span<'_>) -> Result<Option<Span<'_>>, AllocError>
+fn collected(heap: Global, span: Span<'_>) -> Result<Option<Span<'_>>, AllocError>
     ensures { IfOk result (λ list. found list ≡ parts_of (node span.entry)) }
 {
     if has_type(heap, "GeometryCollection", span)? {
@@ -63,48 +77,52 @@ fn geometries(heap: Global, span: Span<'_>) -> Result<Option<Span<'_>>, AllocErr
     }
 }
 
-/// Appends the lines of a geometry, with less than `depth` collections one in another.
-fn lines_in<'a, A: Allocator + Copy>(
+/// Appends the geometries of this shape that a geometry is or holds, with less than `depth`
+/// collections one in another.
+fn geometries_in<'a, A: Allocator + Copy>(
     heap: Global,
+    shape: Shape,
     depth: usize,
     span: Span<'a>,
     out: &mut Vec<Span<'a>, A>,
 ) -> Result<(), AllocError>
-    ensures { OnOk result
-        (map node out.new.items ≡ map node out.old.items ++ lines_in depth (node span.entry)) }
+    ensures { OnOk result (map node out.new.items
+        ≡ map node out.old.items ++ geometries_in shape depth (node span.entry)) }
 {
     if depth == 0 {
         return Ok(());
     }
-    let line = is_line(heap, span)?;
-    if line {
+    let found = is_of(heap, shape, span)?;
+    if found {
         out.push(span)?;
         return Ok(());
     }
-    let list = match geometries(heap, span)? {
+    let list = match collected(heap, span)? {
         Some(list) => list,
         None => return Ok(()),
     };
     for part in items(list) {
-        lines_in(heap, depth - 1, part, out)?;
+        geometries_in(heap, shape, depth - 1, part, out)?;
     }
     Ok(())
 }
 
-/// The lines of all layers of a topology.
-pub(crate) fn all_lines<'a, A: Allocator + Copy>(
+/// The geometries of this shape in all layers of the topology whose root this is, in the order of
+/// its text.
+pub fn all_geometries<'a, A: Allocator + Copy>(
     alloc: A,
     heap: Global,
+    shape: Shape,
     root: Span<'a>,
 ) -> Result<Vec<Span<'a>, A>, AllocError>
-    ensures { IfOk result (λ lines. map node lines.items ≡ all_lines (node root.entry)) }
+    ensures { IfOk result (λ found. map node found.items ≡ all_geometries shape (node root.entry)) }
 {
-    let mut lines = Vec::new(alloc);
+    let mut found = Vec::new(alloc);
     let Some(objects) = value_in(heap, "objects", root)? else {
-        return Ok(lines);
+        return Ok(found);
     };
     for member in members(objects) {
-        lines_in(heap, 100, member.1, &mut lines)?;
+        geometries_in(heap, shape, 100, member.1, &mut found)?;
     }
-    Ok(lines)
+    Ok(found)
 }
