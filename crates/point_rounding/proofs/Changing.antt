@@ -1,6 +1,6 @@
 -- Coordinates and their new texts, one after another, as a loop makes them.
 use Rattle.kit_words.proofs.Common.{◌≡◌, ℕ, suc, ◌+◌, ◌<◌, ◌≤◌, List, [], ◌∷◌, ◌++◌, length, map, drop, get_or, refl}
-use Rattle.kit_words.proofs.Common.{sym, ap, ◌∙◌, subst, append_assoc, add-one, drop-cons, ℤ, Result, Ok, Err}
+use Rattle.kit_words.proofs.Common.{sym, ap, ◌∙◌, subst, append_assoc, add-one, drop-cons, ℤ, Result, Ok, Err, IsErrAnd}
 use Rattle.kit_words.proofs.Common.{signed_decimal, append-nil, drop_all}
 use Rattle.json_spans.specs.Common.{Node, node}
 use Rattle.json_spans.specs.declared.span.Span.{Span}
@@ -15,6 +15,12 @@ carry : {Y Z : Type 0} (e : PointFault) (r : Result Y PointFault) (s : Result Z 
 carry (fault.NotNumber place) r s h is = h _ is
 carry (fault.OutOfRange place) r s h is = h _ is
 carry fault.OutOfMemory r s h is = tt
+
+-- a fault that is handed on
+pub gives_fault : {X Y : Type 0} (view : X → Y) (e : PointFault) (result : Result X PointFault) (r : Result Y PointFault)
+    → IsErrAnd result (λ o. o ≡ e) → Fails e r → Gives view result r
+gives_fault view e (Ok x) r is h = absurd is
+gives_fault view e (Err o) r is h = subst (λ (f : PointFault). Fails f r) (sym is) h
 
 -- ---- one coordinate
 

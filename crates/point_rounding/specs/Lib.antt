@@ -1,6 +1,5 @@
 pub mod Points
 pub mod Rounded
-pub mod Found
 pub mod Changes
 pub mod Gives
 pub mod Common

@@ -76,16 +76,6 @@ fn number_on_grid(grid: Grid, part: Span<'_>) -> Result<i128, PointFault>
     }
 }
 
-/// A coordinate and what it becomes.
-fn change_of(grid: Grid, part: Span<'_>) -> Result<Change<'_>, PointFault>
-    ensures { Gives change result (new_text grid.digits grid.finer (node part.entry)) }
-{
-    match number_on_grid(grid, part) {
-        Ok(number) => Ok(Change { span: part, number }),
-        Err(fault) => Err(fault),
-    }
-}
-
 /// The coordinates and what they become.
 pub(crate) fn changes_of<'a, A: Allocator + Copy>(
     alloc: A,
@@ -97,11 +87,11 @@ pub(crate) fn changes_of<'a, A: Allocator + Copy>(
 {
     let mut changes = Vec::new(alloc);
     for part in parts {
-        let change = match change_of(grid, *part) {
-            Ok(change) => change,
-            Err(fault) => return Err(fault),
-        };
-        changes.push(change)?;
+        let number = number_on_grid(grid, *part)?;
+        changes.push(Change {
+            span: *part,
+            number,
+        })?;
     }
     Ok(changes)
 }

@@ -1,13 +1,11 @@
 // The text in which each coordinate has its new text.
 ghost use Rattle.std.specs.Prelude.{◌≡◌, ◌++◌, map, drop, IfOk, OnOk};
 ghost use Rattle.std.specs.Fmt.{signed_decimal};
-ghost use Rattle.json_spans.specs.Common.{node};
-ghost use Rattle.point_rounding.specs.Rounded.{between, end_of, spliced};
+ghost use Rattle.point_rounding.specs.Rounded.{between, spliced};
 ghost use Rattle.point_rounding.specs.Changes.{change};
 
 use crate::rounding::Change;
 use itoa::Buffer;
-use json_spans::Span;
 use std::alloc::{AllocError, Allocator};
 
 /// The bytes from a place on.
@@ -23,12 +21,6 @@ fn between(bytes: &[u8], from: usize, to: usize) -> &[u8]
 {
     let left = behind(bytes, from);
     &left[..to.saturating_sub(from).min(left.len())]
-}
-
-fn end_of(span: Span<'_>) -> usize
-    ensures { result ≡ end_of (node span.entry) }
-{
-    span.at + span.text.len()
 }
 
 /// Appends the new text of a coordinate.
@@ -54,7 +46,7 @@ pub(crate) fn spliced<A: Allocator + Copy>(
     for change in changes {
         text.extend_from_slice(between(bytes, from, change.span.at))?;
         push_number(&mut text, *change)?;
-        from = end_of(change.span);
+        from = change.span.at + change.span.text.len();
     }
     text.extend_from_slice(behind(bytes, from))?;
     Ok(text)

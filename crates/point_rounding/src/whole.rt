@@ -1,33 +1,15 @@
 // A whole text with its points on a grid.
 ghost use Rattle.std.specs.Prelude.{◌≡◌, ◌≤◌, Ok};
-ghost use Rattle.json_spans.specs.Common.{node, Json};
+ghost use Rattle.json_spans.specs.Common.{Json};
 ghost use Rattle.point_rounding.specs.Gives.{Gives};
-ghost use Rattle.point_rounding.specs.Rounded.{rounded_under, rounded_points};
+ghost use Rattle.point_rounding.specs.Rounded.{rounded_points};
 
 use crate::fault::PointFault;
 use crate::points::all_coordinates;
 use crate::rounding::{Grid, changes_of};
 use crate::splicing::spliced;
-use json_spans::{ScanFault, Span, scan};
+use json_spans::{ScanFault, scan};
 use std::alloc::{Allocator, Global};
-
-/// The text of the topology whose root this is, with its points on the grid.
-fn rounded_under<A: Allocator + Copy>(
-    alloc: A,
-    heap: Global,
-    bytes: &[u8],
-    grid: Grid,
-    root: Span<'_>,
-) -> Result<Vec<u8, A>, PointFault>
-    ensures { Gives (λ v. v.items) result
-        (rounded_under grid.digits grid.finer bytes.now (node root.entry)) }
-{
-    let coordinates = all_coordinates(alloc, heap, root)?;
-    match changes_of(alloc, grid, coordinates.as_slice()) {
-        Ok(changes) => Ok(spliced(alloc, bytes, changes.as_slice())?),
-        Err(fault) => Err(fault),
-    }
-}
 
 /// The text of a topology in which each coordinate of a Point or a MultiPoint (TopoJSON 1.0, 2.2.1
 /// and 2.2.2) is rounded to so many decimals, halves up, and is a whole number of the grid that has
@@ -50,12 +32,14 @@ pub fn rounded_points<A: Allocator + Copy>(
         Gives (λ v. v.items) result (rounded_points digits finer bytes.now) }
     ensures as_it_is { (¬ Json 100 bytes.now) → Gives (λ v. v.items) result (Ok bytes.now) }
 {
-    let grid = Grid { digits, finer };
-    match scan(alloc, bytes) {
-        Ok(root) => rounded_under(alloc, heap, bytes, grid, root.span()),
+    let root = match scan(alloc, bytes) {
+        Ok(root) => root,
         Err(ScanFault::NotJson { place: _ } | ScanFault::TooDeep { place: _ }) => {
-            Ok(Vec::from_slice(alloc, bytes)?)
+            return Ok(Vec::from_slice(alloc, bytes)?);
         }
-        Err(ScanFault::OutOfMemory) => Err(PointFault::OutOfMemory),
-    }
+        Err(ScanFault::OutOfMemory) => return Err(PointFault::OutOfMemory),
+    };
+    let coordinates = all_coordinates(alloc, heap, root.span())?;
+    let changes = changes_of(alloc, Grid { digits, finer }, coordinates.as_slice())?;
+    Ok(spliced(alloc, bytes, changes.as_slice())?)
 }
