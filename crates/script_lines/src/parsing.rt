@@ -46,10 +46,7 @@ fn pair_behind(tail: &[u8]) -> Option<(Pos, Pos)>
     let Some(first) = spaced_position(tail) else {
         return None;
     };
-    match position_behind(first.1) {
-        Some(second) => Some((first.0, second)),
-        None => None,
-    }
+    Some((first.0, position_behind(first.1)?))
 }
 
 /// The three positions that stand behind a word.
@@ -59,22 +56,16 @@ fn triple_behind(tail: &[u8]) -> Option<(Pos, Pos, Pos)>
     let Some(first) = spaced_position(tail) else {
         return None;
     };
-    match pair_behind(first.1) {
-        Some(others) => Some((first.0, others.0, others.1)),
-        None => None,
-    }
+    let (second, third) = pair_behind(first.1)?;
+    Some((first.0, second, third))
 }
 
 /// The bound of a thinning that stands behind a word.
 fn bound_behind(tail: &[u8]) -> Option<i128>
     ensures { Finds result (λ t. AskedWith tail.now (Thinning t)) }
 {
-    let Some(word) = behind(b" ", tail) else {
-        return None;
-    };
-    let Some(bound) = wide_number(word) else {
-        return None;
-    };
+    let word = behind(b" ", tail)?;
+    let bound = wide_number(word)?;
     if bound <= MAX_BOUND {
         Some(bound as i128)
     } else {
@@ -86,9 +77,7 @@ fn bound_behind(tail: &[u8]) -> Option<i128>
 fn feature_behind(tail: &[u8]) -> Option<u32>
     ensures { Finds result (λ n. AreFeatures tail.now (n ∷ [])) }
 {
-    let Some((feature, end)) = spaced_feature(tail) else {
-        return None;
-    };
+    let (feature, end) = spaced_feature(tail)?;
     if end.is_empty() { Some(feature) } else { None }
 }
 
@@ -96,13 +85,8 @@ fn feature_behind(tail: &[u8]) -> Option<u32>
 fn features_behind(tail: &[u8]) -> Option<(u32, u32)>
     ensures { Finds result (λ both. AreFeatures tail.now (both.0 ∷ both.1 ∷ [])) }
 {
-    let Some((first, rest)) = spaced_feature(tail) else {
-        return None;
-    };
-    match feature_behind(rest) {
-        Some(second) => Some((first, second)),
-        None => None,
-    }
+    let (first, rest) = spaced_feature(tail)?;
+    Some((first, feature_behind(rest)?))
 }
 
 /// The number of a feature and its new id that stand behind a word.

@@ -87,17 +87,12 @@ pub(crate) fn spaced_number(bytes: &[u8]) -> Option<(i64, &[u8])>
         ((z : ℤ) (rest : List ℕ) → ¬ IsSpaced bytes.now z rest)
         (λ found. IsSpaced bytes.now found.0 found.1.now) }
 {
-    let Some(tail) = behind(b" ", bytes) else {
-        return None;
-    };
+    let tail = behind(b" ", bytes)?;
     if let Some(found) = short_number(tail) {
         return Some(found);
     }
     let (word, rest) = split_word(tail);
-    match number(word) {
-        Some(number) => Some((number, rest)),
-        None => None,
-    }
+    Some((number(word)?, rest))
 }
 
 /// The number of a feature behind a space, and what follows it.
@@ -106,9 +101,7 @@ pub(crate) fn spaced_feature(bytes: &[u8]) -> Option<(u32, &[u8])>
         ((n : ℕ) (rest : List ℕ) → ¬ IsFeature bytes.now n rest)
         (λ found. IsFeature bytes.now found.0 found.1.now) }
 {
-    let Some((number, rest)) = spaced_number(bytes) else {
-        return None;
-    };
+    let (number, rest) = spaced_number(bytes)?;
     match u32::try_from(number) {
         Ok(feature) => Some((feature, rest)),
         Err(_) => None,
@@ -121,16 +114,9 @@ pub(crate) fn spaced_position(bytes: &[u8]) -> Option<(Pos, &[u8])>
         ((p : Position) (rest : List ℕ) → ¬ IsPlace bytes.now p rest)
         (λ found. IsPlace bytes.now found.0 found.1.now) }
 {
-    let Some((x, behind_x)) = spaced_number(bytes) else {
-        return None;
-    };
-    let Some((y, rest)) = spaced_number(behind_x) else {
-        return None;
-    };
-    match Pos::new(x, y) {
-        Some(pos) => Some((pos, rest)),
-        None => None,
-    }
+    let (x, behind_x) = spaced_number(bytes)?;
+    let (y, rest) = spaced_number(behind_x)?;
+    Some((Pos::new(x, y)?, rest))
 }
 
 /// How many bytes stand behind the last quotation mark.
@@ -147,11 +133,7 @@ pub(crate) fn spaced_token(bytes: &[u8]) -> Option<(&[u8], &[u8])>
         ((token rest : List ℕ) → ¬ IsToken bytes.now token rest)
         (λ found. IsToken bytes.now found.0.now found.1.now) }
 {
-    let Some(tail) = behind(b" ", bytes) else {
-        return None;
-    };
-    match behind(b"\"", tail) {
-        Some(_) => Some(tail.split_at(tail.len() - unmarked_len(tail))),
-        None => None,
-    }
+    let tail = behind(b" ", bytes)?;
+    behind(b"\"", tail)?;
+    Some(tail.split_at(tail.len() - unmarked_len(tail)))
 }

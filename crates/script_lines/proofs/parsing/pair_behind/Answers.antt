@@ -5,9 +5,11 @@ use Rattle.script_lines.proofs.parsing.pair_behind.Goals as goal
 pub returns-in_default : goal.returns-in_default
 returns-in_default c = λ x h. positions_none c.args.tail.now x.0 (x.1 ∷ []) c.in_default.ensures h
 
-pub returns-in-Some-position_behind : goal.returns-in-Some-position_behind
-returns-in-Some-position_behind c =
-    positions_more c.args.tail.now c.in-Some.first.1.now c.in-Some.first.0 (c.in-Some-position_behind.second ∷ []) c.in-Some.ensures c.in-Some-position_behind.ensures
+pub returns : goal.returns
+returns c =
+    positions_more c.args.tail.now c.in-Some.first.1.now c.in-Some.first.0 (c.in_ok-position_behind.field-0 ∷ []) c.in-Some.ensures c.in_ok-position_behind.ensures
 
-pub returns-in-None : goal.returns-in-None
-returns-in-None c = λ x h. c.in-None.ensures x.1 (positions_rest c.args.tail.now c.in-Some.first.1.now c.in-Some.first.0 x.0 (x.1 ∷ []) c.in-Some.ensures h)
+pub returns-in_err-position_behind : goal.returns-in_err-position_behind
+returns-in_err-position_behind c =
+    rw c.from_residual.ensures
+    (λ x h. c.in_err-position_behind.ensures x.1 (positions_rest c.args.tail.now c.in-Some.first.1.now c.in-Some.first.0 x.0 (x.1 ∷ []) c.in-Some.ensures h))

@@ -5,9 +5,11 @@ use Rattle.script_lines.proofs.parsing.triple_behind.Goals as goal
 pub returns-in_default : goal.returns-in_default
 returns-in_default c = λ x h. positions_none c.args.tail.now x.0 (x.1 ∷ x.2 ∷ []) c.in_default.ensures h
 
-pub returns-in-Some-pair_behind : goal.returns-in-Some-pair_behind
-returns-in-Some-pair_behind c =
-    positions_more c.args.tail.now c.in-Some.first.1.now c.in-Some.first.0 (c.in-Some-pair_behind.others.0 ∷ c.in-Some-pair_behind.others.1 ∷ []) c.in-Some.ensures c.in-Some-pair_behind.ensures
+pub returns : goal.returns
+returns c =
+    positions_more c.args.tail.now c.in-Some.first.1.now c.in-Some.first.0 (c.in_ok-second.second ∷ c.in_ok-second.third ∷ []) c.in-Some.ensures c.in_ok-second.ensures
 
-pub returns-in-None : goal.returns-in-None
-returns-in-None c = λ x h. c.in-None.ensures (x.1, x.2) (positions_rest c.args.tail.now c.in-Some.first.1.now c.in-Some.first.0 x.0 (x.1 ∷ x.2 ∷ []) c.in-Some.ensures h)
+pub returns-in_err-second : goal.returns-in_err-second
+returns-in_err-second c =
+    rw c.from_residual.ensures
+    (λ x h. c.in_err-second.ensures (x.1, x.2) (positions_rest c.args.tail.now c.in-Some.first.1.now c.in-Some.first.0 x.0 (x.1 ∷ x.2 ∷ []) c.in-Some.ensures h))
