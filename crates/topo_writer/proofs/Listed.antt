@@ -46,11 +46,12 @@ commas_push f (y ∷ ys) x =
     ∙ ap (λ b. (f y ++ further (map f ys)) ++ (comma_if b ++ f x)) (sym (positive (length ys)))
 
 -- one more arc after all of them
-pub listed_push : (delta : Bool) (arcs : List (List Position)) (piece : List Position) (count : ℕ) (old new : Text)
-    → count ≡ length arcs → old ≡ listed_arcs delta arcs → new ≡ old ++ (comma_if (nat_lt 0 count) ++ arc_text delta piece)
+pub listed_push : (delta : Bool) (arcs : List (List Position)) (piece : List Position) (count : ℕ) (old mid new : Text)
+    → count ≡ length arcs → old ≡ listed_arcs delta arcs → mid ≡ old ++ comma_if (nat_lt 0 count) → new ≡ mid ++ arc_text delta piece
     → new ≡ listed_arcs delta (arcs ++ piece ∷ [])
-listed_push delta arcs piece count old new c e p =
-    p ∙ ap₂ (λ z n. z ++ (comma_if (nat_lt 0 n) ++ arc_text delta piece)) e c ∙ sym (commas_push (arc_text delta) arcs piece)
+listed_push delta arcs piece count old mid new c e p q =
+    q ∙ ap (λ z. z ++ arc_text delta piece) p ∙ append_assoc old (comma_if (nat_lt 0 count)) (arc_text delta piece)
+    ∙ ap₂ (λ z n. z ++ (comma_if (nat_lt 0 n) ++ arc_text delta piece)) e c ∙ sym (commas_push (arc_text delta) arcs piece)
 
 -- a polygon is the list of its written rings
 pub polygon_is : (j : Position → Bool) (arcs polygon : List (List Position))

@@ -11,7 +11,7 @@ ghost use Rattle.topo_writer.specs.Tables.{Finds};
 ghost use Rattle.topo_writer.specs.Ways.{all_found, indexes_found, FitAll};
 
 use crate::cutting::CutRing;
-use crate::texts::push_next;
+use crate::texts::{push_arc, push_comma};
 use grid_geometry::Pos;
 use indexmap::IndexMap;
 use std::alloc::{AllocError, Allocator, Global};
@@ -117,7 +117,8 @@ impl<A: Allocator + Copy> Arcs<A> {
         let index = forward(self.count);
         let reversed = backward(self.count);
         let n = piece.len();
-        push_next(&mut self.listed, self.delta, piece, self.count > 0)?;
+        push_comma(&mut self.listed, self.count > 0)?;
+        push_arc(&mut self.listed, self.delta, piece)?;
         self.note(piece[0], piece[1], index)?;
         self.note(piece[n - 1], piece[n - 2], reversed)?;
         self.count += 1;

@@ -2,9 +2,8 @@
 ghost use Rattle.std.specs.Prelude.{◌≡◌, ℤ, List, ◌++◌, [], ◌∷◌, Some, true, false, OnOk, IfOk};
 ghost use Rattle.device_io.specs.Common.{Sends};
 ghost use Rattle.ring_machine.specs.Common.{Close, feature, Proper, WellFormed};
-ghost use Rattle.topo_outline.specs.Common.{view_head};
 ghost use Rattle.map_frame.specs.Common.{Stands, view_item_view};
-ghost use Rattle.map_text.specs.Common.{comma_if, items_text, opening_text};
+ghost use Rattle.map_text.specs.Common.{comma_if, items_text};
 ghost use Rattle.topo_writer.specs.Faults.{of_device};
 ghost use Rattle.topo_writer.specs.Items.{feature_at, items_written, leaf_text, open_heads};
 ghost use Rattle.topo_writer.specs.Items.{written, IsThere, ShowsLayer};
@@ -21,24 +20,6 @@ use device_io::{Sink, put_all};
 use segment_index::SegIndex;
 use std::alloc::{AllocError, Allocator};
 use topo_outline::Head;
-
-/// Appends a collection up to the begin of the list of its geometries.
-fn push_open<'m, 'a, A: Allocator + Copy>(
-    text: &mut Vec<u8, A>,
-    heads: &mut Vec<&'m Head<'a, A>, A>,
-    more: bool,
-    head: &'m Head<'a, A>,
-) -> Result<(), AllocError>
-    ensures text { OnOk result (text.new.items
-        ≡ text.old.items ++ (comma_if more ++ opening_text (view_head head.now))) }
-    ensures heads { OnOk result (open_heads heads.new.items
-        ≡ view_head head.now ∷ open_heads heads.old.items) }
-{
-    push_comma(text, more)?;
-    push_opening(text, head)?;
-    heads.push(head)?;
-    Ok(())
-}
 
 /// Appends the end of the innermost collection that is open; nothing where none is.
 fn push_close<'m, 'a, A: Allocator + Copy>(
@@ -82,18 +63,6 @@ fn push_leaf<'a, I: SegIndex, A: Allocator + Copy>(
     Ok(())
 }
 
-/// Appends a text that was kept.
-fn push_kept_text<A: Allocator + Copy>(
-    text: &mut Vec<u8, A>,
-    more: bool,
-    kept: &[u8],
-) -> Result<(), AllocError>
-    ensures { OnOk result (text.new.items ≡ text.old.items ++ (comma_if more ++ kept.now)) }
-{
-    push_comma(text, more)?;
-    text.extend_from_slice(kept)
-}
-
 /// Appends an item into the innermost of these collections, after a comma where something stands
 /// there already. Whether something stands before what follows.
 fn push_item<'m, 'a, I: SegIndex, A: Allocator + Copy>(
@@ -119,7 +88,9 @@ fn push_item<'m, 'a, I: SegIndex, A: Allocator + Copy>(
 {
     match item {
         ItemView::Open(head) => {
-            push_open(text, heads, more, head)?;
+            push_comma(text, more)?;
+            push_opening(text, head)?;
+            heads.push(head)?;
             Ok(false)
         }
         ItemView::Close => {
@@ -131,7 +102,8 @@ fn push_item<'m, 'a, I: SegIndex, A: Allocator + Copy>(
             Ok(true)
         }
         ItemView::Kept(kept) => {
-            push_kept_text(text, more, kept)?;
+            push_comma(text, more)?;
+            text.extend_from_slice(kept)?;
             Ok(true)
         }
     }

@@ -75,7 +75,7 @@ fn pair_at(delta: bool, arc: &[Pos], i: usize) -> (i64, i64)
 }
 
 /// Appends an arc.
-fn push_arc<A: Allocator + Copy>(
+pub(crate) fn push_arc<A: Allocator + Copy>(
     text: &mut Vec<u8, A>,
     delta: bool,
     arc: &[Pos],
@@ -90,20 +90,6 @@ fn push_arc<A: Allocator + Copy>(
     }
     text.push(b']')?;
     Ok(())
-}
-
-/// Appends an arc, and a comma where something stands before.
-pub(crate) fn push_next<A: Allocator + Copy>(
-    text: &mut Vec<u8, A>,
-    delta: bool,
-    arc: &[Pos],
-    more: bool,
-) -> Result<(), AllocError>
-    ensures { OnOk result (text.new.items
-        ≡ text.old.items ++ (comma_if more ++ arc_text delta arc.now)) }
-{
-    push_comma(text, more)?;
-    push_arc(text, delta, arc)
 }
 
 /// Appends a ring by the indexes of its arcs.

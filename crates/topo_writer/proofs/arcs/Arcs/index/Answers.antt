@@ -75,6 +75,6 @@ returns-clause-arcs g c arcs h f =
       };
       listed =
           ap (λ v. v.items) (c.in_ok-note-2.ensures.listed ∙ c.in_ok-note.ensures.listed)
-          ∙ listed_push c.args.self.now.delta arcs c.args.piece.now c.args.self.now.count _ _ h.has.counts h.listed c.in_ok-push_next.ensures
+          ∙ listed_push c.args.self.now.delta arcs c.args.piece.now c.args.self.now.count _ _ _ h.has.counts h.listed c.in_ok-push_comma.ensures c.in_ok-push_arc.ensures
           ∙ ap₂ (λ b z. listed_arcs b z) (sym (c.in_ok-note-2.ensures.delta ∙ c.in_ok-note.ensures.delta)) (sym (grown g c arcs h));
     }
