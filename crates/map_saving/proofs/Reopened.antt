@@ -1,5 +1,5 @@
 -- A text that was read and built again opens as what was saved.
-use Rattle.kit_words.proofs.Common.{◌≡◌, ℕ, List, [], ◌++◌, sym, ap, ◌∙◌, subst, Some, None, Appends}
+use Rattle.kit_words.proofs.Common.{◌≡◌, ℕ, List, [], ◌++◌, sym, ap, ◌∙◌, subst, Some, None, Result, Ok, Err, IsErrAnd, IfErr, Appends}
 use Rattle.grid_geometry.specs.Common.{Segment}
 use Rattle.ring_machine.specs.Common.{Document, first_pair, Proper, Same}
 use Rattle.map_text.specs.Common.{Saved, text_of}
@@ -38,6 +38,12 @@ pub unsaved_fault : (bytes : List ℕ) (d : Document) (r : SaveFault) → bytes 
 unsaved_fault bytes d (Conflict s t) e u = absurd u
 unsaved_fault bytes d Unopened e u = subst (λ (z : List ℕ). ¬ HasOpened z) e u
 unsaved_fault bytes d OutOfMemory e u = tt
+
+-- the same, handed on
+pub handed_on : {X : Type 0} (bytes : List ℕ) (d : Document) (r : SaveFault) (result : Result X SaveFault) → IsErrAnd result (λ e. e ≡ r)
+    → bytes ≡ text_of d → IsUnopened bytes r → IfErr result (IsUnsaved d)
+handed_on bytes d r (Ok x) is e u = absurd is
+handed_on bytes d r (Err f) is e u = subst (IsUnsaved d) (sym is) (unsaved_fault bytes d r e u)
 
 -- what is told of a map that is not built
 pub unbuilt_fault : (d : Document) (f : BuildFault) → Names f (first_pair d) → IsUnsaved d (unbuilt f)

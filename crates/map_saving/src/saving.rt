@@ -99,8 +99,6 @@ pub fn saved_text<'a, A: Allocator + Copy>(
     ensures fault { IfErr result (IsUnsaved (document_of (view_raw raw.entry))) }
 {
     let text = written(alloc, heap, seed, raw)?;
-    match opened(alloc, heap, seed, text.as_slice()) {
-        Ok(()) => Ok(text),
-        Err(fault) => Err(fault),
-    }
+    opened(alloc, heap, seed, text.as_slice())?;
+    Ok(text)
 }
