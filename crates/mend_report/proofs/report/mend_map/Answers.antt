@@ -30,15 +30,22 @@ returns-clause-whole g c =
     (c.with_transform-map.ensures ∙ ap (λ t. under t (view_raw c.in-Ok.seen.map)) c.text-transform.ensures) c.in-Ok-remake.ensures.remade)
 
 pub returns-clause-told : goal.returns-clause-told
-returns-clause-told g c =
-    (opened_of c.in-Ok.seen, c.in-Ok.seen.report.grid, c.in-Ok.ensures.opened, c.in-Ok.ensures.told,
-    (c.in-Ok.seen.report.findings, c.in-Ok.ensures.found, c.in_ok-push_mended.ensures))
+returns-clause-told g c = (
+  opened_of c.in-Ok.seen,
+  c.in-Ok.seen.report.grid,
+  c.in-Ok.ensures.opened,
+  c.in-Ok.ensures.told,
+  (c.in-Ok.seen.report.findings, c.in-Ok.ensures.found, c.in_ok-push_mended.ensures),
+)
 
 pub returns-clause-placed : goal.returns-clause-placed
 returns-clause-placed g c =
     let o = opened_of c.in-Ok.seen in
-    let found = c.in-Ok.seen.report.findings in
-    (o, c.in-Ok.ensures.opened, remade_placed o found c.in-Ok-remake.remade c.put_places.new.places c.in-Ok.ensures.found
-    (placed_same o found _ _ _ _ c.put_places.new.places c.text-transform.ensures
-    (ap features_seen c.as_slice-walks.ensures.value ∙ walks_copied _ _ c.in_ok-walks.ensures.cases.0)
-    (ap (λ ps. Some (paths_seen ps)) c.as_slice-2.ensures.value) c.in_ok-put_places.ensures.placed))
+    let found = c.in-Ok.seen.report.findings in (
+      o,
+      c.in-Ok.ensures.opened,
+      remade_placed o found c.in-Ok-remake.remade c.put_places.new.places c.in-Ok.ensures.found
+          (placed_same o found _ _ _ _ c.put_places.new.places c.text-transform.ensures
+          (ap features_seen c.as_slice-walks.ensures.value ∙ walks_copied _ _ c.in_ok-walks.ensures.cases.0)
+          (ap (λ ps. Some (paths_seen ps)) c.as_slice-2.ensures.value) c.in_ok-put_places.ensures.placed),
+    )
