@@ -1,52 +1,41 @@
-//! The same edits of the slow program over plain rings and of the map of shared borders: the same
-//! answers, and after each edit the same rings.
+//! Drawn edits of plain rings and of the map of shared borders: the same answers, and after each edit
+//! the same rings.
 ghost use Rattle.std.specs.Prelude.{◌≡◌};
 ghost use Rattle.std.specs.FinSet as set;
 
-use crate::made::{Cells, Drawn, cells_text};
+use crate::drawn::Drawn;
+use crate::edits::{Answer, Edit};
+use crate::maps::{HOLES, Pair, map_over};
+use crate::plain::{is_like, make_both, plain_map};
 use arc_store::{EditFault, Map};
-use edit_vertex::{insert_vertex, move_vertex, remove_vertex, thin};
-use fixed_seed::fixed_seed;
 use given_maps::{COLUMBUS, UNION_ABOVE};
 use grid_geometry::{Pos, Rect};
-use plain_rings::{EditFault as PlainFault, PlainMap};
+use plain_rings::PlainMap;
 use segment_index::{GridIndex, ListIndex, SegIndex};
-use std::alloc::{AllocError, Allocator, Global};
+use std::alloc::Global;
 use std::process::Abort;
-use std::test::Fail;
-use topo_reader::read;
-
-// a polygon with a hole at its corner, and another hole that turns right
-const HOLES: &str =
-    r#"{"type":"Topology","objects":{"h":{"type":"GeometryCollection","geometries":[{"type":"Polygon","arcs":[[0],[1],[2]]}]}},"arcs":[[[0,0],[10,0],[20,0],[20,10],[10,10],[0,10],[0,0]],[[0,0],[2,4],[4,2],[0,0]],[[14,4],[14,6],[16,6],[16,4],[14,4]]]}"#;
 
 // two neighbours with a gap between them
 const TWO_RUNS: &str =
     r#"{"type":"Topology","objects":{"l":{"type":"GeometryCollection","geometries":[{"type":"Polygon","arcs":[[0,1,2,3]]},{"type":"Polygon","arcs":[[-1,4,-3,5]]}]}},"arcs":[[[10,0],[10,3]],[[10,3],[8,5],[10,7]],[[10,7],[10,10]],[[10,10],[0,10],[0,0],[10,0]],[[10,0],[20,0],[20,10],[10,10]],[[10,7],[12,5],[10,3]]]}"#;
 
-/// An edit of one vertex.
-#[derive(Clone, Copy, Debug)]
-pub(crate) enum Edit {
-    Move(Pos, Pos),
-    Insert(Pos, Pos, Pos),
-    Remove(Pos),
-    Thin(u32),
-}
+// cells in two rows of three, whose sides have a vertex off the line
+const CELLS: &str =
+    r#"{"type":"Topology","objects":{"m":{"type":"GeometryCollection","geometries":[{"type":"Polygon","arcs":[[0]]},{"type":"Polygon","arcs":[[1]]},{"type":"Polygon","arcs":[[2]]},{"type":"Polygon","arcs":[[3]]},{"type":"Polygon","arcs":[[4]]},{"type":"Polygon","arcs":[[5]]}]}},"arcs":[
+[[0,0],[4,-1],[8,0],[9,4],[8,8],[4,7],[0,8],[-1,4],[0,0]],[[8,0],[12,-1],[16,0],[16,4],[16,8],[12,8],[8,8],[9,4],[8,0]],[[16,0],[20,1],[24,0],[24,4],[24,8],[20,7],[16,8],[16,4],[16,0]],[[0,8],[4,7],[8,8],[7,12],[8,16],[4,16],[0,16],[0,12],[0,8]],[[8,8],[12,8],[16,8],[16,12],[16,16],[12,17],[8,16],[7,12],[8,8]],[[16,8],[20,7],[24,8],[25,12],[24,16],[20,16],[16,16],[16,12],[16,8]]]}"#;
 
-/// The position, which is in range.
-pub(crate) fn at<R: Abort>(rt: &R, x: i64, y: i64) -> Pos {
-    Pos::new(x, y).expect(rt, "in range")
-}
+/// How many edits are drawn.
+const COUNT: u32 = 300;
 
 /// Where edits are drawn.
-#[derive(Clone, Copy)]
 struct Field {
-    left: i32,
-    low: i32,
+    left: i64,
+    low: i64,
     width: u32,
     height: u32,
-    /// How far a vertex goes at most, to each side.
-    step: u32,
+    /// The least that a vertex goes to each side, and how many ways there are.
+    by: i64,
+    ways: u32,
     /// The bound of a thinning is below this.
     flat: u32,
 }
@@ -57,7 +46,8 @@ const SMALL: Field = Field {
     low: -2,
     width: 30,
     height: 20,
-    step: 3,
+    by: -3,
+    ways: 7,
     flat: 6,
 };
 
@@ -67,59 +57,35 @@ const REAL: Field = Field {
     low: 290_000,
     width: 527_000,
     height: 441_000,
-    step: 3000,
+    by: -3000,
+    ways: 6001,
     flat: 2_000_000,
 };
 
-/// A position of the field.
-fn drawn_position<R: Abort>(rt: &R, field: &Field, drawn: &mut Drawn) -> Pos {
-    let x = drawn.from(field.left, field.width);
-    let y = drawn.from(field.low, field.height);
-    at(rt, x, y)
+/// The coordinates of the position.
+fn pair(p: &Pos) -> Pair {
+    (p.x(), p.y())
 }
 
-/// A bound of a thinning.
-fn drawn_bound(field: &Field, drawn: &mut Drawn) -> u32 {
-    u32::try_from(drawn.below(u64::from(field.flat))).unwrap_or(0)
-}
-
-/// A position near this one.
-fn drawn_near<R: Abort>(rt: &R, field: &Field, p: Pos, drawn: &mut Drawn) -> Pos {
-    let step = i64::from(field.step);
-    let count = field.step.saturating_mul(2).saturating_add(1);
-    let x = p
-        .x()
-        .saturating_add(drawn.from(0, count))
-        .saturating_sub(step);
-    let y = p
-        .y()
-        .saturating_add(drawn.from(0, count))
-        .saturating_sub(step);
-    at(rt, x, y)
-}
-
-/// A ring of the map, and a place in it.
-fn drawn_place(plain: &PlainMap<'_>, drawn: &mut Drawn) -> Option<(Pos, Pos)> {
+/// A vertex of some ring of the map, and the next one.
+fn drawn_place(plain: &PlainMap<'_>, drawn: &mut Drawn) -> Option<(Pair, Pair)> {
     let features = plain.polygons();
     let polygons = features.get(drawn.below(features.len() as u64) as usize)?;
     let rings = polygons.get(drawn.below(polygons.len() as u64) as usize)?;
     let ring = rings.get(drawn.below(rings.len() as u64) as usize)?;
     let n = drawn.below(ring.len() as u64) as usize;
-    let p = ring.get(n)?;
-    match ring.get(n.wrapping_add(1)) {
-        Some(next) => Some((*p, *next)),
-        None => Some((*p, *ring.get(0)?)),
-    }
+    let next = n.wrapping_add(1);
+    let next = if next < ring.len() { next } else { 0 };
+    Some((pair(ring.get(n)?), pair(ring.get(next)?)))
 }
 
 /// An edit that may be accepted or refused.
-fn drawn_edit<R: Abort>(rt: &R, field: &Field, plain: &PlainMap<'_>, drawn: &mut Drawn) -> Edit {
-    let other = drawn_position(rt, field, drawn);
-    let (p, next) = match drawn_place(plain, drawn) {
-        Some(place) => place,
-        None => (other, other),
-    };
-    let by = drawn_near(rt, field, p, drawn);
+fn drawn_edit(field: &Field, plain: &PlainMap<'_>, drawn: &mut Drawn) -> Edit {
+    let x = drawn.from(field.left, field.width);
+    let other = (x, drawn.from(field.low, field.height));
+    let (p, next) = drawn_place(plain, drawn).unwrap_or((other, other));
+    let x = p.0.wrapping_add(drawn.from(field.by, field.ways));
+    let by = (x, p.1.wrapping_add(drawn.from(field.by, field.ways)));
     match drawn.below(40) {
         0 => Edit::Move(other, by),
         1 => Edit::Move(p, next),
@@ -131,165 +97,48 @@ fn drawn_edit<R: Abort>(rt: &R, field: &Field, plain: &PlainMap<'_>, drawn: &mut
         17..=19 => Edit::Insert(next, p, other),
         20..=28 => Edit::Insert(p, next, by),
         29 => Edit::Remove(other),
-        30 => Edit::Thin(drawn_bound(field, drawn)),
+        30 => Edit::Thin(u32::try_from(drawn.below(u64::from(field.flat))).unwrap_or(0)),
         _ => Edit::Remove(p),
     }
 }
 
-/// The same fault, as the map has it.
-fn as_stored(fault: PlainFault) -> EditFault {
-    match fault {
-        PlainFault::NoVertex => EditFault::NoVertex,
-        PlainFault::NoSegment => EditFault::NoSegment,
-        PlainFault::Occupied => EditFault::Occupied,
-        PlainFault::Junction => EditFault::Junction,
-        PlainFault::RingShort => EditFault::RingShort,
-        PlainFault::SegmentExists => EditFault::SegmentExists,
-        PlainFault::TooLarge => EditFault::TooLarge,
-        PlainFault::Conflict { s, t } => EditFault::Conflict { s, t },
-        PlainFault::Sweeps => EditFault::Sweeps,
-        PlainFault::OutOfMemory => EditFault::OutOfMemory,
-    }
-}
-
-/// What the edit is answered over plain rings; of a thinning, how many vertices went.
-fn plain_answer(plain: &mut PlainMap<'_>, edit: Edit) -> Result<u64, EditFault> {
-    let answer = match edit {
-        Edit::Move(p, q) => plain.move_vertex(p, q),
-        Edit::Insert(a, b, q) => plain.insert_vertex(a, b, q),
-        Edit::Remove(p) => plain.remove_vertex(p),
-        Edit::Thin(t) => {
-            return match plain.thin(i128::from(t)) {
-                Ok(n) => Ok(n),
-                Err(_) => Err(EditFault::OutOfMemory),
-            };
-        }
-    };
-    match answer {
-        Ok(()) => Ok(0),
-        Err(fault) => Err(as_stored(fault)),
-    }
-}
-
-/// What the edit is answered; of a thinning, how many vertices went.
-pub(crate) fn answer<I: SegIndex, A: Allocator + Copy>(
-    map: &mut Map<'_, I, A>,
-    edit: Edit,
-) -> Result<u64, EditFault> {
-    let answer = match edit {
-        Edit::Move(p, q) => move_vertex(map, p, q),
-        Edit::Insert(a, b, q) => insert_vertex(map, a, b, q),
-        Edit::Remove(p) => remove_vertex(map, p),
-        Edit::Thin(t) => {
-            return match thin(map, i128::from(t)) {
-                Ok(n) => Ok(n),
-                Err(_) => Err(EditFault::OutOfMemory),
-            };
-        }
-    };
-    match answer {
-        Ok(()) => Ok(0),
-        Err(fault) => Err(fault),
-    }
-}
-
-/// Whether the ring of these numbers has these positions, from the least one on.
-fn is_ring<I: SegIndex, A: Allocator + Copy>(
-    map: &Map<'_, I, A>,
-    feature: u32,
-    polygon: usize,
-    ring: usize,
-    positions: &[Pos],
-) -> bool {
-    let Some(mut found) = map.ring(feature, polygon, ring) else {
-        return false;
-    };
-    for p in positions {
-        match found.next() {
-            Some(q) if q == *p => (),
-            _ => return false,
-        }
-    }
-    found.next().is_none()
-}
-
-/// Whether the polygon of these numbers has these rings.
-fn is_polygon<I: SegIndex, A: Allocator + Copy>(
-    map: &Map<'_, I, A>,
-    feature: u32,
-    polygon: usize,
-    rings: &[Vec<Pos>],
-) -> bool {
-    for (n, ring) in rings.iter().enumerate() {
-        if !is_ring(map, feature, polygon, n, ring.as_slice()) {
-            return false;
-        }
-    }
-    map.ring(feature, polygon, rings.len()).is_none()
-}
-
-/// Whether the map has these rings.
-pub(crate) fn has_rings<I: SegIndex, A: Allocator + Copy>(
-    map: &Map<'_, I, A>,
-    features: &[Vec<Vec<Vec<Pos>>>],
-) -> bool {
-    let mut feature = 0u32;
-    for polygons in features {
-        for (n, rings) in polygons.iter().enumerate() {
-            if !is_polygon(map, feature, n, rings.as_slice()) {
-                return false;
-            }
-        }
-        feature = feature.wrapping_add(1);
-    }
-    map.feature_count() == features.len()
-}
-
-/// How many vertices the map lists.
-pub(crate) fn vertex_total<I: SegIndex, A: Allocator + Copy>(
-    map: &Map<'_, I, A>,
-) -> Result<usize, AllocError> {
-    let vertices = map.vertices()?;
-    let total = vertices.len();
-    drop(vertices);
-    Ok(total)
-}
-
 /// How many of the edits were answered so.
-#[derive(Clone, Copy, Debug, PartialEq, Eq)]
+#[derive(Clone, Copy)]
 struct Tally {
-    accepted: usize,
-    refused: usize,
-    conflicts: usize,
-    sweeps: usize,
+    accepted: u32,
+    /// For any other reason than these.
+    refused: u32,
+    conflicts: u32,
+    sweeps: u32,
     /// How many vertices the thinnings left out.
     thinned: u64,
 }
 
 impl Tally {
     /// Counts an edit that was answered so.
-    fn count(&mut self, answer: Result<u64, EditFault>) {
-        match answer {
+    fn count(&mut self, answer: Answer) {
+        let counted = match answer {
             Ok(gone) => {
-                self.accepted = self.accepted.wrapping_add(1);
                 self.thinned = self.thinned.wrapping_add(gone);
+                &mut self.accepted
             }
-            Err(EditFault::Conflict { .. }) => self.conflicts = self.conflicts.wrapping_add(1),
-            Err(EditFault::Sweeps) => self.sweeps = self.sweeps.wrapping_add(1),
-            Err(_) => self.refused = self.refused.wrapping_add(1),
-        }
+            Err(EditFault::Conflict { .. }) => &mut self.conflicts,
+            Err(EditFault::Sweeps) => &mut self.sweeps,
+            Err(_) => &mut self.refused,
+        };
+        *counted = counted.wrapping_add(1);
     }
 }
 
-/// Makes drawn edits of both maps, and compares answers and rings. Gives how they were answered.
+/// Makes drawn edits of both maps. Gives how they were answered.
 fn compare<R: Abort, I: SegIndex>(
     rt: &R,
+    alloc: Global,
     plain: &mut PlainMap<'_>,
     map: &mut Map<'_, I>,
     field: &Field,
     start: u64,
-    count: u32,
-) -> Result<Tally, Fail> {
+) -> Tally {
     let mut drawn = Drawn::new(start);
     let mut tally = Tally {
         accepted: 0,
@@ -298,52 +147,15 @@ fn compare<R: Abort, I: SegIndex>(
         sweeps: 0,
         thinned: 0,
     };
-    for n in 0..count {
-        let edit = drawn_edit(rt, field, plain, &mut drawn);
-        let want = plain_answer(plain, edit);
-        let got = answer(map, edit);
-        assert_eq!(rt; got, want, "edit {n} from {start}: {edit:?}");
-        assert!(rt;
-            has_rings(map, plain.polygons()),
-            "after edit {n} from {start}: {edit:?}"
-        );
-        assert_eq!(rt; vertex_total(map)?, map.vertex_count());
-        tally.count(got);
+    assert!(rt; is_like(rt, map, plain), "at the start");
+    for _ in 0..COUNT {
+        let edit = drawn_edit(field, plain, &mut drawn);
+        tally.count(make_both(rt, alloc, plain, map, edit));
     }
-    Ok(tally)
+    tally
 }
 
-/// The plain map of the text.
-pub(crate) fn plain_map<'a, R: Abort>(rt: &R, alloc: Global, text: &'a str) -> PlainMap<'a> {
-    match read(alloc, alloc, text.as_bytes()) {
-        Ok(raw) => match PlainMap::build(alloc, raw) {
-            Ok(plain) => plain,
-            Err(_) => panic!(rt; "no two segments conflict"),
-        },
-        Err(_) => panic!(rt; "the text opens"),
-    }
-}
-
-/// The map of the text.
-pub(crate) fn stored_map<'a, R: Abort, I: SegIndex>(
-    rt: &R,
-    alloc: Global,
-    text: &'a str,
-    index: I,
-) -> Map<'a, I>
-    requires { I.held index ≡ set.empty }
-{
-    let seed = fixed_seed().expect(rt, "a seed");
-    match read(alloc, alloc, text.as_bytes()) {
-        Ok(raw) => match Map::build(alloc, seed, raw, index) {
-            Ok(map) => map,
-            Err(_) => panic!(rt; "no two segments conflict"),
-        },
-        Err(_) => panic!(rt; "the text opens"),
-    }
-}
-
-/// Compares drawn edits of the map of this text.
+/// Compares drawn edits of the map of this text. Gives how they were answered.
 fn compare_text<R: Abort, I: SegIndex>(
     rt: &R,
     alloc: Global,
@@ -351,61 +163,57 @@ fn compare_text<R: Abort, I: SegIndex>(
     index: I,
     field: &Field,
     start: u64,
-    count: u32,
-) -> Result<Tally, Fail>
+) -> Tally
     requires { I.held index ≡ set.empty }
 {
+    let mut map = map_over(alloc, alloc, text, index).expect(rt, "the text opens");
     let mut plain = plain_map(rt, alloc, text);
-    let mut map = stored_map(rt, alloc, text, index);
-    assert!(rt; has_rings(&map, plain.polygons()), "at the start");
-    let tally = compare(rt, &mut plain, &mut map, field, start, count);
-    drop(map);
+    let tally = compare(rt, alloc, &mut plain, &mut map, field, start);
     drop(plain);
+    drop(map);
     tally
 }
 
+/// The same over a grid of this extent.
+fn compare_grid<R: Abort>(
+    rt: &R,
+    alloc: Global,
+    text: &str,
+    extent: Option<Rect>,
+    field: &Field,
+    start: u64,
+) -> Tally {
+    match GridIndex::new(alloc, extent) {
+        Ok(grid) => compare_text(rt, alloc, text, grid, field, start),
+        Err(_) => panic!(rt; "memory"),
+    }
+}
+
 /// Compares drawn edits of the map of this text over a list and over a grid.
-fn compare_both<R: Abort>(rt: &R, alloc: Global, text: &str, start: u64) -> Result<(), Fail> {
-    let list = ListIndex::new(alloc);
-    let tally = compare_text(rt, alloc, text, list, &SMALL, start, 300)?;
-    assert!(rt;
-        20 < tally.accepted && 20 < tally.refused,
-        "{start}: {tally:?}"
-    );
-    let grid = GridIndex::new(alloc, Rect::new(0, 0, 24, 16))?;
-    compare_text(rt, alloc, text, grid, &SMALL, start.wrapping_add(10), 300)?;
-    Ok(())
+fn compare_both<R: Abort>(rt: &R, alloc: Global, text: &str, start: u64) {
+    let tally = compare_text(rt, alloc, text, ListIndex::new(alloc), &SMALL, start);
+    assert!(rt; 20 < tally.accepted && 20 < tally.refused, "{start}");
+    let extent = Rect::new(0, 0, 24, 16);
+    compare_grid(rt, alloc, text, extent, &SMALL, start.wrapping_add(10));
 }
 
 #[test]
-fn the_same_as_plain_rings(rt: HostRuntime) -> Result<(), Fail> {
-    let alloc = rt.alloc();
-    compare_both(&rt, alloc, UNION_ABOVE, 0)?;
-    compare_both(&rt, alloc, HOLES, 1)?;
-    compare_both(&rt, alloc, TWO_RUNS, 2)
+fn the_same_as_plain_rings(rt: HostRuntime) {
+    compare_both(&rt, rt.alloc(), UNION_ABOVE, 0);
+    compare_both(&rt, rt.alloc(), HOLES, 1);
+    compare_both(&rt, rt.alloc(), TWO_RUNS, 2);
 }
 
 #[test]
-fn the_same_on_cells(rt: HostRuntime) -> Result<(), Fail> {
-    let cells = Cells {
-        columns: 3,
-        rows: 2,
-        parts: 2,
-        step: 4,
-    };
-    let made = cells_text(rt.alloc(), cells)?;
-    let compared = compare_both(&rt, rt.alloc(), made.as_str(), 3);
-    drop(made);
-    compared
+fn the_same_on_cells(rt: HostRuntime) {
+    compare_both(&rt, rt.alloc(), CELLS, 3);
 }
 
 /// Edits of a part of a real map.
 #[test]
-fn the_same_on_a_real_map(rt: HostRuntime) -> Result<(), Fail> {
-    let alloc = rt.alloc();
-    let grid = GridIndex::new(alloc, Rect::new(356_039, 290_608, 882_173, 730_496))?;
-    let tally = compare_text(&rt, alloc, COLUMBUS, grid, &REAL, 20, 300)?;
-    assert!(rt; 50 < tally.accepted && 20 < tally.refused, "{tally:?}");
-    assert!(rt; 0 < tally.conflicts && 0 < tally.thinned, "{tally:?}");
-    Ok(())
+fn the_same_on_a_real_map(rt: HostRuntime) {
+    let extent = Rect::new(356_039, 290_608, 882_173, 730_496);
+    let tally = compare_grid(&rt, rt.alloc(), COLUMBUS, extent, &REAL, 20);
+    assert!(rt; 50 < tally.accepted && 20 < tally.refused);
+    assert!(rt; 0 < tally.conflicts && 0 < tally.thinned);
 }

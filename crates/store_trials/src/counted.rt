@@ -1,65 +1,29 @@
 //! How many pairs of segments an edit tests.
-use crate::compared::at;
+use crate::maps::{at, in_grid};
 use arc_store::{EditFault, Map};
 use edit_vertex::{move_vertex, remove_vertex};
-use fixed_seed::fixed_seed;
+use grid_geometry::Rect;
 use segment_index::GridIndex;
-use std::alloc::{AllocError, Global};
 use std::process::Abort;
-use std::test::Fail;
-use topo_reader::read;
 
-/// Appends the polygon of this number, which has the arc of that number.
-fn push_polygon(alloc: Global, text: &mut String, n: u32) -> Result<(), AllocError> {
-    let comma = if n == 0 { "" } else { "," };
-    let polygon = format!(in alloc; r#"{comma}{{"type":"Polygon","arcs":[[{n}]]}}"#)?;
-    let pushed = text.push_str(polygon.as_str());
-    drop(polygon);
-    pushed
-}
-
-/// Appends the arc of this number, round a square.
-fn push_arc(alloc: Global, text: &mut String, n: u32) -> Result<(), AllocError> {
-    let comma = if n == 0 { "" } else { "," };
-    let left = u64::from(n).wrapping_mul(100);
-    let right = left.wrapping_add(10);
-    let arc = format!(in alloc;
-        "{comma}[[{left},0],[{right},0],[{right},10],[{left},10],[{left},0]]"
-    )?;
-    let pushed = text.push_str(arc.as_str());
-    drop(arc);
-    pushed
-}
-
-/// Appends the text of so many squares in a row, each of side 10, every 100.
-fn push_squares(alloc: Global, text: &mut String, count: u32) -> Result<(), AllocError> {
-    text.push_str(
-        r#"{"type":"Topology","objects":{"m":{"type":"GeometryCollection","geometries":["#,
-    )?;
-    for n in 0..count {
-        push_polygon(alloc, text, n)?;
-    }
-    text.push_str("]}},\"arcs\":[")?;
-    for n in 0..count {
-        push_arc(alloc, text, n)?;
-    }
-    text.push_str("]}")
-}
-
-/// The map of these squares in a grid of their extent.
-fn squares<'a, R: Abort>(rt: &R, alloc: Global, text: &'a str) -> Map<'a, GridIndex> {
-    let seed = fixed_seed().expect(rt, "a seed");
-    match read(alloc, alloc, text.as_bytes()) {
-        Ok(raw) => match GridIndex::new(alloc, raw.extent()) {
-            Ok(index) => match Map::build(alloc, seed, raw, index) {
-                Ok(map) => map,
-                Err(_) => panic!(rt; "no two segments conflict"),
-            },
-            Err(_) => panic!(rt; "there is memory"),
-        },
-        Err(_) => panic!(rt; "the text opens"),
-    }
-}
+// 64 squares in a row, each of side 10, every 100
+const ROW: &str = r#"{"type":"Topology","objects":{"m":{"type":"GeometryCollection","geometries":[
+{"type":"Polygon","arcs":[[0]]},{"type":"Polygon","arcs":[[1]]},{"type":"Polygon","arcs":[[2]]},{"type":"Polygon","arcs":[[3]]},{"type":"Polygon","arcs":[[4]]},{"type":"Polygon","arcs":[[5]]},{"type":"Polygon","arcs":[[6]]},{"type":"Polygon","arcs":[[7]]},
+{"type":"Polygon","arcs":[[8]]},{"type":"Polygon","arcs":[[9]]},{"type":"Polygon","arcs":[[10]]},{"type":"Polygon","arcs":[[11]]},{"type":"Polygon","arcs":[[12]]},{"type":"Polygon","arcs":[[13]]},{"type":"Polygon","arcs":[[14]]},{"type":"Polygon","arcs":[[15]]},
+{"type":"Polygon","arcs":[[16]]},{"type":"Polygon","arcs":[[17]]},{"type":"Polygon","arcs":[[18]]},{"type":"Polygon","arcs":[[19]]},{"type":"Polygon","arcs":[[20]]},{"type":"Polygon","arcs":[[21]]},{"type":"Polygon","arcs":[[22]]},{"type":"Polygon","arcs":[[23]]},
+{"type":"Polygon","arcs":[[24]]},{"type":"Polygon","arcs":[[25]]},{"type":"Polygon","arcs":[[26]]},{"type":"Polygon","arcs":[[27]]},{"type":"Polygon","arcs":[[28]]},{"type":"Polygon","arcs":[[29]]},{"type":"Polygon","arcs":[[30]]},{"type":"Polygon","arcs":[[31]]},
+{"type":"Polygon","arcs":[[32]]},{"type":"Polygon","arcs":[[33]]},{"type":"Polygon","arcs":[[34]]},{"type":"Polygon","arcs":[[35]]},{"type":"Polygon","arcs":[[36]]},{"type":"Polygon","arcs":[[37]]},{"type":"Polygon","arcs":[[38]]},{"type":"Polygon","arcs":[[39]]},
+{"type":"Polygon","arcs":[[40]]},{"type":"Polygon","arcs":[[41]]},{"type":"Polygon","arcs":[[42]]},{"type":"Polygon","arcs":[[43]]},{"type":"Polygon","arcs":[[44]]},{"type":"Polygon","arcs":[[45]]},{"type":"Polygon","arcs":[[46]]},{"type":"Polygon","arcs":[[47]]},
+{"type":"Polygon","arcs":[[48]]},{"type":"Polygon","arcs":[[49]]},{"type":"Polygon","arcs":[[50]]},{"type":"Polygon","arcs":[[51]]},{"type":"Polygon","arcs":[[52]]},{"type":"Polygon","arcs":[[53]]},{"type":"Polygon","arcs":[[54]]},{"type":"Polygon","arcs":[[55]]},
+{"type":"Polygon","arcs":[[56]]},{"type":"Polygon","arcs":[[57]]},{"type":"Polygon","arcs":[[58]]},{"type":"Polygon","arcs":[[59]]},{"type":"Polygon","arcs":[[60]]},{"type":"Polygon","arcs":[[61]]},{"type":"Polygon","arcs":[[62]]},{"type":"Polygon","arcs":[[63]]}]}},"arcs":[
+[[0,0],[10,0],[10,10],[0,10],[0,0]],[[100,0],[110,0],[110,10],[100,10],[100,0]],[[200,0],[210,0],[210,10],[200,10],[200,0]],[[300,0],[310,0],[310,10],[300,10],[300,0]],[[400,0],[410,0],[410,10],[400,10],[400,0]],[[500,0],[510,0],[510,10],[500,10],[500,0]],[[600,0],[610,0],[610,10],[600,10],[600,0]],[[700,0],[710,0],[710,10],[700,10],[700,0]],
+[[800,0],[810,0],[810,10],[800,10],[800,0]],[[900,0],[910,0],[910,10],[900,10],[900,0]],[[1000,0],[1010,0],[1010,10],[1000,10],[1000,0]],[[1100,0],[1110,0],[1110,10],[1100,10],[1100,0]],[[1200,0],[1210,0],[1210,10],[1200,10],[1200,0]],[[1300,0],[1310,0],[1310,10],[1300,10],[1300,0]],[[1400,0],[1410,0],[1410,10],[1400,10],[1400,0]],[[1500,0],[1510,0],[1510,10],[1500,10],[1500,0]],
+[[1600,0],[1610,0],[1610,10],[1600,10],[1600,0]],[[1700,0],[1710,0],[1710,10],[1700,10],[1700,0]],[[1800,0],[1810,0],[1810,10],[1800,10],[1800,0]],[[1900,0],[1910,0],[1910,10],[1900,10],[1900,0]],[[2000,0],[2010,0],[2010,10],[2000,10],[2000,0]],[[2100,0],[2110,0],[2110,10],[2100,10],[2100,0]],[[2200,0],[2210,0],[2210,10],[2200,10],[2200,0]],[[2300,0],[2310,0],[2310,10],[2300,10],[2300,0]],
+[[2400,0],[2410,0],[2410,10],[2400,10],[2400,0]],[[2500,0],[2510,0],[2510,10],[2500,10],[2500,0]],[[2600,0],[2610,0],[2610,10],[2600,10],[2600,0]],[[2700,0],[2710,0],[2710,10],[2700,10],[2700,0]],[[2800,0],[2810,0],[2810,10],[2800,10],[2800,0]],[[2900,0],[2910,0],[2910,10],[2900,10],[2900,0]],[[3000,0],[3010,0],[3010,10],[3000,10],[3000,0]],[[3100,0],[3110,0],[3110,10],[3100,10],[3100,0]],
+[[3200,0],[3210,0],[3210,10],[3200,10],[3200,0]],[[3300,0],[3310,0],[3310,10],[3300,10],[3300,0]],[[3400,0],[3410,0],[3410,10],[3400,10],[3400,0]],[[3500,0],[3510,0],[3510,10],[3500,10],[3500,0]],[[3600,0],[3610,0],[3610,10],[3600,10],[3600,0]],[[3700,0],[3710,0],[3710,10],[3700,10],[3700,0]],[[3800,0],[3810,0],[3810,10],[3800,10],[3800,0]],[[3900,0],[3910,0],[3910,10],[3900,10],[3900,0]],
+[[4000,0],[4010,0],[4010,10],[4000,10],[4000,0]],[[4100,0],[4110,0],[4110,10],[4100,10],[4100,0]],[[4200,0],[4210,0],[4210,10],[4200,10],[4200,0]],[[4300,0],[4310,0],[4310,10],[4300,10],[4300,0]],[[4400,0],[4410,0],[4410,10],[4400,10],[4400,0]],[[4500,0],[4510,0],[4510,10],[4500,10],[4500,0]],[[4600,0],[4610,0],[4610,10],[4600,10],[4600,0]],[[4700,0],[4710,0],[4710,10],[4700,10],[4700,0]],
+[[4800,0],[4810,0],[4810,10],[4800,10],[4800,0]],[[4900,0],[4910,0],[4910,10],[4900,10],[4900,0]],[[5000,0],[5010,0],[5010,10],[5000,10],[5000,0]],[[5100,0],[5110,0],[5110,10],[5100,10],[5100,0]],[[5200,0],[5210,0],[5210,10],[5200,10],[5200,0]],[[5300,0],[5310,0],[5310,10],[5300,10],[5300,0]],[[5400,0],[5410,0],[5410,10],[5400,10],[5400,0]],[[5500,0],[5510,0],[5510,10],[5500,10],[5500,0]],
+[[5600,0],[5610,0],[5610,10],[5600,10],[5600,0]],[[5700,0],[5710,0],[5710,10],[5700,10],[5700,0]],[[5800,0],[5810,0],[5810,10],[5800,10],[5800,0]],[[5900,0],[5910,0],[5910,10],[5900,10],[5900,0]],[[6000,0],[6010,0],[6010,10],[6000,10],[6000,0]],[[6100,0],[6110,0],[6110,10],[6100,10],[6100,0]],[[6200,0],[6210,0],[6210,10],[6200,10],[6200,0]],[[6300,0],[6310,0],[6310,10],[6300,10],[6300,0]]]}"#;
 
 /// A corner of the first square moves, and then none is found where it was. In cells of 99 by 1 the
 /// first square stands alone in a column. Its right and upper sides leave. The new right side is
@@ -67,7 +31,8 @@ fn squares<'a, R: Abort>(rt: &R, alloc: Global, text: &'a str) -> Map<'a, GridIn
 /// these two have two cells in common; the boxes of the others do not meet. The two new sides are
 /// tested against each other. No side that stays has its box at the way of the corner.
 fn move_a_corner<R: Abort>(rt: &R, map: &mut Map<'_, GridIndex>) {
-    let (p, q) = (at(rt, 10, 10), at(rt, 9, 9));
+    let (p, q) = (at(rt, (10, 10)), at(rt, (9, 9)));
+    assert_eq!(rt; map.segment_count(), 256);
     assert_eq!(rt; map.tests(), 0);
     assert_eq!(rt; move_vertex(map, p, q), Ok(()));
     assert_eq!(rt; map.tests(), 1 + 1 + 1);
@@ -75,18 +40,10 @@ fn move_a_corner<R: Abort>(rt: &R, map: &mut Map<'_, GridIndex>) {
     assert_eq!(rt; map.tests(), 0);
 }
 
-/// A corner moves in the map of this text, which has 64 squares.
-fn move_among_squares<R: Abort>(rt: &R, alloc: Global, text: &str) {
-    let mut map = squares(rt, alloc, text);
-    assert_eq!(rt; map.segment_count(), 256);
-    move_a_corner(rt, &mut map);
-    drop(map);
-}
-
 #[test]
-fn few_pairs_are_tested(rt: HostRuntime) -> Result<(), Fail> {
-    let mut text = String::new(rt.alloc());
-    push_squares(rt.alloc(), &mut text, 64)?;
-    move_among_squares(&rt, rt.alloc(), text.as_str());
-    Ok(())
+fn few_pairs_are_tested(rt: HostRuntime) {
+    let extent = Rect::new(0, 0, 6310, 10);
+    let mut map = in_grid(rt.alloc(), rt.alloc(), ROW, extent).expect(&rt, "the text opens");
+    move_a_corner(&rt, &mut map);
+    drop(map);
 }

@@ -9,12 +9,16 @@ mod copies;
 #[cfg(test)]
 mod counted;
 #[cfg(test)]
+mod drawn;
+#[cfg(test)]
+mod edits;
+#[cfg(test)]
 mod features;
 #[cfg(test)]
-mod made;
+mod growths;
 #[cfg(test)]
-mod opened;
+mod maps;
 #[cfg(test)]
-mod refusals;
+mod plain;
 #[cfg(test)]
-mod refused_features;
+mod shown;
