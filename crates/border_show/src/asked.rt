@@ -1,18 +1,6 @@
 //! What the words of the program ask for.
-ghost use Rattle.std.specs.Prelude.{◌≤ℤ◌, pos};
 
-use grid_geometry::Pos;
-
-/// A part of the grid: a square of this width about a position.
-#[derive(Clone, Copy, Debug, PartialEq, Eq)]
-pub struct Part {
-    /// Its middle.
-    pub middle: Pos,
-    /// Its width.
-    pub width: i64,
-    ghost least: { pos 1 ≤ℤ width },
-    ghost most: { width ≤ℤ pos 4000000000000 },
-}
+use map_drawing::View;
 
 /// What the words of the program ask for.
 #[derive(Debug, Drop)]
@@ -23,8 +11,6 @@ pub struct Words {
     pub after: Option<String>,
     /// The path of the file that the picture is written in.
     pub out: String,
-    /// The part that is drawn; all where there is none.
-    pub part: Option<Part>,
-    /// Whether ids are written in the features.
-    pub has_ids: bool,
+    /// What is to be seen.
+    pub view: View,
 }

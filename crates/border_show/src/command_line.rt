@@ -1,10 +1,9 @@
 //! The words of the program.
-ghost use Rattle.std.specs.Prelude.{◌≡◌, ◌≤ℤ◌, pos, IfSome};
-
-use crate::asked::{Part, Words};
+use crate::asked::Words;
 use clap::error::ErrorKind;
 use clap::{Arg, ArgAction, ArgMatches, Command};
 use grid_geometry::Pos;
+use map_drawing::{View, Window};
 use program_ends::{VERSION, copied};
 use std::alloc::{AllocError, Global};
 
@@ -52,7 +51,7 @@ fn command<'a>(alloc: Global) -> Result<Command<'a>, AllocError> {
 }
 
 /// The part that three values say.
-fn part_of(values: &[&str]) -> Option<Part> {
+fn part_of(values: &[&str]) -> Option<Window> {
     let [x, y, width] = values else {
         return None;
     };
@@ -60,11 +59,10 @@ fn part_of(values: &[&str]) -> Option<Part> {
     let y = y.parse::<i64>().ok()?;
     let width = width.parse::<i64>().ok()?;
     let middle = Pos::new(x, y)?;
-    if 1 <= width && width <= MOST_WIDTH {
-        Some(Part { middle, width })
-    } else {
-        None
+    if width < 1 || MOST_WIDTH < width {
+        return None;
     }
+    Some(Window::about(middle, width))
 }
 
 /// Reads the words, the program's name first. A request for help, or for the version, is an
@@ -73,10 +71,7 @@ pub(crate) fn words(alloc: Global, given: &[String]) -> Result<Words, clap::Erro
     let mut command = command(alloc)?;
     let matches = command.try_get_matches_from_mut(given)?;
     let values = matches.get_strs("at");
-    let part = match values {
-        Some(values) => part_of(values),
-        None => None,
-    };
+    let part = values.and_then(part_of);
     if values.is_some() && part.is_none() {
         return Err(command.error(ErrorKind::ValueValidation, AT)?);
     }
@@ -85,7 +80,10 @@ pub(crate) fn words(alloc: Global, given: &[String]) -> Result<Words, clap::Erro
         before: String::from_str(alloc, matches.get_str("MAP").unwrap_or(""))?,
         after: copied(alloc, matches.get_str("AFTER"))?,
         out: String::from_str(alloc, matches.get_str("out").unwrap_or(""))?,
-        part,
-        has_ids: matches.get_flag("ids"),
+        view: View {
+            part,
+            has_ids: matches.get_flag("ids"),
+            conflict: None,
+        },
     })
 }

@@ -32,11 +32,9 @@ const SAME: &[&str] = &[
 
 /// The picture of what an edit did to the map.
 fn change<R: Abort>(rt: &R, alloc: Global, after: &str) -> Vec<u8> {
-    let mut text = Vec::new(alloc);
     let before = read_map(alloc, alloc, BEFORE).expect(rt, "it is read");
     let after = read_map(alloc, alloc, after).expect(rt, "it is read");
-    draw_change(alloc, alloc, &before, &after, ALL, None, &mut text).expect(rt, MEMORY);
-    text
+    draw_change(alloc, alloc, &before, &after, ALL).expect(rt, MEMORY)
 }
 
 #[test]

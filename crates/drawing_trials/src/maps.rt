@@ -121,17 +121,9 @@ fn conflict<R: Abort>(rt: &R) -> Conflict {
 }
 
 /// The picture of a map.
-fn drawn<R: Abort>(
-    rt: &R,
-    alloc: Global,
-    map: &str,
-    view: View,
-    conflict: Option<Conflict>,
-) -> Vec<u8> {
-    let mut text = Vec::new(alloc);
+fn drawn<R: Abort>(rt: &R, alloc: Global, map: &str, view: View) -> Vec<u8> {
     let map = read_map(alloc, alloc, map).expect(rt, "it is read");
-    draw_map(alloc, alloc, &map, view, conflict, &mut text).expect(rt, MEMORY);
-    text
+    draw_map(alloc, alloc, &map, view).expect(rt, MEMORY)
 }
 
 /// The picture shows what it is to show.
@@ -141,16 +133,17 @@ fn see<R: Abort>(rt: &R, alloc: Global, row: &Picture) {
     } else {
         None
     };
-    let view = View {
-        part,
-        has_ids: row.has_ids,
-    };
-    let marked = if row.is_marked {
+    let conflict = if row.is_marked {
         Some(conflict(rt))
     } else {
         None
     };
-    let text = drawn(rt, alloc, SQUARES, view, marked);
+    let view = View {
+        part,
+        has_ids: row.has_ids,
+        conflict,
+    };
+    let text = drawn(rt, alloc, SQUARES, view);
     shows(rt, text.as_slice(), row.shown, row.others);
 }
 
@@ -165,7 +158,7 @@ fn squares_are_drawn(rt: HostRuntime) {
 #[test]
 fn a_map_without_rings_is_drawn(rt: HostRuntime) {
     for map in EMPTY {
-        let text = drawn(&rt, rt.alloc(), *map, ALL, None);
+        let text = drawn(&rt, rt.alloc(), *map, ALL);
         shows(&rt, text.as_slice(), &[r#"viewBox="0 0 1 1""#], &["<path"]);
     }
 }
@@ -176,7 +169,7 @@ fn see_id<R: Abort>(rt: &R, alloc: Global, (id, written): &(&str, &str)) {
         r#"{{"type":"Topology","objects":{{"a":{{"type":"Polygon","id":{id},"arcs":[[0]]}}}},"arcs":[[[0,0],[1,0],[0,1],[0,0]]]}}"#
     ).expect(rt, MEMORY);
     let title = format!(in alloc; "<title>{written}</title>").expect(rt, MEMORY);
-    let text = drawn(rt, alloc, map.as_str(), ALL, None);
+    let text = drawn(rt, alloc, map.as_str(), ALL);
     shows(rt, text.as_slice(), &[title.as_str()], &[]);
 }
 
@@ -188,13 +181,9 @@ fn any_id_is_written_as_text(rt: HostRuntime) {
 }
 
 /// Draws the squares in a heap that may refuse a growth.
-fn draw<A: Allocator + Copy>(
-    heap: A,
-    alloc: Global,
-    text: &mut Vec<u8, A>,
-) -> Result<(), AllocError> {
+fn draw<A: Allocator + Copy>(heap: A, alloc: Global) -> Result<Vec<u8, A>, AllocError> {
     match read_map(heap, alloc, SQUARES) {
-        Some(map) => draw_map(heap, alloc, &map, ALL, None, text),
+        Some(map) => draw_map(heap, alloc, &map, ALL),
         None => Err(AllocError),
     }
 }
@@ -203,10 +192,13 @@ fn draw<A: Allocator + Copy>(
 /// where none is.
 fn is_drawn<R: Abort>(rt: &R, alloc: Global, whole: &[u8], nth: u64) -> bool {
     let heap = Refusing::new(alloc, nth);
-    let mut text = Vec::new(&heap);
-    let is_drawn = draw(&heap, alloc, &mut text).is_ok();
-    let is_whole = text.as_slice() == whole;
-    drop(text);
+    let drawing = draw(&heap, alloc);
+    let is_drawn = drawing.is_ok();
+    let is_whole = match &drawing {
+        Ok(text) => text.as_slice() == whole,
+        Err(_) => false,
+    };
+    drop(drawing);
     assert!(rt;
         is_drawn != heap.was_refused() && (is_whole || !is_drawn),
         "growth {nth}"
@@ -227,6 +219,6 @@ fn first_drawn<R: Abort>(rt: &R, alloc: Global, whole: &[u8]) -> u64 {
 /// With each growth refused in turn a picture is none, or the picture.
 #[test]
 fn a_refused_growth_is_told(rt: HostRuntime) {
-    let whole = drawn(&rt, rt.alloc(), SQUARES, ALL, None);
+    let whole = drawn(&rt, rt.alloc(), SQUARES, ALL);
     first_drawn(&rt, rt.alloc(), whole.as_slice());
 }

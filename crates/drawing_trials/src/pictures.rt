@@ -11,6 +11,7 @@ pub(crate) const MEMORY: &str = "there is memory";
 pub(crate) const ALL: View = View {
     part: None,
     has_ids: false,
+    conflict: None,
 };
 
 /// What is read of a map; `None` where a growth is refused.

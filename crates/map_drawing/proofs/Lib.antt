@@ -1,3 +1,4 @@
+pub mod LeastLemmas
 pub mod WithinLemmas
 pub mod MappedLists
 pub mod QuotientLemmas

@@ -1,6 +1,6 @@
 -- Sums and differences of the code, beside a window.
 use Rattle.kit_words.proofs.Common.{◌≡◌, ◌≤◌, ◌≤ℤ◌, ◌+ℤ◌, ◌-ℤ◌, ◌*ℤ◌, ◌&&◌, Bool, true, ℤ, pos, unsigned_abs, w64, to_z}
-use Rattle.kit_words.proofs.Common.{of_z, arith, refl, ints}
+use Rattle.kit_words.proofs.Common.{of_z, arith, refl, ints, int_max, ◌∙◌}
 
 -- a side, a margin further out
 pub further_out : (side margin : ℤ) → unsigned_abs side ≤ 1000000000000 → pos 1 ≤ℤ margin → margin ≤ℤ pos 100000000000
@@ -26,3 +26,22 @@ far_side near extent h low high = omega (arith, ints, h, low, high)
 -- the second of two tests is left where the first holds
 pub test_left : (a b : Bool) → a ≡ true → b ≡ (a && b)
 test_left a b h = rw h refl
+
+extent_kept : (a : ℤ) → pos 0 ≤ℤ a → a ≤ℤ pos 2000000000000 → to_z w64 (of_z w64 a) ≡ a
+extent_kept a low high = omega (arith, ints, low, high)
+
+-- the greater of two extents
+pub record IsExtent (a : ℤ) : Type 0 where
+  pub least : pos 0 ≤ℤ a
+  pub most : a ≤ℤ pos 2000000000000
+  pub same : to_z w64 (of_z w64 a) ≡ a
+
+greater_of : (a b : ℤ) → (pos 0 ≤ℤ a) × (a ≤ℤ pos 2000000000000) → (pos 0 ≤ℤ b) × (b ≤ℤ pos 2000000000000)
+    → (pos 0 ≤ℤ int_max a b) × (int_max a b ≤ℤ pos 2000000000000)
+greater_of a b (h, i) (k, j) = (grind (arith, ints), grind (arith, ints))
+
+pub greater_extent : (r a b : ℤ) → r ≡ int_max (to_z w64 (of_z w64 a)) (to_z w64 (of_z w64 b)) → (pos 0 ≤ℤ a) × (a ≤ℤ pos 2000000000000)
+    → (pos 0 ≤ℤ b) × (b ≤ℤ pos 2000000000000) → IsExtent r
+greater_extent r a b e h k =
+    let both = greater_of a b h k in
+    rw (e ∙ (λ i. int_max (extent_kept a h.0 h.1 i) (extent_kept b k.0 k.1 i))) (record { least = both.0; most = both.1; same = extent_kept (int_max a b) both.0 both.1 })

@@ -1,5 +1,5 @@
 // The least and the greatest coordinates.
-ghost use Rattle.std.specs.Prelude.{◌≡◌, ◌≤◌, ◌≤ℤ◌, unsigned_abs};
+ghost use Rattle.std.specs.Prelude.{◌≤◌, ◌≤ℤ◌, unsigned_abs};
 
 use grid_geometry::Pos;
 
@@ -20,26 +20,6 @@ pub struct Bounds {
     pub ghost upper: { unsigned_abs y1 ≤ 1000000000000 },
     pub ghost across: { x0 ≤ℤ x1 },
     pub ghost upward: { y0 ≤ℤ y1 },
-}
-
-/// The lesser of two coordinates.
-fn lesser(a: i64, b: i64) -> i64
-    requires first { unsigned_abs a ≤ 1000000000000 }
-    requires second { unsigned_abs b ≤ 1000000000000 }
-    ensures low { (result ≤ℤ a) × (result ≤ℤ b) }
-    ensures range { unsigned_abs result ≤ 1000000000000 }
-{
-    if a < b { a } else { b }
-}
-
-/// The greater of two coordinates.
-fn greater(a: i64, b: i64) -> i64
-    requires first { unsigned_abs a ≤ 1000000000000 }
-    requires second { unsigned_abs b ≤ 1000000000000 }
-    ensures high { (a ≤ℤ result) × (b ≤ℤ result) }
-    ensures range { unsigned_abs result ≤ 1000000000000 }
-{
-    if a < b { b } else { a }
 }
 
 impl Bounds {
@@ -64,22 +44,17 @@ impl Bounds {
         ensures most { (self.x1 ≤ℤ result.x1) × (self.y1 ≤ℤ result.y1) }
     {
         Bounds {
-            x0: lesser(self.x0, pos.x()),
-            y0: lesser(self.y0, pos.y()),
-            x1: greater(self.x1, pos.x()),
-            y1: greater(self.y1, pos.y()),
+            x0: self.x0.min(pos.x()),
+            y0: self.y0.min(pos.y()),
+            x1: self.x1.max(pos.x()),
+            y1: self.y1.max(pos.y()),
         }
-    }
-
-    /// The position in their middle.
-    pub(crate) fn middle(&self) -> Option<Pos> {
-        self.middle_with(self)
     }
 
     /// The position in the middle of what they have in common with others.
     pub(crate) fn middle_with(&self, others: &Bounds) -> Option<Pos> {
-        let x = greater(self.x0, others.x0) + lesser(self.x1, others.x1);
-        let y = greater(self.y0, others.y0) + lesser(self.y1, others.y1);
+        let x = self.x0.max(others.x0) + self.x1.min(others.x1);
+        let y = self.y0.max(others.y0) + self.y1.min(others.y1);
         Pos::new(x / 2, y / 2)
     }
 }

@@ -1,130 +1,80 @@
 // The picture of what an edit did.
+ghost use Rattle.std.specs.List.Sorted.{IsSorted};
+ghost use Rattle.grid_geometry.specs.Common.{segment_cmp};
+
 use crate::bounds::Bounds;
-use crate::change_list::{push_list, rows_of};
+use crate::change_list::rows_of;
 use crate::changes::{changed, changes};
-use crate::layout::{Layout, MARGIN, ROW, WIDTH};
-use crate::map_picture::{Look, close_map, open_map, push_notes, push_shape, window_of};
-use crate::marks::{Conflict, Lines, open_lines, push_conflict};
+use crate::map_picture::{Look, Picture};
 use crate::paths::push_segment;
 use crate::segments::segments;
-use crate::shapes::{Shape, View, bounds_of, shapes};
+use crate::shapes::{View, bounds_of, shapes};
 use crate::sorted::missing;
-use crate::styles::prelude;
-use crate::window::Window;
 use grid_geometry::Seg;
 use std::alloc::{AllocError, Allocator, Global};
-use svg_text::{close_picture, open_picture};
 use topo_reader::RawDoc;
 
-/// Appends the features of a map, the changed ones filled.
-fn push_shapes<A: Allocator + Copy>(
-    alloc: A,
-    heap: Global,
-    text: &mut Vec<u8, A>,
-    window: &Window,
-    shapes: &[Shape<'_, A>],
-    changed: &[bool],
-) -> Result<(), AllocError> {
-    for (shape, is_changed) in shapes.iter().zip(changed) {
-        let look = if *is_changed {
-            Look::Changed
-        } else {
-            Look::Kept
-        };
-        push_shape(alloc, heap, text, window, shape, look)?;
-    }
-    Ok(())
-}
-
-/// Appends a segment if the window shows some of it.
-fn push_shown<A: Allocator>(
-    text: &mut Vec<u8, A>,
-    window: &Window,
-    segment: Seg,
-) -> Result<(), AllocError> {
-    if window.meets(&Bounds::of(segment.lo).with(segment.hi)) {
-        push_segment(text, window, segment)?;
-    }
-    Ok(())
-}
-
-/// Appends a path of the segments that are marked, each once. They ascend.
-fn push_borders<A: Allocator>(
-    text: &mut Vec<u8, A>,
-    layout: &Layout,
-    lines: Lines,
-    segments: &[Seg],
-    marks: &[bool],
-) -> Result<(), AllocError> {
-    open_lines(text, layout, lines)?;
-    let mut last = None;
-    for (segment, is_marked) in segments.iter().zip(marks) {
-        if *is_marked && last != Some(*segment) {
-            push_shown(text, &layout.window, *segment)?;
-            last = Some(*segment);
+impl<A: Allocator + Copy> Picture<A> {
+    /// Appends a segment if the window shows some of it.
+    fn push_shown(&mut self, segment: Seg) -> Result<(), AllocError> {
+        let window = self.layout.window;
+        if window.meets(&Bounds::of(segment.lo).with(segment.hi)) {
+            push_segment(&mut self.text, &window, segment)?;
         }
+        Ok(())
     }
-    text.extend_from_slice(b"\"/>\n")?;
-    Ok(())
+
+    /// Appends a path of the segments that are none of the others, each once. Both ascend.
+    fn push_borders(&mut self, look: Look, these: &[Seg], others: &[Seg]) -> Result<(), AllocError>
+        requires { IsSorted segment_cmp others.now }
+    {
+        let marks = missing(self.alloc, these, others)?;
+        self.open_lines(look)?;
+        let mut last = None;
+        for (segment, is_missing) in these.iter().zip(marks.as_slice()) {
+            if *is_missing && last != Some(*segment) {
+                self.push_shown(*segment)?;
+                last = Some(*segment);
+            }
+        }
+        self.text.extend_from_slice(b"\"/>\n")
+    }
 }
 
-/// Appends the borders that are gone, and over them those that are new.
-fn push_changed_borders<A: Allocator + Copy>(
-    alloc: A,
-    text: &mut Vec<u8, A>,
-    layout: &Layout,
-    before: &[Shape<'_, A>],
-    after: &[Shape<'_, A>],
-) -> Result<(), AllocError> {
-    let old = segments(alloc, before)?;
-    let new = segments(alloc, after)?;
-    let gone = missing(alloc, old.as_slice(), new.as_slice())?;
-    push_borders(text, layout, Lines::Gone, old.as_slice(), gone.as_slice())?;
-    let made = missing(alloc, new.as_slice(), old.as_slice())?;
-    push_borders(text, layout, Lines::New, new.as_slice(), made.as_slice())
-}
-
-/// Appends the picture of what an edit did: the map after it, the borders that are gone and those that
-/// are new, the changed features filled, and a list of them. Two segments in conflict are marked.
+/// The picture of what an edit did: the map after it, the borders that are gone and those that are
+/// new, the changed features filled, and a list of them. The two segments in conflict that the view
+/// names are marked.
 ///
 /// A feature is changed where the other map has none with the same `id` and the same rings. `heap`
-/// holds decoded ids; `alloc` all else. An error says that a growth was refused, and then nothing is
-/// said of the text.
+/// holds decoded ids; `alloc` all else. An error says that a growth was refused.
 pub fn draw_change<'m, 'a, A: Allocator + Copy>(
     alloc: A,
     heap: Global,
     before: &'m RawDoc<'a, A>,
     after: &'m RawDoc<'a, A>,
     view: View,
-    conflict: Option<Conflict>,
-    text: &mut Vec<u8, A>,
-) -> Result<(), AllocError> {
+) -> Result<Vec<u8, A>, AllocError> {
     let before = shapes(alloc, before)?;
     let after = shapes(alloc, after)?;
     let (old, new) = (before.as_slice(), after.as_slice());
     let gone = changed(alloc, old, new)?;
     let made = changed(alloc, new, old)?;
     let list = changes(alloc, old, gone.as_slice(), new, made.as_slice())?;
-    let layout = Layout::new(window_of(view, bounds_of(bounds_of(None, old), new)));
-    let height = layout.first_line() + ROW * (rows_of(list.len()) + 1) + MARGIN;
-    open_picture(text, WIDTH, height)?;
-    text.extend_from_slice(prelude().as_bytes())?;
-    open_map(text, &layout)?;
-    push_shapes(alloc, heap, text, &layout.window, new, made.as_slice())?;
-    push_changed_borders(alloc, text, &layout, old, new)?;
-    if let Some(conflict) = &conflict {
-        push_conflict(text, &layout, conflict)?;
+    let bounds = bounds_of(bounds_of(None, old), new);
+    let mut picture = Picture::open(alloc, heap, view, bounds, rows_of(list.len()) + 1)?;
+    for (shape, is_changed) in new.iter().zip(made.as_slice()) {
+        let look = if *is_changed {
+            Look::Changed
+        } else {
+            Look::Kept
+        };
+        picture.push_shape(shape, look)?;
     }
-    close_map(text)?;
-    push_notes(
-        alloc,
-        heap,
-        text,
-        &layout,
-        new,
-        view.has_ids,
-        conflict.as_ref(),
-    )?;
-    push_list(alloc, heap, text, layout.second_line(), list.as_slice())?;
-    close_picture(text)
+    let old_borders = segments(alloc, old)?;
+    let new_borders = segments(alloc, new)?;
+    picture.push_borders(Look::Gone, old_borders.as_slice(), new_borders.as_slice())?;
+    picture.push_borders(Look::New, new_borders.as_slice(), old_borders.as_slice())?;
+    picture.close_map(new)?;
+    picture.push_list(list.as_slice())?;
+    picture.close()
 }

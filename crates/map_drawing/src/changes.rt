@@ -4,20 +4,13 @@ use crate::sorted::missing;
 use std::alloc::{AllocError, Allocator};
 use std::cmp::Ordering;
 
-/// What was done to a feature.
+/// What became of a feature.
 #[derive_where(Clone, Copy)]
-pub(crate) enum Change<'r, A: Allocator + Copy> {
-    /// It is gone.
-    Gone(Shape<'r, A>),
-    /// It is new.
-    New(Shape<'r, A>),
-    /// Its rings are others; its `id` is the same.
-    Altered {
-        /// As it was.
-        before: Shape<'r, A>,
-        /// As it is.
-        after: Shape<'r, A>,
-    },
+pub(crate) struct Change<'r, A: Allocator + Copy> {
+    /// As it was; `None` where it is new.
+    pub(crate) before: Option<Shape<'r, A>>,
+    /// As it is, with the same `id`; `None` where it is gone.
+    pub(crate) after: Option<Shape<'r, A>>,
 }
 
 /// What features are compared by, in the order of the features.
@@ -65,19 +58,15 @@ fn flagged<'r, A: Allocator + Copy>(
 fn first_change<'r, A: Allocator + Copy>(
     before: Option<&Shape<'r, A>>,
     after: Option<&Shape<'r, A>>,
-) -> Option<Change<'r, A>> {
-    match (before, after) {
-        (None, None) => None,
-        (Some(before), None) => Some(Change::Gone(*before)),
-        (None, Some(after)) => Some(Change::New(*after)),
-        (Some(before), Some(after)) => match before.id.cmp(&after.id) {
-            Ordering::Less => Some(Change::Gone(*before)),
-            Ordering::Greater => Some(Change::New(*after)),
-            Ordering::Equal => Some(Change::Altered {
-                before: *before,
-                after: *after,
-            }),
-        },
+) -> Change<'r, A> {
+    let order = match (before, after) {
+        (Some(before), Some(after)) => before.id.cmp(&after.id),
+        (Some(_), None) => Ordering::Less,
+        (None, _) => Ordering::Greater,
+    };
+    Change {
+        before: if order.is_le() { before.copied() } else { None },
+        after: if order.is_ge() { after.copied() } else { None },
     }
 }
 
@@ -93,20 +82,15 @@ pub(crate) fn changes<'r, A: Allocator + Copy>(
     let gone = flagged(alloc, before, gone)?;
     let new = flagged(alloc, after, new)?;
     let mut changes = Vec::new(alloc);
-    let mut i = 0;
-    let mut j = 0;
+    let mut i: usize = 0;
+    let mut j: usize = 0;
     for _step in 0..gone.len().saturating_add(new.len()) {
-        let Some(change) = first_change(gone.get(i), new.get(j)) else {
+        if i == gone.len() && j == new.len() {
             break;
-        };
-        match change {
-            Change::Gone(_) => i = i.saturating_add(1),
-            Change::New(_) => j = j.saturating_add(1),
-            Change::Altered { .. } => {
-                i = i.saturating_add(1);
-                j = j.saturating_add(1);
-            }
         }
+        let change = first_change(gone.get(i), new.get(j));
+        i = i.saturating_add(usize::from(change.before.is_some()));
+        j = j.saturating_add(usize::from(change.after.is_some()));
         changes.push(change)?;
     }
     Ok(changes)

@@ -34,15 +34,6 @@ pub(crate) struct Layout {
     ghost down: { (pos 1 ≤ℤ place.height) × (place.height ≤ℤ pos 720) },
 }
 
-/// A part as often as a room is wide.
-fn scaled(part: i64, room: i64) -> i64
-    requires part { unsigned_abs part ≤ 9000000000000 }
-    requires room { unsigned_abs room ≤ 960 }
-    ensures { unsigned_abs result ≤ 9000000000000000 }
-{
-    part * room
-}
-
 /// So much of a room as a part is of a whole.
 fn share(part: i64, room: i64, whole: i64) -> i64
     requires part { unsigned_abs part ≤ 9000000000000 }
@@ -50,7 +41,7 @@ fn share(part: i64, room: i64, whole: i64) -> i64
     requires whole { pos 1 ≤ℤ whole }
     ensures { unsigned_abs result ≤ 9000000000000000 }
 {
-    quotient(scaled(part, room), whole)
+    quotient(part * room, whole)
 }
 
 /// An extent in the picture, at least a unit.
@@ -58,39 +49,26 @@ fn extent(extent: i64, most: i64) -> i64
     requires { (pos 1 ≤ℤ most) × (most ≤ℤ pos 960) }
     ensures { (pos 1 ≤ℤ result) × (result ≤ℤ most) }
 {
-    if extent < 1 {
-        1
-    } else if most < extent {
-        most
-    } else {
-        extent
-    }
+    extent.clamp(1, most)
 }
 
 impl Layout {
     /// As large as the room for it allows, in the middle.
     pub(crate) fn new(window: Window) -> Layout {
         let high = share(window.height, MOST_ACROSS, window.width);
-        if high <= MOST_DOWN {
-            return Layout {
-                window,
-                place: Place {
-                    x: MARGIN,
-                    y: MARGIN,
-                    width: MOST_ACROSS,
-                    height: extent(high, MOST_DOWN),
-                },
-            };
-        }
-        let wide = share(window.width, MOST_DOWN, window.height);
-        let width = extent(wide, MOST_ACROSS);
+        let (width, height) = if high <= MOST_DOWN {
+            (MOST_ACROSS, extent(high, MOST_DOWN))
+        } else {
+            let wide = share(window.width, MOST_DOWN, window.height);
+            (extent(wide, MOST_ACROSS), MOST_DOWN)
+        };
         Layout {
             window,
             place: Place {
                 x: MARGIN + quotient(MOST_ACROSS - width, 2),
                 y: MARGIN,
                 width,
-                height: MOST_DOWN,
+                height,
             },
         }
     }
@@ -114,8 +92,7 @@ impl Layout {
     pub(crate) fn line(&self) -> i64
         ensures { (pos 1 ≤ℤ result) × (result ≤ℤ pos 4000000000000) }
     {
-        let line = quotient(self.window.width, self.place.width);
-        if line < 1 { 1 } else { line }
+        quotient(self.window.width, self.place.width).max(1)
     }
 
     /// Whether a grid unit is wider than a thin line: then lines are as wide as in the picture.
@@ -123,24 +100,10 @@ impl Layout {
         self.window.width < self.place.width
     }
 
-    /// How far from the top of the picture its lower side is.
-    fn bottom(&self) -> i64
-        ensures { (pos 0 ≤ℤ result) × (result ≤ℤ pos 2000) }
-    {
-        self.place.y + self.place.height
-    }
-
     /// How far from the top of the picture the first line of words below it is.
     pub(crate) fn first_line(&self) -> i64
         ensures { (pos 0 ≤ℤ result) × (result ≤ℤ pos 2020) }
     {
-        self.bottom() + ROW
-    }
-
-    /// How far from the top of the picture the second line of words below it is.
-    pub(crate) fn second_line(&self) -> i64
-        ensures { (pos 0 ≤ℤ result) × (result ≤ℤ pos 2040) }
-    {
-        self.first_line() + ROW
+        self.place.y + self.place.height + ROW
     }
 }

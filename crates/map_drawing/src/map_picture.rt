@@ -1,11 +1,8 @@
 // The picture of a map.
-ghost use Rattle.std.specs.Prelude.{◌≡◌, None, IfSome};
-ghost use Rattle.grid_geometry.specs.Common.{Position};
-ghost use Rattle.map_drawing.specs.Windows.{IsShown, IsWithin};
+ghost use Rattle.std.specs.Prelude.{◌≤ℤ◌, pos};
 
 use crate::bounds::Bounds;
-use crate::layout::{Layout, MARGIN, WIDTH};
-use crate::marks::{Conflict, push_circle, push_conflict, push_fault};
+use crate::layout::{Layout, MARGIN, ROW, WIDTH};
 use crate::names::name;
 use crate::paths::push_polygons;
 use crate::shapes::{Shape, View, bounds_of, shapes};
@@ -18,15 +15,21 @@ use svg_text::{
 };
 use topo_reader::RawDoc;
 
-/// How a feature looks.
+/// How a feature or a border looks.
 #[derive(Clone, Copy, Debug, PartialEq, Eq)]
 pub(crate) enum Look {
-    /// As one of a map.
+    /// A feature of a map.
     Plain,
-    /// As one that an edit left as it was.
+    /// A feature that an edit left as it was.
     Kept,
-    /// As one that an edit changed.
+    /// A feature that an edit changed.
     Changed,
+    /// Borders that an edit took away.
+    Gone,
+    /// Borders that an edit made.
+    New,
+    /// Segments in conflict.
+    Conflict,
 }
 
 impl Look {
@@ -36,173 +39,150 @@ impl Look {
             Look::Plain => "plain",
             Look::Kept => "kept",
             Look::Changed => "changed",
+            Look::Gone => "gone",
+            Look::New => "new",
+            Look::Conflict => "conflict",
         }
     }
 }
 
-/// The part that a view shows: what it asks for, else all, and of a map with no ring a unit.
-pub(crate) fn window_of(view: View, bounds: Option<Bounds>) -> Window
-    ensures part { IfSome view.part (λ part. result ≡ part) }
-    ensures all { view.part ≡ None → (p : Position) → IsWithin bounds p → IsShown result p }
-{
-    match view.part {
-        Some(window) => window,
-        None => Window::of(bounds),
+/// A picture that grows.
+#[derive(Drop)]
+pub(crate) struct Picture<A: Allocator + Copy> {
+    /// What holds all but decoded ids.
+    pub(crate) alloc: A,
+    /// What holds decoded ids.
+    pub(crate) heap: Global,
+    /// What is asked to be seen.
+    pub(crate) view: View,
+    /// Where the part of the grid that is drawn lies.
+    pub(crate) layout: Layout,
+    /// The text so far.
+    pub(crate) text: Vec<u8, A>,
+}
+
+impl<A: Allocator + Copy> Picture<A> {
+    /// Begins a picture of what has these bounds, with so many lines of a list below it.
+    pub(crate) fn open(
+        alloc: A,
+        heap: Global,
+        view: View,
+        bounds: Option<Bounds>,
+        rows: i64,
+    ) -> Result<Picture<A>, AllocError>
+        requires { (pos 0 ≤ℤ rows) × (rows ≤ℤ pos 104) }
+    {
+        let layout = Layout::new(Window::of(view.part, bounds));
+        let mut text = Vec::new(alloc);
+        open_picture(&mut text, WIDTH, layout.first_line() + ROW * rows + MARGIN)?;
+        text.extend_from_slice(prelude().as_bytes())?;
+        let mut picture = Picture {
+            alloc,
+            heap,
+            view,
+            layout,
+            text,
+        };
+        picture.open_map()?;
+        Ok(picture)
+    }
+
+    /// Begins the map.
+    fn open_map(&mut self) -> Result<(), AllocError> {
+        let (window, place) = (self.layout.window, self.layout.place);
+        open_view(&mut self.text, place, window.width, window.height)?;
+        open_turned(&mut self.text, window.height)?;
+        self.text.extend_from_slice(b"<g")?;
+        if self.layout.is_narrow() {
+            self.text.extend_from_slice(b" class=\"narrow\"")?;
+        }
+        push_attribute(&mut self.text, "stroke-width", self.layout.line())?;
+        self.text.extend_from_slice(b">\n")
+    }
+
+    /// Begins a path.
+    pub(crate) fn open_path(&mut self, look: Look) -> Result<(), AllocError> {
+        self.text.extend_from_slice(b"<path class=\"")?;
+        self.text.extend_from_slice(look.class().as_bytes())?;
+        self.text.extend_from_slice(b"\"")
+    }
+
+    /// Appends a feature, if the window shows some of it. Its name is shown where one points at it.
+    pub(crate) fn push_shape(
+        &mut self,
+        shape: &Shape<'_, A>,
+        look: Look,
+    ) -> Result<(), AllocError> {
+        let window = self.layout.window;
+        if let Some(bounds) = shape.bounds()
+            && window.meets(&bounds)
+        {
+            self.open_path(look)?;
+            self.text.extend_from_slice(b" d=\"")?;
+            push_polygons(&mut self.text, &window, shape.polygons)?;
+            self.text.extend_from_slice(b"\"><title>")?;
+            let name = name(self.alloc, self.heap, shape)?;
+            push_escaped(&mut self.text, name.as_slice())?;
+            self.text.extend_from_slice(b"</title></path>\n")?;
+        }
+        Ok(())
+    }
+
+    /// Appends the name of a feature in its middle, where that is shown.
+    fn push_name(&mut self, shape: &Shape<'_, A>) -> Result<(), AllocError> {
+        if let Some(middle) = shape.middle()
+            && self.layout.window.has(middle)
+        {
+            let name = name(self.alloc, self.heap, shape)?;
+            let (x, y) = (self.layout.across(middle), self.layout.down(middle) + 4);
+            push_words(&mut self.text, "name", x, y, name.as_slice())?;
+        }
+        Ok(())
+    }
+
+    /// Ends the map, and appends what is written over it: the names of features where the view has
+    /// them. What is in conflict is marked, and told in the first line below the map.
+    pub(crate) fn close_map(&mut self, shapes: &[Shape<'_, A>]) -> Result<(), AllocError> {
+        if let Some(conflict) = self.view.conflict {
+            self.push_conflict(conflict)?;
+        }
+        close_group(&mut self.text)?;
+        close_group(&mut self.text)?;
+        close_picture(&mut self.text)?;
+        if self.view.has_ids {
+            for shape in shapes {
+                self.push_name(shape)?;
+            }
+        }
+        if let Some(conflict) = self.view.conflict {
+            self.push_fault(conflict)?;
+        }
+        Ok(())
+    }
+
+    /// Ends the picture, and answers its text.
+    pub(crate) fn close(self) -> Result<Vec<u8, A>, AllocError> {
+        let Picture { mut text, .. } = self;
+        close_picture(&mut text)?;
+        Ok(text)
     }
 }
 
-/// Begins the map in a picture.
-pub(crate) fn open_map<A: Allocator>(
-    text: &mut Vec<u8, A>,
-    layout: &Layout,
-) -> Result<(), AllocError> {
-    let window = layout.window;
-    open_view(text, layout.place, window.width, window.height)?;
-    open_turned(text, window.height)?;
-    text.extend_from_slice(b"<g")?;
-    if layout.is_narrow() {
-        text.extend_from_slice(b" class=\"narrow\"")?;
-    }
-    push_attribute(text, "stroke-width", layout.line())?;
-    text.extend_from_slice(b">\n")?;
-    Ok(())
-}
-
-/// Ends the map in a picture.
-pub(crate) fn close_map<A: Allocator>(text: &mut Vec<u8, A>) -> Result<(), AllocError> {
-    close_group(text)?;
-    close_group(text)?;
-    close_picture(text)
-}
-
-/// Appends a feature, if the window shows some of it. Its name is shown where one points at it.
-pub(crate) fn push_shape<A: Allocator + Copy>(
-    alloc: A,
-    heap: Global,
-    text: &mut Vec<u8, A>,
-    window: &Window,
-    shape: &Shape<'_, A>,
-    look: Look,
-) -> Result<(), AllocError> {
-    let Some(bounds) = shape.bounds() else {
-        return Ok(());
-    };
-    if !window.meets(&bounds) {
-        return Ok(());
-    }
-    text.extend_from_slice(b"<path class=\"")?;
-    text.extend_from_slice(look.class().as_bytes())?;
-    text.extend_from_slice(b"\" d=\"")?;
-    push_polygons(text, window, shape.polygons)?;
-    text.extend_from_slice(b"\"><title>")?;
-    push_escaped(text, name(alloc, heap, shape)?.as_slice())?;
-    text.extend_from_slice(b"</title></path>\n")?;
-    Ok(())
-}
-
-/// Appends the name of a feature in its middle, where that is shown.
-fn push_name<A: Allocator + Copy>(
-    alloc: A,
-    heap: Global,
-    text: &mut Vec<u8, A>,
-    layout: &Layout,
-    shape: &Shape<'_, A>,
-) -> Result<(), AllocError> {
-    let Some(middle) = shape.middle() else {
-        return Ok(());
-    };
-    if !layout.window.has(middle) {
-        return Ok(());
-    }
-    let words = name(alloc, heap, shape)?;
-    push_words(
-        text,
-        "name",
-        layout.across(middle),
-        layout.down(middle) + 4,
-        words.as_slice(),
-    )
-}
-
-/// Appends the names of features.
-fn push_names<A: Allocator + Copy>(
-    alloc: A,
-    heap: Global,
-    text: &mut Vec<u8, A>,
-    layout: &Layout,
-    shapes: &[Shape<'_, A>],
-) -> Result<(), AllocError> {
-    for shape in shapes {
-        push_name(alloc, heap, text, layout, shape)?;
-    }
-    Ok(())
-}
-
-/// Appends what is written over a map and in the first line below it: the names of features where the
-/// view has them, and what is in conflict.
-pub(crate) fn push_notes<A: Allocator + Copy>(
-    alloc: A,
-    heap: Global,
-    text: &mut Vec<u8, A>,
-    layout: &Layout,
-    shapes: &[Shape<'_, A>],
-    has_ids: bool,
-    conflict: Option<&Conflict>,
-) -> Result<(), AllocError> {
-    if has_ids {
-        push_names(alloc, heap, text, layout, shapes)?;
-    }
-    if let Some(conflict) = conflict {
-        push_circle(text, layout, conflict)?;
-        push_fault(alloc, text, layout.first_line(), conflict)?;
-    }
-    Ok(())
-}
-
-/// Appends the features of a map.
-fn push_shapes<A: Allocator + Copy>(
-    alloc: A,
-    heap: Global,
-    text: &mut Vec<u8, A>,
-    window: &Window,
-    shapes: &[Shape<'_, A>],
-) -> Result<(), AllocError> {
-    for shape in shapes {
-        push_shape(alloc, heap, text, window, shape, Look::Plain)?;
-    }
-    Ok(())
-}
-
-/// Appends the picture of a map, and marks two segments in conflict.
+/// The picture of a map. The two segments in conflict that the view names are marked.
 ///
-/// `heap` holds decoded ids; `alloc` all else. An error says that a growth was refused, and then
-/// nothing is said of the text.
+/// `heap` holds decoded ids; `alloc` all else. An error says that a growth was refused.
 pub fn draw_map<A: Allocator + Copy>(
     alloc: A,
     heap: Global,
     map: &RawDoc<'_, A>,
     view: View,
-    conflict: Option<Conflict>,
-    text: &mut Vec<u8, A>,
-) -> Result<(), AllocError> {
+) -> Result<Vec<u8, A>, AllocError> {
     let shapes = shapes(alloc, map)?;
-    let layout = Layout::new(window_of(view, bounds_of(None, shapes.as_slice())));
-    open_picture(text, WIDTH, layout.first_line() + MARGIN)?;
-    text.extend_from_slice(prelude().as_bytes())?;
-    open_map(text, &layout)?;
-    push_shapes(alloc, heap, text, &layout.window, shapes.as_slice())?;
-    if let Some(conflict) = &conflict {
-        push_conflict(text, &layout, conflict)?;
+    let bounds = bounds_of(None, shapes.as_slice());
+    let mut picture = Picture::open(alloc, heap, view, bounds, 0)?;
+    for shape in &shapes {
+        picture.push_shape(shape, Look::Plain)?;
     }
-    close_map(text)?;
-    push_notes(
-        alloc,
-        heap,
-        text,
-        &layout,
-        shapes.as_slice(),
-        view.has_ids,
-        conflict.as_ref(),
-    )?;
-    close_picture(text)
+    picture.close_map(shapes.as_slice())?;
+    picture.close()
 }

@@ -1,9 +1,8 @@
-// What is drawn over the borders, and the words below them.
+// What is drawn over the borders.
 use crate::bounds::Bounds;
-use crate::layout::Layout;
+use crate::map_picture::{Look, Picture};
 use crate::paths::push_segment;
 use grid_geometry::{Pos, Seg};
-use itoa::{Buffer, Integer};
 use std::alloc::{AllocError, Allocator};
 use svg_text::{push_attribute, push_words};
 
@@ -28,112 +27,46 @@ impl Conflict {
 /// How large the ring round a conflict is.
 const RADIUS: i64 = 14;
 
-/// Lines that are drawn over the borders.
-#[derive(Clone, Copy, Debug, PartialEq, Eq)]
-pub(crate) enum Lines {
-    /// Borders that an edit took away.
-    Gone,
-    /// Borders that an edit made.
-    New,
-    /// Segments in conflict.
-    Conflict,
-}
-
-impl Lines {
-    /// The name of their style.
-    fn class(self) -> &'static str {
-        match self {
-            Lines::Gone => "gone",
-            Lines::New => "new",
-            Lines::Conflict => "conflict",
+impl<A: Allocator + Copy> Picture<A> {
+    /// Appends the beginning of a path of lines, up to its positions. What is gone is dashed.
+    pub(crate) fn open_lines(&mut self, look: Look) -> Result<(), AllocError> {
+        let line = self.layout.line();
+        self.open_path(look)?;
+        push_attribute(&mut self.text, "stroke-width", 3 * line)?;
+        if look == Look::Gone {
+            push_attribute(&mut self.text, "stroke-dasharray", 7 * line)?;
         }
+        self.text.extend_from_slice(b" d=\"")
     }
-}
 
-/// Appends the beginning of a path of lines, up to its positions. What is gone is dashed.
-pub(crate) fn open_lines<A: Allocator>(
-    text: &mut Vec<u8, A>,
-    layout: &Layout,
-    lines: Lines,
-) -> Result<(), AllocError> {
-    let line = layout.line();
-    text.extend_from_slice(b"<path class=\"")?;
-    text.extend_from_slice(lines.class().as_bytes())?;
-    text.extend_from_slice(b"\"")?;
-    push_attribute(text, "stroke-width", 3 * line)?;
-    if lines == Lines::Gone {
-        push_attribute(text, "stroke-dasharray", 7 * line)?;
+    /// Appends both segments of a conflict.
+    pub(crate) fn push_conflict(&mut self, conflict: Conflict) -> Result<(), AllocError> {
+        let window = self.layout.window;
+        self.open_lines(Look::Conflict)?;
+        push_segment(&mut self.text, &window, conflict.first)?;
+        push_segment(&mut self.text, &window, conflict.second)?;
+        self.text.extend_from_slice(b"\"/>\n")
     }
-    text.extend_from_slice(b" d=\"")?;
-    Ok(())
-}
 
-/// Appends both segments of a conflict.
-pub(crate) fn push_conflict<A: Allocator>(
-    text: &mut Vec<u8, A>,
-    layout: &Layout,
-    conflict: &Conflict,
-) -> Result<(), AllocError> {
-    open_lines(text, layout, Lines::Conflict)?;
-    push_segment(text, &layout.window, conflict.first)?;
-    push_segment(text, &layout.window, conflict.second)?;
-    text.extend_from_slice(b"\"/>\n")?;
-    Ok(())
-}
-
-/// Appends a ring round the place of a conflict, where it is shown.
-pub(crate) fn push_circle<A: Allocator>(
-    text: &mut Vec<u8, A>,
-    layout: &Layout,
-    conflict: &Conflict,
-) -> Result<(), AllocError> {
-    let Some(middle) = conflict.middle() else {
-        return Ok(());
-    };
-    if layout.window.has(middle) {
-        text.extend_from_slice(b"<circle")?;
-        push_attribute(text, "cx", layout.across(middle))?;
-        push_attribute(text, "cy", layout.down(middle))?;
-        push_attribute(text, "r", RADIUS)?;
-        text.extend_from_slice(b"/>\n")?;
+    /// Appends a ring round the place of a conflict, where it is shown, and the line that says which
+    /// segments are in conflict.
+    pub(crate) fn push_fault(&mut self, conflict: Conflict) -> Result<(), AllocError> {
+        if let Some(middle) = conflict.middle()
+            && self.layout.window.has(middle)
+        {
+            self.text.extend_from_slice(b"<circle")?;
+            push_attribute(&mut self.text, "cx", self.layout.across(middle))?;
+            push_attribute(&mut self.text, "cy", self.layout.down(middle))?;
+            push_attribute(&mut self.text, "r", RADIUS)?;
+            self.text.extend_from_slice(b"/>\n")?;
+        }
+        let words = format!(in self.alloc; "conflict {} / {}", conflict.first, conflict.second)?;
+        push_words(
+            &mut self.text,
+            "gone",
+            20,
+            self.layout.first_line(),
+            words.as_bytes(),
+        )
     }
-    Ok(())
-}
-
-/// Appends a number in decimal.
-pub(crate) fn push_count<A: Allocator, I: Integer>(
-    words: &mut Vec<u8, A>,
-    number: I,
-) -> Result<(), AllocError> {
-    let mut buffer = Buffer::new();
-    words.extend_from_slice(buffer.format(number).as_bytes())?;
-    Ok(())
-}
-
-/// Appends the ends of a segment, each number behind a space.
-fn push_ends<A: Allocator>(words: &mut Vec<u8, A>, segment: Seg) -> Result<(), AllocError> {
-    for number in [
-        segment.lo.x(),
-        segment.lo.y(),
-        segment.hi.x(),
-        segment.hi.y(),
-    ] {
-        words.extend_from_slice(b" ")?;
-        push_count(words, number)?;
-    }
-    Ok(())
-}
-
-/// Appends a line that says which segments are in conflict.
-pub(crate) fn push_fault<A: Allocator + Copy>(
-    alloc: A,
-    text: &mut Vec<u8, A>,
-    y: i64,
-    conflict: &Conflict,
-) -> Result<(), AllocError> {
-    let mut words = Vec::from_slice(alloc, b"conflict")?;
-    push_ends(&mut words, conflict.first)?;
-    words.extend_from_slice(b" /")?;
-    push_ends(&mut words, conflict.second)?;
-    push_words(text, "gone", 20, y, words.as_slice())
 }

@@ -1,7 +1,6 @@
 // What features are called.
 
 use crate::shapes::Shape;
-use itoa::Buffer;
 use json_spans::{Span, TextFault, text};
 use std::alloc::{AllocError, Allocator, Global};
 
@@ -30,44 +29,31 @@ fn without_quotes(token: &[u8]) -> &[u8] {
     }
 }
 
-/// Appends what is shown of a text: its front, and three dots where that is not all.
-fn push_front<A: Allocator>(name: &mut Vec<u8, A>, words: &[u8]) -> Result<(), AllocError> {
-    let shown = front(words);
-    name.extend_from_slice(shown)?;
-    if shown.len() < words.len() {
+/// What is shown of a text: its front, and three dots where that is not all.
+fn shown<A: Allocator>(alloc: A, words: &[u8]) -> Result<Vec<u8, A>, AllocError> {
+    let front = front(words);
+    let mut name = Vec::from_slice(alloc, front)?;
+    if front.len() < words.len() {
         name.extend_from_slice("\u{2026}".as_bytes())?;
     }
-    Ok(())
+    Ok(name)
 }
 
-/// Appends what an `id` stands for: the text of a string, and any other value as it stands, as does a
-/// string with half a character.
-fn push_id<A: Allocator>(name: &mut Vec<u8, A>, heap: Global, id: &[u8]) -> Result<(), AllocError> {
-    match text(heap, Span { text: id, at: 0 }) {
-        Ok(words) => push_front(name, words.as_bytes()),
-        Err(TextFault::BadText) => push_front(name, without_quotes(id)),
-        Err(TextFault::OutOfMemory) => Err(AllocError),
-    }
-}
-
-/// Appends `#` and a number.
-fn push_count<A: Allocator>(name: &mut Vec<u8, A>, number: usize) -> Result<(), AllocError> {
-    let mut buffer = Buffer::new();
-    name.extend_from_slice(b"#")?;
-    name.extend_from_slice(buffer.format(number).as_bytes())?;
-    Ok(())
-}
-
-/// What a feature is called: by its `id`, and without one by its number.
+/// What a feature is called: by what its `id` stands for, and without one by its number.
+///
+/// An `id` stands for the text of a string, and for any other value as it stands, as does a string with
+/// half a character.
 pub(crate) fn name<A: Allocator + Copy>(
     alloc: A,
     heap: Global,
     shape: &Shape<'_, A>,
 ) -> Result<Vec<u8, A>, AllocError> {
-    let mut name = Vec::new(alloc);
-    match shape.id {
-        Some(id) => push_id(&mut name, heap, id)?,
-        None => push_count(&mut name, shape.number)?,
+    let Some(id) = shape.id else {
+        return Ok(format!(in alloc; "#{}", shape.number)?.into_bytes());
+    };
+    match text(heap, Span { text: id, at: 0 }) {
+        Ok(words) => shown(alloc, words.as_bytes()),
+        Err(TextFault::BadText) => shown(alloc, without_quotes(id)),
+        Err(TextFault::OutOfMemory) => Err(AllocError),
     }
-    Ok(name)
 }

@@ -7,18 +7,6 @@ use crate::shapes::Shape;
 use grid_geometry::{Pos, Seg};
 use std::alloc::{AllocError, Allocator};
 
-/// Appends the segment between two positions, where they differ.
-fn push_segment<A: Allocator>(
-    segments: &mut Vec<Seg, A>,
-    from: Pos,
-    to: Pos,
-) -> Result<(), AllocError> {
-    if let Some(segment) = Seg::new(from, to) {
-        segments.push(segment)?;
-    }
-    Ok(())
-}
-
 /// Appends the segments of a ring.
 fn push_ring<A: Allocator>(segments: &mut Vec<Seg, A>, ring: &[Pos]) -> Result<(), AllocError> {
     let Some(last) = ring.last() else {
@@ -26,28 +14,21 @@ fn push_ring<A: Allocator>(segments: &mut Vec<Seg, A>, ring: &[Pos]) -> Result<(
     };
     let mut from = *last;
     for to in ring {
-        push_segment(segments, from, *to)?;
+        if let Some(segment) = Seg::new(from, *to) {
+            segments.push(segment)?;
+        }
         from = *to;
     }
     Ok(())
 }
 
-fn push_rings<A: Allocator + Copy>(
-    segments: &mut Vec<Seg, A>,
-    rings: &[Vec<Pos, A>],
-) -> Result<(), AllocError> {
-    for ring in rings {
-        push_ring(segments, ring.as_slice())?;
-    }
-    Ok(())
-}
-
+/// Appends the segments of polygons.
 fn push_polygons<A: Allocator + Copy>(
     segments: &mut Vec<Seg, A>,
     polygons: &[Vec<Vec<Pos, A>, A>],
 ) -> Result<(), AllocError> {
-    for rings in polygons {
-        push_rings(segments, rings.as_slice())?;
+    for ring in polygons.iter().flatten() {
+        push_ring(segments, ring.as_slice())?;
     }
     Ok(())
 }

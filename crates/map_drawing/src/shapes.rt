@@ -6,6 +6,7 @@ ghost use Rattle.map_drawing.specs.Shapes.{ShapeIn};
 
 use crate::bounds::Bounds;
 use crate::extents::with_polygons;
+use crate::marks::Conflict;
 use crate::window::Window;
 use grid_geometry::Pos;
 use std::alloc::{AllocError, Allocator};
@@ -19,6 +20,8 @@ pub struct View {
     pub part: Option<Window>,
     /// Whether ids are written in the features.
     pub has_ids: bool,
+    /// Two segments in conflict, which are marked.
+    pub conflict: Option<Conflict>,
 }
 
 /// A feature as it is drawn.
@@ -43,7 +46,8 @@ impl<'r, A: Allocator + Copy> Shape<'r, A> {
 
     /// A position in the middle of its bounds.
     pub(crate) fn middle(&self) -> Option<Pos> {
-        self.bounds()?.middle()
+        let bounds = self.bounds()?;
+        bounds.middle_with(&bounds)
     }
 
     /// The least and the greatest coordinates of its rings.

@@ -1,5 +1,5 @@
 // The part of the grid that is drawn.
-ghost use Rattle.std.specs.Prelude.{◌≡◌, ◌≤◌, ◌≤ℤ◌, ◌-ℤ◌, ◌+ℤ◌, ◌↔◌, pos, unsigned_abs, int_le, ◌&&◌, IsTrue};
+ghost use Rattle.std.specs.Prelude.{◌≡◌, ◌≤◌, ◌≤ℤ◌, ◌-ℤ◌, ◌+ℤ◌, ◌↔◌, pos, unsigned_abs, IsTrue, IfSome, None};
 
 use crate::bounds::Bounds;
 use crate::quotients::quotient;
@@ -22,26 +22,22 @@ pub struct Window {
     pub ghost upward: { (pos 1 ≤ℤ height) × (height ≤ℤ pos 4000000000000) },
 }
 
-/// A fortieth of so many units, and one more.
-fn fortieth(extent: i64) -> i64
-    requires least { pos 0 ≤ℤ extent }
-    requires most { extent ≤ℤ pos 2000000000000 }
-    ensures { (pos 1 ≤ℤ result) × (result ≤ℤ pos 100000000000) }
-{
-    quotient(extent, 40) + 1
-}
-
-/// The margin beside what is so many units wide and high.
+/// The margin beside what is so many units wide and high: a fortieth of the greater, and a unit.
 fn margin(across: i64, upward: i64) -> i64
     requires across { (pos 0 ≤ℤ across) × (across ≤ℤ pos 2000000000000) }
     requires upward { (pos 0 ≤ℤ upward) × (upward ≤ℤ pos 2000000000000) }
     ensures { (pos 1 ≤ℤ result) × (result ≤ℤ pos 100000000000) }
 {
-    if across < upward {
-        fortieth(upward)
-    } else {
-        fortieth(across)
-    }
+    quotient(across.max(upward), 40) + 1
+}
+
+/// Whether a range of this extent has a number in common with the one from the least to the most.
+fn is_met(start: i64, extent: i64, least: i64, most: i64) -> bool
+    requires start { unsigned_abs start ≤ 4000000000000 }
+    requires extent { (pos 1 ≤ℤ extent) × (extent ≤ℤ pos 4000000000000) }
+    ensures { IsTrue result ↔ ((start ≤ℤ most) × (least ≤ℤ (start +ℤ extent))) }
+{
+    start <= most && least <= start + extent
 }
 
 impl Window {
@@ -66,19 +62,21 @@ impl Window {
         }
     }
 
-    /// All of these bounds, with a margin; a unit where there are none.
-    pub(crate) fn of(bounds: Option<Bounds>) -> Window
-        ensures { (p : Position) → IsWithin bounds p → IsShown result p }
+    /// The part that is asked for, else all of these bounds with a margin; a unit where there are none.
+    pub(crate) fn of(part: Option<Window>, bounds: Option<Bounds>) -> Window
+        ensures part { IfSome part (λ part. result ≡ part) }
+        ensures all { part ≡ None → (p : Position) → IsWithin bounds p → IsShown result p }
     {
-        let Some(bounds) = bounds else {
-            return Window {
+        match (part, bounds) {
+            (Some(part), _) => part,
+            (None, Some(bounds)) => Window::around(bounds),
+            (None, None) => Window {
                 x: 0,
                 y: 0,
                 width: 1,
                 height: 1,
-            };
-        };
-        Window::around(bounds)
+            },
+        }
     }
 
     /// A square of this width about a position.
@@ -96,30 +94,15 @@ impl Window {
         }
     }
 
-    /// Whether bounds have an x in common with it.
-    fn meets_across(&self, bounds: &Bounds) -> bool
-        ensures { result ≡ (int_le self.now.x bounds.now.x1
-            && int_le bounds.now.x0 (self.now.x +ℤ self.now.width)) }
-    {
-        self.x <= bounds.x1 && bounds.x0 <= self.x + self.width
-    }
-
-    /// Whether bounds have a y in common with it.
-    fn meets_upward(&self, bounds: &Bounds) -> bool
-        ensures { result ≡ (int_le self.now.y bounds.now.y1
-            && int_le bounds.now.y0 (self.now.y +ℤ self.now.height)) }
-    {
-        self.y <= bounds.y1 && bounds.y0 <= self.y + self.height
-    }
-
     /// Whether bounds have a common point with it.
     pub(crate) fn meets(&self, bounds: &Bounds) -> bool
-        ensures { result ≡ ((int_le self.now.x bounds.now.x1
-            && int_le bounds.now.x0 (self.now.x +ℤ self.now.width))
-            && (int_le self.now.y bounds.now.y1
-            && int_le bounds.now.y0 (self.now.y +ℤ self.now.height))) }
+        ensures { IsTrue result ↔ (((self.now.x ≤ℤ bounds.now.x1)
+            × (bounds.now.x0 ≤ℤ (self.now.x +ℤ self.now.width)))
+            × ((self.now.y ≤ℤ bounds.now.y1)
+            × (bounds.now.y0 ≤ℤ (self.now.y +ℤ self.now.height)))) }
     {
-        self.meets_across(bounds) && self.meets_upward(bounds)
+        is_met(self.x, self.width, bounds.x0, bounds.x1)
+            && is_met(self.y, self.height, bounds.y0, bounds.y1)
     }
 
     /// How far a position is to the right of its least corner.
@@ -138,26 +121,11 @@ impl Window {
         pos.y() - self.y
     }
 
-    /// Whether a position is in it, as far as x says.
-    fn has_across(&self, pos: Pos) -> bool
-        ensures { IsTrue result ↔ ((self.now.x ≤ℤ pos.x) × (pos.x ≤ℤ (self.now.x +ℤ self.now.width))) }
-    {
-        let across = self.right(pos);
-        0 <= across && across <= self.width
-    }
-
-    /// Whether a position is in it, as far as y says.
-    fn has_upward(&self, pos: Pos) -> bool
-        ensures { IsTrue result ↔ ((self.now.y ≤ℤ pos.y) × (pos.y ≤ℤ (self.now.y +ℤ self.now.height))) }
-    {
-        let upward = self.up(pos);
-        0 <= upward && upward <= self.height
-    }
-
     /// Whether a position is in it.
     pub(crate) fn has(&self, pos: Pos) -> bool
         ensures { IsTrue result ↔ IsShown self.now pos }
     {
-        self.has_across(pos) && self.has_upward(pos)
+        is_met(self.x, self.width, pos.x(), pos.x())
+            && is_met(self.y, self.height, pos.y(), pos.y())
     }
 }
