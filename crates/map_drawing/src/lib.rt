@@ -1,6 +1,6 @@
 //! Pictures of a topology, and of what an edit did to it.
 //!
-//! [`draw_map`] and [`draw_change`] append an SVG picture of what `topo_reader` read, whether or not
+//! [`draw_map`] and [`draw_change`] make an SVG picture of what `topo_reader` read, whether or not
 //! it opens: a view of the grid, in grid units and with y growing upwards, and words below it. All
 //! numbers in it are whole, and the same maps give the same bytes.
 #![tactic(auto)]
