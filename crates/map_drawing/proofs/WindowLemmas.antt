@@ -1,6 +1,6 @@
 -- Sums and differences of the code, beside a window.
-use Rattle.kit_words.proofs.Common.{◌≡◌, ◌≤◌, ◌≤ℤ◌, ◌+ℤ◌, ◌-ℤ◌, ◌*ℤ◌, ◌&&◌, Bool, true, ℤ, pos, unsigned_abs, w64, to_z}
-use Rattle.kit_words.proofs.Common.{of_z, arith, refl, ints, int_max, ◌∙◌}
+use Rattle.kit_words.proofs.Common.{◌≡◌, ◌≤◌, ◌≤ℤ◌, ◌+ℤ◌, ◌-ℤ◌, ◌*ℤ◌, true, ℤ, pos, unsigned_abs, w64, to_z}
+use Rattle.kit_words.proofs.Common.{of_z, arith, ints, int_le, int_max, ◌∙◌}
 
 -- a side, a margin further out
 pub further_out : (side margin : ℤ) → unsigned_abs side ≤ 1000000000000 → pos 1 ≤ℤ margin → margin ≤ℤ pos 100000000000
@@ -19,13 +19,12 @@ starts_before least margin low = omega (arith, ints, low)
 pub ends_behind : (least most margin : ℤ) → pos 1 ≤ℤ margin → most ≤ℤ (least -ℤ margin +ℤ (most -ℤ least +ℤ pos 2 *ℤ margin))
 ends_behind least most margin low = omega (arith, ints, low)
 
-pub far_side : (near extent : ℤ) → unsigned_abs near ≤ 4000000000000 → pos 1 ≤ℤ extent → extent ≤ℤ pos 4000000000000
-    → to_z w64 (of_z w64 (to_z w64 (of_z w64 near) +ℤ to_z w64 (of_z w64 extent))) ≡ near +ℤ extent
-far_side near extent h low high = omega (arith, ints, h, low, high)
+-- a test of the code, as what it says
+pub passed : (a b : ℤ) → int_le a b ≡ true → a ≤ℤ b
+passed a b h = grind (arith, ints)
 
--- the second of two tests is left where the first holds
-pub test_left : (a b : Bool) → a ≡ true → b ≡ (a && b)
-test_left a b h = rw h refl
+pub passes : (a b : ℤ) → a ≤ℤ b → int_le a b ≡ true
+passes a b h = grind (arith, ints)
 
 extent_kept : (a : ℤ) → pos 0 ≤ℤ a → a ≤ℤ pos 2000000000000 → to_z w64 (of_z w64 a) ≡ a
 extent_kept a low high = omega (arith, ints, low, high)

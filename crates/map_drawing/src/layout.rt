@@ -52,23 +52,28 @@ fn extent(extent: i64, most: i64) -> i64
     extent.clamp(1, most)
 }
 
+/// How wide a window is in the picture, if it would be so high where it is as wide as the room.
+fn width(window: Window, high: i64) -> i64
+    ensures { (pos 1 ≤ℤ result) × (result ≤ℤ pos 960) }
+{
+    if high <= MOST_DOWN {
+        return MOST_ACROSS;
+    }
+    extent(share(window.width, MOST_DOWN, window.height), MOST_ACROSS)
+}
+
 impl Layout {
     /// As large as the room for it allows, in the middle.
     pub(crate) fn new(window: Window) -> Layout {
         let high = share(window.height, MOST_ACROSS, window.width);
-        let (width, height) = if high <= MOST_DOWN {
-            (MOST_ACROSS, extent(high, MOST_DOWN))
-        } else {
-            let wide = share(window.width, MOST_DOWN, window.height);
-            (extent(wide, MOST_ACROSS), MOST_DOWN)
-        };
+        let width = width(window, high);
         Layout {
             window,
             place: Place {
                 x: MARGIN + quotient(MOST_ACROSS - width, 2),
                 y: MARGIN,
                 width,
-                height,
+                height: extent(high, MOST_DOWN),
             },
         }
     }

@@ -72,7 +72,7 @@ impl<A: Allocator + Copy> Picture<A> {
     ) -> Result<Picture<A>, AllocError>
         requires { (pos 0 ≤ℤ rows) × (rows ≤ℤ pos 104) }
     {
-        let layout = Layout::new(Window::of(view.part, bounds));
+        let layout = Layout::new(view.part.unwrap_or(Window::of(bounds)));
         let mut text = Vec::new(alloc);
         open_picture(&mut text, WIDTH, layout.first_line() + ROW * rows + MARGIN)?;
         text.extend_from_slice(prelude().as_bytes())?;

@@ -1,5 +1,5 @@
 // The part of the grid that is drawn.
-ghost use Rattle.std.specs.Prelude.{◌≡◌, ◌≤◌, ◌≤ℤ◌, ◌-ℤ◌, ◌+ℤ◌, ◌↔◌, pos, unsigned_abs, IsTrue, IfSome, None};
+ghost use Rattle.std.specs.Prelude.{◌≡◌, ◌≤◌, ◌≤ℤ◌, ◌-ℤ◌, ◌+ℤ◌, ◌↔◌, pos, unsigned_abs, IsTrue};
 
 use crate::bounds::Bounds;
 use crate::quotients::quotient;
@@ -62,21 +62,19 @@ impl Window {
         }
     }
 
-    /// The part that is asked for, else all of these bounds with a margin; a unit where there are none.
-    pub(crate) fn of(part: Option<Window>, bounds: Option<Bounds>) -> Window
-        ensures part { IfSome part (λ part. result ≡ part) }
-        ensures all { part ≡ None → (p : Position) → IsWithin bounds p → IsShown result p }
+    /// All of these bounds, with a margin; a unit where there are none.
+    pub(crate) fn of(bounds: Option<Bounds>) -> Window
+        ensures { (p : Position) → IsWithin bounds p → IsShown result p }
     {
-        match (part, bounds) {
-            (Some(part), _) => part,
-            (None, Some(bounds)) => Window::around(bounds),
-            (None, None) => Window {
+        let Some(bounds) = bounds else {
+            return Window {
                 x: 0,
                 y: 0,
                 width: 1,
                 height: 1,
-            },
-        }
+            };
+        };
+        Window::around(bounds)
     }
 
     /// A square of this width about a position.
