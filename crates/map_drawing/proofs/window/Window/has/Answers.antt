@@ -5,8 +5,7 @@ pub returns-then-is_met : goal.returns-then-is_met
 returns-then-is_met c =
     let w = c.args.self.now in
     let x = c.if-is_met.ensures.0 refl in
-    let y = c.is_met-then-is_met.ensures in
-    (
+    let y = c.is_met-then-is_met.ensures in (
       λ t. record {
         left = omega (arith, ints, x.0, w.left, c.x-2.ensures.value, c.x-2.ensures.range.across);
         right = omega (arith, ints, x.1, w.left, w.across.0, w.across.1, c.x.ensures.value, c.x.ensures.range.across);
