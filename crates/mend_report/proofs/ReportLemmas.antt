@@ -1,10 +1,14 @@
 -- The parts of a report.
-use Rattle.kit_words.proofs.Common.{◌≡◌, ℕ, Bool, List, ◌++◌, ◌∙◌, ap, sym, take, decimal, take-map, flat_map-map}
+use Rattle.kit_words.proofs.Common.{◌≡◌, ℕ, Bool, List, ◌++◌, ◌∙◌, ap, sym, subst, take, decimal, take-map, flat_map-map}
 use Rattle.std.specs.Prelude.{flat_map}
 use Rattle.grid_geometry.specs.Common.{Position, position_text}
+use Rattle.topo_reader.specs.Common.{Opened}
+use Rattle.grid_reader.specs.declared.told.Told.{Told}
 use Rattle.segment_paths.specs.Common.{path_seen, paths_seen}
 use Rattle.segment_paths.specs.declared.path.SegmentPath.{SegmentPath}
 use Rattle.mend_report.specs.Common.{opens_line, lines, path_line}
+use Rattle.mend_report.specs.Remaking.{TellsRemade}
+use Rattle.mend_report.specs.declared.remaking.Remade.{Remade}
 
 -- what is appended for a map that opens, where the test is known
 pub opened : (old new : List ℕ) (test clear : Bool) → test ≡ clear → new ≡ old ++ opens_line test → new ≡ old ++ opens_line clear
@@ -40,3 +44,8 @@ led {A = A} most paths whole old new is_whole e =
 -- what is appended for a count, where it is known
 pub numbered : (n m : ℕ) (old new : List ℕ) → n ≡ m → new ≡ old ++ decimal n → new ≡ old ++ decimal m
 numbered n m old new same e = e ∙ ap (λ (k : ℕ). old ++ decimal k) same
+
+-- the lines that were left out are told as many as were asked for
+pub told_as_asked : {A : Type 0} (most dropped asked : ℕ) (o : Opened) (grid : Told) (remade : Remade A) (before after : List ℕ)
+    → dropped ≡ asked → TellsRemade most dropped o grid remade before after → TellsRemade most asked o grid remade before after
+told_as_asked most dropped asked o grid remade before after same tells = subst (λ n. TellsRemade most n o grid remade before after) same tells

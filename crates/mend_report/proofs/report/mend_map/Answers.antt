@@ -6,6 +6,7 @@ use Rattle.mend_report.specs.Common.{under, IsRemade}
 use Rattle.mend_report.specs.SeenView.{opened_of}
 use Rattle.mend_report.proofs.CopiedWalks.{walks_copied}
 use Rattle.mend_report.proofs.PlaceLemmas.{remade_placed, placed_same}
+use Rattle.mend_report.proofs.ReportLemmas.{told_as_asked}
 use Rattle.mend_report.proofs.WholeLemmas.{answer_whole}
 use Rattle.mend_report.proofs.report.mend_map.Goals as goal
 
@@ -35,7 +36,8 @@ returns-clause-told g c = (
   c.in-Ok.seen.report.grid,
   c.in-Ok.ensures.opened,
   c.in-Ok.ensures.told,
-  (c.in-Ok.seen.report.findings, c.in-Ok.ensures.found, c.in_ok-push_mended.ensures),
+  told_as_asked c.args.asked.most c.in-Ok.seen.report.dropped c.args.asked.dropped (opened_of c.in-Ok.seen) c.in-Ok.seen.report.grid c.in-Ok-remake.remade _ _
+      c.in-Ok.ensures.dropped (c.in-Ok.seen.report.findings, c.in-Ok.ensures.found, c.in_ok-push_mended.ensures),
 )
 
 pub returns-clause-placed : goal.returns-clause-placed
