@@ -4,9 +4,8 @@ use grid_geometry::Pos;
 use rand_core::{Rng, SeedableRng};
 use rand_xoshiro::SplitMix64;
 use segment_index::GridIndex;
-use std::alloc::{AllocError, Global};
+use std::alloc::Global;
 use std::process::Abort;
-use std::test::Fail;
 use undo_ring::Command;
 
 /// How far a vertex goes at most, to each side.
@@ -51,44 +50,39 @@ impl Drawn {
     }
 }
 
-/// Appends the numbers of the features.
-fn push_numbers(map: &Map<'_, GridIndex>, numbers: &mut Vec<u32>) -> Result<(), AllocError> {
-    let Some(items) = map.frame().items(0) else {
-        return Ok(());
-    };
-    for item in items {
+/// The number of some feature.
+fn drawn_number<R: Abort>(
+    rt: &R,
+    alloc: Global,
+    map: &Map<'_, GridIndex>,
+    drawn: &mut Drawn,
+) -> u32 {
+    let mut numbers = Vec::new(alloc);
+    for item in map.frame().items(0).expect(rt, "a layer") {
         if let ItemView::Leaf(number) = item {
-            numbers.push(number)?;
+            numbers.push(number).expect(rt, "memory");
         }
     }
-    Ok(())
-}
-
-/// The number of some feature.
-fn drawn_number(alloc: Global, map: &Map<'_, GridIndex>, drawn: &mut Drawn) -> Result<u32, Fail> {
-    let mut numbers = Vec::new(alloc);
-    let pushed = push_numbers(map, &mut numbers);
     let number = drawn.one_of(numbers.as_slice());
     drop(numbers);
-    pushed?;
-    Ok(number.ok_or("a feature")?)
+    number.expect(rt, "a feature")
 }
 
 /// The outer ring of the feature.
-fn outer_ring(alloc: Global, map: &Map<'_, GridIndex>, f: u32) -> Result<Vec<Pos>, AllocError> {
+fn outer_ring<R: Abort>(rt: &R, alloc: Global, map: &Map<'_, GridIndex>, f: u32) -> Vec<Pos> {
     let mut ring = Vec::new(alloc);
     if let Some(positions) = map.ring(f, 0, 0) {
         for p in positions {
-            ring.push(p)?;
+            ring.push(p).expect(rt, "memory");
         }
     }
-    Ok(ring)
+    ring
 }
 
 /// The position so many places on in the ring, round its end.
-fn place(ring: &[Pos], n: usize) -> Result<Pos, Fail> {
+fn place<R: Abort>(rt: &R, ring: &[Pos], n: usize) -> Pos {
     let at = if ring.is_empty() { 0 } else { n % ring.len() };
-    Ok(*ring.get(at).ok_or("a vertex")?)
+    *ring.get(at).expect(rt, "a vertex")
 }
 
 /// A position near this one.
@@ -112,20 +106,20 @@ fn between<R: Abort>(rt: &R, a: Pos, b: Pos, c: Pos) -> Pos {
 }
 
 /// A text for an id.
-fn drawn_id(alloc: Global, drawn: &mut Drawn) -> Result<IdText, AllocError> {
+fn drawn_id<R: Abort>(rt: &R, alloc: Global, drawn: &mut Drawn) -> IdText {
     let n = drawn.below(1000);
-    Ok(IdText(format!(in alloc; "n {n}")?))
+    IdText(format!(in alloc; "n {n}").expect(rt, "memory"))
 }
 
 /// A path from a to b, over the position in the middle where there is one.
-fn path_of(alloc: Global, a: Pos, middle: Option<Pos>, b: Pos) -> Result<Path, AllocError> {
+fn path_of<R: Abort>(rt: &R, alloc: Global, a: Pos, middle: Option<Pos>, b: Pos) -> Path {
     let mut path = Vec::new(alloc);
-    path.push(a)?;
+    path.push(a).expect(rt, "memory");
     if let Some(p) = middle {
-        path.push(p)?;
+        path.push(p).expect(rt, "memory");
     }
-    path.push(b)?;
-    Ok(Path(path))
+    path.push(b).expect(rt, "memory");
+    Path(path)
 }
 
 /// A split from a vertex of the outer ring to another, mostly to the second one after it, and over a
@@ -136,66 +130,66 @@ fn drawn_split<R: Abort>(
     drawn: &mut Drawn,
     f: u32,
     ring: &[Pos],
-) -> Result<Command, Fail> {
+) -> Command {
     let n = drawn.below(ring.len());
     let ahead = if drawn.below(3) == 0 {
         drawn.below(ring.len())
     } else {
         2
     };
-    let (a, c) = (place(ring, n)?, place(ring, n.wrapping_add(1))?);
-    let b = place(ring, n.wrapping_add(ahead))?;
+    let (a, c) = (place(rt, ring, n), place(rt, ring, n.wrapping_add(1)));
+    let b = place(rt, ring, n.wrapping_add(ahead));
     let middle = if drawn.below(4) == 0 {
         None
     } else {
         Some(between(rt, a, b, c))
     };
-    let id = drawn_id(alloc, drawn)?;
-    Ok(Command::Split(f, id, path_of(alloc, a, middle, b)?))
+    let id = drawn_id(rt, alloc, drawn);
+    Command::Split(f, id, path_of(rt, alloc, a, middle, b))
 }
 
 /// The name of some ring that has the segment of these positions.
-fn drawn_user(
+fn drawn_user<R: Abort>(
+    rt: &R,
     alloc: Global,
     map: &Map<'_, GridIndex>,
     drawn: &mut Drawn,
     a: Pos,
     b: Pos,
-) -> Result<RingName, Fail> {
+) -> RingName {
     let mut users = Vec::new(alloc);
-    let pushed = map.push_users(a, b, &mut users);
+    map.push_users(a, b, &mut users).expect(rt, "memory");
     let name = drawn.one_of(users.as_slice());
     drop(users);
-    pushed?;
-    Ok(name.ok_or("a ring")?)
-}
-
-/// A merge with the feature beyond some side of the ring, if there is one.
-fn drawn_merge(
-    alloc: Global,
-    map: &Map<'_, GridIndex>,
-    drawn: &mut Drawn,
-    f: u32,
-    ring: &[Pos],
-) -> Result<Command, Fail> {
-    let n = drawn.below(ring.len());
-    let (a, b) = (place(ring, n)?, place(ring, n.wrapping_add(1))?);
-    let name = drawn_user(alloc, map, drawn, a, b)?;
-    Ok(Command::Merge(name.feature, f))
+    name.expect(rt, "a ring")
 }
 
 /// An edit of a vertex of this ring, or a thinning of all.
-fn drawn_vertex<R: Abort>(rt: &R, drawn: &mut Drawn, ring: &[Pos]) -> Result<Command, Fail> {
+fn drawn_vertex<R: Abort>(rt: &R, drawn: &mut Drawn, ring: &[Pos]) -> Command {
     let n = drawn.below(ring.len());
-    let (a, b) = (place(ring, n)?, place(ring, n.wrapping_add(1))?);
+    let (a, b) = (place(rt, ring, n), place(rt, ring, n.wrapping_add(1)));
     let by = near(rt, a, drawn);
-    Ok(match drawn.below(32) {
+    match drawn.below(32) {
         0 => Command::Thin(drawn.below(FLAT) as i128),
         1 => Command::Move(a, b),
         2..=12 => Command::Move(a, by),
         13..=22 => Command::Insert(a, b, by),
         _ => Command::Remove(a),
-    })
+    }
+}
+
+/// A merge with the feature beyond some side of the ring, if there is one.
+fn drawn_merge<R: Abort>(
+    rt: &R,
+    alloc: Global,
+    map: &Map<'_, GridIndex>,
+    drawn: &mut Drawn,
+    f: u32,
+    ring: &[Pos],
+) -> Command {
+    let n = drawn.below(ring.len());
+    let (a, b) = (place(rt, ring, n), place(rt, ring, n.wrapping_add(1)));
+    Command::Merge(drawn_user(rt, alloc, map, drawn, a, b).feature, f)
 }
 
 /// An edit of the feature with this outer ring.
@@ -206,28 +200,12 @@ fn drawn_feature<R: Abort>(
     drawn: &mut Drawn,
     f: u32,
     ring: &[Pos],
-) -> Result<Command, Fail> {
+) -> Command {
     match drawn.below(32) {
-        0 => Ok(Command::Delete(f)),
-        1 | 2 => Ok(Command::Rename(f, drawn_id(alloc, drawn)?)),
-        3..=13 => drawn_merge(alloc, map, drawn, f, ring),
+        0 => Command::Delete(f),
+        1 | 2 => Command::Rename(f, drawn_id(rt, alloc, drawn)),
+        3..=13 => drawn_merge(rt, alloc, map, drawn, f, ring),
         _ => drawn_split(rt, alloc, drawn, f, ring),
-    }
-}
-
-/// A command that may be accepted or refused, at this ring of the feature.
-fn drawn_at_ring<R: Abort>(
-    rt: &R,
-    alloc: Global,
-    map: &Map<'_, GridIndex>,
-    drawn: &mut Drawn,
-    f: u32,
-    ring: &[Pos],
-) -> Result<Command, Fail> {
-    if drawn.below(2) == 0 {
-        drawn_vertex(rt, drawn, ring)
-    } else {
-        drawn_feature(rt, alloc, map, drawn, f, ring)
     }
 }
 
@@ -237,10 +215,14 @@ pub(crate) fn drawn_command<R: Abort>(
     alloc: Global,
     map: &Map<'_, GridIndex>,
     drawn: &mut Drawn,
-) -> Result<Command, Fail> {
-    let f = drawn_number(alloc, map, drawn)?;
-    let ring = outer_ring(alloc, map, f)?;
-    let command = drawn_at_ring(rt, alloc, map, drawn, f, ring.as_slice());
+) -> Command {
+    let f = drawn_number(rt, alloc, map, drawn);
+    let ring = outer_ring(rt, alloc, map, f);
+    let command = if drawn.below(2) == 0 {
+        drawn_vertex(rt, drawn, ring.as_slice())
+    } else {
+        drawn_feature(rt, alloc, map, drawn, f, ring.as_slice())
+    };
     drop(ring);
     command
 }

@@ -8,7 +8,6 @@ use given_maps::COLUMBUS;
 use segment_index::GridIndex;
 use std::alloc::Global;
 use std::process::Abort;
-use std::test::Fail;
 use undo_ring::{Command, Editor};
 
 /// How many commands are drawn.
@@ -34,20 +33,18 @@ struct Tally {
 }
 
 /// Nothing yet.
-fn nothing() -> Tally {
-    Tally {
-        moves: 0,
-        insertions: 0,
-        removals: 0,
-        thinnings: 0,
-        splits: 0,
-        merges: 0,
-        names: 0,
-        deletions: 0,
-        undos: 0,
-        refused: 0,
-    }
-}
+const NOTHING: Tally = Tally {
+    moves: 0,
+    insertions: 0,
+    removals: 0,
+    thinnings: 0,
+    splits: 0,
+    merges: 0,
+    names: 0,
+    deletions: 0,
+    undos: 0,
+    refused: 0,
+};
 
 /// The kinds of edits.
 #[derive(Clone, Copy)]
@@ -103,35 +100,33 @@ fn draw_one<'a, R: Abort>(
     drawn: &mut Drawn,
     trail: &mut Trail<'a>,
     tally: &mut Tally,
-) -> Result<(), Fail> {
-    let command = drawn_command(rt, alloc, editor.map(), drawn)?;
+) {
+    let command = drawn_command(rt, alloc, editor.map(), drawn);
     check_path(rt, &command);
     let kind = kind_of(&command);
-    if give(rt, alloc, editor, command, trail)? {
+    if give(rt, alloc, editor, command, trail) {
         tally.count(kind);
     } else {
         tally.refused = tally.refused.wrapping_add(1);
     }
-    Ok(())
 }
 
-/// Draws commands, of which about each fourth is an undo.
+/// Draws commands, of which about each fourth is an undo. Gives what came of them.
 fn draw<'a, R: Abort>(
     rt: &R,
     alloc: Global,
     editor: &mut Editor<'a, GridIndex>,
-    drawn: &mut Drawn,
     trail: &mut Trail<'a>,
-    tally: &mut Tally,
-) -> Result<(), Fail> {
+) -> Tally {
+    let (mut drawn, mut tally) = (Drawn::new(1), NOTHING);
     for _ in 0..COUNT {
         if drawn.below(4) > 0 {
-            draw_one(rt, alloc, editor, drawn, trail, tally)?;
+            draw_one(rt, alloc, editor, &mut drawn, trail, &mut tally);
         } else if take_back(rt, alloc, editor, trail) {
             tally.undos = tally.undos.wrapping_add(1);
         }
     }
-    Ok(())
+    tally
 }
 
 /// There are changes of each kind, and some were too old to be kept.
@@ -151,33 +146,25 @@ fn draw_and_take_back<'a, R: Abort>(
     alloc: Global,
     editor: &mut Editor<'a, GridIndex>,
     trail: &mut Trail<'a>,
-) -> Result<(), Fail> {
-    let (mut drawn, mut tally) = (Drawn::new(1), nothing());
-    draw(rt, alloc, editor, &mut drawn, trail, &mut tally)?;
+) {
+    let tally = draw(rt, alloc, editor, trail);
     are_many(rt, tally, trail);
     take_all_back(rt, alloc, editor, trail);
-    Ok(())
 }
 
 /// The same of an editor alone.
-fn draw_on<R: Abort>(
-    rt: &R,
-    alloc: Global,
-    editor: &mut Editor<'_, GridIndex>,
-) -> Result<(), Fail> {
-    let mut trail = Trail::new(alloc, editor.map(), DEPTH)?;
-    let ended = draw_and_take_back(rt, alloc, editor, &mut trail);
+fn draw_on<R: Abort>(rt: &R, alloc: Global, editor: &mut Editor<'_, GridIndex>) {
+    let mut trail = Trail::new(rt, alloc, editor.map(), DEPTH);
+    draw_and_take_back(rt, alloc, editor, &mut trail);
     drop(trail);
-    ended
 }
 
 #[test]
-fn drawn_commands_are_taken_back(rt: HostRuntime) -> Result<(), Fail> {
-    let alloc = rt.alloc();
-    let Some(mut editor) = editor_of(alloc, alloc, COLUMBUS, DEPTH) else {
-        panic!(rt; "the text opens");
-    };
-    let ended = draw_on(&rt, alloc, &mut editor);
+fn drawn_commands_are_taken_back(rt: HostRuntime) {
+    let mut editor = editor_of(rt.alloc(), rt.alloc(), COLUMBUS, DEPTH).expect(
+        &rt,
+        "the text opens",
+    );
+    draw_on(&rt, rt.alloc(), &mut editor);
     drop(editor);
-    ended
 }

@@ -4,9 +4,8 @@ ghost use Rattle.undo_ring.specs.Commands.{IsSound};
 use arc_store::{EditFault, IdText, Path};
 use grid_geometry::Pos;
 use segment_index::SegIndex;
-use std::alloc::{AllocError, Allocator, Global};
+use std::alloc::{Allocator, Global};
 use std::process::Abort;
-use std::test::Fail;
 use undo_ring::{Answer, Command, Editor};
 
 /// An edit.
@@ -23,7 +22,7 @@ pub(crate) enum Edit {
 }
 
 /// One edit of each kind that changes two squares, one after another.
-pub(crate) const EACH_KIND: [Edit; 8] = [
+pub(crate) const EACH_KIND: &[Edit] = &[
     Edit::Move((0, 0), (1, 1)),
     Edit::Insert((10, 0), (20, 0), (15, 0)),
     Edit::Thin(0),
@@ -40,34 +39,31 @@ fn at<R: Abort>(rt: &R, p: (i64, i64)) -> Pos {
 }
 
 /// The positions with these coordinates.
-fn path<R: Abort>(rt: &R, alloc: Global, positions: &[(i64, i64)]) -> Result<Path, AllocError> {
+fn path<R: Abort>(rt: &R, alloc: Global, positions: &[(i64, i64)]) -> Path {
     let mut path = Vec::new(alloc);
     for p in positions {
-        path.push(at(rt, *p))?;
+        path.push(at(rt, *p)).expect(rt, "memory");
     }
-    Ok(Path(path))
+    Path(path)
+}
+
+/// The text as an id.
+fn id_of<R: Abort>(rt: &R, alloc: Global, id: &str) -> IdText {
+    IdText(String::from_str(alloc, id).expect(rt, "memory"))
 }
 
 /// The edit as a command, made in memory of its own.
-pub(crate) fn command_of<R: Abort>(
-    rt: &R,
-    alloc: Global,
-    edit: Edit,
-) -> Result<Command, AllocError> {
-    Ok(match edit {
+pub(crate) fn command_of<R: Abort>(rt: &R, alloc: Global, edit: Edit) -> Command {
+    match edit {
         Edit::Move(p, q) => Command::Move(at(rt, p), at(rt, q)),
         Edit::Insert(a, b, q) => Command::Insert(at(rt, a), at(rt, b), at(rt, q)),
         Edit::Remove(p) => Command::Remove(at(rt, p)),
         Edit::Thin(t) => Command::Thin(i128::from(t)),
-        Edit::Split(f, positions) => Command::Split(
-            f,
-            IdText(String::from_str(alloc, "new")?),
-            path(rt, alloc, positions)?,
-        ),
+        Edit::Split(f, ps) => Command::Split(f, id_of(rt, alloc, "new"), path(rt, alloc, ps)),
         Edit::Merge(f, g) => Command::Merge(f, g),
-        Edit::Rename(f, id) => Command::Rename(f, IdText(String::from_str(alloc, id)?)),
+        Edit::Rename(f, id) => Command::Rename(f, id_of(rt, alloc, id)),
         Edit::Delete(f) => Command::Delete(f),
-    })
+    }
 }
 
 /// The path of a split has from 2 to 256 positions.
@@ -98,18 +94,13 @@ pub(crate) fn is_made<R: Abort, I: SegIndex, A: Allocator + Copy>(
     alloc: Global,
     editor: &mut Editor<'_, I, A>,
     edit: Edit,
-) -> Result<bool, Fail> {
-    let command = command_of(rt, alloc, edit)?;
+) -> bool {
+    let command = command_of(rt, alloc, edit);
     check_path(rt, &command);
-    match editor.apply(command) {
-        Ok(answer) => {
-            assert!(rt; is_change(&answer), "{edit:?}");
-            drop(answer);
-            Ok(true)
-        }
-        Err(fault) => {
-            assert_eq!(rt; fault, EditFault::OutOfMemory, "{edit:?}");
-            Ok(false)
-        }
-    }
+    let (is_made, is_so) = match editor.apply(command) {
+        Ok(answer) => (true, is_change(&answer)),
+        Err(fault) => (false, fault == EditFault::OutOfMemory),
+    };
+    assert!(rt; is_so, "{edit:?}");
+    is_made
 }

@@ -5,10 +5,9 @@ use crate::edits::is_change;
 use crate::written::{counts_of, is_as_opened, is_written, written};
 use arc_store::Map;
 use segment_index::GridIndex;
-use std::alloc::{AllocError, Global};
+use std::alloc::Global;
 use std::mem;
 use std::process::Abort;
-use std::test::Fail;
 use undo_ring::{Answer, Command, Editor, UndoFault};
 
 /// The copies, the newest one last.
@@ -25,17 +24,18 @@ pub(crate) struct Trail<'a> {
 
 impl<'a> Trail<'a> {
     /// No copy yet but that of the map as it is.
-    pub(crate) fn new(
+    pub(crate) fn new<R: Abort>(
+        rt: &R,
         alloc: Global,
         map: &Map<'a, GridIndex>,
         depth: usize,
-    ) -> Result<Trail<'a>, AllocError> {
-        Ok(Trail {
-            now: map.copy()?,
+    ) -> Trail<'a> {
+        Trail {
+            now: map.copy().expect(rt, "memory"),
             copies: Vec::new(alloc),
             depth,
             dropped: 0,
-        })
+        }
     }
 
     /// How many copies there are.
@@ -44,15 +44,15 @@ impl<'a> Trail<'a> {
     }
 
     /// Keeps the copy from before a change, which made this map.
-    fn keep(&mut self, map: &Map<'a, GridIndex>) -> Result<(), AllocError> {
-        let before = mem::replace(&mut self.now, map.copy()?);
-        self.copies.push(before)?;
+    fn keep<R: Abort>(&mut self, rt: &R, map: &Map<'a, GridIndex>) {
+        let copy = map.copy().expect(rt, "memory");
+        let before = mem::replace(&mut self.now, copy);
+        self.copies.push(before).expect(rt, "memory");
         if self.depth < self.copies.len() {
             let oldest = self.copies.remove(0);
             drop(oldest);
             self.dropped = self.dropped.wrapping_add(1);
         }
-        Ok(())
     }
 
     /// Whether there is a copy from before the newest change, which is then that of the map.
@@ -69,8 +69,10 @@ impl<'a> Trail<'a> {
         let text = written(rt, alloc, alloc, &self.now);
         let is_same = is_written(rt, alloc, alloc, map, text.as_slice());
         drop(text);
-        assert!(rt; is_same);
-        assert_eq!(rt; counts_of(map), counts_of(&self.now));
+        assert!(rt;
+            is_same && counts_of(map) == counts_of(&self.now),
+            "as the copy"
+        );
     }
 }
 
@@ -90,7 +92,7 @@ pub(crate) fn give<'a, R: Abort>(
     editor: &mut Editor<'a, GridIndex>,
     command: Command,
     trail: &mut Trail<'a>,
-) -> Result<bool, Fail>
+) -> bool
     requires { IsSound command }
 {
     let next = editor.map().next_number();
@@ -99,12 +101,12 @@ pub(crate) fn give<'a, R: Abort>(
         Err(_) => (false, next),
     };
     if is_changed {
-        trail.keep(editor.map())?;
+        trail.keep(rt, editor.map());
     } else {
         trail.compare(rt, alloc, editor.map());
     }
     assert_eq!(rt; editor.map().next_number(), next);
-    Ok(is_changed)
+    is_changed
 }
 
 /// Takes the newest change back: the map is as the copy from before it, and its next number stays.

@@ -8,22 +8,7 @@ use given_maps::TWO_SQUARES;
 use segment_index::GridIndex;
 use std::alloc::Global;
 use std::process::Abort;
-use std::test::Fail;
 use undo_ring::Editor;
-
-/// Gives an edit to the editor, which accepts it.
-fn give_edit<'a, R: Abort>(
-    rt: &R,
-    alloc: Global,
-    editor: &mut Editor<'a, GridIndex>,
-    edit: Edit,
-    trail: &mut Trail<'a>,
-) -> Result<(), Fail> {
-    let command = command_of(rt, alloc, edit)?;
-    check_path(rt, &command);
-    assert!(rt; give(rt, alloc, editor, command, trail)?, "{edit:?}");
-    Ok(())
-}
 
 /// Gives the edits to the editor, which accepts them, and then takes back as many as are kept.
 fn give_and_take_back<'a, R: Abort>(
@@ -32,12 +17,13 @@ fn give_and_take_back<'a, R: Abort>(
     editor: &mut Editor<'a, GridIndex>,
     edits: &[Edit],
     trail: &mut Trail<'a>,
-) -> Result<(), Fail> {
+) {
     for edit in edits {
-        give_edit(rt, alloc, editor, *edit, trail)?;
+        let command = command_of(rt, alloc, *edit);
+        check_path(rt, &command);
+        assert!(rt; give(rt, alloc, editor, command, trail), "{edit:?}");
     }
     take_all_back(rt, alloc, editor, trail);
-    Ok(())
 }
 
 /// The same of an editor that keeps so many. Gives how many changes were too old.
@@ -47,75 +33,70 @@ fn come_and_go_in<R: Abort>(
     editor: &mut Editor<'_, GridIndex>,
     depth: usize,
     edits: &[Edit],
-) -> Result<usize, Fail> {
-    let mut trail = Trail::new(alloc, editor.map(), depth)?;
-    let ended = give_and_take_back(rt, alloc, editor, edits, &mut trail);
+) -> usize {
+    let mut trail = Trail::new(rt, alloc, editor.map(), depth);
+    give_and_take_back(rt, alloc, editor, edits, &mut trail);
     let dropped = trail.dropped;
     drop(trail);
-    ended?;
-    Ok(dropped)
+    dropped
 }
 
-/// The edits are made of the map, of which so many changes are kept, and taken back. Gives how many
-/// of them were too old.
+/// The edits are made of the map, of which so many changes are kept, and taken back: so many of them
+/// were too old.
 fn come_and_go<R: Abort>(
     rt: &R,
     alloc: Global,
     text: &str,
     depth: usize,
     edits: &[Edit],
-) -> Result<usize, Fail>
+    dropped: usize,
+)
     requires least { 1 ≤ depth }
     requires most { depth ≤ 1000 }
 {
-    let Some(mut editor) = editor_of(alloc, alloc, text, depth) else {
-        panic!(rt; "the text opens");
-    };
-    let dropped = come_and_go_in(rt, alloc, &mut editor, depth, edits);
+    let mut editor = editor_of(alloc, alloc, text, depth).expect(rt, "the text opens");
+    let old = come_and_go_in(rt, alloc, &mut editor, depth, edits);
     drop(editor);
-    dropped
+    assert_eq!(rt; old, dropped);
 }
 
 #[test]
-fn each_kind(rt: HostRuntime) -> Result<(), Fail> {
-    let edits = EACH_KIND.as_slice();
-    assert_eq!(rt; come_and_go(&rt, rt.alloc(), TWO_SQUARES, 100, edits)?, 0);
-    assert_eq!(rt; come_and_go(&rt, rt.alloc(), TWO_SQUARES, 8, edits)?, 0);
-    assert_eq!(rt; come_and_go(&rt, rt.alloc(), TWO_SQUARES, 5, edits)?, 3);
-    assert_eq!(rt; come_and_go(&rt, rt.alloc(), TWO_SQUARES, 1, edits)?, 7);
-    Ok(())
+fn each_kind(rt: HostRuntime) {
+    let edits = EACH_KIND;
+    come_and_go(&rt, rt.alloc(), TWO_SQUARES, 100, edits, 0);
+    come_and_go(&rt, rt.alloc(), TWO_SQUARES, 8, edits, 0);
+    come_and_go(&rt, rt.alloc(), TWO_SQUARES, 5, edits, 3);
+    come_and_go(&rt, rt.alloc(), TWO_SQUARES, 1, edits, 7);
 }
 
 /// Features with holes, texts, no rings and no neighbours go one after another.
+const ALL_FEATURES: &[Edit] = &[
+    Edit::Split(0, &[(0, 0), (3, 7), (10, 10)]),
+    Edit::Delete(4),
+    Edit::Merge(3, 0),
+    Edit::Delete(1),
+    Edit::Rename(3, "Z"),
+    Edit::Delete(3),
+    Edit::Delete(5),
+    Edit::Delete(2),
+];
+
 #[test]
-fn all_features_go(rt: HostRuntime) -> Result<(), Fail> {
-    let edits = [
-        Edit::Split(0, &[(0, 0), (3, 7), (10, 10)]),
-        Edit::Delete(4),
-        Edit::Merge(3, 0),
-        Edit::Delete(1),
-        Edit::Rename(3, "Z"),
-        Edit::Delete(3),
-        Edit::Delete(5),
-        Edit::Delete(2),
-    ];
-    let dropped = come_and_go(&rt, rt.alloc(), SQUARES, 100, edits.as_slice())?;
-    assert_eq!(rt; dropped, 0);
-    Ok(())
+fn all_features_go(rt: HostRuntime) {
+    come_and_go(&rt, rt.alloc(), SQUARES, 100, ALL_FEATURES, 0);
 }
 
 /// What is put back stands where a later change of the same border finds it.
+const BORDERS: &[Edit] = &[
+    Edit::Thin(0),
+    Edit::Insert((10, 0), (10, 10), (11, 5)),
+    Edit::Split(1, &[(11, 5), (15, 6), (20, 10)]),
+    Edit::Move((11, 5), (9, 5)),
+    Edit::Thin(100),
+    Edit::Merge(0, 1),
+];
+
 #[test]
-fn borders_are_thinned_and_cut(rt: HostRuntime) -> Result<(), Fail> {
-    let edits = [
-        Edit::Thin(0),
-        Edit::Insert((10, 0), (10, 10), (11, 5)),
-        Edit::Split(1, &[(11, 5), (15, 6), (20, 10)]),
-        Edit::Move((11, 5), (9, 5)),
-        Edit::Thin(100),
-        Edit::Merge(0, 1),
-    ];
-    let dropped = come_and_go(&rt, rt.alloc(), SQUARES, 100, edits.as_slice())?;
-    assert_eq!(rt; dropped, 0);
-    Ok(())
+fn borders_are_thinned_and_cut(rt: HostRuntime) {
+    come_and_go(&rt, rt.alloc(), SQUARES, 100, BORDERS, 0);
 }

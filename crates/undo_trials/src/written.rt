@@ -8,6 +8,19 @@ use std::alloc::{Allocator, Global};
 use std::process::Abort;
 use topo_writer::write;
 
+/// The text of the map, where there is memory for it.
+fn try_write<I: SegIndex, A: Allocator + Copy>(
+    alloc: Global,
+    calm: A,
+    map: &Map<'_, I, A>,
+) -> Option<Vec<u8>> {
+    let mut out = ToWriter::new(Vec::new(alloc));
+    match write(calm, map, &mut out) {
+        Ok(()) => Some(out.writer),
+        Err(_) => None,
+    }
+}
+
 /// The text of the map. Its own heap may refuse a growth once; then it is written again.
 pub(crate) fn written<R: Abort, I: SegIndex, A: Allocator + Copy>(
     rt: &R,
@@ -15,15 +28,10 @@ pub(crate) fn written<R: Abort, I: SegIndex, A: Allocator + Copy>(
     calm: A,
     map: &Map<'_, I, A>,
 ) -> Vec<u8> {
-    let mut out = ToWriter::new(Vec::new(alloc));
-    if write(calm, map, &mut out).is_ok() {
-        return out.writer;
+    match try_write(alloc, calm, map) {
+        Some(text) => text,
+        None => try_write(alloc, calm, map).expect(rt, "the map is written"),
     }
-    drop(out);
-    let mut out = ToWriter::new(Vec::new(alloc));
-    let is_whole = write(calm, map, &mut out).is_ok();
-    assert!(rt; is_whole, "the map is written");
-    out.writer
 }
 
 /// Whether the map is written so.
@@ -40,16 +48,9 @@ pub(crate) fn is_written<R: Abort, I: SegIndex, A: Allocator + Copy>(
     is_same
 }
 
-/// What a map tells of itself beside its text.
-#[derive(Clone, Copy, Debug, PartialEq, Eq)]
-pub(crate) struct Counts {
-    features: usize,
-    vertices: usize,
-    segments: usize,
-    positions: usize,
-    /// How many rings have each side of each outer ring, all added up.
-    users: usize,
-}
+/// How many features, vertices, segments and positions a map has, and how many rings have each side of
+/// each outer ring, all added up.
+pub(crate) type Counts = (usize, usize, usize, usize, usize);
 
 /// How many rings have each side of the first outer ring of this feature but its last, added up.
 fn users_along<I: SegIndex, A: Allocator + Copy>(map: &Map<'_, I, A>, n: u32) -> usize {
@@ -72,13 +73,13 @@ pub(crate) fn counts_of<I: SegIndex, A: Allocator + Copy>(map: &Map<'_, I, A>) -
     for n in 0..map.next_number() {
         users = users.wrapping_add(users_along(map, n));
     }
-    Counts {
-        features: map.feature_count(),
-        vertices: map.vertex_count(),
-        segments: map.segment_count(),
-        positions: map.position_count(),
+    (
+        map.feature_count(),
+        map.vertex_count(),
+        map.segment_count(),
+        map.position_count(),
         users,
-    }
+    )
 }
 
 /// The map has the segments of the one that is opened from this text, in as many rings.
@@ -88,10 +89,8 @@ pub(crate) fn is_as_opened<R: Abort, I: SegIndex, A: Allocator + Copy>(
     map: &Map<'_, I, A>,
     text: &[u8],
 ) {
-    let Some(other) = map_of(alloc, alloc, text) else {
-        panic!(rt; "what is written opens");
-    };
+    let other = map_of(alloc, alloc, text).expect(rt, "what is written opens");
     let counts = counts_of(&other);
     drop(other);
-    assert_eq!(rt; counts_of(map), counts);
+    assert!(rt; counts_of(map) == counts, "as opened");
 }
