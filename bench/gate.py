@@ -46,9 +46,9 @@ def check_of(words, folder):
 
 
 def seconds_of(process):
-    """The processor seconds that a process and the children that it has waited for have used."""
+    """The processor seconds that a process itself has used. What a check does in other processes is seen as theirs."""
     fields = (process / "stat").read_text().rsplit(")", 1)[1].split()
-    return sum(int(field) for field in fields[11:15]) / TICKS
+    return sum(int(field) for field in fields[11:13]) / TICKS
 
 
 def provers():
