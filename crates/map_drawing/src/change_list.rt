@@ -113,7 +113,7 @@ impl<A: Allocator + Copy> Picture<A> {
         let mut y = top + 2 * ROW;
         for change in &changes[..listed(changes.len())] {
             self.push_change(y, change)?;
-            y += ROW;
+            y = y.saturating_add(ROW);
         }
         self.push_others(y, changes.len())
     }

@@ -39,21 +39,24 @@ fn shown<A: Allocator>(alloc: A, words: &[u8]) -> Result<Vec<u8, A>, AllocError>
     Ok(name)
 }
 
+/// What an `id` stands for: the text of a string, and any other value as it stands, as does a string
+/// with half a character.
+fn id_text<A: Allocator>(alloc: A, heap: Global, id: &[u8]) -> Result<Vec<u8, A>, AllocError> {
+    match text(heap, Span { text: id, at: 0 }) {
+        Ok(words) => shown(alloc, words.as_bytes()),
+        Err(TextFault::BadText) => shown(alloc, without_quotes(id)),
+        Err(TextFault::OutOfMemory) => Err(AllocError),
+    }
+}
+
 /// What a feature is called: by what its `id` stands for, and without one by its number.
-///
-/// An `id` stands for the text of a string, and for any other value as it stands, as does a string with
-/// half a character.
 pub(crate) fn name<A: Allocator + Copy>(
     alloc: A,
     heap: Global,
     shape: &Shape<'_, A>,
 ) -> Result<Vec<u8, A>, AllocError> {
-    let Some(id) = shape.id else {
-        return Ok(format!(in alloc; "#{}", shape.number)?.into_bytes());
-    };
-    match text(heap, Span { text: id, at: 0 }) {
-        Ok(words) => shown(alloc, words.as_bytes()),
-        Err(TextFault::BadText) => shown(alloc, without_quotes(id)),
-        Err(TextFault::OutOfMemory) => Err(AllocError),
+    match shape.id {
+        Some(id) => id_text(alloc, heap, id),
+        None => Ok(format!(in alloc; "#{}", shape.number)?.into_bytes()),
     }
 }
