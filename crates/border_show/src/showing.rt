@@ -32,7 +32,7 @@ pub(crate) fn show<'a>(
     view: View,
 ) -> Result<Vec<u8>, OpenFault<'a>>
     ensures { IfErr result (λ fault. IsFault bytes.now fault
-        ⊎ IsSomeAnd before (λ before. IsFault before.now fault)) }
+        ⊎ IsSomeAnd before.entry (λ before. IsFault before.now fault)) }
 {
     let before = match before {
         Some(before) => Some(or_return!(read(heap, heap, before))),
