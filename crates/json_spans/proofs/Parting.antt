@@ -63,10 +63,10 @@ parts_last place len place' xs rest is e =
     rw (add-one (length xs), is, e') refl
 
 -- a turn of the iterator
-pub takes_next : (more : Bool) (place len : ℕ) (xs rest text : List ℕ) → more ≡ true → len ≡ part_len 44 Plain 0 xs → text ≡ take (part_len 44 Plain 0 xs) xs → Some rest ≡ after_comma (drop (part_len 44 Plain 0 xs) xs) →
+pub takes_next : (more : Bool) (place len : ℕ) (xs rest text tail : List ℕ) → more ≡ true → len ≡ part_len 44 Plain 0 xs → text ≡ take len xs → tail ≡ drop len xs → Some rest ≡ after_comma tail →
     parts_left more place xs ≡ record { at_byte = place; bytes = text } ∷ parts_left more (place + len + 1) rest
-takes_next more place len xs rest text m l t e = rw (m, t, ← l) (parts_next place len xs rest l (rw (← l) at e))
+takes_next more place len xs rest text tail m l t u e = rw (m, t) (parts_next place len xs rest l (rw u at e))
 
-pub takes_last : (more : Bool) (place place' : ℕ) (xs rest text : List ℕ) → more ≡ true → text ≡ take (part_len 44 Plain 0 xs) xs → None ≡ after_comma (drop (part_len 44 Plain 0 xs) xs) →
+pub takes_last : (more : Bool) (place len place' : ℕ) (xs rest text tail : List ℕ) → more ≡ true → len ≡ part_len 44 Plain 0 xs → text ≡ take len xs → tail ≡ drop len xs → None ≡ after_comma tail →
     parts_left more place xs ≡ record { at_byte = place; bytes = text } ∷ parts_left false place' rest
-takes_last more place place' xs rest text m t e = rw (m, t) (parts_last place (part_len 44 Plain 0 xs) place' xs rest refl e)
+takes_last more place len place' xs rest text tail m l t u e = rw (m, t) (parts_last place len place' xs rest l (rw u at e))

@@ -1,12 +1,9 @@
 // The scanner's machine, which takes one byte at a time (RFC 8259, sections 2 to 7).
-ghost use Rattle.std.specs.Prelude.{◌≡◌};
-ghost use Rattle.json_spans.specs.Machine.{begins, follows, after_comma, closes, word_step, string_step, lead, goes, in_list, in_object, step};
-ghost use Rattle.json_spans.specs.Machine.{before_value, before_first_item, before_first_name, before_name, before_colon, in_name, in_text, after_minus, after_zero, in_whole, first_digit, in_fraction, after_exponent, in_power};
+ghost use Rattle.std.specs.Prelude.{◌≡◌, if◌then◌else◌};
+ghost use Rattle.json_spans.specs.Bytes.{is_space};
+ghost use Rattle.json_spans.specs.Machine.{begins, follows, word_step, string_step, lead, goes, closes_text, before_name, first_digit, step};
 
-use crate::classes::{
-    is_ascii, is_digit, is_e, is_escape, is_four, is_hex, is_nonzero, is_sign, is_space, is_tail,
-    is_tail_e0, is_tail_ed, is_tail_f0, is_tail_f4, is_three, is_two,
-};
+use crate::classes::{is_digit, is_e, is_hex, is_space, is_tail};
 
 /// What is open: a list (section 5, an array) or an object (section 4).
 #[derive(Clone, Copy, Debug, PartialEq, Eq)]
@@ -115,38 +112,21 @@ fn word_step(word: Word, x: u8) -> Option<Mode>
     }
 }
 
-// The first byte of a character.
+// The first byte of a character (UTF-8: RFC 3629, section 4).
 fn lead(x: u8) -> Option<Within>
     ensures { result ≡ lead x }
 {
-    if is_ascii(x) {
-        Some(Within::Plain)
-    } else if is_two(x) {
-        Some(Within::Tail1)
-    } else if x == 0xe0 {
-        Some(Within::AfterE0)
-    } else if is_three(x) {
-        Some(Within::Tail2)
-    } else if x == 0xed {
-        Some(Within::AfterEd)
-    } else if x == 0xf0 {
-        Some(Within::AfterF0)
-    } else if is_four(x) {
-        Some(Within::Tail3)
-    } else if x == 0xf4 {
-        Some(Within::AfterF4)
-    } else {
-        None
-    }
-}
-
-fn escaped(x: u8) -> Option<Within>
-    ensures { result ≡ string_step Within.Escape x }
-{
-    if x == b'u' {
-        Some(Within::Hex4)
-    } else {
-        is_escape(x).then_some(Within::Plain)
+    match x {
+        b'"' | b'\\' => None,
+        b' '..=0x7f => Some(Within::Plain),
+        0xc2..=0xdf => Some(Within::Tail1),
+        0xe0 => Some(Within::AfterE0),
+        0xed => Some(Within::AfterEd),
+        0xe1..=0xef => Some(Within::Tail2),
+        0xf0 => Some(Within::AfterF0),
+        0xf1..=0xf3 => Some(Within::Tail3),
+        0xf4 => Some(Within::AfterF4),
+        _ => None,
     }
 }
 
@@ -157,7 +137,11 @@ fn string_step(within: Within, x: u8) -> Option<Within>
     match within {
         Within::Plain if x == b'\\' => Some(Within::Escape),
         Within::Plain => lead(x),
-        Within::Escape => escaped(x),
+        Within::Escape if x == b'u' => Some(Within::Hex4),
+        Within::Escape => matches!(
+            x,
+            b'"' | b'\\' | b'/' | b'b' | b'f' | b'n' | b'r' | b't'
+        ).then_some(Within::Plain),
         Within::Hex4 => is_hex(x).then_some(Within::Hex3),
         Within::Hex3 => is_hex(x).then_some(Within::Hex2),
         Within::Hex2 => is_hex(x).then_some(Within::Hex1),
@@ -165,11 +149,17 @@ fn string_step(within: Within, x: u8) -> Option<Within>
         Within::Tail1 => is_tail(x).then_some(Within::Plain),
         Within::Tail2 => is_tail(x).then_some(Within::Tail1),
         Within::Tail3 => is_tail(x).then_some(Within::Tail2),
-        Within::AfterE0 => is_tail_e0(x).then_some(Within::Tail1),
-        Within::AfterEd => is_tail_ed(x).then_some(Within::Tail1),
-        Within::AfterF0 => is_tail_f0(x).then_some(Within::Tail2),
-        Within::AfterF4 => is_tail_f4(x).then_some(Within::Tail2),
+        Within::AfterE0 => matches!(x, 0xa0..=0xbf).then_some(Within::Tail1),
+        Within::AfterEd => matches!(x, 0x80..=0x9f).then_some(Within::Tail1),
+        Within::AfterF0 => matches!(x, 0x90..=0xbf).then_some(Within::Tail2),
+        Within::AfterF4 => matches!(x, 0x80..=0x8f).then_some(Within::Tail2),
     }
+}
+
+fn closes_text(within: Within, x: u8) -> bool
+    ensures { result ≡ closes_text within x }
+{
+    within == Within::Plain && x == b'"'
 }
 
 // A value's first byte.
@@ -190,244 +180,77 @@ fn begins(x: u8) -> Move
     }
 }
 
-fn after_comma(top: Option<Frame>) -> Move
-    ensures { result ≡ after_comma top }
-{
-    match top {
-        Some(Frame::List) => Move::Goes(Mode::Value),
-        Some(Frame::Object) => Move::Goes(Mode::Name),
-        None => Move::Fails,
-    }
-}
-
-fn closes(top: Option<Frame>, x: u8) -> Move
-    ensures { result ≡ closes top x }
-{
-    match (top, x) {
-        (Some(Frame::List), b']') | (Some(Frame::Object), b'}') => Move::Closes,
-        _ => Move::Fails,
-    }
-}
-
 // Behind a value.
 fn follows(top: Option<Frame>, x: u8) -> Move
     ensures { result ≡ follows top x }
 {
-    if x == b',' {
-        after_comma(top)
-    } else if is_space(x) {
-        Move::Goes(Mode::After)
-    } else {
-        closes(top, x)
+    match (top, x) {
+        (_, b' ' | b'\t' | b'\n' | b'\r') => Move::Goes(Mode::After),
+        (Some(Frame::List), b',') => Move::Goes(Mode::Value),
+        (Some(Frame::Object), b',') => Move::Goes(Mode::Name),
+        (Some(Frame::List), b']') | (Some(Frame::Object), b'}') => Move::Closes,
+        _ => Move::Fails,
     }
 }
 
 fn goes(mode: Option<Mode>) -> Move
     ensures { result ≡ goes mode }
 {
-    match mode {
-        Some(mode) => Move::Goes(mode),
-        None => Move::Fails,
-    }
+    mode.map_or(Move::Fails, Move::Goes)
 }
 
-fn in_list(top: Option<Frame>, moves: Move) -> Move
-    ensures { result ≡ in_list top moves }
+// Where a name must come, or a space.
+fn before_name(mode: Mode, x: u8) -> Move
+    ensures { result ≡ (if is_space x then Move.Goes mode else before_name x) }
 {
-    match top {
-        Some(Frame::List) => moves,
+    match x {
+        b' ' | b'\t' | b'\n' | b'\r' => Move::Goes(mode),
+        b'"' => Move::Goes(Mode::NameText(Within::Plain)),
         _ => Move::Fails,
     }
 }
 
-fn in_object(top: Option<Frame>, moves: Move) -> Move
-    ensures { result ≡ in_object top moves }
-{
-    match top {
-        Some(Frame::Object) => moves,
-        _ => Move::Fails,
-    }
-}
-
-fn before_value(x: u8) -> Move
-    ensures { result ≡ before_value x }
-{
-    match begins(x) {
-        Move::Fails if is_space(x) => Move::Goes(Mode::Value),
-        begun => begun,
-    }
-}
-
-fn before_first_item(x: u8) -> Move
-    ensures { result ≡ before_first_item x }
-{
-    if is_space(x) {
-        Move::Goes(Mode::FirstItem)
-    } else if x == b']' {
-        Move::Closes
-    } else {
-        begins(x)
-    }
-}
-
-fn before_first_name(x: u8) -> Move
-    ensures { result ≡ before_first_name x }
-{
-    if is_space(x) {
-        Move::Goes(Mode::FirstName)
-    } else if x == b'}' {
-        Move::Closes
-    } else if x == b'"' {
-        Move::Goes(Mode::NameText(Within::Plain))
-    } else {
-        Move::Fails
-    }
-}
-
-fn before_name(x: u8) -> Move
-    ensures { result ≡ before_name x }
-{
-    if x == b'"' {
-        Move::Goes(Mode::NameText(Within::Plain))
-    } else if is_space(x) {
-        Move::Goes(Mode::Name)
-    } else {
-        Move::Fails
-    }
-}
-
-fn before_colon(x: u8) -> Move
-    ensures { result ≡ before_colon x }
-{
-    if x == b':' {
-        Move::Goes(Mode::Value)
-    } else if is_space(x) {
-        Move::Goes(Mode::Colon)
-    } else {
-        Move::Fails
-    }
-}
-
-fn in_name(within: Within, x: u8) -> Move
-    ensures { result ≡ in_name within x }
-{
-    if within == Within::Plain && x == b'"' {
-        Move::Goes(Mode::Colon)
-    } else {
-        goes(string_step(within, x).map(Mode::NameText))
-    }
-}
-
-fn in_text(within: Within, x: u8) -> Move
-    ensures { result ≡ in_text within x }
-{
-    if within == Within::Plain && x == b'"' {
-        Move::Goes(Mode::After)
-    } else {
-        goes(string_step(within, x).map(Mode::Text))
-    }
-}
-
-fn after_minus(x: u8) -> Move
-    ensures { result ≡ after_minus x }
-{
-    if x == b'0' {
-        Move::Goes(Mode::Zero)
-    } else if is_nonzero(x) {
-        Move::Goes(Mode::Whole)
-    } else {
-        Move::Fails
-    }
-}
-
-fn after_zero(top: Option<Frame>, x: u8) -> Move
-    ensures { result ≡ after_zero top x }
-{
-    if x == b'.' {
-        Move::Goes(Mode::Point)
-    } else if is_e(x) {
-        Move::Goes(Mode::Exponent)
-    } else {
-        follows(top, x)
-    }
-}
-
-fn in_whole(top: Option<Frame>, x: u8) -> Move
-    ensures { result ≡ in_whole top x }
-{
-    if is_digit(x) {
-        Move::Goes(Mode::Whole)
-    } else {
-        after_zero(top, x)
-    }
-}
-
-// Behind a point or a sign, where a digit must come.
+// Where a digit must come.
 fn first_digit(mode: Mode, x: u8) -> Move
     ensures { result ≡ first_digit mode x }
 {
-    if is_digit(x) {
-        Move::Goes(mode)
-    } else {
-        Move::Fails
-    }
-}
-
-fn in_fraction(top: Option<Frame>, x: u8) -> Move
-    ensures { result ≡ in_fraction top x }
-{
-    if is_digit(x) {
-        Move::Goes(Mode::Fraction)
-    } else if is_e(x) {
-        Move::Goes(Mode::Exponent)
-    } else {
-        follows(top, x)
-    }
-}
-
-fn after_exponent(x: u8) -> Move
-    ensures { result ≡ after_exponent x }
-{
-    if is_digit(x) {
-        Move::Goes(Mode::Power)
-    } else if is_sign(x) {
-        Move::Goes(Mode::Sign)
-    } else {
-        Move::Fails
-    }
-}
-
-fn in_power(top: Option<Frame>, x: u8) -> Move
-    ensures { result ≡ in_power top x }
-{
-    if is_digit(x) {
-        Move::Goes(Mode::Power)
-    } else {
-        follows(top, x)
-    }
+    goes(is_digit(x).then_some(mode))
 }
 
 /// What the byte does in this mode, where `top` is what was opened last.
 pub(crate) fn step(mode: Mode, top: Option<Frame>, x: u8) -> Move
     ensures { result ≡ step mode top x }
 {
-    match mode {
-        Mode::Value => before_value(x),
-        Mode::FirstItem => in_list(top, before_first_item(x)),
-        Mode::FirstName => in_object(top, before_first_name(x)),
-        Mode::Name => in_object(top, before_name(x)),
-        Mode::Colon => in_object(top, before_colon(x)),
-        Mode::After => follows(top, x),
-        Mode::NameText(within) => in_object(top, in_name(within, x)),
-        Mode::Text(within) => in_text(within, x),
-        Mode::Word(word) => goes(word_step(word, x)),
-        Mode::Minus => after_minus(x),
-        Mode::Zero => after_zero(top, x),
-        Mode::Whole => in_whole(top, x),
-        Mode::Point => first_digit(Mode::Fraction, x),
-        Mode::Fraction => in_fraction(top, x),
-        Mode::Exponent => after_exponent(x),
-        Mode::Sign => first_digit(Mode::Power, x),
-        Mode::Power => in_power(top, x),
+    match (mode, top) {
+        (Mode::Value, _) if is_space(x) => Move::Goes(mode),
+        (Mode::Value, _) => begins(x),
+        (Mode::FirstItem, Some(Frame::List)) if is_space(x) => Move::Goes(mode),
+        (Mode::FirstItem, Some(Frame::List)) if x == b']' => Move::Closes,
+        (Mode::FirstItem, Some(Frame::List)) => begins(x),
+        (Mode::NameText(within), Some(Frame::Object)) if closes_text(within, x) => {
+            Move::Goes(Mode::Colon)
+        }
+        (Mode::NameText(within), Some(Frame::Object)) => {
+            goes(string_step(within, x).map(Mode::NameText))
+        }
+        (Mode::Text(within), _) if closes_text(within, x) => Move::Goes(Mode::After),
+        (Mode::Text(within), _) => goes(string_step(within, x).map(Mode::Text)),
+        (Mode::Word(word), _) => goes(word_step(word, x)),
+        (Mode::Minus, _) if x == b'0' => Move::Goes(Mode::Zero),
+        (Mode::Minus, _) => first_digit(Mode::Whole, x),
+        (Mode::Point, _) => first_digit(Mode::Fraction, x),
+        (Mode::Exponent, _) if x == b'+' || x == b'-' => Move::Goes(Mode::Sign),
+        (Mode::Exponent | Mode::Sign, _) => first_digit(Mode::Power, x),
+        (Mode::Whole | Mode::Fraction | Mode::Power, _) if is_digit(x) => Move::Goes(mode),
+        (Mode::Zero | Mode::Whole, _) if x == b'.' => Move::Goes(Mode::Point),
+        (Mode::Zero | Mode::Whole | Mode::Fraction, _) if is_e(x) => Move::Goes(Mode::Exponent),
+        (Mode::After | Mode::Zero | Mode::Whole | Mode::Fraction | Mode::Power, _) => {
+            follows(top, x)
+        }
+        (Mode::FirstName, Some(Frame::Object)) if x == b'}' => Move::Closes,
+        (Mode::FirstName | Mode::Name, Some(Frame::Object)) => before_name(mode, x),
+        (Mode::Colon, Some(Frame::Object)) if x == b':' => Move::Goes(Mode::Value),
+        (Mode::Colon, Some(Frame::Object)) if is_space(x) => Move::Goes(mode),
+        _ => Move::Fails,
     }
 }

@@ -1,56 +1,30 @@
 ghost use Rattle.std.specs.Prelude.{◌≡◌};
-ghost use Rattle.json_spans.specs.Left.{node};
+ghost use Rattle.json_spans.specs.Left.{node, left};
 ghost use Rattle.json_spans.specs.Pairs.{nodes};
-ghost use Rattle.json_spans.specs.Walk.{items, items_left, members, members_left, raw_parts, member_of, name_of, value_of, behind_colon};
-ghost use Rattle.json_spans.specs.Parts.{has_first};
+ghost use Rattle.json_spans.specs.Walk.{items, items_left, members, members_left, raw_parts, member_of};
 ghost use Rattle.json_spans.specs.Inside.{HasItems, OnlyItems, ItemsAreValues, HasMembers, OnlyMembers, MembersAreValues};
-ghost use Rattle.json_spans.specs.Left.{left};
 
-use crate::parts::{Parts, closes, part_len};
+use crate::parts::{Parts, part_len};
 use crate::span::Span;
 use crate::trimming::{spaces_before, trim};
 use crate::walk::{Items, Members};
-
-fn behind_colon(rest: Span<'_>) -> Span<'_>
-    ensures { node result ≡ behind_colon rest.entry.at rest.entry.text.now }
-{
-    match rest.text {
-        [] => Span {
-            text: rest.text,
-            at: rest.at,
-        },
-        [_, text @ ..] => Span {
-            text,
-            at: rest.at + 1,
-        },
-    }
-}
-
-fn name_of(part: Span<'_>) -> Span<'_>
-    ensures { node result ≡ name_of (node part.entry) }
-{
-    let len = part_len(b':', part.text);
-    trim(Span {
-        text: &part.text[..len],
-        at: part.at,
-    })
-}
-
-fn value_of(part: Span<'_>) -> Span<'_>
-    ensures { node result ≡ value_of (node part.entry) }
-{
-    let len = part_len(b':', part.text);
-    trim(behind_colon(Span {
-        text: &part.text[len..],
-        at: part.at + len,
-    }))
-}
 
 // The name and the value, cut at the colon.
 pub(crate) fn member_of(part: Span<'_>) -> (Span<'_>, Span<'_>)
     ensures { nodes result ≡ member_of (node part.entry) }
 {
-    (name_of(part), value_of(part))
+    let len = part_len(b':', part.text);
+    let (name, rest) = part.text.split_at(len);
+    let at = part.at + len;
+    let value = match rest {
+        [] => Span { text: rest, at },
+        [_, text @ ..] => Span { text, at: at + 1 },
+    };
+    let name = Span {
+        text: name,
+        at: part.at,
+    };
+    (trim(name), trim(value))
 }
 
 // What stands between the commas behind the bracket.
@@ -64,20 +38,10 @@ fn parts(span: Span<'_>) -> Parts<'_>
             rest: span.text,
         },
         [_, rest @ ..] => Parts {
-            more: has_first(&rest[spaces_before(rest)..]),
+            more: !matches!(&rest[spaces_before(rest)..], [] | [b']' | b'}', ..]),
             at: span.at + 1,
             rest,
         },
-    }
-}
-
-// Whether a part stands before the closing bracket.
-fn has_first(bytes: &[u8]) -> bool
-    ensures { result ≡ has_first bytes.now }
-{
-    match bytes {
-        [] => false,
-        [x, ..] => !closes(*x),
     }
 }
 

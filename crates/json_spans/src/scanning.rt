@@ -1,4 +1,4 @@
-ghost use Rattle.std.specs.Prelude.{◌≡◌, ◌≢◌, ◌≤◌, ◌<◌, ◌+◌, ◌^◌, IfOk, IfErr, IsTrue, ◌&&◌, ◌==◌, length, ◌∷◌, reverse, OnOk};
+ghost use Rattle.std.specs.Prelude.{◌≡◌, ◌≢◌, ◌≤◌, ◌<◌, ◌+◌, ◌^◌, IfOk, IfErr, IsTrue, ◌&&◌, ◌==◌, length, reverse};
 ghost use Rattle.json_spans.specs.Machine.{verdict, step, first_in, may_end, top_of, rest_of};
 ghost use Rattle.json_spans.specs.Faults.{Judges};
 ghost use Rattle.json_spans.specs.Grammar.{Json};
@@ -11,7 +11,7 @@ use crate::classes::{is_ascii, is_digit};
 use crate::machine::{Frame, Mode, Move, Within, step};
 use crate::span::Span;
 use crate::trimming::trim;
-use std::alloc::{AllocFailed, Allocator};
+use std::alloc::Allocator;
 use thiserror::Error;
 
 /// Why bytes are not taken as a JSON text.
@@ -29,16 +29,6 @@ pub enum ScanFault {
     OutOfMemory,
 }
 
-impl<T: Drop> From<AllocFailed<T>> for ScanFault {
-    ghost use Rattle.json_spans.specs.declared.scanning.ScanFault.TheVariants.{OutOfMemory};
-
-    ghost from_gives = { λ _ e. e ≡ OutOfMemory };
-
-    fn from(_e: AllocFailed<T>) -> ScanFault {
-        ScanFault::OutOfMemory
-    }
-}
-
 // How many lists and objects may be open (RFC 8259, section 9).
 const MAX_DEPTH: usize = 100;
 
@@ -51,32 +41,12 @@ fn first_in(frame: Frame) -> Mode
     }
 }
 
-// Whether a text may end here.
-fn may_end(mode: Mode) -> bool
-    ensures { result ≡ may_end mode }
-{
-    matches!(
-        mode,
-        Mode::After | Mode::Zero | Mode::Whole | Mode::Fraction | Mode::Power
-    )
-}
-
 // The newest frame is the last of the Vec, and the first of the list.
 #[tactic(auto, using(crate::proofs::Frames::top_of_reverse))]
 fn top<A: Allocator + Copy>(frames: &Vec<Frame, A>) -> Option<Frame>
     ensures { result ≡ top_of (reverse frames.now.items) }
 {
     frames.last().copied()
-}
-
-#[tactic(auto, using(crate::proofs::Frames::reverse_push))]
-fn push<A: Allocator + Copy>(
-    frames: &mut Vec<Frame, A>,
-    frame: Frame,
-) -> Result<(), AllocFailed<Frame>>
-    ensures { OnOk result (reverse frames.new.items ≡ frame ∷ reverse frames.old.items) }
-{
-    frames.push(frame)
 }
 
 #[tactic(auto, using(crate::proofs::Frames::reverse_pop))]
@@ -86,11 +56,16 @@ fn pop<A: Allocator + Copy>(frames: &mut Vec<Frame, A>)
     let _ = frames.pop();
 }
 
+// Whether a text may end here.
 #[tactic(auto, using(crate::proofs::Frames::is_empty_reverse))]
 fn may_stop<A: Allocator + Copy>(mode: Mode, frames: &Vec<Frame, A>) -> bool
     ensures { result ≡ (may_end mode && (length (reverse frames.now.items) == 0)) }
 {
-    may_end(mode) && frames.is_empty()
+    let may_end = matches!(
+        mode,
+        Mode::After | Mode::Zero | Mode::Whole | Mode::Fraction | Mode::Power
+    );
+    may_end && frames.is_empty()
 }
 
 // Whether the byte is one of many in a string or a number, and leads to the same mode.
@@ -122,7 +97,9 @@ fn check<A: Allocator + Copy>(alloc: A, bytes: &[u8]) -> Result<(), ScanFault>
                 if frames.len() >= MAX_DEPTH {
                     return Err(ScanFault::TooDeep { place });
                 }
-                push(&mut frames, frame)?;
+                if frames.push(frame).is_err() {
+                    return Err(ScanFault::OutOfMemory);
+                }
                 mode = first_in(frame);
             }
             Move::Closes => {
