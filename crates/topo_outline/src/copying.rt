@@ -1,11 +1,11 @@
 //! Copies of what is kept, in memory of the same allocator. Texts are slices, and are shared.
+ghost use Rattle.std.specs.Prelude.{◌≡◌};
+ghost use Rattle.topo_outline.specs.Views.{view_head, view_item, view_layer};
+
 use crate::document::{Head, Item, RawFeature, RawLayer};
 use std::alloc::{AllocError, Allocator};
 
 impl<'a, A: Allocator + Copy> Clone for Head<'a, A> {
-    ghost use Rattle.std.specs.Prelude.{◌≡◌};
-    ghost use Rattle.topo_outline.specs.Views.{view_head};
-
     ghost is_clone = { λ head copy. view_head copy ≡ view_head head };
 
     fn clone(&self) -> Result<Head<'a, A>, AllocError> {
@@ -18,9 +18,6 @@ impl<'a, A: Allocator + Copy> Clone for Head<'a, A> {
 }
 
 impl<'a, A: Allocator + Copy> Clone for RawFeature<'a, A> {
-    ghost use Rattle.std.specs.Prelude.{◌≡◌};
-    ghost use Rattle.topo_outline.specs.Views.{view_head};
-
     ghost is_clone = { λ feature copy. (copy.form ≡ feature.form) × (view_head copy.head ≡ view_head feature.head) × (copy.arcs ≡ feature.arcs) };
 
     fn clone(&self) -> Result<RawFeature<'a, A>, AllocError> {
@@ -33,9 +30,6 @@ impl<'a, A: Allocator + Copy> Clone for RawFeature<'a, A> {
 }
 
 impl<'a, A: Allocator + Copy> Clone for Item<'a, A> {
-    ghost use Rattle.std.specs.Prelude.{◌≡◌};
-    ghost use Rattle.topo_outline.specs.Views.{view_item};
-
     ghost is_clone = { λ item copy. view_item copy ≡ view_item item };
 
     fn clone(&self) -> Result<Item<'a, A>, AllocError> {
@@ -49,9 +43,6 @@ impl<'a, A: Allocator + Copy> Clone for Item<'a, A> {
 }
 
 impl<'a, A: Allocator + Copy> Clone for RawLayer<'a, A> {
-    ghost use Rattle.std.specs.Prelude.{◌≡◌};
-    ghost use Rattle.topo_outline.specs.Views.{view_layer};
-
     ghost is_clone = { λ layer copy. view_layer copy ≡ view_layer layer };
 
     fn clone(&self) -> Result<RawLayer<'a, A>, AllocError> {

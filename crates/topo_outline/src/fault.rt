@@ -1,4 +1,8 @@
 // Why a topology is not opened.
+ghost use Rattle.std.specs.Prelude.{◌≡◌};
+ghost use Rattle.topo_outline.specs.Faults.{of_scan};
+ghost use Rattle.topo_outline.specs.declared.fault.OpenFault.TheVariants.{OutOfMemory};
+
 use crate::token::Token;
 use grid_geometry::{Pos, Seg};
 use json_spans::ScanFault;
@@ -93,9 +97,6 @@ pub enum OpenFault<'a> {
 }
 
 impl<'a, T: Drop> From<AllocFailed<T>> for OpenFault<'a> {
-    ghost use Rattle.std.specs.Prelude.{◌≡◌};
-    ghost use Rattle.topo_outline.specs.declared.fault.OpenFault.TheVariants.{OutOfMemory};
-
     ghost from_gives = { λ _ e. e ≡ OutOfMemory };
 
     fn from(_e: AllocFailed<T>) -> OpenFault<'a> {
@@ -104,9 +105,6 @@ impl<'a, T: Drop> From<AllocFailed<T>> for OpenFault<'a> {
 }
 
 impl<'a> From<AllocError> for OpenFault<'a> {
-    ghost use Rattle.std.specs.Prelude.{◌≡◌};
-    ghost use Rattle.topo_outline.specs.declared.fault.OpenFault.TheVariants.{OutOfMemory};
-
     ghost from_gives = { λ _ e. e ≡ OutOfMemory };
 
     fn from(_e: AllocError) -> OpenFault<'a> {
@@ -115,9 +113,6 @@ impl<'a> From<AllocError> for OpenFault<'a> {
 }
 
 impl<'a> From<ScanFault> for OpenFault<'a> {
-    ghost use Rattle.std.specs.Prelude.{◌≡◌};
-    ghost use Rattle.topo_outline.specs.Faults.{of_scan};
-
     ghost from_gives = { λ f e. e ≡ of_scan f };
 
     fn from(fault: ScanFault) -> OpenFault<'a> {

@@ -18,28 +18,19 @@ use crate::words::{Geometry, Word, geometry_of};
 use json_spans::{Kind, Span, TextFault, items, kind, text};
 use std::alloc::{AllocFailed, Allocator, Global};
 
-fn type_text<'a>(heap: Global, entry: Entry<'a>) -> Result<Geometry, OpenFault<'a>>
-    ensures { Gives (λ g. g) result (type_text (view_entry entry.entry) Kind.Text) }
-{
-    match text(heap, entry.value) {
-        Ok(says) => Ok(geometry_of(says.as_str())),
-        Err(TextFault::BadText) => Err(OpenFault::BadMember {
-            name: token_of(entry),
-        }),
-        Err(TextFault::OutOfMemory) => Err(OpenFault::OutOfMemory),
-    }
-}
-
 fn type_value<'a>(heap: Global, entry: Entry<'a>) -> Result<Geometry, OpenFault<'a>>
     ensures { Gives (λ g. g) result
         (type_text (view_entry entry.entry) (kind_of (node entry.entry.value).bytes)) }
 {
+    let name = token_of(entry);
     match kind(entry.value) {
         Kind::Null => Ok(Geometry::Null),
-        Kind::Text => type_text(heap, entry),
-        _ => Err(OpenFault::BadMember {
-            name: token_of(entry),
-        }),
+        Kind::Text => match text(heap, entry.value) {
+            Ok(says) => Ok(geometry_of(says.as_str())),
+            Err(TextFault::BadText) => Err(OpenFault::BadMember { name }),
+            Err(TextFault::OutOfMemory) => Err(OpenFault::OutOfMemory),
+        },
+        _ => Err(OpenFault::BadMember { name }),
     }
 }
 
@@ -113,22 +104,6 @@ fn with_rings<'a, A: Allocator + Copy>(
     Ok(Item::Leaf(RawFeature { form, head, arcs }))
 }
 
-fn without_rings<'a, A: Allocator + Copy>(
-    alloc: A,
-    span: Span<'a>,
-    members: &[Entry<'a>],
-) -> Result<Item<'a, A>, OpenFault<'a>>
-    ensures { Gives view_item result (Ok (leaf (form_of Form.Null)
-        (head Owner.Null (map view_entry members.now)) (node span.entry))) }
-{
-    let head = head(alloc, Owner::Null, members)?;
-    Ok(Item::Leaf(RawFeature {
-        form: Form::Null,
-        head,
-        arcs: span,
-    }))
-}
-
 /// The item of a geometry that is no collection.
 fn single<'a, A: Allocator + Copy>(
     alloc: A,
@@ -140,7 +115,11 @@ fn single<'a, A: Allocator + Copy>(
         (node span.entry) (map view_entry members.now)) }
 {
     match typed.0 {
-        Geometry::Null => without_rings(alloc, span, members),
+        Geometry::Null => Ok(Item::Leaf(RawFeature {
+            form: Form::Null,
+            head: head(alloc, Owner::Null, members)?,
+            arcs: span,
+        })),
         Geometry::Polygon => with_rings(alloc, Form::Polygon, members),
         Geometry::MultiPolygon => with_rings(alloc, Form::MultiPolygon, members),
         Geometry::Point => Ok(Item::Kept(span.text)),
@@ -171,10 +150,7 @@ fn is_object(span: Span<'_>) -> bool
 fn is_collection(says: Geometry) -> bool
     ensures { result ≡ is_collection says }
 {
-    match says {
-        Geometry::Collection => true,
-        _ => false,
-    }
+    matches!(says, Geometry::Collection)
 }
 
 /// Appends the items of a geometry that is an object, with at most `depth` collections in one

@@ -202,22 +202,10 @@ fn is_known(owner: Owner, word: Word) -> bool
 {
     match word {
         Word::Type | Word::Bbox => true,
-        Word::Transform | Word::Objects => match owner {
-            Owner::Topology => true,
-            _ => false,
-        },
-        Word::Arcs => match owner {
-            Owner::Topology | Owner::Rings => true,
-            _ => false,
-        },
-        Word::Geometries => match owner {
-            Owner::Collection => true,
-            _ => false,
-        },
-        Word::Id | Word::Properties => match owner {
-            Owner::Topology => false,
-            _ => true,
-        },
+        Word::Transform | Word::Objects => matches!(owner, Owner::Topology),
+        Word::Arcs => matches!(owner, Owner::Topology | Owner::Rings),
+        Word::Geometries => matches!(owner, Owner::Collection),
+        Word::Id | Word::Properties => !matches!(owner, Owner::Topology),
         Word::Scale | Word::Translate | Word::Other => false,
     }
 }
@@ -247,10 +235,7 @@ pub(crate) fn kept<'a, A: Allocator + Copy>(
 fn text_of<'a>(entries: &[Entry<'a>], word: Word) -> Option<&'a [u8]>
     ensures { option_map (λ t. t.now) result ≡ text_of word (map view_entry entries.now) }
 {
-    match find(entries, word) {
-        Some(entry) => Some(entry.value.text),
-        None => None,
-    }
+    find(entries, word).map(|entry| entry.value.text)
 }
 
 /// What a collection and a feature have beside their geometry.

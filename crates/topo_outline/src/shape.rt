@@ -42,20 +42,11 @@ const MAX_FEATURES: usize = 200_000;
 /// More than the collections that can stand in one another in a text of at most 100 levels.
 const MAX_COLLECTIONS: usize = 100;
 
-fn says_topology(says: Geometry) -> bool
-    ensures { result ≡ is_topology_word says }
-{
-    match says {
-        Geometry::Topology => true,
-        _ => false,
-    }
-}
-
 fn is_named_topology<'a>(heap: Global, value: Span<'a>) -> Result<bool, OpenFault<'a>>
     ensures { Gives (λ b. b) result (Ok (says_topology (decoded (node value.entry).bytes))) }
 {
     match text(heap, value) {
-        Ok(says) => Ok(says_topology(geometry_of(says.as_str()))),
+        Ok(says) => Ok(matches!(geometry_of(says.as_str()), Geometry::Topology)),
         Err(TextFault::BadText) => Ok(false),
         Err(TextFault::OutOfMemory) => Err(OpenFault::OutOfMemory),
     }
@@ -66,12 +57,8 @@ fn is_topology<'a>(heap: Global, members: &[Entry<'a>]) -> Result<bool, OpenFaul
         (Ok (is_topology (member Word.Type (map view_entry members.now)))) }
 {
     match find(members, Word::Type) {
-        Some(entry) => if kind(entry.value) == Kind::Text {
-            is_named_topology(heap, entry.value)
-        } else {
-            Ok(false)
-        },
-        None => Ok(false),
+        Some(entry) if kind(entry.value) == Kind::Text => is_named_topology(heap, entry.value),
+        _ => Ok(false),
     }
 }
 
@@ -82,25 +69,16 @@ fn are_two_numbers(span: Span<'_>) -> bool
         return false;
     }
     let mut parts = items(span);
-    match parts.next() {
-        Some(x) => match parts.next() {
-            Some(y) => match parts.next() {
-                Some(_) => false,
-                None => kind(x) == Kind::Number && kind(y) == Kind::Number,
-            },
-            None => false,
-        },
-        None => false,
+    match (parts.next(), parts.next(), parts.next()) {
+        (Some(x), Some(y), None) => kind(x) == Kind::Number && kind(y) == Kind::Number,
+        _ => false,
     }
 }
 
 fn has_two_numbers(members: &[Entry<'_>], word: Word) -> bool
     ensures { result ≡ are_two_numbers (member word (map view_entry members.now)) }
 {
-    match find(members, word) {
-        Some(entry) => are_two_numbers(entry.value),
-        None => false,
-    }
+    find(members, word).is_some_and(|entry| are_two_numbers(entry.value))
 }
 
 /// Whether `scale` and `translate` are lists of two numbers each (TopoJSON 1.0, 2.1.2).
@@ -108,24 +86,6 @@ fn is_transform(members: &[Entry<'_>]) -> bool
     ensures { result ≡ is_transform (map view_entry members.now) }
 {
     has_two_numbers(members, Word::Scale) && has_two_numbers(members, Word::Translate)
-}
-
-fn transform_object<'a, A: Allocator + Copy>(
-    alloc: A,
-    heap: Global,
-    entry: Entry<'a>,
-) -> Result<Option<&'a [u8]>, OpenFault<'a>>
-    ensures { Gives (option_map (λ t. t.now)) result
-        (transform_value (view_entry entry.entry) Kind.Object) }
-{
-    let members = or_return!(entries(alloc, heap, entry.value));
-    if is_transform(members.as_slice()) {
-        Ok(Some(entry.value.text))
-    } else {
-        Err(OpenFault::BadMember {
-            name: token_of(entry),
-        })
-    }
 }
 
 fn transform_value<'a, A: Allocator + Copy>(
@@ -136,12 +96,18 @@ fn transform_value<'a, A: Allocator + Copy>(
     ensures { Gives (option_map (λ t. t.now)) result
         (transform_value (view_entry entry.entry) (kind_of (node entry.entry.value).bytes)) }
 {
+    let name = token_of(entry);
     match kind(entry.value) {
         Kind::Null => Ok(None),
-        Kind::Object => transform_object(alloc, heap, entry),
-        _ => Err(OpenFault::BadMember {
-            name: token_of(entry),
-        }),
+        Kind::Object => {
+            let members = or_return!(entries(alloc, heap, entry.value));
+            if is_transform(members.as_slice()) {
+                Ok(Some(entry.value.text))
+            } else {
+                Err(OpenFault::BadMember { name })
+            }
+        }
+        _ => Err(OpenFault::BadMember { name }),
     }
 }
 
@@ -191,8 +157,7 @@ fn each_layer<'a, A: Allocator + Copy>(
 {
     let mut found = Vec::new(alloc);
     for entry in names {
-        let one = or_return!(layer(alloc, heap, *entry));
-        found.push(one)?;
+        found.push(or_return!(layer(alloc, heap, *entry)))?;
     }
     Ok(found)
 }
@@ -206,12 +171,6 @@ fn layers<'a, A: Allocator + Copy>(
 {
     let names = or_return!(entries(alloc, heap, span));
     each_layer(alloc, heap, names.as_slice())
-}
-
-fn few(places: &[Place<'_>]) -> bool
-    ensures { result ≡ nat_le (length (map view_place places.now)) 200000 }
-{
-    places.len() <= MAX_FEATURES
 }
 
 /// The outline, or TooLarge where it has too many features.
@@ -228,7 +187,7 @@ fn limited<'a, A: Allocator + Copy>(
     ensures places { IfOk result (λ o. IsPlaced o) }
 {
     let places = places(alloc, layers.as_slice())?;
-    if !few(places.as_slice()) {
+    if places.len() > MAX_FEATURES {
         return Err(OpenFault::TooLarge {
             what: Limit::Features,
         });
