@@ -1,7 +1,7 @@
--- The segments that two rings have in common: how they are gathered, and what they tell of each ring.
-use Rattle.kit_words.proofs.Common.{◌≡◌, ℕ, ◌+◌, ◌<◌, ◌≤◌, Bool, true, false, refl, sym, ap, ap₂, ◌∙◌, subst, cond, List, []}
-use Rattle.kit_words.proofs.Common.{◌∷◌, ◌++◌, length, drop, get_or, append_assoc, drop_of_length-le, ◌&&◌, ◌||◌, ◌⊎◌, inl, inr}
-use Rattle.kit_words.proofs.Common.{list_any, list_all, filter, map, at_drop_more, append-nil, int_lt, pos, reverse, reverse-reverse}
+-- The segments that two rings have in common: what they tell of each ring.
+use Rattle.kit_words.proofs.Common.{◌≡◌, ◌+◌, Bool, true, false, refl, sym, ap, ap₂, ◌∙◌, subst, cond, List, []}
+use Rattle.kit_words.proofs.Common.{◌∷◌, length, ◌&&◌, ◌||◌, ◌⊎◌, inl, inr}
+use Rattle.kit_words.proofs.Common.{list_any, list_all, filter, map, int_lt, pos, reverse, reverse-reverse}
 use Rattle.kit_words.proofs.Common.{not, ◌==◌, cases_Bool, arith, nat_tests}
 use Rattle.grid_geometry.specs.Common.{Position, Edge, edges, signed_area}
 use Rattle.ring_machine.specs.Common.{edge_eq, is_common, passed_alike, positive}
@@ -12,46 +12,6 @@ use Rattle.ring_machine.proofs.Passed.{in_common, common-flip}
 use Rattle.ring_parts.specs.Borders.{ends_of, is_shared, run_ends, both_ends, IsEitherWay}
 use Rattle.ring_parts.proofs.Ways.{any_of, common_by_ends}
 use Rattle.ring_parts.proofs.Counted.{all_mapped}
-
--- ---- an edge at a time
-
-module _ (c : Edge → Bool) (found : List Edge) (es : List Edge) (i : ℕ) (e : Edge) (l : i < length es) (at : e ≡ get_or es i e) where
-  abbrev ends_left : List Edge → List Edge
-  ends_left fs = map ends_of (filter c fs)
-
-  here : {B : Type 0} (left : List Edge → List B) → left (drop i es) ≡ left (e ∷ drop (i + 1) es)
-  here left = at_drop_more left es i e l ∙ ap (λ f. left (f ∷ drop (i + 1) es)) (sym at)
-
-  pub ends_here : (more : List Edge) → c e ≡ true → more ≡ found ++ ends_of e ∷ []
-      → more ++ map ends_of (filter c (drop (i + 1) es)) ≡ found ++ map ends_of (filter c (drop i es))
-  ends_here more h m =
-      ap (λ fs. fs ++ ends_left (drop (i + 1) es)) m
-      ∙ append_assoc found (ends_of e ∷ []) (ends_left (drop (i + 1) es))
-      ∙ sym (ap (λ fs. found ++ fs) (here ends_left ∙ ap (λ b. map ends_of (cond b (e ∷ filter c (drop (i + 1) es)) (filter c (drop (i + 1) es)))) h))
-
-  pub no_ends_here : c e ≡ false
-      → found ++ map ends_of (filter c (drop (i + 1) es)) ≡ found ++ map ends_of (filter c (drop i es))
-  no_ends_here h = sym (ap (λ fs. found ++ fs) (here ends_left ∙ ap (λ b. map ends_of (cond b (e ∷ filter c (drop (i + 1) es)) (filter c (drop (i + 1) es)))) h))
-
-  pub edge_here : (more : List Edge) → c e ≡ true → more ≡ found ++ e ∷ []
-      → more ++ filter c (drop (i + 1) es) ≡ found ++ filter c (drop i es)
-  edge_here more h m =
-      ap (λ fs. fs ++ filter c (drop (i + 1) es)) m
-      ∙ append_assoc found (e ∷ []) (filter c (drop (i + 1) es))
-      ∙ sym (ap (λ fs. found ++ fs) (here (filter c) ∙ ap (λ b. cond b (e ∷ filter c (drop (i + 1) es)) (filter c (drop (i + 1) es))) h))
-
-  pub no_edge_here : c e ≡ false → found ++ filter c (drop (i + 1) es) ≡ found ++ filter c (drop i es)
-  no_edge_here h = sym (ap (λ fs. found ++ fs) (here (filter c) ∙ ap (λ b. cond b (e ∷ filter c (drop (i + 1) es)) (filter c (drop (i + 1) es))) h))
-
-pub all_ends_here : (c : Edge → Bool) (found es : List Edge) (i : ℕ) → length es ≤ i → found ++ map ends_of (filter c (drop i es)) ≡ found
-all_ends_here c found es i l = ap (λ fs. found ++ map ends_of (filter c fs)) (drop_of_length-le es l) ∙ append-nil found
-
-pub all_edges_here : (c : Edge → Bool) (found es : List Edge) (i : ℕ) → length es ≤ i → found ++ filter c (drop i es) ≡ found
-all_edges_here c found es i l = ap (λ fs. found ++ filter c fs) (drop_of_length-le es l) ∙ append-nil found
-
-pub ruleset kept_ends = (ends_here, no_ends_here, all_ends_here)
-
-pub ruleset kept_edges = (edge_here, no_edge_here, all_edges_here)
 
 -- ---- tests of those that are kept
 

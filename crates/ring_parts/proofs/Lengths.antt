@@ -1,10 +1,10 @@
 -- How long the parts of a ring are.
 use Rattle.kit_words.proofs.Common.{◌≡◌, suc, ◌+◌, ◌≤◌, Bool, true, false, cond, List, [], ◌∷◌, length, get_or, map}
-use Rattle.kit_words.proofs.Common.{reverse, refl, sym, ap, arith, ◌&&◌, not, length-reverse}
+use Rattle.kit_words.proofs.Common.{reverse, refl, sym, ap, ap₂, arith, ◌&&◌, ◌-◌, not, filter, take, drop, take_all, length-reverse}
 use Rattle.std.proofs.Common.{length-append}
 use Rattle.grid_geometry.specs.Common.{signed_area, Position, position_eq}
 use Rattle.ring_machine.specs.Common.{before, from, begin_at, stretch, Path, first_part, second_part, same_sign}
-use Rattle.ring_machine.specs.Common.{is_wrong_side}
+use Rattle.ring_machine.specs.Common.{is_wrong_side, canonical, goes_first, second_polygon}
 use Rattle.ring_parts.specs.Common.{outer_length}
 
 before_few : (p : Position) (ps : List Position) → length (before p ps) ≤ length ps
@@ -47,3 +47,10 @@ pub sides_of : {R : Type 0} (of : R → List Position) (path : Path) (rings : Li
     → is_wrong_side path (map of rings) ≡ not (same_sign (signed_area (first_part (of ring) path)) (signed_area (of ring)) && same_sign (signed_area (second_part (of ring) path)) (signed_area (of ring)))
 sides_of of path [] ring l e = absurd (omega arith)
 sides_of of path (r ∷ rings) ring l e = ap (λ z. not (same_sign (signed_area (first_part (of z) path)) (signed_area (of z)) && same_sign (signed_area (second_part (of z) path)) (signed_area (of z)))) (sym e)
+
+-- the second polygon of one from its outer ring and its holes
+pub second_is : {R : Type 0} (of : R → List Position) (path : Path) (rings : List R) (ring : R) → 1 ≤ length rings → ring ≡ get_or rings 0 ring
+    → second_polygon path (map of rings) ≡ canonical (second_part (of ring) path) ∷ filter (λ h. not (goes_first (first_part (of ring) path) h)) (map of (take (length rings - 1) (drop 1 rings)))
+second_is of path [] ring l e = absurd (omega arith)
+second_is of path (r ∷ rings) ring l e =
+    ap₂ (λ z hs. canonical (second_part (of z) path) ∷ filter (λ h. not (goes_first (first_part (of z) path) h)) (map of hs)) (sym e) (sym (take_all (length (r ∷ rings) - 1) rings (omega arith)))

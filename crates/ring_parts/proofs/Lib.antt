@@ -2,7 +2,6 @@ pub mod Turning
 pub mod KeptSides
 pub mod Searching
 pub mod PathLists
-pub mod LeastOff
 pub mod Lists
 pub mod Lengths
 pub mod Ways

@@ -1,7 +1,7 @@
 -- Lists of rings and polygons, one at a time.
 use Rattle.kit_words.proofs.Common.{◌≡◌, ℕ, zero, suc, ◌+◌, ◌<◌, ◌≤◌, ◌-◌, Bool, true, false, refl, sym, ap, ap₂, ◌∙◌}
 use Rattle.kit_words.proofs.Common.{cond, List, [], ◌∷◌, ◌++◌, map, length, take, drop, get_or, arith, ◌||◌, list_any}
-use Rattle.kit_words.proofs.Common.{filter, take_more, take_all, map-append, append-nil, filter-append, list_any-append}
+use Rattle.kit_words.proofs.Common.{take_more, take_all, map-append, list_any-append}
 use Rattle.kit_words.proofs.Common.{false≢true}
 use Rattle.ring_machine.specs.Common.{first_that}
 
@@ -36,13 +36,6 @@ module _ {A B : Type 0} (of : A → B) (test : B → Bool) where
       by : (b : Bool) → (b || list_any test (map of (take i ys))) ≡ false → (list_any test (map of (take i ys)) ≡ false → first_that test (map of ys) ≡ get_or (map of ys) i d ∷ []) → cond b (of y ∷ []) (first_that test (map of ys)) ≡ get_or (map of ys) i d ∷ []
       by true f rest = absurd (false≢true (sym f))
       by false f rest = rest f
-
-  -- one that is kept, or not
-  pub kept_here : (xs : List A) (i : ℕ) (x : A) → i < length xs → x ≡ get_or xs i x → test (of x) ≡ true → filter test (map of (take (i + 1) xs)) ≡ filter test (map of (take i xs)) ++ of x ∷ []
-  kept_here xs i x l e k = ap (filter test) (one_more of xs i x l e) ∙ filter-append test (map of (take i xs)) (of x ∷ []) ∙ ap (λ b. filter test (map of (take i xs)) ++ cond b (of x ∷ []) []) k
-
-  pub left_here : (xs : List A) (i : ℕ) (x : A) → i < length xs → x ≡ get_or xs i x → test (of x) ≡ false → filter test (map of (take (i + 1) xs)) ≡ filter test (map of (take i xs))
-  left_here xs i x l e k = ap (filter test) (one_more of xs i x l e) ∙ filter-append test (map of (take i xs)) (of x ∷ []) ∙ ap (λ b. filter test (map of (take i xs)) ++ cond b (of x ∷ []) []) k ∙ append-nil (filter test (map of (take i xs)))
 
 pub map-take : {A B : Type 0} (of : A → B) (i : ℕ) (xs : List A) → map of (take i xs) ≡ take i (map of xs)
 map-take of zero xs = refl

@@ -1,10 +1,14 @@
 -- The ends of common edges, an edge at a time, and what is among them.
 use Rattle.kit_words.proofs.Common.{◌≡◌, ℕ, ◌+◌, ◌<◌, ◌≤◌, Bool, true, false, refl, sym, ap, ap₂, ◌∙◌, cond, List, []}
 use Rattle.kit_words.proofs.Common.{◌∷◌, ◌++◌, length, drop, get_or, append_assoc, drop_of_length-le, ◌&&◌, ◌||◌, not}
-use Rattle.kit_words.proofs.Common.{is_gt, list_any, filter, at_drop_more, append-nil}
-use Rattle.grid_geometry.specs.Common.{Position, position_eq, position_cmp, is_end, Edge, edges}
+use Rattle.kit_words.proofs.Common.{is_gt, list_any, filter, at_drop_more, append-nil, reduce, Option}
+use Rattle.grid_geometry.specs.Common.{Position, position_eq, position_lt, position_cmp, is_end, Edge, edges}
 use Rattle.ring_machine.specs.Common.{has, segment_of, is_common, common_else}
-use Rattle.ring_parts.specs.Common.{both_ends, run_ends, least_that}
+use Rattle.ring_parts.specs.Common.{both_ends, run_ends}
+
+-- the least of the positions that pass the test
+abbrev pub least_that : (Position → Bool) → List Position → Option Position
+least_that test ps = reduce (λ q p. cond (position_lt p q) p q) (filter test ps)
 
 -- ---- an edge at a time
 

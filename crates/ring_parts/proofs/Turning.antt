@@ -1,17 +1,10 @@
--- A ring begun at a position, as the loops do it.
+-- A ring begun at a position, and the least of its positions.
 use Rattle.kit_words.proofs.Common.{◌≡◌, ℕ, suc, ◌+◌, ◌<◌, ◌≤◌, Bool, true, false, cond, List, [], ◌∷◌, ◌++◌, length}
-use Rattle.kit_words.proofs.Common.{get_or, take, drop, refl, ap, ap₂, ◌∙◌, arith, drop-cons, add-one, drop_all}
-use Rattle.grid_geometry.specs.Common.{Position, position_eq, position_lt}
-use Rattle.ring_machine.specs.Common.{before, from, begin_at, least, canonical}
-
--- ---- the least position
-
-pub least_turn : (m : Position) (ps : List Position) (i : ℕ) (d : Position) → i < length ps →
-    least m (drop i ps) ≡ least (cond (position_lt (get_or ps i d) m) (get_or ps i d) m) (drop (i + 1) ps)
-least_turn m ps i d lt = rw (drop-cons ps i d lt, add-one i) refl
-
-pub least_done : (m : Position) (ps : List Position) (i : ℕ) → length ps ≤ i → least m (drop i ps) ≡ m
-least_done m ps i le = rw (drop_all i ps le) refl
+use Rattle.kit_words.proofs.Common.{get_or, take, drop, refl, sym, ap, ap₂, ◌∙◌, drop-cons, add-one, drop_all}
+use Rattle.kit_words.proofs.Common.{reduce, Some, unwrap_or}
+use Rattle.std.proofs.lemmas.Option.{none-some}
+use Rattle.grid_geometry.specs.Common.{Position, position_eq, position_lt, is_inside}
+use Rattle.ring_machine.specs.Common.{before, from, begin_at, canonical, goes_first, least_off}
 
 -- ---- the place of a position
 
@@ -49,14 +42,10 @@ turned_at m ps = ap₂ (λ us vs. us ++ vs) (drop_before m ps) (take_before m ps
 
 -- ---- the canonical rotation
 
--- p itself comes in a second time
-least_again : (p : Position) (ps : List Position) → least p (p ∷ ps) ≡ least p ps
-least_again p ps = by (position_lt p p)
-  where
-    by : (b : Bool) → least (cond b p p) ps ≡ least p ps
-    by true = refl
-    by false = refl
+pub canonical_by : (ring : List Position) (m : Position) → reduce (λ q p. cond (position_lt p q) p q) ring ≡ Some m → begin_at m ring ≡ canonical ring
+canonical_by [] m h = absurd (none-some m h)
+canonical_by (p ∷ ps) m h = ap (λ o. begin_at (unwrap_or o p) (p ∷ ps)) (sym h)
 
-pub canonical_is : (ring : List Position) (p : Position) → 1 ≤ length ring → p ≡ get_or ring 0 p → begin_at (least p ring) ring ≡ canonical ring
-canonical_is [] p some is = absurd (omega arith)
-canonical_is (q ∷ qs) p some is = ap (λ (r : Position). begin_at (least r (q ∷ qs)) (q ∷ qs)) is ∙ ap (λ (r : Position). begin_at r (q ∷ qs)) (least_again q qs)
+-- where a hole goes, by the least of its positions that are not of the part
+pub goes_by : (part hole : List Position) (w : Position) → least_off part hole ≡ Some w → goes_first part hole ≡ is_inside w part
+goes_by part hole w h = rw h refl

@@ -3,7 +3,7 @@ use Rattle.std.specs.Prelude.{◌≡◌, ◌⊎◌, reverse, ℕ, Bool, not, ◌
 use Rattle.std.specs.List.{zip, count_by, filter}
 use Rattle.std.specs.Ordering.{ordering_then}
 use Rattle.std.specs.declared.cmp.Ordering.{Ordering}
-use Rattle.grid_geometry.specs.Common.{Position, position_cmp, Edge}
+use Rattle.grid_geometry.specs.Common.{Position, position_cmp, Edge, edges}
 use Rattle.ring_machine.specs.Common.{segment_of, is_common}
 
 -- the ends of an edge, the lesser one first
@@ -35,6 +35,10 @@ both_ends (e ∷ es) = e.0 ∷ e.1 ∷ both_ends es
 -- both ends of each edge that is common
 abbrev pub run_ends : (Edge → Bool) → List Edge → List Position
 run_ends common es = both_ends (filter common es)
+
+-- the ends of each edge of r whose segment is one of s
+abbrev pub shared_ends : List Position → List Position → List Edge
+shared_ends r s = map ends_of (filter (is_common s) (edges r))
 
 -- the edge's segment is one of both rings
 unfoldable pub is_shared : List Position → List Position → Edge → Bool

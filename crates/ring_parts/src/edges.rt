@@ -53,9 +53,5 @@ pub(crate) fn all_ends<A: Allocator + Copy>(
 ) -> Result<Vec<(Pos, Pos), A>, AllocError>
     ensures { IfOk result (λ found. found.items ≡ map ends_of edges.now) }
 {
-    let mut found = Vec::with_capacity(alloc, edges.len())?;
-    for edge in edges {
-        found.push_reserved(ends(*edge));
-    }
-    Ok(found)
+    edges.iter().map(|edge| ends(*edge)).collect(alloc)
 }

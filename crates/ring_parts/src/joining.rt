@@ -9,8 +9,7 @@ ghost use Rattle.ring_parts.specs.Seen.{rings_seen};
 
 use crate::rotation::begin_at_least;
 use crate::same_sides::{passed_alike, turned};
-use crate::shared_runs::shared_edges;
-use crate::shared_sides::SharedSides;
+use crate::shared_sides::{SharedSides, shared_edges};
 use grid_geometry::Pos;
 use std::alloc::{AllocError, AllocFailed, Allocator};
 

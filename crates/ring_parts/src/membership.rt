@@ -1,12 +1,11 @@
 // The positions of a ring, found by a search.
 ghost use Rattle.std.specs.Prelude.{◌≡◌, IfOk};
 ghost use Rattle.grid_geometry.specs.Common.{Position, position_cmp};
+ghost use Rattle.std.specs.List.{list_any};
 ghost use Rattle.std.specs.List.Sorted.{IsSorted};
 ghost use Rattle.ring_machine.specs.Ring as machine;
-ghost use Rattle.ring_machine.specs.Common.{least_off, goes_first};
-ghost use Rattle.ring_parts.specs.Seen.{lesser};
+ghost use Rattle.ring_machine.specs.Common.{goes_first};
 
-use crate::sorted::has_sorted;
 use grid_geometry::{Pos, inside};
 use std::alloc::{AllocError, Allocator};
 
@@ -18,14 +17,12 @@ pub(crate) fn has(ring: &[Pos], p: Pos) -> bool
     ring.contains(&p)
 }
 
-/// The lesser of both, or p where there is no other.
-pub(crate) fn lesser(least: Option<Pos>, p: Pos) -> Pos
-    ensures { result ≡ lesser least p }
+/// Whether x is among these, which ascend.
+pub(crate) fn has_sorted<T: Ord>(sorted: &[T], x: &T) -> bool
+    requires { IsSorted T.cmp sorted.now }
+    ensures { result ≡ list_any (λ y. T.eq y x.now) sorted.now }
 {
-    match least {
-        None => p,
-        Some(q) => { if p < q { p } else { q } }
-    }
+    sorted.binary_search(x).is_ok()
 }
 
 /// A ring with its positions sorted beside it.
@@ -54,25 +51,13 @@ impl<'r, A: Allocator + Copy> Members<'r, A> {
         has_sorted(self.sorted.as_slice(), &p)
     }
 
-    /// The least of a hole's positions that are not of the ring.
-    fn least_off(&self, hole: &[Pos]) -> Option<Pos>
-        ensures { result ≡ least_off self.now.ring.now hole.now }
-    {
-        let mut least = None;
-        for p in hole {
-            if !self.has(*p) {
-                least = Some(lesser(least, *p));
-            }
-        }
-        least
-    }
-
     /// Whether a hole goes with this part: all its positions are of the part, or the least of the
     /// others is inside it.
     pub fn goes_first(&self, hole: &[Pos]) -> bool
         ensures { result ≡ goes_first self.now.ring.now hole.now }
     {
-        match self.least_off(hole) {
+        let off = hole.iter().copied().filter(|p| !self.has(*p));
+        match off.reduce(|q, p| if p < q { p } else { q }) {
             None => true,
             Some(w) => inside(w, self.ring),
         }

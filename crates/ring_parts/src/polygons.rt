@@ -1,9 +1,8 @@
 // The two polygons of one that a path cuts.
-ghost use Rattle.std.specs.Prelude.{◌≡◌, [], ◌∷◌, ◌++◌, IfOk, OnOk};
+ghost use Rattle.std.specs.Prelude.{◌≡◌, ◌++◌, IfOk, OnOk, not};
 ghost use Rattle.std.specs.List.{filter};
-ghost use Rattle.ring_machine.specs.Common.{canonical};
 ghost use Rattle.ring_machine.specs.Cut as spec;
-ghost use Rattle.ring_parts.specs.Seen.{path_seen, rings_seen, goes_to};
+ghost use Rattle.ring_parts.specs.Seen.{path_seen, rings_seen};
 
 use crate::membership::Members;
 use crate::paths::Path;
@@ -12,109 +11,36 @@ use crate::stretch::{first_part, second_part};
 use grid_geometry::Pos;
 use std::alloc::{AllocError, Allocator};
 
-/// The polygon of one ring, in its canonical rotation.
-fn of_one_ring<A: Allocator + Copy>(
+/// Appends the holes that go with the first part to its polygon, and the others to the other one.
+/// Where there are no holes the part's positions are not sorted.
+fn part_holes<A: Allocator + Copy>(
     alloc: A,
-    ring: &[Pos],
-) -> Result<Vec<Vec<Pos, A>, A>, AllocError>
-    ensures { IfOk result (λ polygon. rings_seen polygon.items ≡ canonical ring.now ∷ []) }
-{
-    let mut polygon = Vec::new(alloc);
-    polygon.push(canonical(alloc, ring)?)?;
-    Ok(polygon)
-}
-
-/// Appends the holes that go with the first part, or the others.
-fn push_holes<A: Allocator + Copy>(
-    polygon: &mut Vec<Vec<Pos, A>, A>,
-    alloc: A,
-    first: &Members<'_, A>,
-    with_first: bool,
+    part: &[Pos],
     holes: &[Vec<Pos, A>],
+    ones: &mut Vec<Vec<Pos, A>, A>,
+    others: &mut Vec<Vec<Pos, A>, A>,
 ) -> Result<(), AllocError>
-    ensures { OnOk result
-        (rings_seen polygon.new.items
-        ≡ rings_seen polygon.old.items
-        ++ filter (goes_to with_first first.now.ring.now) (rings_seen holes.now)) }
-{
-    for hole in holes {
-        if first.goes_first(hole.as_slice()) == with_first {
-            polygon.push(Vec::from_slice(alloc, hole.as_slice())?)?;
-        }
-    }
-    Ok(())
-}
-
-/// Appends the holes that go with the first part of these positions, or the others. Where there are
-/// no holes its positions are not sorted.
-fn push_parted<A: Allocator + Copy>(
-    polygon: &mut Vec<Vec<Pos, A>, A>,
-    alloc: A,
-    first: &[Pos],
-    with_first: bool,
-    holes: &[Vec<Pos, A>],
-) -> Result<(), AllocError>
-    ensures { OnOk result
-        (rings_seen polygon.new.items
-        ≡ rings_seen polygon.old.items
-        ++ filter (goes_to with_first first.now) (rings_seen holes.now)) }
+    ensures first { OnOk result
+        (rings_seen ones.new.items
+        ≡ rings_seen ones.old.items ++ filter (spec.goes_first part.now) (rings_seen holes.now)) }
+    ensures second { OnOk result
+        (rings_seen others.new.items
+        ≡ rings_seen others.old.items
+        ++ filter (λ h. not (spec.goes_first part.now h)) (rings_seen holes.now)) }
 {
     if holes.is_empty() {
         return Ok(());
     }
-    let members = Members::new(alloc, first)?;
-    push_holes(polygon, alloc, &members, with_first, holes)
-}
-
-/// The polygon of one part, with the holes that go with the first part, or with the others.
-fn with_holes<A: Allocator + Copy>(
-    alloc: A,
-    part: &[Pos],
-    first: &[Pos],
-    with_first: bool,
-    holes: &[Vec<Pos, A>],
-) -> Result<Vec<Vec<Pos, A>, A>, AllocError>
-    ensures { IfOk result (λ polygon. rings_seen polygon.items
-        ≡ canonical part.now ∷ filter (goes_to with_first first.now) (rings_seen holes.now)) }
-{
-    let mut polygon = of_one_ring(alloc, part)?;
-    push_parted(&mut polygon, alloc, first, with_first, holes)?;
-    Ok(polygon)
-}
-
-/// The first part of a polygon with its holes, in their order.
-pub fn first_polygon<A: Allocator + Copy>(
-    alloc: A,
-    path: &Path<'_>,
-    polygon: &[Vec<Pos, A>],
-) -> Result<Vec<Vec<Pos, A>, A>, AllocError>
-    ensures { IfOk result
-        (λ part. rings_seen part.items
-        ≡ spec.first_polygon (path_seen path.now) (rings_seen polygon.now)) }
-{
-    let [outer, holes @ ..] = polygon else {
-        return Ok(Vec::new(alloc));
-    };
-    let first = first_part(alloc, outer.as_slice(), path)?;
-    with_holes(alloc, first.as_slice(), first.as_slice(), true, holes)
-}
-
-/// The second part of a polygon with the other holes, in their order.
-pub fn second_polygon<A: Allocator + Copy>(
-    alloc: A,
-    path: &Path<'_>,
-    polygon: &[Vec<Pos, A>],
-) -> Result<Vec<Vec<Pos, A>, A>, AllocError>
-    ensures { IfOk result
-        (λ part. rings_seen part.items
-        ≡ spec.second_polygon (path_seen path.now) (rings_seen polygon.now)) }
-{
-    let [outer, holes @ ..] = polygon else {
-        return Ok(Vec::new(alloc));
-    };
-    let first = first_part(alloc, outer.as_slice(), path)?;
-    let second = second_part(alloc, outer.as_slice(), path)?;
-    with_holes(alloc, second.as_slice(), first.as_slice(), false, holes)
+    let first = Members::new(alloc, part)?;
+    for hole in holes {
+        let ring = Vec::from_slice(alloc, hole.as_slice())?;
+        if first.goes_first(hole.as_slice()) {
+            ones.push(ring)?;
+        } else {
+            others.push(ring)?;
+        }
+    }
+    Ok(())
 }
 
 /// Both parts of a polygon that a path cuts, each with its holes. Fails for want of memory alone.
@@ -128,7 +54,14 @@ pub fn both_parts<A: Allocator + Copy>(
     ensures second { IfOk result (λ parts. rings_seen parts.1.items
         ≡ spec.second_polygon (path_seen path.now) (rings_seen polygon.now)) }
 {
-    let first = first_polygon(alloc, path, polygon)?;
-    let second = second_polygon(alloc, path, polygon)?;
-    Ok((first, second))
+    let (mut ones, mut others) = (Vec::new(alloc), Vec::new(alloc));
+    let [outer, holes @ ..] = polygon else {
+        return Ok((ones, others));
+    };
+    let first = first_part(alloc, outer.as_slice(), path)?;
+    let second = second_part(alloc, outer.as_slice(), path)?;
+    ones.push(canonical(alloc, first.as_slice())?)?;
+    others.push(canonical(alloc, second.as_slice())?)?;
+    part_holes(alloc, first.as_slice(), holes, &mut ones, &mut others)?;
+    Ok((ones, others))
 }

@@ -1,32 +1,37 @@
 // Rings in their canonical rotation.
-ghost use Rattle.std.specs.Prelude.{◌≡◌, IfOk};
-ghost use Rattle.ring_machine.specs.Common.{canonical, least};
+ghost use Rattle.std.specs.Prelude.{◌≡◌, ◌≤◌, IfOk, length};
+ghost use Rattle.ring_machine.specs.Common.{before, canonical};
 
-use crate::stretch::turn_to;
 use grid_geometry::Pos;
 use std::alloc::{AllocError, Allocator};
 
-/// The least of a position and others.
-#[tactic(auto, using(crate::proofs::Turning::least_turn, crate::proofs::Turning::least_done))]
-fn least(first: Pos, others: &[Pos]) -> Pos
-    ensures { result ≡ least first others.now }
+/// How many positions stand before the first one that is equal to `pos`.
+#[tactic(auto, using(crate::proofs::Turning::before_turn, crate::proofs::Turning::before_done))]
+pub(crate) fn count_before(pos: Pos, ring: &[Pos]) -> usize
+    ensures value { result ≡ length (before pos ring.now) }
+    ensures within { result ≤ length ring.now }
 {
-    let mut least = first;
-    for pos in others {
-        if *pos < least {
-            least = *pos;
+    let mut count = 0;
+    for one in ring {
+        if *one == pos {
+            return count;
         }
+        count += 1;
     }
-    least
+    count
 }
 
 /// Turns a ring so that it begins at its least position, with its direction kept.
 pub fn begin_at_least(ring: &mut [Pos])
     ensures { ring.new ≡ canonical ring.old }
 {
-    if let [first, ..] = ring {
-        let begin = least(*first, ring);
-        turn_to(ring, begin);
+    if let Some(least) = ring
+        .iter()
+        .copied()
+        .reduce(|q, p| if p < q { p } else { q })
+    {
+        let place = count_before(least, ring);
+        ring.rotate_left(place);
     }
 }
 

@@ -1,37 +1,16 @@
 // Whether the areas of two rings lie on the same side of their common run.
 ghost use Rattle.std.specs.Prelude.{◌≡◌, ◌≤◌, IfOk, length, reverse, if◌then◌else◌};
-ghost use Rattle.std.specs.List.{filter, list_any};
+ghost use Rattle.std.specs.List.{list_any};
 ghost use Rattle.std.specs.List.Sorted.{IsSorted};
 ghost use Rattle.ring_machine.specs.Common.{edge_eq};
 ghost use Rattle.ring_machine.specs.Join as spec;
-ghost use Rattle.ring_parts.specs.Borders.{edge_cmp, is_shared, IsEitherWay};
+ghost use Rattle.ring_parts.specs.Borders.{edge_cmp, IsEitherWay};
 
 use crate::edges::edges;
-use crate::shared_runs::{all_pass, shared_edges};
-use crate::shared_sides::SharedSides;
-use crate::sorted::has_sorted;
+use crate::membership::has_sorted;
+use crate::shared_sides::{SharedSides, all_pass, shared_edges};
 use grid_geometry::{Pos, area2};
 use std::alloc::{AllocError, Allocator};
-
-/// Those of the edges whose segments both rings have.
-#[tactic(auto, using(crate::proofs::KeptSides::kept_edges))]
-fn kept_edges<A: Allocator + Copy>(
-    alloc: A,
-    edges: &[(Pos, Pos)],
-    shared: &SharedSides<'_, A>,
-) -> Result<Vec<(Pos, Pos), A>, AllocError>
-    ensures { IfOk result
-        (λ found. found.items
-        ≡ filter (is_shared shared.now.first.now shared.now.second.now) edges.now) }
-{
-    let mut found = Vec::new(alloc);
-    for edge in edges {
-        if shared.has(*edge) {
-            found.push(*edge)?;
-        }
-    }
-    Ok(found)
-}
 
 /// Whether an edge is among these, which ascend.
 fn has_edge(sorted: &[(Pos, Pos)], edge: (Pos, Pos)) -> bool
@@ -66,8 +45,8 @@ fn alike<A: Allocator + Copy>(
     requires second { IsEitherWay shared.now.second.now others.now }
     ensures { IfOk result (λ alike. alike ≡ spec.passed_alike ones.now others.now) }
 {
-    let passed = edges(alloc, others)?;
-    let mut sorted = kept_edges(alloc, passed.as_slice(), shared)?;
+    let mut sorted = edges(alloc, others)?;
+    sorted.retain(|edge| shared.has(*edge));
     sorted.sort_unstable();
     let edges = edges(alloc, ones)?;
     Ok(any_edge(edges.as_slice(), sorted.as_slice()))

@@ -1,6 +1,6 @@
 // The segments of a ring, found by a search.
 ghost use Rattle.std.specs.Prelude.{◌≡◌, IfOk, map};
-ghost use Rattle.std.specs.List.{list_any, list_all};
+ghost use Rattle.std.specs.List.{list_any};
 ghost use Rattle.std.specs.List.Sorted.{IsSorted};
 ghost use Rattle.grid_geometry.specs.Common.{Edge};
 ghost use Rattle.grid_geometry.specs.Ring as geometry;
@@ -8,7 +8,7 @@ ghost use Rattle.ring_machine.specs.Common.{edge_eq, is_common};
 ghost use Rattle.ring_parts.specs.Borders.{ends_of, edge_cmp};
 
 use crate::edges::{all_ends, edges, ends};
-use crate::sorted::has_sorted;
+use crate::membership::has_sorted;
 use grid_geometry::Pos;
 use std::alloc::{AllocError, Allocator};
 

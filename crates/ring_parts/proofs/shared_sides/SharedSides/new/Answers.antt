@@ -1,9 +1,8 @@
-use Rattle.kit_words.proofs.Common.{◌≡◌, ◌∙◌, ap, true, map, filter, list_any}
-use Rattle.grid_geometry.specs.Common.{Edge, edges}
-use Rattle.ring_machine.specs.Common.{edge_eq, is_common}
+use Rattle.kit_words.proofs.Common.{◌≡◌, ◌∙◌, ap, map, filter, list_any}
+use Rattle.grid_geometry.specs.Common.{edges}
+use Rattle.ring_machine.specs.Common.{is_common}
 use Rattle.ring_parts.specs.Common.{ends_of}
 use Rattle.ring_parts.proofs.Searching.{any_permuted}
-use Rattle.ring_parts.proofs.KeptSides.{kept_by_ends, some_kept}
 use Rattle.ring_parts.proofs.shared_sides.SharedSides.new.Goals as goal
 
 pub invariant_of-result : goal.invariant_of-result
@@ -16,6 +15,5 @@ invariant_of-result g c =
     ∙ ap (λ es. map ends_of (filter (is_common s) es)) (c.as_slice.ensures.value ∙ c.in_ok-edges.ensures) in
     record {
       ascending = c.sort_unstable.ensures.sorted;
-      same = λ e. any_permuted (edge_eq (ends_of e)) c.in_ok-sides.sides.items c.sort_unstable.new.self.items c.sort_unstable.ensures.permutation ∙ ap (list_any (edge_eq (ends_of e))) gathered ∙ kept_by_ends r s e;
-      some = any_permuted (λ (side : Edge). true) c.in_ok-sides.sides.items c.sort_unstable.new.self.items c.sort_unstable.ensures.permutation ∙ ap (list_any (λ (side : Edge). true)) gathered ∙ some_kept r s;
+      same = λ test. any_permuted test c.in_ok-sides.sides.items c.sort_unstable.new.self.items c.sort_unstable.ensures.permutation ∙ ap (list_any test) gathered;
     }
