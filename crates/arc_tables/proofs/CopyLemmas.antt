@@ -30,23 +30,19 @@ module _ {T : Type 0} (is_clone : T → T → Type 0) where
 
 module _ {A : Type 0} where
   -- copies have the same keys, rings, uses and arcs
-  abbrev pub SameArc : Arc A → Arc A → Type 0
-  SameArc arc copy = (copy.keys.items ≡ arc.keys.items) × (copy.rings ≡ arc.rings)
-
-  abbrev pub SameUses : Ring A → Ring A → Type 0
-  SameUses ring copy = copy.uses.items ≡ ring.uses.items
-
   abbrev pub SameStand : Stand A → Stand A → Type 0
   SameStand stand copy = (copy.arcs ≡ stand.arcs) × (copy.ends ≡ stand.ends)
 
-  pub cloned_arcs : (s t : Slab (Arc A)) → IsSlabClone SameArc s t → SamePaths s t × SameUsers s t
-  cloned_arcs s t c = (
-    cloned_as SameArc path_in (λ v w h. h.0) s t c,
-    record { there = cloned_as SameArc is_some (λ v w h. refl) s t c; users = cloned_as SameArc users_in (λ v w h. h.1) s t c },
+  pub cloned_arcs : {is_clone : Arc A → Arc A → Type 0} (s t : Slab (Arc A)) → IsSlabClone is_clone s t
+      → ((arc copy : Arc A) → is_clone arc copy → (copy.keys.items ≡ arc.keys.items) × (copy.rings ≡ arc.rings)) → SamePaths s t × SameUsers s t
+  cloned_arcs {is_clone} s t c same = (
+    cloned_as is_clone path_in (λ v w h. (same v w h).0) s t c,
+    record { there = cloned_as is_clone is_some (λ v w h. refl) s t c; users = cloned_as is_clone users_in (λ v w h. (same v w h).1) s t c },
   )
 
-  pub cloned_rings : (s t : Slab (Ring A)) → IsSlabClone SameUses s t → SameRings s t × SameKeys s t
-  cloned_rings s t c = (cloned_as SameUses uses_in (λ v w h. h) s t c, cloned_as SameUses is_some (λ v w h. refl) s t c)
+  pub cloned_rings : {is_clone : Ring A → Ring A → Type 0} (s t : Slab (Ring A)) → IsSlabClone is_clone s t
+      → ((ring copy : Ring A) → is_clone ring copy → copy.uses.items ≡ ring.uses.items) → SameRings s t × SameKeys s t
+  cloned_rings {is_clone} s t c same = (cloned_as is_clone uses_in same s t c, cloned_as is_clone is_some (λ v w h. refl) s t c)
 
   cloned_lists : (ss ts : List (Stand A)) → AllZip SameStand ss ts → map (λ (s : Stand A). s.arcs) ts ≡ map (λ (s : Stand A). s.arcs) ss
   cloned_lists [] [] h = refl

@@ -6,6 +6,7 @@ pub mod Knowing
 pub mod Growing
 pub mod Finding
 pub mod Running
+pub mod Writes
 pub mod TakeLemmas
 pub mod Held
 pub mod StandLemmas

@@ -13,7 +13,7 @@ pub struct Use {
 }
 
 /// A border, by the keys of its vertices, and the rings that use it.
-#[derive(Drop)]
+#[derive(Clone, Drop)]
 pub struct Arc<A: Allocator + Copy = Global> {
     /// The keys of its vertices, in order.
     pub keys: Vec<VertexKey, A>,
@@ -22,14 +22,14 @@ pub struct Arc<A: Allocator + Copy = Global> {
 }
 
 /// A ring, by its uses of arcs.
-#[derive(Drop)]
+#[derive(Clone, Drop)]
 pub struct Ring<A: Allocator + Copy = Global> {
     /// Its uses of arcs, in order.
     pub uses: Vec<Use, A>,
 }
 
 /// The arcs that a vertex stands in, and whether new arcs end at it.
-#[derive(Drop)]
+#[derive(Clone, Drop)]
 pub struct Stand<A: Allocator + Copy = Global> {
     /// The numbers of the arcs that it stands in, and perhaps of others.
     pub arcs: ShortList<A>,

@@ -2,47 +2,8 @@
 ghost use Rattle.std.specs.Prelude.{IfOk};
 ghost use Rattle.arc_tables.specs.Stores.{SamePaths, SameUsers, SameRings, SameKeys, ListsMore};
 
-use crate::arc::{Arc, Ring, Stand};
 use crate::tables::Tables;
 use std::alloc::{AllocError, Allocator};
-
-impl<A: Allocator + Copy> Clone for Arc<A> {
-    ghost use Rattle.std.specs.Prelude.{◌≡◌};
-
-    ghost is_clone = { λ arc copy. (copy.keys.items ≡ arc.keys.items) × (copy.rings ≡ arc.rings) };
-
-    fn clone(&self) -> Result<Arc<A>, AllocError> {
-        Ok(Arc {
-            keys: self.keys.clone()?,
-            rings: self.rings.clone()?,
-        })
-    }
-}
-
-impl<A: Allocator + Copy> Clone for Ring<A> {
-    ghost use Rattle.std.specs.Prelude.{◌≡◌};
-
-    ghost is_clone = { λ ring copy. copy.uses.items ≡ ring.uses.items };
-
-    fn clone(&self) -> Result<Ring<A>, AllocError> {
-        Ok(Ring {
-            uses: self.uses.clone()?,
-        })
-    }
-}
-
-impl<A: Allocator + Copy> Clone for Stand<A> {
-    ghost use Rattle.std.specs.Prelude.{◌≡◌};
-
-    ghost is_clone = { λ stand copy. (copy.arcs ≡ stand.arcs) × (copy.ends ≡ stand.ends) };
-
-    fn clone(&self) -> Result<Stand<A>, AllocError> {
-        Ok(Stand {
-            arcs: self.arcs.clone()?,
-            ends: self.ends,
-        })
-    }
-}
 
 impl<A: Allocator + Copy> Tables<A> {
     /// Tables that hold the same. Fails for want of memory alone.

@@ -1,21 +1,18 @@
 //! Cutting an arc in two, which changes no ring.
-ghost use Rattle.std.specs.Prelude.{◌≡◌, ◌≢◌, ℕ, ◌<◌, ◌≤◌, ◌+◌, None, OnOk, OnErr, IfOk};
+ghost use Rattle.std.specs.Prelude.{◌≡◌, ℕ, ◌<◌, ◌≤◌, ◌+◌, OnOk, OnErr, IfOk};
 ghost use Rattle.std.specs.Prelude.{Contains, take, drop, length, get_or};
 ghost use Rattle.std.specs.List.{flat_map};
-ghost use Rattle.slab.specs.Slab.{get, ContainsKey, HasRoomFor};
+ghost use Rattle.slab.specs.Slab.{get, ContainsKey};
 ghost use Rattle.arc_tables.specs.Ways.{both_parts, Cuts, Keeps};
 ghost use Rattle.arc_tables.specs.declared.arc.NewUses.{NewUses};
-ghost use Rattle.arc_tables.specs.Stores.{path_in, users_in, uses_in, path_of, store};
+ghost use Rattle.arc_tables.specs.Stores.{uses_in, path_of, store};
 ghost use Rattle.arc_tables.specs.Stores.{Whole, HasRing, IsPut, Doubles, SameKeys, EndsAt};
 
 use crate::arc::{Arc, NewUses, Ring, Use};
-use crate::short_list::ShortList;
 use crate::standing::{note, unlist_moved};
 use crate::tables::Tables;
 use slab::Slab;
 use std::alloc::{AllocError, Allocator};
-use std::mem;
-use vertex_index::VertexKey;
 
 /// The uses of a ring, where those of arc `i` go on along arc `n`.
 fn doubled<A: Allocator + Copy>(
@@ -29,19 +26,9 @@ fn doubled<A: Allocator + Copy>(
     let mut more = Vec::new(alloc);
     for u in uses {
         if u.arc == i {
-            if u.back {
-                more.push(Use { arc: n, back: true })?;
-                more.push(Use { arc: i, back: true })?;
-            } else {
-                more.push(Use {
-                    arc: i,
-                    back: false,
-                })?;
-                more.push(Use {
-                    arc: n,
-                    back: false,
-                })?;
-            }
+            let (first, second) = if u.back { (n, i) } else { (i, n) };
+            more.push(Use { arc: first, ..*u })?;
+            more.push(Use { arc: second, ..*u })?;
         } else {
             more.push(*u)?;
         }
@@ -81,44 +68,8 @@ fn put_uses<A: Allocator + Copy>(rings: &mut Slab<Ring<A>, A>, mut news: Vec<New
 {
     while let Some(new) = news.pop() {
         if let Some(ring) = rings.get_mut(new.ring) {
-            let _ = mem::replace(&mut ring.uses, new.uses);
+            ring.uses = new.uses;
         }
-    }
-}
-
-/// Leaves `len` keys on arc `i`, and gives the rest to a new arc.
-fn part<A: Allocator + Copy>(
-    arcs: &mut Slab<Arc<A>, A>,
-    i: usize,
-    len: usize,
-    tail: Vec<VertexKey, A>,
-    rings: ShortList<A>,
-) -> usize
-    requires room { HasRoomFor arcs.old 1 }
-    requires there { ContainsKey arcs.old i }
-    ensures vacant { get arcs.old result ≡ None }
-    ensures key { result ≡ arcs.old.vacant_key }
-    ensures apart { i ≢ result }
-    ensures first { path_in (get arcs.new i) ≡ take len (path_in (get arcs.old i)) }
-    ensures second { path_in (get arcs.new result) ≡ tail.items }
-    ensures others { (j : ℕ) → j ≢ i → j ≢ result → get arcs.new j ≡ get arcs.old j }
-    ensures users { users_in (get arcs.new i) ≡ users_in (get arcs.old i) }
-    ensures new_users { users_in (get arcs.new result) ≡ rings }
-    ensures kept { (j : ℕ) → ContainsKey arcs.old j → ContainsKey arcs.new j }
-    ensures there { ContainsKey arcs.new result }
-{
-    let arc = arcs.get_mut(i).unwrap();
-    arc.keys.truncate(len);
-    arcs.insert_reserved(Arc { keys: tail, rings })
-}
-
-/// The keys of an arc.
-fn keys_of<A: Allocator + Copy>(arcs: &Slab<Arc<A>, A>, i: usize) -> &[VertexKey]
-    ensures { result.now ≡ path_in (get arcs.now i) }
-{
-    match arcs.get(i) {
-        Some(arc) => arc.keys.as_slice(),
-        None => &[],
     }
 }
 
@@ -145,11 +96,14 @@ impl<A: Allocator + Copy> Tables<A> {
         let users = arc.rings.clone()?;
         let news = plan_uses(self.alloc, &self.rings, users.as_slice(), i, n)?;
         note(self.alloc, &mut self.stands, tail.as_slice(), n)?;
-        part(&mut self.arcs, i, at + 1, tail, users);
+        let arc = self.arcs.get_mut(i).unwrap();
+        arc.keys.truncate(at + 1);
+        unlist_moved(&mut self.stands, arc.keys.as_slice(), tail.as_slice(), i);
+        self.arcs.insert_reserved(Arc {
+            keys: tail,
+            rings: users,
+        });
         put_uses(&mut self.rings, news);
-        let path = keys_of(&self.arcs, i);
-        let moved = keys_of(&self.arcs, n);
-        unlist_moved(&mut self.stands, path, moved, i);
         Ok(n)
     }
 

@@ -1,7 +1,6 @@
 //! Putting one vertex into the arcs, and taking one out.
-ghost use Rattle.std.specs.Prelude.{◌≡◌, ◌≢◌, ℕ, ◌≤◌, OnOk, OnErr, Contains, length, map};
-ghost use Rattle.std.specs.List.{insert};
-ghost use Rattle.slab.specs.Slab.{get, ContainsKey};
+ghost use Rattle.std.specs.Prelude.{◌≡◌, ◌≢◌, ℕ, ◌≤◌, OnOk, OnErr, Contains, map};
+ghost use Rattle.slab.specs.Slab.{get};
 ghost use Rattle.arc_tables.specs.Ways.{Once, links, times};
 ghost use Rattle.arc_tables.specs.Edited.{onto, through, collapsed, Collapses, CollapsesAmong};
 ghost use Rattle.arc_tables.specs.Stores.{path_in, path_of, stand_at, Whole, ListsMore};
@@ -14,25 +13,6 @@ use crate::tables::Tables;
 use slab::Slab;
 use std::alloc::{AllocError, Allocator};
 use vertex_index::VertexKey;
-
-/// Puts key `q` at a place of arc `i`.
-fn put_key<A: Allocator + Copy>(
-    arcs: &mut Slab<Arc<A>, A>,
-    i: usize,
-    at: usize,
-    q: VertexKey,
-) -> Result<(), AllocError>
-    requires there { ContainsKey arcs.old i }
-    requires within { at ≤ length (path_in (get arcs.old i)) }
-    ensures ok { OnOk result (path_in (get arcs.new i) ≡ insert (path_in (get arcs.old i)) at q) }
-    ensures err { OnErr result (SamePaths arcs.old arcs.new) }
-    ensures others { (j : ℕ) → j ≢ i → get arcs.new j ≡ get arcs.old j }
-    ensures users { SameUsers arcs.old arcs.new }
-{
-    let arc = arcs.get_mut(i).unwrap();
-    arc.keys.insert(at, q)?;
-    Ok(())
-}
 
 /// Lists these arcs for a vertex.
 fn list_arcs<A: Allocator + Copy>(
@@ -156,7 +136,9 @@ impl<A: Allocator + Copy> Tables<A> {
             return Ok(());
         };
         list_arc(self.alloc, &mut self.stands, q, place.arc)?;
-        put_key(&mut self.arcs, place.arc, place.at + 1, q)
+        let arc = self.arcs.get_mut(place.arc).unwrap();
+        arc.keys.insert(place.at + 1, q)?;
+        Ok(())
     }
 
     /// Takes `p` out of the arcs: it moves onto its neighbour `b`. Fails for want of memory alone.

@@ -6,9 +6,9 @@ ghost use Rattle.std.specs.List.{list_any};
 ghost use Rattle.slab.specs.Slab.{get, ContainsKey};
 ghost use Rattle.arc_tables.specs.Ways.{Starts, Takes, times, links, Grows, Keeps, OpenAt, Spoils};
 ghost use Rattle.arc_tables.specs.Sound.{HoldsOneMore};
-ghost use Rattle.arc_tables.specs.Stores.{path_in, users_in, uses_in, uses_arc, path_of, store};
+ghost use Rattle.arc_tables.specs.Stores.{users_in, uses_in, uses_arc, path_of, store};
 ghost use Rattle.arc_tables.specs.Stores.{Whole, Known, SamePaths, SameRings, SameUsers, SameKeys};
-ghost use Rattle.arc_tables.specs.Stores.{GoesOn, Advances, WholeWith, Learns, HasRoomFor, IsPlace, IsOpen};
+ghost use Rattle.arc_tables.specs.Stores.{Advances, WholeWith, Learns, IsPlace, IsOpen};
 
 use crate::arc::{Arc, Ring, Use};
 use crate::place::{Place, agreed, agreed_back};
@@ -21,31 +21,6 @@ use vertex_index::VertexKey;
 
 /// A new arc ends where it has so many keys.
 const LONGEST: usize = 256;
-
-/// Room for one more use of ring `r`.
-fn reserve_use<A: Allocator + Copy>(
-    rings: &mut Slab<Ring<A>, A>,
-    r: usize,
-) -> Result<(), AllocError>
-    requires { ContainsKey rings.old r }
-    ensures same { SameRings rings.old rings.new }
-    ensures held { SameKeys rings.old rings.new }
-    ensures room { OnOk result (HasRoomFor rings.new r) }
-{
-    let ring = rings.get_mut(r).unwrap();
-    ring.uses.reserve(1)
-}
-
-/// A ring goes on along one more use.
-fn go_on<A: Allocator + Copy>(rings: &mut Slab<Ring<A>, A>, r: usize, u: Use)
-    requires there { ContainsKey rings.old r }
-    requires room { HasRoomFor rings.old r }
-    ensures ok { GoesOn rings.old rings.new r u }
-    ensures held { SameKeys rings.old rings.new }
-{
-    let ring = rings.get_mut(r).unwrap();
-    ring.uses.push_reserved(u);
-}
 
 /// Whether some use is of arc `i`.
 fn has_use(uses: &[Use], i: usize) -> bool
@@ -101,23 +76,6 @@ fn learn<A: Allocator + Copy>(
     arc.rings.push(alloc, r)
 }
 
-/// Arc `n` has one more key.
-fn lengthen<A: Allocator + Copy>(
-    arcs: &mut Slab<Arc<A>, A>,
-    n: usize,
-    b: VertexKey,
-) -> Result<(), AllocError>
-    requires { ContainsKey arcs.old n }
-    ensures ok { OnOk result (path_in (get arcs.new n) ≡ path_in (get arcs.old n) ++ b ∷ []) }
-    ensures others { (j : ℕ) → j ≢ n → get arcs.new j ≡ get arcs.old j }
-    ensures err { OnErr result (SamePaths arcs.old arcs.new) }
-    ensures users { SameUsers arcs.old arcs.new }
-{
-    let arc = arcs.get_mut(n).unwrap();
-    arc.keys.push(b)?;
-    Ok(())
-}
-
 /// How many keys a ring went on by, and the arc that is being made.
 #[derive(Clone, Copy, Debug)]
 pub(crate) struct Piece {
@@ -140,18 +98,12 @@ impl<A: Allocator + Copy> Tables<A> {
         self.arcs.reserve(1)?;
         let n = self.arcs.vacant_key();
         let keys = Vec::from_slice(self.alloc, &[a, b])?;
-        let users = ShortList::of(r);
         note(self.alloc, &mut self.stands, keys.as_slice(), n)?;
-        reserve_use(&mut self.rings, r)?;
-        go_on(
-            &mut self.rings,
-            r,
-            Use {
-                arc: n,
-                back: false,
-            },
-        );
-        self.arcs.insert_reserved(Arc { keys, rings: users });
+        let back = false;
+        let ring = self.rings.get_mut(r).unwrap();
+        ring.uses.push(Use { arc: n, back })?;
+        let rings = ShortList::of(r);
+        self.arcs.insert_reserved(Arc { keys, rings });
         Ok(n)
     }
 
@@ -167,7 +119,8 @@ impl<A: Allocator + Copy> Tables<A> {
         ensures whole { Whole self.new }
     {
         list_arc(self.alloc, &mut self.stands, b, n)?;
-        lengthen(&mut self.arcs, n, b)?;
+        let arc = self.arcs.get_mut(n).unwrap();
+        arc.keys.push(b)?;
         Ok(())
     }
 
@@ -182,9 +135,10 @@ impl<A: Allocator + Copy> Tables<A> {
         ensures held { SameKeys self.old.rings self.new.rings }
     {
         let known = is_known(&self.arcs, &self.rings, i, r);
-        reserve_use(&mut self.rings, r)?;
+        let ring = self.rings.get_mut(r).unwrap();
+        ring.uses.reserve(1)?;
         learn(self.alloc, &mut self.arcs, i, r, known)?;
-        go_on(&mut self.rings, r, Use { arc: i, back });
+        ring.uses.push_reserved(Use { arc: i, back });
         Ok(())
     }
 

@@ -11,7 +11,6 @@ mod copying;
 mod cutting;
 mod editing;
 mod laying;
-mod numbers;
 mod place;
 mod ring_users;
 mod short_list;

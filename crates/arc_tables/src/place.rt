@@ -53,34 +53,17 @@ pub(crate) fn place_in(
     None
 }
 
-/// The place of the segment in a path, where it is the first or the last one there.
-fn place_at_end(path: &[VertexKey], a: VertexKey, b: VertexKey) -> Option<(usize, bool)>
-    ensures { IfSome result (λ p. IsPlace path.now p.0 p.1 a b) }
-{
-    match place_in(path, 1..2, a, b) {
-        Some(place) => Some(place),
-        None => place_in(path, path.len().saturating_sub(1)..path.len(), a, b),
-    }
-}
-
-/// The place of the segment in a path, where it stands beside this place: behind it in the direction
-/// in which the segment there was gone along, where a ring goes on, or before it.
-fn place_beside(
+/// The place of the segment in a path, which is looked for where it ends in the first of two ranges,
+/// and then in the second.
+fn place_in_either(
     path: &[VertexKey],
-    near: Place,
+    first: Range<usize>,
+    second: Range<usize>,
     a: VertexKey,
     b: VertexKey,
 ) -> Option<(usize, bool)>
     ensures { IfSome result (λ p. IsPlace path.now p.0 p.1 a b) }
 {
-    let at = near.at;
-    let before = at..at.saturating_add(1);
-    let after = at.saturating_add(2)..at.saturating_add(3);
-    let (first, second) = if near.back {
-        (before, after)
-    } else {
-        (after, before)
-    };
     match place_in(path, first, a, b) {
         Some(place) => Some(place),
         None => place_in(path, second, a, b),
@@ -100,7 +83,9 @@ fn find_at_end<A: Allocator + Copy>(
 {
     for arc in among {
         if let Some(border) = arcs.get(*arc) {
-            if let Some((at, back)) = place_at_end(border.keys.as_slice(), a, b) {
+            let path = border.keys.as_slice();
+            let last = path.len().saturating_sub(1)..path.len();
+            if let Some((at, back)) = place_in_either(path, 1..2, last, a, b) {
                 return Some(Place {
                     arc: *arc,
                     at,
@@ -164,13 +149,22 @@ impl<A: Allocator + Copy> Tables<A> {
         find_among(&self.arcs, among, a, b)
     }
 
-    /// The place of the segment of a and b in the arc of the place, where it stands beside that.
+    /// The place of the segment of a and b in the arc of the place, where it stands beside that:
+    /// behind it in the direction in which the segment there was gone along, where a ring goes on, or
+    /// before it.
     fn find_near(&self, near: Place, a: VertexKey, b: VertexKey) -> Option<Place>
         ensures some { IfSome result (λ p. IsPlace (path_of self.now p.arc) p.at p.back a b) }
         ensures there { IfSome result (λ p. ContainsKey self.now.arcs p.arc) }
     {
-        let arc = self.arcs.get(near.arc)?;
-        let (at, back) = place_beside(arc.keys.as_slice(), near, a, b)?;
+        let path = self.arcs.get(near.arc)?.keys.as_slice();
+        let before = near.at..near.at.saturating_add(1);
+        let behind = near.at.saturating_add(2)..near.at.saturating_add(3);
+        let (first, second) = if near.back {
+            (before, behind)
+        } else {
+            (behind, before)
+        };
+        let (at, back) = place_in_either(path, first, second, a, b)?;
         Some(Place {
             arc: near.arc,
             at,

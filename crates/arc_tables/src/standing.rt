@@ -1,10 +1,8 @@
 //! The arcs that each vertex stands in.
-ghost use Rattle.std.specs.Prelude.{◌≡◌, ◌≢◌, ℕ, ◌<◌, ◌==◌, OnOk, Contains, vec_len};
-ghost use Rattle.std.specs.List.{list_any};
-ghost use Rattle.arc_tables.specs.Stores.{stand_at, ListsMore, UnlistsOnly, UnlistsOff};
+ghost use Rattle.std.specs.Prelude.{◌≡◌, ◌≢◌, ℕ, ◌<◌, OnOk, Contains, vec_len};
+ghost use Rattle.arc_tables.specs.Stores.{stand_at, including, ListsMore, UnlistsOnly, UnlistsOff};
 
 use crate::arc::Stand;
-use crate::numbers::include;
 use crate::short_list::ShortList;
 use std::alloc::{AllocError, Allocator};
 use vertex_index::VertexKey;
@@ -31,11 +29,15 @@ pub(crate) fn list_arc<A: Allocator + Copy>(
     n: usize,
 ) -> Result<(), AllocError>
     ensures kept { ListsMore stands.old.items stands.new.items }
-    ensures listed { OnOk result (Contains (stand_at stands.new.items k) n) }
+    ensures listed { OnOk result
+        (stand_at stands.new.items k ≡ including n (stand_at stands.old.items k)) }
 {
     reach(stands, k)?;
     let stand = stands.get_mut(k.index()).unwrap();
-    include(alloc, &mut stand.arcs, n)
+    if stand.arcs.as_slice().contains(&n) {
+        return Ok(());
+    }
+    stand.arcs.push(alloc, n)
 }
 
 /// Lists arc `n` for each of these vertices.
@@ -78,28 +80,6 @@ pub(crate) fn unlist_all<A: Allocator + Copy>(
     }
 }
 
-/// Whether the key is one of these.
-fn has_key(keys: &[VertexKey], k: VertexKey) -> bool
-    ensures { result ≡ list_any (λ x. x == k) keys.now }
-{
-    keys.contains(&k)
-}
-
-/// Vertex `k` forgets arc `i`, unless it stands on this path.
-fn unlist_off<A: Allocator + Copy>(
-    stands: &mut Vec<Stand<A>, A>,
-    path: &[VertexKey],
-    k: VertexKey,
-    i: usize,
-)
-    ensures { UnlistsOff path.now stands.old.items stands.new.items i }
-{
-    if has_key(path, k) {
-        return;
-    }
-    unlist(stands, k, i);
-}
-
 /// Vertices that moved to another arc forget arc `i`, but for those that its path still has.
 pub(crate) fn unlist_moved<A: Allocator + Copy>(
     stands: &mut Vec<Stand<A>, A>,
@@ -110,7 +90,9 @@ pub(crate) fn unlist_moved<A: Allocator + Copy>(
     ensures { UnlistsOff path.now stands.old.items stands.new.items i }
 {
     for k in moved {
-        unlist_off(stands, path, *k, i);
+        if !path.contains(k) {
+            unlist(stands, *k, i);
+        }
     }
 }
 

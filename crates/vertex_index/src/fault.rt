@@ -30,13 +30,3 @@ impl From<AllocError> for AddFault {
         AddFault::OutOfMemory
     }
 }
-
-impl From<AllocError> for ShiftFault {
-    ghost use Rattle.vertex_index.specs.declared.fault.ShiftFault.TheVariants.{OutOfMemory};
-
-    ghost from_gives = { λ _ fault. fault ≡ OutOfMemory };
-
-    fn from(_error: AllocError) -> ShiftFault {
-        ShiftFault::OutOfMemory
-    }
-}

@@ -10,7 +10,7 @@ use Rattle.arc_tables.proofs.cutting.put_uses.Goals as goal
 pub loop-new-preserved-in-Some-get_mut : goal.loop-new-preserved-in-Some-get_mut
 loop-new-preserved-in-Some-get_mut g c =
     let e = c.in-Some.new in
-    let v : Ring _ = record { uses = c.replace.new.dest } in
+    let v : Ring _ = record { uses = e.uses } in
     let present = c.loop-new.invariant.there e (subst (λ z. Contains z e) (sym c.in-Some.ensures.items) (Contains-append_right c.pop.new.self.items (e ∷ []) e (0, omega arith, refl))) in
     let u : Updates c.loop-new.rings (with_value c.loop-new.rings e.ring v) e.ring (Some v) = Updates-with_value c.loop-new.rings e.ring v present in
     record {
@@ -18,7 +18,7 @@ loop-new-preserved-in-Some-get_mut g c =
       done = e ∷ c.loop-new.invariant.done;
       parts = c.loop-new.invariant.parts ∙ ap (λ z. z ++ c.loop-new.invariant.done) c.in-Some.ensures.items ∙ append_assoc c.pop.new.self.items (e ∷ []) c.loop-new.invariant.done;
       held = λ r. still_held c.loop-new.rings (with_value c.loop-new.rings e.ring v) e.ring v present u r ∙ c.loop-new.invariant.held r;
-      put = λ r. put_more e c.loop-new.invariant.done r _ _ _ (c.loop-new.invariant.put r) (λ f. uses_changed _ _ e.ring v u r f ∙ ap (λ z. z.items) c.replace.ensures.after) (λ f. uses_other _ _ e.ring v u r f);
+      put = λ r. put_more e c.loop-new.invariant.done r _ _ _ (c.loop-new.invariant.put r) (λ f. uses_changed _ _ e.ring v u r f) (λ f. uses_other _ _ e.ring v u r f);
     }
 
 no_length : {A : Type 0} (xs : List A) → length xs ≡ 0 → xs ≡ []
