@@ -1,5 +1,4 @@
 -- The words of this crate that others cite most, passed on from one place. Declares nothing.
-pub use Rattle.topo_reader.proofs.Counting.{Counts}
 pub use Rattle.topo_reader.proofs.Joining.{tail_at}
 pub use Rattle.topo_reader.proofs.MeaningOfText.{is_read, is_read_by, made, opens}
 pub use Rattle.topo_reader.proofs.Numbering.{rings_document, rings_within, sum_within}

@@ -5,7 +5,7 @@ use Rattle.json_spans.specs.Common.{Node}
 use Rattle.grid_geometry.specs.Common.{Position}
 use Rattle.ring_machine.specs.Common.{Feature, Item, Layer, feature_of, WellFormed}
 use Rattle.ring_machine.proofs.Common.{AreNumbered, numbered-append, numbered_distinct}
-use Rattle.topo_outline.specs.Common.{LayerText, Piece, starts, ends, leaf, text, OutlineText, leaves_in, leaves}
+use Rattle.topo_outline.specs.Common.{LayerText, Piece, leaf, OutlineText, leaves_in, leaves}
 use Rattle.topo_outline.specs.Common.{IsOutline}
 use Rattle.topo_reader.specs.Common.{Arc, Polygons, items_from, layers_from, document_of, GeometryUses, AreClosed}
 use Rattle.topo_reader.proofs.Bracketed.{each_geometry}

@@ -1,11 +1,16 @@
 -- Joining arcs, as the loops do.
 use Rattle.kit_words.proofs.Common.{◌≡◌, ℕ, suc, ◌+◌, ◌<◌, ◌≤◌, List, [], ◌∷◌, ◌++◌, length, get_or, drop, refl, sym}
 use Rattle.kit_words.proofs.Common.{ap, ◌∙◌, append_assoc, add-one, drop-cons, map, true, cond, Option, Some, None}
-use Rattle.kit_words.proofs.Common.{◌&&◌, append-nil, drop_all}
-use Rattle.grid_geometry.specs.Common.{Position}
+use Rattle.kit_words.proofs.Common.{◌&&◌, append-nil, drop_all, Bool, false, Ok, Err, ◌-◌, take, dedup, dedup_from, dedup_is, IsFiltered}
+use Rattle.kit_words.proofs.Common.{DiffersFromLast}
+use Rattle.grid_geometry.specs.Common.{Position, position_eq}
 use Rattle.ring_machine.specs.Common.{has}
-use Rattle.topo_reader.specs.Common.{Use, arc_of, first_of, last_of, starts_at, is_at, unless, ends, meet_from}
-use Rattle.topo_reader.specs.Common.{squeezed, last_after, all_of, first_repeat}
+use Rattle.ring_machine.proofs.Common.{position_eq-sym, position_eq-true}
+use Rattle.topo_outline.specs.declared.fault.RingAt.{RingAt}
+use Rattle.topo_outline.specs.Common.{arcs_do_not_meet}
+use Rattle.topo_reader.specs.Common.{Closed, Rings, Walks, closed_of, meet, ring_of, simple, walk_of}
+use Rattle.topo_reader.specs.Common.{Arc, Use, arc_of, first_of, last_of, starts_at, unless, ends, meet_from}
+use Rattle.topo_reader.specs.Common.{squeezed, all_of, front, joined, first_repeat}
 
 pub meet_step : (before : Option Position) (uses : List Use) (i : ℕ) (d : Use) → i < length uses → meet_from before (map arc_of (drop i uses)) ≡ (starts_at (first_of (arc_of (get_or uses i d))) before && meet_from (last_of (arc_of (get_or uses i d))) (map arc_of (drop (i + 1) uses)))
 unfolding meet_from
@@ -27,37 +32,35 @@ repeat_end seen ps i le = rw (drop_all i ps le) refl
 pub tail_at : {A : Type 0} (a : A) (xs : List A) (i : ℕ) → i < length xs → a ≡ get_or xs i a → drop i xs ≡ a ∷ drop (i + 1) xs
 tail_at {A = A} a xs i lt is = drop-cons xs i a lt ∙ rw add-one (ap (λ (b : A). b ∷ drop (suc i) xs) (sym is))
 
-pub squeezed_turn : (before : Option Position) (ps : List Position) (i : ℕ) (p : Position) → i < length ps → p ≡ get_or ps i p →
-    squeezed before (drop i ps) ≡ unless (is_at before p) p ++ squeezed (Some p) (drop (i + 1) ps)
+-- ---- what `dedup` leaves
+
+one_kept : (b : Bool) (k p : Position) (rest : Option Position → List Position) → (b ≡ true → k ≡ p) → cond b (k ∷ rest (Some k)) (k ∷ p ∷ rest (Some p)) ≡ k ∷ (unless b p ++ rest (Some p))
+one_kept true k p rest same = ap (λ (q : Position). k ∷ rest (Some q)) (same refl)
+one_kept false k p rest same = refl
+
+kept_from : (k : Position) (ps : List Position) → dedup_from position_eq k ps ≡ k ∷ squeezed (Some k) ps
 unfolding squeezed
-squeezed_turn before ps i p lt is = ap (squeezed before) (tail_at p ps i lt is)
+kept_from k [] = refl
+kept_from k (p ∷ ps) = rw (position_eq-sym p k, kept_from k ps, kept_from p ps) (one_kept (position_eq k p) k p (λ before. squeezed before ps) (position_eq-true k p))
 
-pub squeezed_end : (before : Option Position) (ps : List Position) (i : ℕ) → length ps ≤ i → squeezed before (drop i ps) ≡ []
+kept : (ps : List Position) → dedup position_eq ps ≡ squeezed None ps
 unfolding squeezed
-squeezed_end before ps i le = rw (drop_all i ps le) refl
+kept [] = refl
+kept (p ∷ ps) = kept_from p ps
 
-pub last_turn : (before : Option Position) (ps : List Position) (i : ℕ) (p : Position) → i < length ps → p ≡ get_or ps i p →
-    last_after before (drop i ps) ≡ last_after (Some p) (drop (i + 1) ps)
-unfolding last_after
-last_turn before ps i p lt is = ap (last_after before) (tail_at p ps i lt is)
+pub joined_is : (all once left : List Position) (uses : List Arc) (n : ℕ) → n ≡ length once → all ≡ all_of uses → IsFiltered (DiffersFromLast position_eq) [] all once → left ≡ take (n - 1) once → left ≡ joined uses
+joined_is all once left uses n len is filtered rest = rest ∙ ap (λ (m : ℕ). take (m - 1) once) len ∙ ap front (dedup_is position_eq all once filtered ∙ kept all ∙ ap (squeezed None) is)
 
-pub last_end : (before : Option Position) (ps : List Position) (i : ℕ) → length ps ≤ i → last_after before (drop i ps) ≡ before
-unfolding last_after
-last_end before ps i le = rw (drop_all i ps le) refl
+-- ---- all positions
 
-pub squeezed_more : (before : Option Position) (xs ys : List Position) → squeezed before (xs ++ ys) ≡ squeezed before xs ++ squeezed (last_after before xs) ys
-unfolding squeezed last_after
-squeezed_more before [] ys = refl
-squeezed_more before (x ∷ xs) ys = rw (squeezed_more (Some x) xs ys) (sym (append_assoc (unless (is_at before x) x) (squeezed (Some x) xs) (squeezed (last_after (Some x) xs) ys)))
-
-pub joined_turn : (before : Option Position) (uses : List Use) (i : ℕ) (u : Use) → i < length uses → u ≡ get_or uses i u →
-    squeezed before (all_of (map arc_of (drop i uses))) ≡ squeezed before (arc_of u) ++ squeezed (last_after before (arc_of u)) (all_of (map arc_of (drop (i + 1) uses)))
+pub all_turn : (uses : List Use) (i : ℕ) (u : Use) → i < length uses → u ≡ get_or uses i u →
+    all_of (map arc_of (drop i uses)) ≡ arc_of u ++ all_of (map arc_of (drop (i + 1) uses))
 unfolding all_of
-joined_turn before uses i u lt is = ap (λ (us : List Use). squeezed before (all_of (map arc_of us))) (tail_at u uses i lt is) ∙ squeezed_more before (arc_of u) (all_of (map arc_of (drop (i + 1) uses)))
+all_turn uses i u lt is = ap (λ (us : List Use). all_of (map arc_of us)) (tail_at u uses i lt is)
 
-pub joined_end : (before : Option Position) (uses : List Use) (i : ℕ) → length uses ≤ i → squeezed before (all_of (map arc_of (drop i uses))) ≡ []
-unfolding all_of squeezed
-joined_end before uses i le = rw (drop_all i uses le) refl
+pub all_end : (uses : List Use) (i : ℕ) → length uses ≤ i → all_of (map arc_of (drop i uses)) ≡ []
+unfolding all_of
+all_end uses i le = rw (drop_all i uses le) refl
 
 pub ends_step : (before : Option Position) (uses : List Use) (i : ℕ) (d : Use) → i < length uses → ends before (map arc_of (drop i uses)) ≡ ends (last_of (arc_of (get_or uses i d))) (map arc_of (drop (i + 1) uses))
 unfolding ends
@@ -72,3 +75,18 @@ more_front ring a b s whole e h = append_assoc ring a b ∙ rw e at h
 
 pub no_more : (ring s whole : List Position) → s ≡ [] → ring ++ s ≡ whole → ring ≡ whole
 no_more ring s whole e h = sym (append-nil ring) ∙ rw e at h
+
+-- ---- a walk, and a ring
+
+pub not_closed : (closed : Closed) (at_ring : RingAt) (uses : List Arc) → meet uses ≡ false → closed_of closed at_ring uses ≡ Err (arcs_do_not_meet at_ring)
+unfolding walk_of ring_of
+not_closed Rings at_ring uses apart = rw apart refl
+not_closed Walks at_ring uses apart = rw apart refl
+
+pub as_walk : (closed : Closed) (at_ring : RingAt) (uses : List Arc) (walk : List Position) → closed ≡ Walks → meet uses ≡ true → walk ≡ joined uses → closed_of closed at_ring uses ≡ Ok walk
+unfolding walk_of
+as_walk closed at_ring uses walk wanted met is = rw (wanted, met, is) refl
+
+pub as_ring : (closed : Closed) (at_ring : RingAt) (uses : List Arc) (walk : List Position) → closed ≡ Rings → meet uses ≡ true → walk ≡ joined uses → closed_of closed at_ring uses ≡ simple at_ring walk
+unfolding walk_of ring_of
+as_ring closed at_ring uses walk wanted met is = rw (wanted, met, is) refl

@@ -8,7 +8,7 @@ use Rattle.ring_machine.specs.Common.{canonical}
 use Rattle.ring_machine.proofs.Common.{and_both, position_eq-true, position_eq-refl}
 use Rattle.topo_outline.specs.declared.fault.RingAt.{RingAt}
 use Rattle.topo_outline.specs.Common.{arcs_do_not_meet, ring_short}
-use Rattle.topo_reader.specs.Common.{Closed, Rings, Walks, Arc, is_at, first_of, last_of, meet_from, ends, meet, unless}
+use Rattle.topo_reader.specs.Common.{Closed, Rings, Walks, Arc, first_of, last_of, meet_from, ends, meet, unless}
 use Rattle.topo_reader.specs.Common.{squeezed, last_after, front, all_of, joined, first_repeat, distinct, simple}
 use Rattle.topo_reader.specs.Common.{walk_of, ring_of, closed_of, polygon_of, feature_of, all_rings, Polygons, Leads}
 use Rattle.topo_reader.specs.Common.{Chain, there, along, Once, none, last, same, next, IsWalk, nowhere, around, IsRing}

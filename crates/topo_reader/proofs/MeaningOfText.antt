@@ -117,9 +117,13 @@ none_fails (open_fault.TooLarge limit.Positions) y ne h = absurd cc
 none_fails _ y ne h = absurd cc
 
 module _ {X : Type 0} (closed : Closed) (view : X → Opened) (bytes : List ℕ) where
-  pub gives_read : (r : Result X OpenFault) (n : Node) → n ≡ root_of bytes → length bytes ≤ 67108864 → Json 100 bytes → Gives view r (opening closed n) → IfOk r (λ x. IsReadBy closed bytes (document_of (view x)))
-  gives_read (Err o) n e short text h = tt
-  gives_read (Ok x) n e short text h = is_read_by closed bytes (view x) (record { short = short; json = text; opens = ap (opening closed) (sym e) ∙ h })
+  pub gives_opened : (r : Result X OpenFault) (n : Node) → n ≡ root_of bytes → length bytes ≤ 67108864 → Json 100 bytes → Gives view r (opening closed n) → IfOk r (λ x. OpensBy closed bytes (view x))
+  gives_opened (Err o) n e short text h = tt
+  gives_opened (Ok x) n e short text h = record { short = short; json = text; opens = ap (opening closed) (sym e) ∙ h }
+
+  pub gives_read : (r : Result X OpenFault) → IfOk r (λ x. OpensBy closed bytes (view x)) → IfOk r (λ x. IsReadBy closed bytes (document_of (view x)))
+  gives_read (Err o) h = tt
+  gives_read (Ok x) h = is_read_by closed bytes (view x) h
 
   pub gives_unread : (r : Result X OpenFault) (n : Node) → n ≡ root_of bytes → Gives view r (opening closed n) → IfErr r (λ o. o ≢ open_fault.OutOfMemory → ¬ ((d : Document) × (reading : ReadsBy (IsClosed closed) bytes d) × Fits reading))
   gives_unread (Ok x) n e h = tt

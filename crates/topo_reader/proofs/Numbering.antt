@@ -1,13 +1,12 @@
 -- The rings of a document are those that were read, feature by feature.
-use Rattle.kit_words.proofs.Common.{◌≡◌, ℕ, zero, suc, ◌+◌, Bool, true, arith, List, [], ◌∷◌, ◌++◌, length, take, drop}
+use Rattle.kit_words.proofs.Common.{◌≡◌, ℕ, zero, suc, ◌+◌, Bool, arith, List, [], ◌∷◌, ◌++◌, length, take, drop}
 use Rattle.kit_words.proofs.Common.{get_or, refl, sym, ap, ap₂, ◌∙◌, ◌&&◌, add-one, list_all, flat_map, filter_map}
 use Rattle.kit_words.proofs.Common.{take-add, drop-drop, length-append, take_all, flat_map-append, list_all-append}
 use Rattle.kit_words.proofs.Common.{sum_by-cons, sum_by-append, unwrap_or-slice_get}
 use Rattle.std.specs.Prelude.{sum_by}
 use Rattle.grid_geometry.specs.Common.{Position}
 use Rattle.ring_machine.specs.Common.{ItemOf, LayerOf, feature_of, rings_of}
-use Rattle.ring_machine.proofs.Common.{and_both}
-use Rattle.topo_outline.specs.Common.{LayerText, Piece, starts, ends, leaf, text, leaves_in, leaves}
+use Rattle.topo_outline.specs.Common.{LayerText, Piece, leaf, leaves_in, leaves}
 use Rattle.topo_reader.specs.Common.{Polygons, polygons_at, items_from, layers_from}
 
 module _ {R : Type 0} where

@@ -1,5 +1,5 @@
 -- What opens is of rings, or of walks.
-use Rattle.kit_words.proofs.Common.{◌≡◌, ℕ, suc, ◌+◌, ◌-◌, ◌≤◌, Bool, true, false, List, [], ◌∷◌, ◌++◌, length, refl}
+use Rattle.kit_words.proofs.Common.{◌≡◌, ℕ, suc, ◌+◌, ◌-◌, ◌≤◌, Bool, true, List, [], ◌∷◌, length, refl}
 use Rattle.kit_words.proofs.Common.{sym, ap, ap₂, ◌∙◌, subst, arith, ◌&&◌, Option, Some, None, Result, Ok, Err, IfOk}
 use Rattle.kit_words.proofs.Common.{nat_le, is_some, list_all, flat_map, length-append, length-take, take_all}
 use Rattle.kit_words.proofs.Common.{sum_by-cons}
@@ -14,7 +14,7 @@ use Rattle.topo_outline.proofs.Common.{outline_few}
 use Rattle.topo_outline.specs.declared.fault.RingAt.{RingAt}
 use Rattle.topo_outline.specs.declared.fault.Limit.TheVariants as limit
 use Rattle.topo_outline.specs.declared.fault.OpenFault.{OpenFault}
-use Rattle.topo_reader.specs.Common.{Closed, Rings, Walks, arcs, Arc, uses_of, unless, is_at, meet, squeezed, all_of}
+use Rattle.topo_reader.specs.Common.{Closed, Rings, Walks, arcs, Arc, uses_of, meet, squeezed, all_of}
 use Rattle.topo_reader.specs.Common.{joined, first_repeat, distinct, simple, walk_of, ring_of, closed_of, polygon_of}
 use Rattle.topo_reader.specs.Common.{feature_of, all_rings, Polygons, Opened, document_of, is_walk, IsOf}
 use Rattle.topo_reader.specs.Common.{polygons_along, walks_read, polygons_read, root_of, OpensBy, AreArcs, IsClosed}

@@ -10,7 +10,7 @@ use Rattle.json_spans.specs.Common.{trimmed, spaces_before}
 use Rattle.json_spans.specs.Parts.{Node}
 use Rattle.json_spans.specs.declared.parts.Skip.TheVariants.{Plain}
 use Rattle.json_spans.proofs.Common.{Firm, space_framed, alone, Solid, trimmed_is, first_is}
-use Rattle.topo_reader.specs.Common.{arc, arcs, nodes_from, PlainItem, PlainItems, Begins}
+use Rattle.topo_reader.specs.Common.{arc, nodes_from, PlainItem, PlainItems, Begins}
 use Rattle.topo_reader.proofs.PlainItems.{first_part, last_part}
 use Rattle.topo_reader.proofs.PlainArcs.{left_len, arc_reads}
 

@@ -1,7 +1,7 @@
 -- A number read digit by digit is the whole number of its word.
 use Rattle.kit_words.proofs.Common.{rules, to_z, of_z, ◌≡◌, ℕ, zero, suc, ◌+◌, ◌-◌, ◌*◌, ◌<◌, ◌^◌, nat_lt, nat_le, List}
-use Rattle.kit_words.proofs.Common.{[], ◌∷◌, ◌++◌, length, take, drop, get_or, Bool, true, false, refl, ap, ◌∙◌, arith}
-use Rattle.kit_words.proofs.Common.{add-one, ◌&&◌, ◌==◌, ℤ, pos, ◌-ℤ◌, Some, Ok, list_all, prefix_len, nat_tests}
+use Rattle.kit_words.proofs.Common.{[], ◌∷◌, ◌++◌, length, take, drop, get_or, true, false, refl, ap, ◌∙◌, arith}
+use Rattle.kit_words.proofs.Common.{add-one, ◌==◌, ℤ, pos, ◌-ℤ◌, Some, Ok, list_all, prefix_len, nat_tests}
 use Rattle.kit_words.proofs.Common.{take_all, drop_all, list_all-append, take-suc, to_z_pos, to_z-of_z, ints}
 use Rattle.json_spans.specs.Common.{is_digit, value_from, digits_len, whole_digits, whole_of}
 use Rattle.json_spans.specs.Whole.{minus}

@@ -1,7 +1,7 @@
 -- The positions that were seen, as a set in order has them.
 use Rattle.kit_words.proofs.Common.{◌≡◌, ℕ, ◌+◌, ◌<◌, length, drop, get_or, Bool, true, false, cond, List, [], ◌∷◌}
-use Rattle.kit_words.proofs.Common.{◌++◌, refl, sym, ap, ap₂, ◌∙◌, subst, not, ◌||◌, Result, Ok, Err, OnOk, arith, Some}
-use Rattle.kit_words.proofs.Common.{IfOk, list_any, int_cmp, tied_then, BTreeSet, contains, Updates, list_any-append}
+use Rattle.kit_words.proofs.Common.{◌++◌, refl, sym, ap, ap₂, ◌∙◌, not, ◌||◌, arith, Some}
+use Rattle.kit_words.proofs.Common.{list_any, int_cmp, tied_then, BTreeSet, contains, Updates, list_any-append}
 use Rattle.grid_geometry.specs.Common.{Position, position_cmp, position_eq}
 use Rattle.ring_machine.specs.Common.{has}
 use Rattle.ring_machine.proofs.Common.{position_eq-sym}
@@ -18,15 +18,14 @@ has_last ps p q = list_any-append (position_eq q) ps (p ∷ [])
 either : (a b : Bool) → cond a true b ≡ (b || (a || false))
 either a b = grind arith
 
-pub noted : {E : Type 0} (r : Result Bool E) (s n : BTreeSet Position) (p : Position) → OnOk r (Updates position_cmp s n p true) → OnOk r ((q : Position) → has n.keys q ≡ has (s.keys ++ p ∷ []) q)
-noted (Ok b) s n p u = λ q.
+pub noted : (s n : BTreeSet Position) (p : Position) → Updates position_cmp s n p true → (q : Position) → has n.keys q ≡ has (s.keys ++ p ∷ []) q
+noted s n p u = λ q.
     sym (has_by_order n q) ∙ u.0 q
     ∙ ap₂ (λ a b. cond a true b) (sym (tied_then (int_cmp p.x q.x) (int_cmp p.y q.y)) ∙ position_eq-sym p q) (has_by_order s q)
     ∙ either (position_eq q p) (has s.keys q) ∙ sym (has_last s.keys p q)
-noted (Err e) s n p u = u
 
-pub is_new : {E : Type 0} (r : Result Bool E) (s : BTreeSet Position) (p : Position) → IfOk r (λ b. b ≡ not (contains position_cmp s p)) → IfOk r (λ b. b ≡ not (has s.keys p))
-is_new r s p added = subst (λ h. IfOk r (λ b. b ≡ not h)) (has_by_order s p) added
+pub is_new : (b : Bool) (s : BTreeSet Position) (p : Position) → b ≡ not (contains position_cmp s p) → b ≡ not (has s.keys p)
+is_new b s p added = added ∙ ap not (has_by_order s p)
 
 -- lists of the same positions lead to the same repeat
 pub same_repeat : (a b ps : List Position) → ((q : Position) → has a q ≡ has b q) → first_repeat a ps ≡ first_repeat b ps
@@ -44,3 +43,12 @@ unfolding first_repeat
 repeat_turn seen more ps i p b lt at is new kept =
     same_repeat more (seen ++ p ∷ []) (drop (i + 1) ps) kept
     ∙ sym (ap (first_repeat seen) (tail_at p ps i lt at) ∙ ap (λ h. cond h (Some p) (first_repeat (seen ++ p ∷ []) (drop (i + 1) ps))) (was_false b (has seen p) is new))
+
+was_true : (b h : Bool) → b ≡ false → b ≡ not h → h ≡ true
+was_true b h is new = grind arith
+
+-- a position that is not new is the first that stood before
+pub repeat_found : (seen ps : List Position) (i : ℕ) (p : Position) (b : Bool) → i < length ps → p ≡ get_or ps i p → b ≡ false → b ≡ not (has seen p) → Some p ≡ first_repeat seen (drop i ps)
+unfolding first_repeat
+repeat_found seen ps i p b lt at is new =
+    sym (ap (first_repeat seen) (tail_at p ps i lt at) ∙ ap (λ h. cond h (Some p) (first_repeat (seen ++ p ∷ []) (drop (i + 1) ps))) (was_true b (has seen p) is new))

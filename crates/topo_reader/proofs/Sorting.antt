@@ -1,5 +1,5 @@
 -- Positions that stay all when equal neighbours of the sorted ones are left out are distinct.
-use Rattle.kit_words.proofs.Common.{◌≡◌, suc, ◌≤◌, Bool, true, false, cond, List, [], ◌∷◌, ◌++◌, length, refl, sym, ap}
+use Rattle.kit_words.proofs.Common.{◌≡◌, suc, ◌≤◌, true, false, List, [], ◌∷◌, length, refl, sym, ap}
 use Rattle.kit_words.proofs.Common.{ap₂, ◌∙◌, subst, arith, not, ◌&&◌, ◌||◌, None, AllByRecursion, IsDistinct, dedup}
 use Rattle.kit_words.proofs.Common.{dedup_from, IsPermutation, IsSorted, IsFiltered, DiffersFromLast, int_cmp}
 use Rattle.kit_words.proofs.Common.{eq_by_cmp, IsTotalOrder, int_cmp_total, on_total, then_total, tied_then, false≢true}
@@ -50,7 +50,3 @@ none_twice ring sorted once permutation ascending filtered same all =
     let stay : dedup position_eq sorted ≡ sorted = all_stay sorted (ap length (sym is) ∙ all ∙ sym same) in
     let apart : IsDistinct (eq_by_cmp position_cmp) sorted = subst (IsDistinct (eq_by_cmp position_cmp)) stay (IsDistinct-from_sorted position_cmp (dedup position_eq sorted) (IsStrictlySortedBy-dedup position_total ties sorted ascending)) in
     no_repeat [] ring (distinct ring (IsDistinct-IsPermutation (eq_by_cmp position_cmp) flips sorted ring (IsPermutation-sym ring sorted permutation) apart), λ q is. absurd (false≢true is))
-
--- a copy is what it was made of
-pub copied : (none copy ring : List Position) → none ≡ [] → copy ≡ none ++ ring → copy ≡ ring
-copied none copy ring empty made = made ∙ ap (λ (ps : List Position). ps ++ ring) empty

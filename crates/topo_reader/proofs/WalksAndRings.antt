@@ -1,7 +1,7 @@
 -- Bytes mean a document of rings exactly where they mean one of walks that are all simple: the rings are the
 -- walks, begun at their least positions.
 use Rattle.kit_words.proofs.Common.{◌≡◌, ℕ, Bool, true, List, [], ◌∷◌, length, map, refl, sym, ap, ap₂, ◌∙◌, arith}
-use Rattle.kit_words.proofs.Common.{◌&&◌, nat_le, AllZip, list_all, flat_map, take_all, list_all-append, AllZip-long}
+use Rattle.kit_words.proofs.Common.{◌&&◌, nat_le, AllZip, list_all, flat_map, take_all, AllZip-long}
 use Rattle.grid_geometry.specs.Common.{Position}
 use Rattle.ring_machine.specs.Common.{is_distinct, canonical, Document, rings, in_rings}
 use Rattle.ring_machine.proofs.Common.{and_both}

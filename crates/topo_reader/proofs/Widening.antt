@@ -1,23 +1,14 @@
 -- The extent, as the loops come to it.
-use Rattle.kit_words.proofs.Common.{◌≡◌, ℕ, ◌+◌, ◌-◌, ◌<◌, ◌≤◌, List, [], ◌∷◌, ◌++◌, length, get_or, take, drop, map}
+use Rattle.kit_words.proofs.Common.{◌≡◌, ℕ, ◌+◌, ◌-◌, ◌<◌, ◌≤◌, List, [], ◌∷◌, ◌++◌, length, get_or, take, drop, map, Vec}
 use Rattle.kit_words.proofs.Common.{refl, sym, ap, ap₂, ◌∙◌, arith, ℤ, min, Option, Some, None, fold, flat_map, int_min}
 use Rattle.kit_words.proofs.Common.{int_max, drop_all, take_min, take-map, flat_map-append, flat_map-map, fold-append}
 use Rattle.grid_geometry.specs.Common.{Position, Box}
 use Rattle.ring_machine.specs.Common.{positions}
 use Rattle.topo_outline.specs.Common.{LayerText, leaves}
-use Rattle.topo_reader.specs.Common.{Polygons, Opened, document_of, box_with, widened, extent_of}
+use Rattle.topo_reader.specs.Common.{Polygons, Opened, document_of, box_with, widened, extent_of, feature_corners}
+use Rattle.topo_reader.specs.Common.{polygon_corners, positions_of}
 use Rattle.topo_reader.proofs.Joining.{tail_at}
 use Rattle.topo_reader.proofs.Numbering.{rings_within, rings_document}
-
-pub turn : {X : Type 0} (g : X → List Position) (r r' : Option Box) (xs : List X) (i : ℕ) (x : X) → i < length xs → x ≡ get_or xs i x →
-    r' ≡ widened r (g x) → widened r (flat_map g (drop i xs)) ≡ widened r' (flat_map g (drop (i + 1) xs))
-turn {X = X} g r r' xs i x lt is e =
-    ap (λ (ys : List X). widened r (flat_map g ys)) (tail_at x xs i lt is)
-    ∙ fold-append (λ r p. Some (box_with r p)) r (g x) (flat_map g (drop (i + 1) xs))
-    ∙ ap (λ (s : Option Box). widened s (flat_map g (drop (i + 1) xs))) (sym e)
-
-pub done : {X : Type 0} (g : X → List Position) (r : Option Box) (xs : List X) (i : ℕ) → length xs ≤ i → widened r (flat_map g (drop i xs)) ≡ r
-done {X = X} g r xs i le = ap (λ (ys : List X). widened r (flat_map g ys)) (drop_all i xs le)
 
 pub step : (r : Option Box) (ps : List Position) (i : ℕ) (p : Position) → i < length ps → p ≡ get_or ps i p → widened r (drop i ps) ≡ widened (Some (box_with r p)) (drop (i + 1) ps)
 step r ps i p lt is = ap (λ (qs : List Position). widened r qs) (tail_at p ps i lt is)
@@ -70,6 +61,27 @@ module _ {X : Type 0} (v : X → Polygons) (g : X → List Position) (same : (x 
       ∙ ap extent_of (sym (positions_document xs layers o e f))
 
 -- ---- the nested lists of the code
+
+over : {X : Type 0} (g : X → List Position) (r : Option Box) (xs : List X) → fold (λ b x. widened b (g x)) r xs ≡ widened r (flat_map g xs)
+over g r [] = refl
+over g r (x ∷ xs) = over g (widened r (g x)) xs ∙ sym (fold-append (λ b p. Some (box_with b p)) r (g x) (flat_map g xs))
+
+flat : {X Y Z : Type 0} (g : Y → List Z) (h : X → List Y) (xs : List X) → flat_map g (flat_map h xs) ≡ flat_map (λ x. flat_map g (h x)) xs
+flat g h [] = refl
+flat {Z = Z} g h (x ∷ xs) = flat_map-append g (h x) (flat_map h xs) ∙ ap (λ (zs : List Z). flat_map g (h x) ++ zs) (flat g h xs)
+
+module _ {A : Type 0} where
+  abbrev polygon_rings : Vec (Vec Position A) A → List (Vec Position A)
+  polygon_rings p = p.items
+
+  abbrev feature_polygons : Vec (Vec (Vec Position A) A) A → List (Vec (Vec Position A) A)
+  feature_polygons f = f.items
+
+  pub over_rings : (features : List (Vec (Vec (Vec Position A) A) A)) →
+      fold (λ rect ring. widened rect ring.items) None (flat_map (λ polygon. polygon.items) (flat_map (λ polygons. polygons.items) features)) ≡ widened None (flat_map feature_corners features)
+  over_rings features =
+      over positions_of None (flat_map polygon_rings (flat_map feature_polygons features))
+      ∙ ap (λ (ps : List Position). widened None ps) (flat positions_of polygon_rings (flat_map feature_polygons features) ∙ flat polygon_corners feature_polygons features)
 
 pub polygon_joined : {X : Type 0} (v : X → List Position) (xs : List X) → joined (map v xs) ≡ flat_map v xs
 polygon_joined v xs = flat_map-map (λ ring. ring) v xs

@@ -3,7 +3,7 @@ ghost use Rattle.std.specs.Prelude.{◌≡◌, map, option_map, IfOk, ◌≤◌,
 ghost use Rattle.json_spans.specs.Common.{node, items};
 ghost use Rattle.topo_outline.specs.Common.{Gives};
 ghost use Rattle.topo_reader.specs.Arcs.{origin};
-ghost use Rattle.topo_reader.specs.Positions.{coordinate, position, positions, is_within, two_of, pair_of, before_next, has_two, arc, arcs};
+ghost use Rattle.topo_reader.specs.Positions.{coordinate, position, positions, two_of, pair_of, before_next, has_two, arc, arcs};
 
 use crate::plain_arc::plain_arc;
 use crate::plain_list::plain_arcs;
@@ -15,12 +15,6 @@ use topo_outline::OpenFault;
 /// The greatest absolute value of a coordinate.
 const REACH: u64 = 1_000_000_000_000;
 
-fn is_within(z: i64) -> bool
-    ensures { result ≡ is_within z }
-{
-    z.unsigned_abs() <= REACH
-}
-
 /// A coordinate, added to the one before it.
 fn coordinate(before: i64, part: Span<'_>) -> Result<i64, OpenFault<'_>>
     ensures value { Gives (λ z. z) result (coordinate before (node part.entry)) }
@@ -28,12 +22,8 @@ fn coordinate(before: i64, part: Span<'_>) -> Result<i64, OpenFault<'_>>
 {
     match whole(part) {
         Ok(z) => match before.checked_add(z) {
-            Some(sum) => if is_within(sum) {
-                Ok(sum)
-            } else {
-                Err(OpenFault::OutOfRange { place: at(part) })
-            },
-            None => Err(OpenFault::OutOfRange { place: at(part) }),
+            Some(sum) if sum.unsigned_abs() <= REACH => Ok(sum),
+            _ => Err(OpenFault::OutOfRange { place: at(part) }),
         },
         Err(NotWhole::Form) => Err(OpenFault::NotWhole { place: at(part) }),
         Err(NotWhole::Huge) => Err(OpenFault::OutOfRange { place: at(part) }),
@@ -47,34 +37,24 @@ fn two<'a>(part: Span<'a>) -> Option<(Span<'a>, Span<'a>)>
     let mut parts = items(part);
     let first = parts.next()?;
     let second = parts.next()?;
-    match parts.next() {
-        None => Some((first, second)),
-        Some(_) => None,
-    }
+    parts.next().is_none().then_some((first, second))
 }
 
 fn pair<'a>(before: Pos, first: Span<'a>, second: Span<'a>) -> Result<Pos, OpenFault<'a>>
     ensures { Gives (λ p. p) result (pair_of before (node first.entry) (node second.entry)) }
 {
-    match coordinate(before.x(), first) {
-        Ok(x) => match coordinate(before.y(), second) {
-            Ok(y) => Ok(Pos::new(x, y).unwrap()),
-            Err(fault) => Err(fault),
-        },
-        Err(fault) => Err(fault),
-    }
+    let x = or_return!(coordinate(before.x(), first));
+    let y = or_return!(coordinate(before.y(), second));
+    Ok(Pos::new(x, y).unwrap())
 }
 
 #[tactic(auto, unfolding(crate::specs::Positions::position))]
 fn position<'a>(before: Pos, part: Span<'a>) -> Result<Pos, OpenFault<'a>>
     ensures { Gives (λ p. p) result (position before (node part.entry)) }
 {
-    if !(kind(part) == Kind::List) {
-        return Err(OpenFault::BadPosition { place: at(part) });
-    }
     match two(part) {
-        Some((first, second)) => pair(before, first, second),
-        None => Err(OpenFault::BadPosition { place: at(part) }),
+        Some((first, second)) if kind(part) == Kind::List => pair(before, first, second),
+        _ => Err(OpenFault::BadPosition { place: at(part) }),
     }
 }
 
@@ -100,13 +80,9 @@ fn positions<'a, A: Allocator + Copy>(
     let mut found = Vec::new(alloc);
     let mut before = origin();
     for part in items(span) {
-        match position(before, part) {
-            Ok(pos) => {
-                found.push(pos)?;
-                before = before_next(delta, pos);
-            }
-            Err(fault) => return Err(fault),
-        }
+        let pos = or_return!(position(before, part));
+        found.push(pos)?;
+        before = before_next(delta, pos);
     }
     Ok(found)
 }
@@ -115,34 +91,11 @@ fn has_two(span: Span<'_>) -> bool
     ensures { result ≡ has_two (items (node span.entry)) }
 {
     let mut parts = items(span);
-    match parts.next() {
-        None => false,
-        Some(_) => match parts.next() {
-            None => false,
-            Some(_) => true,
-        },
-    }
-}
-
-/// The positions of one arc, however it is written.
-#[tactic(auto, unfolding(crate::specs::Positions::arc))]
-fn any_arc<'a, A: Allocator + Copy>(
-    alloc: A,
-    delta: bool,
-    span: Span<'a>,
-) -> Result<Vec<Pos, A>, OpenFault<'a>>
-    ensures { Gives (λ v. v.items) result (arc delta (node span.entry)) }
-{
-    if !(kind(span) == Kind::List) {
-        return Err(OpenFault::BadPosition { place: at(span) });
-    }
-    if !has_two(span) {
-        return Err(OpenFault::BadPosition { place: at(span) });
-    }
-    positions(alloc, delta, span)
+    parts.next().is_some() && parts.next().is_some()
 }
 
 /// The positions of one arc.
+#[tactic(auto, unfolding(crate::specs::Positions::arc))]
 fn arc<'a, A: Allocator + Copy>(
     alloc: A,
     delta: bool,
@@ -150,28 +103,13 @@ fn arc<'a, A: Allocator + Copy>(
 ) -> Result<Vec<Pos, A>, OpenFault<'a>>
     ensures { Gives (λ v. v.items) result (arc delta (node span.entry)) }
 {
-    match plain_arc(alloc, delta, span)? {
-        Some(found) => Ok(found),
-        None => any_arc(alloc, delta, span),
+    if let Some(found) = plain_arc(alloc, delta, span)? {
+        return Ok(found);
     }
-}
-
-/// The positions of all arcs, however they are written.
-fn any_arcs<'a, A: Allocator + Copy>(
-    alloc: A,
-    delta: bool,
-    span: Span<'a>,
-) -> Result<Vec<Vec<Pos, A>, A>, OpenFault<'a>>
-    ensures { Gives (λ v. map (λ a. a.items) v.items) result (arcs delta (node span.entry)) }
-{
-    let mut found = Vec::new(alloc);
-    for part in items(span) {
-        match arc(alloc, delta, part) {
-            Ok(arc) => found.push(arc)?,
-            Err(fault) => return Err(fault),
-        }
+    if kind(span) != Kind::List || !has_two(span) {
+        return Err(OpenFault::BadPosition { place: at(span) });
     }
-    Ok(found)
+    positions(alloc, delta, span)
 }
 
 /// The positions of all arcs. With `delta`, each but the first of an arc is read as the difference
@@ -183,8 +121,12 @@ pub(crate) fn arcs<'a, A: Allocator + Copy>(
 ) -> Result<Vec<Vec<Pos, A>, A>, OpenFault<'a>>
     ensures { Gives (λ v. map (λ a. a.items) v.items) result (arcs delta (node span.entry)) }
 {
-    match plain_arcs(alloc, delta, span)? {
-        Some(found) => Ok(found),
-        None => any_arcs(alloc, delta, span),
+    if let Some(found) = plain_arcs(alloc, delta, span)? {
+        return Ok(found);
     }
+    let mut found = Vec::new(alloc);
+    for part in items(span) {
+        found.push(or_return!(arc(alloc, delta, part)))?;
+    }
+    Ok(found)
 }

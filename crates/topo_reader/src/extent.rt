@@ -1,5 +1,5 @@
 // The extent of a topology.
-ghost use Rattle.std.specs.Prelude.{◌≡◌, ◌-◌, length, map, flat_map};
+ghost use Rattle.std.specs.Prelude.{◌≡◌, ◌-◌, length, map, flat_map, fold};
 ghost use Rattle.std.specs.Prelude as prelude;
 ghost use Rattle.ring_machine.specs.Common.{positions};
 ghost use Rattle.topo_outline.specs.Common.{at_most_one, leaf_of, leaves_in, leaves, view_item};
@@ -7,7 +7,6 @@ ghost use Rattle.topo_outline.specs.Common.{view_layer};
 ghost use Rattle.topo_reader.specs.Document.{document_of};
 ghost use Rattle.topo_reader.specs.DocumentView.{view_raw};
 ghost use Rattle.topo_reader.specs.Extent.{box_with, widened, extent_of};
-ghost use Rattle.topo_reader.specs.Uses.{positions_of, polygon_corners, feature_corners};
 
 use crate::document::RawDoc;
 use grid_geometry::{Pos, Rect};
@@ -46,37 +45,12 @@ fn with_ring(before: Option<Rect>, ring: &[Pos]) -> Option<Rect>
     rect
 }
 
-fn with_polygon<A: Allocator + Copy>(before: Option<Rect>, rings: &[Vec<Pos, A>]) -> Option<Rect>
-    ensures { result ≡ widened before (flat_map positions_of rings.now) }
-{
-    let mut rect = before;
-    for ring in rings {
-        rect = with_ring(rect, ring.as_slice());
-    }
-    rect
-}
-
-fn with_feature<A: Allocator + Copy>(
-    before: Option<Rect>,
-    polygons: &[Vec<Vec<Pos, A>, A>],
-) -> Option<Rect>
-    ensures { result ≡ widened before (flat_map polygon_corners polygons.now) }
-{
-    let mut rect = before;
-    for polygon in polygons {
-        rect = with_polygon(rect, polygon.as_slice());
-    }
-    rect
-}
-
 fn with_features<A: Allocator + Copy>(features: &[Vec<Vec<Vec<Pos, A>, A>, A>]) -> Option<Rect>
-    ensures { result ≡ widened prelude.None (flat_map feature_corners features.now) }
+    ensures { result ≡ fold (λ rect ring. widened rect ring.items) prelude.None
+        (flat_map (λ polygon. polygon.items) (flat_map (λ polygons. polygons.items) features.now)) }
 {
-    let mut rect = None;
-    for polygons in features {
-        rect = with_feature(rect, polygons.as_slice());
-    }
-    rect
+    let rings = features.iter().flatten().flatten();
+    rings.fold(None, |rect, ring| with_ring(rect, ring.as_slice()))
 }
 
 /// 1 for a feature, and 0 for any other item.

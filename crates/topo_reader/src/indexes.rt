@@ -1,6 +1,5 @@
 // The arcs that the rings use (TopoJSON 1.0, 2.1.4).
 ghost use Rattle.std.specs.Prelude.{◌≡◌, map, option_map, slice_get, reverse, pos, negsuc, ◌<ℤ◌, ◌≤ℤ◌};
-ghost use Rattle.ring_machine.specs.Common.{MultiPolygon};
 ghost use Rattle.json_spans.specs.Common.{node};
 ghost use Rattle.topo_outline.specs.Common.{each, Gives, form_of, view_place};
 ghost use Rattle.topo_reader.specs.Indexes.{arc_named, index, ring, polygon, polygons, uses_of};
@@ -84,10 +83,7 @@ fn index<'a, 'b, A: Allocator + Copy>(
     ensures { Gives arc_of result (index (map positions_of arcs.now) (node part.entry)) }
 {
     match whole(part) {
-        Ok(z) => match named(arcs, z) {
-            Some(found) => Ok(found),
-            None => Err(OpenFault::BadArcIndex { place: at(part) }),
-        },
+        Ok(z) => named(arcs, z).ok_or(OpenFault::BadArcIndex { place: at(part) }),
         Err(NotWhole::Form) => Err(OpenFault::NotWhole { place: at(part) }),
         Err(NotWhole::Huge) => Err(OpenFault::BadArcIndex { place: at(part) }),
     }
@@ -103,10 +99,7 @@ fn ring<'a, 'b, A: Allocator + Copy>(
 {
     let mut found = Vec::new(alloc);
     for part in items(span) {
-        match index(arcs, part) {
-            Ok(one) => found.push(one)?,
-            Err(fault) => return Err(fault),
-        }
+        found.push(or_return!(index(arcs, part)))?;
     }
     Ok(found)
 }
@@ -121,29 +114,7 @@ fn polygon<'a, 'b, A: Allocator + Copy>(
 {
     let mut found = Vec::new(alloc);
     for part in items(span) {
-        match ring(alloc, arcs, part) {
-            Ok(one) => found.push(one)?,
-            Err(fault) => return Err(fault),
-        }
-    }
-    Ok(found)
-}
-
-#[tactic(auto, unfolding(crate::specs::Indexes::polygons))]
-fn multi_polygon<'a, 'b, A: Allocator + Copy>(
-    alloc: A,
-    arcs: &'b [Vec<Pos, A>],
-    span: Span<'a>,
-) -> Result<Vec<Vec<Vec<Use<'b>, A>, A>, A>, OpenFault<'a>>
-    ensures { Gives feature_uses result
-        (polygons (map positions_of arcs.now) MultiPolygon (node span.entry)) }
-{
-    let mut found = Vec::new(alloc);
-    for part in items(span) {
-        match polygon(alloc, arcs, part) {
-            Ok(one) => found.push(one)?,
-            Err(fault) => return Err(fault),
-        }
+        found.push(or_return!(ring(alloc, arcs, part)))?;
     }
     Ok(found)
 }
@@ -158,18 +129,17 @@ fn polygons<'a, 'b, A: Allocator + Copy>(
     ensures { Gives feature_uses result
         (polygons (map positions_of arcs.now) (form_of form) (node span.entry)) }
 {
+    let mut found = Vec::new(alloc);
     match form {
-        Form::Null => Ok(Vec::new(alloc)),
-        Form::MultiPolygon => multi_polygon(alloc, arcs, span),
-        Form::Polygon => match polygon(alloc, arcs, span) {
-            Ok(one) => {
-                let mut found = Vec::new(alloc);
-                found.push(one)?;
-                Ok(found)
+        Form::Null => {}
+        Form::Polygon => found.push(or_return!(polygon(alloc, arcs, span)))?,
+        Form::MultiPolygon => {
+            for part in items(span) {
+                found.push(or_return!(polygon(alloc, arcs, part)))?;
             }
-            Err(fault) => Err(fault),
-        },
+        }
     }
+    Ok(found)
 }
 
 /// The arcs that the rings use, by feature, polygon and ring.
@@ -184,10 +154,7 @@ pub(crate) fn uses<'a, 'b, A: Allocator + Copy>(
 {
     let mut found = Vec::new(alloc);
     for place in places {
-        match polygons(alloc, arcs, place.form, place.arcs) {
-            Ok(one) => found.push(one)?,
-            Err(fault) => return Err(fault),
-        }
+        found.push(or_return!(polygons(alloc, arcs, place.form, place.arcs)))?;
     }
     Ok(found)
 }

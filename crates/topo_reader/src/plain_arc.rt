@@ -23,11 +23,7 @@ fn digits(bytes: &[u8]) -> Option<(u64, &[u8])>
     let mut value = 0u64;
     for (i, x) in bytes.iter().enumerate() {
         if !x.is_ascii_digit() {
-            return if i > 0 {
-                Some((value, &bytes[i..]))
-            } else {
-                None
-            };
+            return (i > 0).then_some((value, &bytes[i..]));
         }
         if value >= LIMIT {
             return None;
@@ -50,16 +46,12 @@ pub(crate) fn after(byte: u8, bytes: &[u8]) -> Option<&[u8]>
 fn plain_number(bytes: &[u8]) -> Option<(i64, &[u8])>
     ensures { IfSome result (λ n. PlainNumber bytes.now n.0 n.1.now) }
 {
-    match after(b'-', bytes) {
-        Some(body) => {
-            let (value, rest) = digits(body)?;
-            Some((0 - value as i64, rest))
-        }
-        None => {
-            let (value, rest) = digits(bytes)?;
-            Some((value as i64, rest))
-        }
+    if let Some(body) = after(b'-', bytes) {
+        let (size, rest) = digits(body)?;
+        return Some((0 - size as i64, rest));
     }
+    let (value, rest) = digits(bytes)?;
+    Some((value as i64, rest))
 }
 
 /// The two numbers of the pair in front, and what follows it.

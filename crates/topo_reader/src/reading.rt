@@ -5,8 +5,8 @@ ghost use Rattle.topo_outline.specs.Common.{Gives, view_outline, IsPlaced};
 ghost use Rattle.ring_machine.specs.Common.{Document};
 ghost use Rattle.topo_reader.specs.Document.{document_of, IsOfRings, IsOfWalks};
 ghost use Rattle.topo_reader.specs.DocumentView.{view_raw};
-ghost use Rattle.topo_reader.specs.Opening.{polygons_along, walks_read, polygons_read, opening, OpensBy, Opens, OpensWalks, IsFaultBy, IsFault, IsWalkFault, IsPlaceBy, IsPlace, IsWalkPlace};
-ghost use Rattle.topo_reader.specs.Reads.{IsClosed, ReadsBy, Reads, ReadsWalks, Fits};
+ghost use Rattle.topo_reader.specs.Opening.{polygons_along, walks_read, opening, Opens, OpensWalks, IsFault, IsWalkFault, IsPlace, IsWalkPlace};
+ghost use Rattle.topo_reader.specs.Reads.{Reads, ReadsWalks, Fits};
 ghost use Rattle.topo_reader.specs.Uses.{feature_positions, positions_of};
 
 use crate::arcs::arcs;
@@ -15,7 +15,7 @@ use crate::indexes::uses;
 use crate::limits::fit;
 use crate::rings::{Closed, all_rings};
 use grid_geometry::Pos;
-use json_spans::{ScanFault, Span, scan};
+use json_spans::{Span, scan};
 use std::alloc::{Allocator, Global};
 use topo_outline::{Limit, OpenFault, Outline, read_outline};
 
@@ -33,10 +33,7 @@ fn polygons_along<'a, A: Allocator + Copy>(
     ensures { Gives (λ v. map feature_positions v.items) result
         (polygons_along closed (map positions_of arcs.now) (view_outline outline.now).layers) }
 {
-    let uses = match uses(alloc, arcs, outline.places.as_slice()) {
-        Ok(uses) => uses,
-        Err(fault) => return Err(fault),
-    };
+    let uses = or_return!(uses(alloc, arcs, outline.places.as_slice()));
     if !fit(uses.as_slice()) {
         return Err(OpenFault::TooLarge {
             what: Limit::Positions,
@@ -62,22 +59,6 @@ pub fn walks_along<'a, A: Allocator + Copy>(
     polygons_along(alloc, Closed::Walks, arcs, outline)
 }
 
-/// The polygons of all features.
-fn polygons<'a, A: Allocator + Copy>(
-    alloc: A,
-    closed: Closed,
-    outline: &Outline<'a, A>,
-) -> Result<Vec<Vec<Vec<Vec<Pos, A>, A>, A>, A>, OpenFault<'a>>
-    requires { IsPlaced outline.now }
-    ensures { Gives (λ v. map feature_positions v.items) result
-        (polygons_read closed (view_outline outline.now)) }
-{
-    match arcs(alloc, outline.transform.is_some(), outline.arcs) {
-        Ok(arcs) => polygons_along(alloc, closed, arcs.as_slice(), outline),
-        Err(fault) => Err(fault),
-    }
-}
-
 /// The topology whose root this is.
 fn opened<'a, A: Allocator + Copy>(
     alloc: A,
@@ -87,47 +68,15 @@ fn opened<'a, A: Allocator + Copy>(
 ) -> Result<RawDoc<'a, A>, OpenFault<'a>>
     ensures { Gives view_raw result (opening closed (node root.entry)) }
 {
-    let outline = match read_outline(alloc, heap, root) {
-        Ok(outline) => outline,
-        Err(fault) => return Err(fault),
-    };
-    match polygons(alloc, closed, &outline) {
-        Ok(polygons) => Ok(RawDoc {
-            transform: outline.transform,
-            layers: outline.layers,
-            members: outline.members,
-            polygons,
-        }),
-        Err(fault) => Err(fault),
-    }
-}
-
-/// The topology that the bytes are, with rings or with walks, or its first fault.
-fn read_closed<'a, A: Allocator + Copy>(
-    alloc: A,
-    heap: Global,
-    closed: Closed,
-    bytes: &'a [u8],
-) -> Result<RawDoc<'a, A>, OpenFault<'a>>
-    ensures opened { IfOk result (λ raw. OpensBy closed bytes.now (view_raw raw)) }
-    ensures refused { IfErr result (λ fault. IsFaultBy closed bytes.now fault) }
-    ensures places { IfErr result (λ fault. IsPlaceBy closed bytes.now fault) }
-    ensures reads { IfOk result (λ raw.
-        (reading : ReadsBy (IsClosed closed) bytes.now (document_of (view_raw raw))) × Fits reading) }
-    ensures only { IfOk result (λ raw. (d : Document) → ReadsBy (IsClosed closed) bytes.now d →
-        d ≡ document_of (view_raw raw)) }
-    ensures unread { IfErr result (λ fault. fault ≢ OpenFault.OutOfMemory →
-        ¬ ((d : Document) × (reading : ReadsBy (IsClosed closed) bytes.now d) × Fits reading)) }
-{
-    if bytes.len() > MAX_BYTES {
-        return Err(OpenFault::TooLarge { what: Limit::Bytes });
-    }
-    match scan(alloc, bytes) {
-        Ok(root) => opened(alloc, heap, closed, root.span()),
-        Err(ScanFault::NotJson { place }) => Err(OpenFault::NotJson { place }),
-        Err(ScanFault::TooDeep { place }) => Err(OpenFault::TooDeep { place }),
-        Err(ScanFault::OutOfMemory) => Err(OpenFault::OutOfMemory),
-    }
+    let outline = or_return!(read_outline(alloc, heap, root));
+    let arcs = or_return!(arcs(alloc, outline.transform.is_some(), outline.arcs));
+    let polygons = or_return!(polygons_along(alloc, closed, arcs.as_slice(), &outline));
+    Ok(RawDoc {
+        transform: outline.transform,
+        layers: outline.layers,
+        members: outline.members,
+        polygons,
+    })
 }
 
 /// The topology that the bytes are, or its first fault.
@@ -156,7 +105,10 @@ pub fn read<'a, A: Allocator + Copy>(
     ensures unread { IfErr result (λ fault. fault ≢ OpenFault.OutOfMemory →
         ¬ ((d : Document) × (reading : Reads bytes.now d) × Fits reading)) }
 {
-    read_closed(alloc, heap, Closed::Rings, bytes)
+    if bytes.len() > MAX_BYTES {
+        return Err(OpenFault::TooLarge { what: Limit::Bytes });
+    }
+    opened(alloc, heap, Closed::Rings, scan(alloc, bytes)?.span())
 }
 
 /// The topology that the bytes are, with walks in the place of rings, or its first fault.
@@ -184,5 +136,8 @@ pub fn read_walks<'a, A: Allocator + Copy>(
     ensures unread { IfErr result (λ fault. fault ≢ OpenFault.OutOfMemory →
         ¬ ((d : Document) × (reading : ReadsWalks bytes.now d) × Fits reading)) }
 {
-    read_closed(alloc, heap, Closed::Walks, bytes)
+    if bytes.len() > MAX_BYTES {
+        return Err(OpenFault::TooLarge { what: Limit::Bytes });
+    }
+    opened(alloc, heap, Closed::Walks, scan(alloc, bytes)?.span())
 }

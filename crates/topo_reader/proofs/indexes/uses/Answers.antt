@@ -6,4 +6,4 @@ use Rattle.topo_reader.proofs.indexes.uses.Goals as goal
 
 pub loop-place-preserved : goal.loop-place-preserved
 unfolding uses_of
-loop-place-preserved g c = rw (c.in_ok-push-in-Ok.ensures.items, map-append) (each_drop_turn (uses_of (map positions_of c.args.arcs.now)) view_place _ _ c.args.places.now c.loop-place.place-index c.place-item.result _ (omega arith) c.place-item.is c.in-Ok.ensures c.loop-place.invariant)
+loop-place-preserved g c = rw (c.in_ok-push.ensures.items, map-append) (each_drop_turn (uses_of (map positions_of c.args.arcs.now)) view_place _ _ c.args.places.now c.loop-place.place-index c.place-item.result _ (omega arith) c.place-item.is c.in-Ok.ensures c.loop-place.invariant)
