@@ -1,14 +1,25 @@
 -- Tables after what came in went again, and sets of segments after an edit.
 use Rattle.kit_words.proofs.Common.{ℕ, ◌≡◌, Bool, true, false, refl, sym, ap, ◌∙◌, List, [], ◌∷◌, ◌||◌, ◌&&◌, None, not}
-use Rattle.kit_words.proofs.Common.{same_map, nat_cmp-IsAntisymmetric, nat_cmp_total, ℕ_discrete}
+use Rattle.kit_words.proofs.Common.{◌≢◌, Option, Some, IfNone, IsSome, IsNone, ◌↔◌, same_map, nat_cmp-IsAntisymmetric, nat_cmp_total, ℕ_discrete}
 use Rattle.std.specs.FinMap as table
 use Rattle.std.specs.FinSet as set
 use Rattle.grid_geometry.specs.Common.{Position, Segment}
-use Rattle.vertex_index.specs.Common.{Placement}
+use Rattle.vertex_index.specs.Common.{Placement, IsOccupied}
 use Rattle.segment_index.specs.Common.{SegmentSet, AreAmong, segment_is, has}
 use Rattle.segment_index.proofs.Common.{segment_total, remove_inserted}
 use Rattle.ring_store.specs.Common.{Exchanges, Gains, Drops}
 use Rattle.ring_store.proofs.Places.{insert_other, remove_here, remove_other}
+
+-- where a vertex stands a look finds one
+pub found_there : (places : Placement) (p : Position) (o : Option ℕ) → IsOccupied places p
+    → IfNone o ((k : ℕ) → table.get places k ≢ Some p) → IsSome o
+found_there places p None here none = absurd (none here.0 here.1)
+found_there places p (Some k) here none = refl
+
+-- of two positions that differ there is a segment
+pub made_there : (a b : Position) (o : Option Segment) → a ≢ b → (IsNone o ↔ (a ≡ b)) → IsSome o
+made_there a b None apart none = absurd (apart (none.0 refl))
+made_there a b (Some s) apart none = refl
 
 -- a vertex that came in and went again
 pub place_back : (places : Placement) (k : ℕ) (q : Position) → table.get places k ≡ None

@@ -1,10 +1,11 @@
 //! Rings over shared arcs, as a caller sees them.
-ghost use Rattle.std.specs.Prelude.{◌≡◌, ◌≤◌, ◌++◌, true, None, IfOk, OnOk, OnErr, IfSome, length};
+ghost use Rattle.std.specs.Prelude.{◌≡◌, ◌≤◌, ◌++◌, true, None, IfOk, OnOk, OnErr, IfSome, length, ◌<◌, ◌^◌, ◌⊎◌, ℕ, option_map};
+ghost use Rattle.arc_tables.specs.Common.{begins, edges, users_of, ListsUsers, ListsSharing, AreApart, through, collapsed, throughs, gained, ArePuts};
+ghost use Rattle.ring_store.specs.Joined.{Joined};
 ghost use Rattle.std.specs.FinMap as map;
-ghost use Rattle.arc_tables.specs.Common.{begins, edges, users_of, ListsUsers, ListsSharing};
 
-use crate::reading::push_ring_keys;
-use arc_tables::{Place, Tables, mark_end};
+use crate::ring_keys::push_ring_keys;
+use arc_tables::{Place, Put, Tables, mark_end};
 use slab::Slab;
 use std::alloc::{AllocError, Allocator, Global};
 use std::marker::Model;
@@ -60,10 +61,7 @@ impl<A: Allocator + Copy> Borders<A> {
     pub fn end_arcs_at(&mut self, k: VertexKey) -> Result<(), AllocError>
         ensures { self.new ≡ self.old }
     {
-        match mark_end(&mut self.tables.stands, k) {
-            Ok(()) => Ok(()),
-            Err(e) => Err(e),
-        }
+        mark_end(&mut self.tables.stands, k)
     }
 
     /// Puts in the ring that goes along these keys, and from the last to the first, under a
@@ -117,10 +115,7 @@ impl<A: Allocator + Copy> Borders<A> {
     ) -> Result<(), AllocError>
         ensures { OnOk result (ListsUsers self.now a b out.old.items out.new.items) }
     {
-        match self.tables.push_users(a, b, out) {
-            Ok(()) => Ok(()),
-            Err(e) => Err(e),
-        }
+        self.tables.push_users(a, b, out)
     }
 
     /// Appends the numbers of the rings that have a segment in common with ring `r`, itself among
@@ -133,10 +128,7 @@ impl<A: Allocator + Copy> Borders<A> {
     ) -> Result<(), AllocError>
         ensures { OnOk result (ListsSharing self.now r out.old.items out.new.items) }
     {
-        match self.tables.push_sharing(r, out) {
-            Ok(()) => Ok(()),
-            Err(e) => Err(e),
-        }
+        self.tables.push_sharing(r, out)
     }
 
     /// Appends the keys of a ring that is held, in order. Fails for want of memory alone; some of
@@ -150,19 +142,53 @@ impl<A: Allocator + Copy> Borders<A> {
         ensures { OnOk result
             (IfSome (map.get self.now r) (λ es. out.new.items ≡ out.old.items ++ begins es)) }
     {
-        match push_ring_keys(&self.tables, r, out) {
-            Ok(()) => Ok(()),
-            Err(e) => Err(e),
-        }
+        push_ring_keys(&self.tables, r, out)
+    }
+
+    /// Puts vertex `q`, which no ring has, between `a` and `b` in every ring that has their
+    /// segment. Fails for want of memory alone.
+    pub fn insert(&mut self, a: VertexKey, b: VertexKey, q: VertexKey) -> Result<(), AllocError>
+        requires unjoined { (x : ℕ) → ¬ Joined self.old q x }
+        requires apart { AreApart a b q }
+        ensures ok { OnOk result ((r : ℕ) → map.get self.new r
+            ≡ option_map (through a b q) (map.get self.old r)) }
+        ensures err { OnErr result (self.new ≡ self.old) }
+    {
+        self.tables.insert(a, b, q)
+    }
+
+    /// Puts these vertices, which no ring has, each between its two in every ring that has their
+    /// segment, one after the other, and says how many positions the rings gain. Fails for want of
+    /// memory alone, and then nothing has changed.
+    pub fn insert_all(&mut self, puts: &[Put]) -> Result<usize, AllocError>
+        requires fits { ArePuts (λ q. (x : ℕ) → ¬ Joined self.old q x) puts.now }
+        requires few { gained puts.now (map.values self.old) < 2 ^ 64 }
+        ensures count { IfOk result (λ n. n ≡ gained puts.now (map.values self.old)) }
+        ensures ok { OnOk result ((r : ℕ) → map.get self.new r
+            ≡ option_map (throughs puts.now) (map.get self.old r)) }
+        ensures err { OnErr result (self.new ≡ self.old) }
+    {
+        self.tables.insert_all(puts)
+    }
+
+    /// Takes vertex `p`, whose neighbours are `a` and `b` in every ring that has it, out of every
+    /// ring. Fails for want of memory alone.
+    pub fn remove(&mut self, p: VertexKey, a: VertexKey, b: VertexKey) -> Result<(), AllocError>
+        requires between { (x : ℕ) → Joined self.old p x → (x ≡ a) ⊎ (x ≡ b) }
+        requires unjoined { ¬ Joined self.old a b }
+        requires apart { AreApart a b p }
+        ensures ok { OnOk result ((r : ℕ) → map.get self.new r
+            ≡ option_map (collapsed p b) (map.get self.old r)) }
+        ensures err { OnErr result (self.new ≡ self.old) }
+    {
+        self.tables.remove(p, b)
     }
 
     /// The same rings under the same numbers. Fails for want of memory alone.
     pub fn copy(&self) -> Result<Borders<A>, AllocError>
         ensures { IfOk result (λ copy. copy ≡ self.now) }
     {
-        match self.tables.copy() {
-            Ok(tables) => Ok(Borders { tables }),
-            Err(e) => Err(e),
-        }
+        let tables = self.tables.copy()?;
+        Ok(Borders { tables })
     }
 }

@@ -8,35 +8,22 @@
 //! one fail, and then nothing has changed.
 #![tactic(auto)]
 
-mod all_around;
-mod around;
 mod borders;
-mod bridging;
-mod counted;
-mod joined;
-mod keying;
-mod many;
-mod moving;
+mod changes;
 mod neighbours;
-mod parting;
-mod reading;
 mod removal;
 mod ring_keys;
-mod segments;
 mod sides;
 mod tables;
-mod vertex_edits;
 
 pub use arc_tables::{Place, Put};
 pub use borders::Borders;
-pub use bridging::{Bridging, read_bridging, take_out};
-pub use counted::Counted;
-pub use keying::key_ring;
-pub use many::put_all;
-pub use moving::{Moving, read_moving, shift};
+pub use changes::{
+    Bridging, Moving, Parting, put_all, put_in, read_bridging, read_moving, read_parting, shift,
+    take_out,
+};
 pub use neighbours::Neighbours;
-pub use parting::{Parting, put_in, read_parting};
 pub use removal::Removal;
 pub use ring_keys::RingKeys;
-pub use sides::{add_sides, drop_sides, edge_at, side};
-pub use tables::RingTables;
+pub use sides::{add_sides, drop_sides, edge_at, key_ring, side};
+pub use tables::{Counted, RingTables};

@@ -1,19 +1,60 @@
 //! A ring's keys one by one, in no memory.
-ghost use Rattle.std.specs.Prelude.{◌≡◌, ◌≤◌, option_map};
-ghost use Rattle.std.specs.FinMap as map;
+ghost use Rattle.std.specs.Prelude.{◌≡◌, ◌≤◌, option_map, ◌-◌, ◌++◌, OnOk, if◌then◌else◌};
 ghost use Rattle.std.specs.Iterator.{YieldsFirst, item_count};
-ghost use Rattle.slab.specs.Slab.{get};
-ghost use Rattle.arc_tables.specs.Common.{begins, path_in, chain};
+ghost use Rattle.slab.specs.Slab.{ContainsKey};
+ghost use Rattle.arc_tables.specs.Common.{begins, links, walk, edges_of, store, Whole};
+ghost use Rattle.std.specs.FinMap as map;
 
 use crate::borders::Borders;
 use crate::neighbours::path_at;
-use crate::reading::place_of;
-use arc_tables::{Arc, Use};
+use arc_tables::{Arc, Tables, Use};
 use slab::Slab;
-use std::alloc::{Allocator, Global};
+use std::alloc::{AllocError, Allocator, Global};
 use std::iter::FusedIterator;
 use std::marker::Model;
 use vertex_index::VertexKey;
+
+/// The place in a path of so many keys that comes as the `at`-th, counted from 1.
+pub(crate) fn place_of(len: usize, back: bool, at: usize) -> usize
+    requires some { 1 ≤ at }
+    requires within { at ≤ len }
+    ensures { result ≡ (if back then len - at else at - 1) }
+{
+    if back { len - at } else { at - 1 }
+}
+
+/// Appends the keys of a path, or of its reverse, but for the last.
+fn push_begins<A: Allocator>(
+    path: &[VertexKey],
+    back: bool,
+    out: &mut Vec<VertexKey, A>,
+) -> Result<(), AllocError>
+    ensures { OnOk result (out.new.items ≡ out.old.items ++ begins (links (walk back path.now))) }
+{
+    out.reserve(path.len())?;
+    for at in 1..path.len() {
+        out.push_reserved(path[place_of(path.len(), back, at)]);
+    }
+    Ok(())
+}
+
+/// Appends the keys at which the edges of a ring begin.
+pub(crate) fn push_ring_keys<A: Allocator + Copy, B: Allocator>(
+    tables: &Tables<A>,
+    r: usize,
+    out: &mut Vec<VertexKey, B>,
+) -> Result<(), AllocError>
+    requires whole { Whole tables.now }
+    requires held { ContainsKey tables.now.rings r }
+    ensures { OnOk result
+        (out.new.items ≡ out.old.items ++ begins (edges_of (store tables.now) r)) }
+{
+    for u in tables.rings.get(r).unwrap().uses.as_slice() {
+        let arc = tables.arcs.get(u.arc).unwrap();
+        push_begins(arc.keys.as_slice(), u.back, out)?;
+    }
+    Ok(())
+}
 
 /// The keys of a ring, seen as the list of those that are still to come.
 #[derive(Drop)]
@@ -40,19 +81,6 @@ impl<'m, A: Allocator + Copy> Model for RingKeys<'m, A> {
 }
 
 impl<'m, A: Allocator + Copy> RingKeys<'m, A> {
-    /// The keys along these uses.
-    fn along(arcs: &'m Slab<Arc<A>, A>, uses: &'m [Use]) -> RingKeys<'m, A>
-        ensures { result ≡ begins (chain (λ i. path_in (get arcs.now i)) uses.now) }
-    {
-        RingKeys {
-            arcs,
-            uses,
-            path: &[],
-            back: false,
-            at: 1,
-        }
-    }
-
     /// The same keys, to be given once more.
     pub fn again(&self) -> RingKeys<'m, A>
         ensures { result ≡ self.now }
@@ -97,9 +125,13 @@ impl<A: Allocator + Copy> Borders<A> {
     pub fn keys(&self, r: usize) -> Option<RingKeys<'_, A>>
         ensures { result ≡ option_map begins (map.get self.now r) }
     {
-        match self.tables.rings.get(r) {
-            Some(ring) => Some(RingKeys::along(&self.tables.arcs, ring.uses.as_slice())),
-            None => None,
-        }
+        let ring = self.tables.rings.get(r)?;
+        Some(RingKeys {
+            arcs: &self.tables.arcs,
+            uses: ring.uses.as_slice(),
+            path: &[],
+            back: false,
+            at: 1,
+        })
     }
 }

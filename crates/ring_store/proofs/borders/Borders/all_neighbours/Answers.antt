@@ -5,9 +5,9 @@ use Rattle.ring_store.proofs.JoinedLemmas.{each_used}
 use Rattle.ring_store.proofs.SeenLemmas.{all_seen}
 use Rattle.ring_store.proofs.borders.Borders.all_neighbours.Goals as goal
 
-pub returns-in-Ok : goal.returns-in-Ok
-returns-in-Ok g c =
+pub returns : goal.returns
+returns g c =
     let t = c.self.inside.tables in
     let table = c.see_arcs.new.table.items in
     subst (λ m. AreAllNeighbours m table) c.self.view_is
-    (all_seen t (each_used t c.self.invariant.whole.known) table (subst (λ was. SeesMore was table (λ j. ends_in (entries t.arcs) j)) c.in_ok-table.ensures.items c.in-Ok.ensures))
+    (all_seen t (each_used t c.self.invariant.whole.known) table (subst (λ was. SeesMore was table (λ j. ends_in (entries t.arcs) j)) c.in_ok-table.ensures.items c.in_ok-see_arcs.ensures))

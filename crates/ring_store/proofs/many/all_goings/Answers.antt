@@ -1,6 +1,0 @@
-use Rattle.ring_store.proofs.PuttingBack.{apart_at}
-use Rattle.ring_store.proofs.many.all_goings.Goals as goal
-
-pub push_segment-requires : goal.push_segment-requires
-push_segment-requires g c =
-    (apart_at c.args.removals.now c.requires c.loop-r.r-index c.r-item.result c.loop-r-test.true c.r-item.is).0
