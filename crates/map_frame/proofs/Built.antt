@@ -1,5 +1,5 @@
 -- Building layer by layer and item by item: what is done so far, and what is left.
-use Rattle.kit_words.proofs.Common.{◌≡◌, ◌∙◌, ℕ, zero, suc, ◌+◌, ◌≤◌, refl, sym, ap, subst, arith, append_assoc}
+use Rattle.kit_words.proofs.Common.{◌≡◌, ◌∙◌, ℕ, zero, suc, ◌+◌, refl, sym, ap, subst, arith, append_assoc}
 use Rattle.kit_words.proofs.Common.{add-one, List, [], ◌∷◌, ◌++◌, length, map, drop, Option, Some, None, length-append}
 use Rattle.kit_words.proofs.Common.{Vec, not, IsTrue, slice_get, unwrap_or, flat_map}
 use Rattle.std.proofs.Common.{append-nil}
@@ -9,9 +9,9 @@ use Rattle.topo_outline.specs.declared.document.Item.{Item}
 use Rattle.topo_outline.specs.declared.document.Item.TheVariants as item
 use Rattle.topo_outline.specs.declared.document.RawFeature.{RawFeature}
 use Rattle.topo_outline.specs.declared.document.RawLayer.{RawLayer}
-use Rattle.map_frame.specs.Common.{Feature, Stand, Slot, Geometry, Layer, Progress, IsNext, IsSlot, AreSlots, first_of}
-use Rattle.map_frame.specs.Common.{lone, is_lone, IsGeometry, AreLayers, numbers_at, numbers_in, all_numbers}
-use Rattle.map_frame.specs.declared.layers.Geometry.TheVariants as geometry
+use Rattle.map_frame.specs.Common.{Feature, Stand, Slot, Geometry, Layer, Progress, CanTake, IsNext, IsSlot, AreSlots, first_of}
+use Rattle.map_frame.specs.Common.{lone, alone_or, of_slots, is_lone, IsGeometry, AreLayers, numbers_at, numbers_in, all_numbers}
+use Rattle.map_frame.specs.declared.tables.Geometry.TheVariants as geometry
 
 pub nothing_left : {X : Type 0} (xs : List X) (n : ℕ) → n ≡ length xs → n ≡ 0 → xs ≡ []
 nothing_left [] n e z = refl
@@ -43,12 +43,6 @@ module _ {A : Type 0} where
 
   abbrev pub all_leaves : List (RawLayer A) → ℕ
   all_leaves ls = length (leaves (map view_layer ls))
-
-  -- there is room for so many features more, and each has polygons
-  pub record HasRoom (n : ℕ) (now : Progress A) : Type 0 where
-    pub few : length now.features + n ≤ 200000
-    pub there : n ≤ length now.waiting
-    pub alike : length now.stands ≡ length now.features
 
   -- these are all features and where they stand, some of which came so far
   pub record Whole (fs : List (Option (Feature A))) (ss : List Stand) (p : Progress A) : Type 0 where
@@ -91,7 +85,7 @@ module _ {A : Type 0} where
     waits = λ all v. h.waits all (g.waits all v);
   }
 
-  room_left : (m n k : ℕ) (ns : List ℕ) (old new : Progress A) → HasRoom k old → Came m ns old new → k ≡ m + n → HasRoom n new
+  room_left : (m n k : ℕ) (ns : List ℕ) (old new : Progress A) → CanTake k old → Came m ns old new → k ≡ m + n → CanTake n new
   room_left m n k ns old new h c e = record {
     few = omega (arith, h.few, c.more, e);
     there = omega (arith, h.there, c.fewer, e);
@@ -99,7 +93,7 @@ module _ {A : Type 0} where
   }
 
   -- room for the first of them
-  pub room_first : (m n k : ℕ) (now : Progress A) → HasRoom k now → k ≡ m + n → HasRoom m now
+  pub room_first : (m n k : ℕ) (now : Progress A) → CanTake k now → k ≡ m + n → CanTake m now
   room_first m n k now h e = record {
     few = omega (arith, h.few, e);
     there = omega (arith, h.there, e);
@@ -164,12 +158,12 @@ module _ {A : Type 0} where
   -- the slots so far, where these items are left
   pub record SlotsSoFar (layer : ℕ) (items : List (Item A)) (start : Progress A)
       (left : List (Item A)) (slots : List (Slot A)) (now : Progress A) : Type 0 where
-    pub room : HasRoom (leaves_of left) now
+    pub room : CanTake (leaves_of left) now
     pub rest : (more : List (Slot A)) (end : Progress A) → AreSlots layer (length slots) left more now end
         → AreSlots layer 0 items (slots ++ more) start end
 
   pub slots_begin : (layer : ℕ) (items : List (Item A)) (slots : List (Slot A)) (start : Progress A) → slots ≡ []
-      → HasRoom (leaves_of items) start → SlotsSoFar layer items start items slots start
+      → CanTake (leaves_of items) start → SlotsSoFar layer items start items slots start
   slots_begin layer items slots start f room = record {
     room = room;
     rest = λ more end k. subst (λ z. AreSlots layer (length z) items more start end → AreSlots layer 0 items (z ++ more) start end)
@@ -216,7 +210,7 @@ module _ {A : Type 0} where
       first = ap first_of k.0.1 ∙ ap (λ z. slice_get z 0) k.0.2
   one_slot layer n i s old now k e = let f = ap first_of k.0 in absurd cc
 
-  pub lone_some : (layer n : ℕ) (items : List (Item A)) (slots : List (Slot A)) (old new : Progress A) → AreSlots layer 0 items slots old new
+  lone_some : (layer n : ℕ) (items : List (Item A)) (slots : List (Slot A)) (old new : Progress A) → AreSlots layer 0 items slots old new
       → lone slots ≡ Some n
       → (raw : RawFeature A) × (items ≡ item.Leaf raw ∷ []) × (n ≡ length old.features) × IsNext raw layer 0 old new
   lone_some layer n [] (s ∷ slots) old new h e = absurd h
@@ -227,7 +221,7 @@ module _ {A : Type 0} where
       (k.0, ap (λ z. z ∷ []) k.1, k.2, subst (λ z. IsNext k.0 layer 0 old z) (sym h.2) k.3)
   lone_some layer n _ _ old new h e = absurd cc
 
-  pub lone_none : (layer : ℕ) (items : List (Item A)) (slots : List (Slot A)) (old new : Progress A) → AreSlots layer 0 items slots old new
+  lone_none : (layer : ℕ) (items : List (Item A)) (slots : List (Slot A)) (old new : Progress A) → AreSlots layer 0 items slots old new
       → lone slots ≡ None → IsTrue (not (is_lone items))
   lone_none layer (item.Leaf raw ∷ []) [] old new h e = absurd h
   lone_none layer (item.Leaf raw ∷ []) (s ∷ t ∷ slots) old new h e = absurd h.2
@@ -236,6 +230,18 @@ module _ {A : Type 0} where
   lone_none layer _ slots old new h e = refl
 
   -- ---- layers
+
+  pub geometry_built : (layer : ℕ) (items : List (Item A)) (slots : Vec (Slot A) A) (old new : Progress A)
+      → AreSlots layer 0 items slots.items old new → IsGeometry layer items (of_slots slots) old new
+  geometry_built layer items slots old new h = by (lone slots.items) refl
+    where
+      by : (o : Option ℕ) → lone slots.items ≡ o → IsGeometry layer items (of_slots slots) old new
+      by (Some n) e =
+          subst (λ o. IsGeometry layer items (alone_or slots o) old new) (sym e)
+          (lone_some layer n items slots.items old new h e)
+      by None e =
+          subst (λ o. IsGeometry layer items (alone_or slots o) old new) (sym e)
+          (lone_none layer items slots.items old new h e, h)
 
   pub came_geometry : (at : ℕ) (items : List (Item A)) (g : Geometry A) (old new : Progress A) → IsGeometry at items g old new
       → Came (leaves_of items) (numbers_in g) old new
@@ -251,12 +257,12 @@ module _ {A : Type 0} where
   -- the layers so far, where these are left
   pub record LayersSoFar (raws : List (RawLayer A)) (start : Progress A)
       (left : List (RawLayer A)) (layers : List (Layer A)) (now : Progress A) : Type 0 where
-    pub room : HasRoom (all_leaves left) now
+    pub room : CanTake (all_leaves left) now
     pub rest : (more : List (Layer A)) (end : Progress A) → AreLayers (length layers) left more now end
         → AreLayers 0 raws (layers ++ more) start end
 
   pub layers_begin : (raws : List (RawLayer A)) (layers : List (Layer A)) (start : Progress A) → layers ≡ []
-      → HasRoom (all_leaves raws) start → LayersSoFar raws start raws layers start
+      → CanTake (all_leaves raws) start → LayersSoFar raws start raws layers start
   layers_begin raws layers start f room = record {
     room = room;
     rest = λ more end k. subst (λ z. AreLayers (length z) raws more start end → AreLayers 0 raws (z ++ more) start end)

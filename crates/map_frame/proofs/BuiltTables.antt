@@ -3,6 +3,8 @@ use Rattle.kit_words.proofs.Common.{◌≡◌, ◌∙◌, ℕ, refl, sym, ap, ap
 use Rattle.kit_words.proofs.Common.{option_map, Contains, Vec, slice_get, flat_map, length-map, slice_get_within}
 use Rattle.std.proofs.Common.{append-nil}
 use Rattle.ring_machine.specs.Common.{DocumentOf, LayerOf, empty_collection, features, WellFormed}
+use Rattle.std.specs.Vec.Iter.{into_iter_items}
+use Rattle.map_frame.specs.declared.building.Gathered.{Gathered}
 use Rattle.map_frame.specs.Common.{feature_numbers, Feature, Stand, Layer, RingName, Tables, Progress, progress}
 use Rattle.map_frame.specs.Common.{AreLayers, numbers_under, all_numbers, StandsAt, IsFramed, number_at, AreNamed}
 use Rattle.map_frame.specs.Common.{number_among, AllNamed, opened, CanStand, element, items_at, doc_of}
@@ -22,13 +24,13 @@ abbrev pub so_far : {A : Type 0} → Tables A → List (Vec (Vec ℕ A) A) → P
 so_far t left = record { features = t.features.items; stands = t.stands.items; waiting = left }
 
 -- layers that were built from empty lists
-pub laid_from : {A : Type 0} (raws : List (RawLayer A)) (layers : List (Layer A)) (features : Vec (Option (Feature A)) A) (stands : Vec Stand A)
-    (waiting polygons : List (Vec (Vec ℕ A) A)) (end : Progress A) → features.items ≡ [] → stands.items ≡ [] → waiting ≡ polygons
-    → AreLayers 0 raws layers (progress (record { features = features; stands = stands }) waiting) end
+pub laid_from : {A : Type 0} (raws : List (RawLayer A)) (layers : List (Layer A)) (g : Gathered A)
+    (polygons : List (Vec (Vec ℕ A) A)) (end : Progress A) → g.features.items ≡ [] → g.stands.items ≡ []
+    → into_iter_items g.waiting ≡ polygons → AreLayers 0 raws layers (progress g) end
     → AreLayers 0 raws layers (begin polygons) end
-laid_from raws layers features stands waiting polygons end e f w h =
+laid_from raws layers g polygons end e f w h =
     subst (λ p. AreLayers 0 raws layers p end)
-    (ap₂ (λ fs ss. record { features = fs; stands = ss; waiting = waiting }) e f ∙ ap begin w) h
+    (ap₂ (λ fs ss. record { features = fs; stands = ss; waiting = into_iter_items g.waiting }) e f ∙ ap begin w) h
 
 module _ {A : Type 0} (t : Tables A) (raws : List (RawLayer A)) (polygons left : List (Vec (Vec ℕ A) A))
     (built : AreLayers 0 raws t.layers.items (begin polygons) (so_far t left)) where

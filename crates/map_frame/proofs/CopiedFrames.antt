@@ -13,8 +13,8 @@ use Rattle.map_frame.specs.Common.{polygon_numbers, Feature, Stand, Slot, Geomet
 use Rattle.map_frame.specs.Common.{geometry_text, layer_text, seen, AreCopied, Framed, all_numbers, numbers_under}
 use Rattle.map_frame.specs.Common.{StandsAt, is_closing, is_whole, is_enclosed, IsFramed, live, AreNamed, view_feature}
 use Rattle.map_frame.specs.Common.{view_layer, doc_of, framed, places_at, tree_of, layer_tree, places_of, with_texts}
-use Rattle.map_frame.specs.declared.layers.Slot.TheVariants as slot
-use Rattle.map_frame.specs.declared.layers.Geometry.TheVariants as geometry
+use Rattle.map_frame.specs.declared.tables.Slot.TheVariants as slot
+use Rattle.map_frame.specs.declared.tables.Geometry.TheVariants as geometry
 use Rattle.map_frame.proofs.PlacesSeen.{entry, layers_filled, layers_placed, slots_filled, slot_placed}
 
 -- ---- lists of numbers

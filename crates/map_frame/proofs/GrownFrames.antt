@@ -6,8 +6,8 @@ use Rattle.ring_machine.proofs.Members.{there as there_is}
 use Rattle.edit_records.specs.Common.{grown}
 use Rattle.map_frame.specs.Common.{Feature, Stand, Layer, Tables, with_new, with_slot, IsFramed, numbers_under, live}
 use Rattle.map_frame.specs.Common.{doc_of, framed, places_of}
-use Rattle.map_frame.specs.declared.layers.Slot.TheVariants as slot
-use Rattle.map_frame.specs.declared.layers.Geometry.TheVariants as geometry
+use Rattle.map_frame.specs.declared.tables.Slot.TheVariants as slot
+use Rattle.map_frame.specs.declared.tables.Geometry.TheVariants as geometry
 use Rattle.map_frame.proofs.GrownPlace.{GrownPlace, grown_place}
 use Rattle.map_frame.proofs.GrownTables.{after_is}
 use Rattle.map_frame.proofs.NamedOnce.{same_some}

@@ -4,8 +4,8 @@ use Rattle.kit_words.proofs.Common.{slice_get_within, false≢true}
 use Rattle.ring_machine.specs.Common.{is_layer}
 use Rattle.ring_machine.proofs.Common.{In, contains_in}
 use Rattle.map_frame.specs.Common.{Feature, Stand, Slot, Geometry, Layer, Tables, IsFramed, numbers_under, live, doc_of}
-use Rattle.map_frame.specs.declared.layers.Slot.TheVariants as slot
-use Rattle.map_frame.specs.declared.layers.Geometry.TheVariants as geometry
+use Rattle.map_frame.specs.declared.tables.Slot.TheVariants as slot
+use Rattle.map_frame.specs.declared.tables.Geometry.TheVariants as geometry
 use Rattle.map_frame.proofs.NamedOnce.{same_some}
 use Rattle.map_frame.proofs.ReadAlone.{is_alone}
 

@@ -15,8 +15,8 @@ use Rattle.map_frame.specs.Common.{Feature, Stand, Slot, Geometry, Layer, Tables
 use Rattle.map_frame.specs.Common.{StandsAt, is_closing, is_whole, is_enclosed, numbers_at, numbers_in, numbers_under}
 use Rattle.map_frame.specs.Common.{all_numbers, live, AreNamed, doc_of, framed, view_feature, places_at, tree_of}
 use Rattle.map_frame.specs.Common.{layer_tree, places_of}
-use Rattle.map_frame.specs.declared.layers.Slot.TheVariants as slot
-use Rattle.map_frame.specs.declared.layers.Geometry.TheVariants as geometry
+use Rattle.map_frame.specs.declared.tables.Slot.TheVariants as slot
+use Rattle.map_frame.specs.declared.tables.Geometry.TheVariants as geometry
 use Rattle.map_frame.proofs.CountedWithin.{all_recursion_at}
 use Rattle.map_frame.proofs.EditedFeatures.{first_distinct}
 use Rattle.map_frame.proofs.NamedOnce.{in_part, one_part, same_some, rest_distinct}

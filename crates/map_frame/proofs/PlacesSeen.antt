@@ -12,8 +12,8 @@ use Rattle.edit_records.proofs.Common.{found-filled}
 use Rattle.map_frame.specs.Common.{Feature, Slot, Geometry, Layer, Tables, is_closing, is_whole, is_enclosed}
 use Rattle.map_frame.specs.Common.{numbers_at, numbers_in, all_numbers, live, view_feature, view_layer, leaf_of}
 use Rattle.map_frame.specs.Common.{items_at, items_of, places_at, tree_of, places_of, doc_of}
-use Rattle.map_frame.specs.declared.layers.Slot.TheVariants as slot
-use Rattle.map_frame.specs.declared.layers.Geometry.TheVariants as geometry
+use Rattle.map_frame.specs.declared.tables.Slot.TheVariants as slot
+use Rattle.map_frame.specs.declared.tables.Geometry.TheVariants as geometry
 
 module _ {A : Type 0} (fs : List (Option (Feature A))) where
   -- the feature with this number, as it is seen

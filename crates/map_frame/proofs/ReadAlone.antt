@@ -8,8 +8,8 @@ use Rattle.ring_machine.proofs.Common.{In, any_in, in_mapped, all_in, alone, is_
 use Rattle.edit_records.specs.Common.{or_empty}
 use Rattle.map_frame.specs.Common.{Feature, Stand, Slot, Geometry, Layer, Tables, IsFramed, is_enclosed, numbers_in}
 use Rattle.map_frame.specs.Common.{live, doc_of, items_of, leaf_of, view_feature, view_layer}
-use Rattle.map_frame.specs.declared.layers.Slot.TheVariants as slot
-use Rattle.map_frame.specs.declared.layers.Geometry.TheVariants as geometry
+use Rattle.map_frame.specs.declared.tables.Slot.TheVariants as slot
+use Rattle.map_frame.specs.declared.tables.Geometry.TheVariants as geometry
 use Rattle.map_frame.proofs.NamedOnce.{one_part}
 use Rattle.map_frame.proofs.NamedRoom.{of_in}
 use Rattle.map_frame.proofs.ReadFeatures.{in_get, live_there, stands_in}

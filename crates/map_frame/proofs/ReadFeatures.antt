@@ -6,7 +6,7 @@ use Rattle.std.specs.List.{slice_get}
 use Rattle.ring_machine.proofs.Common.{In, contains_in, in-flat_map}
 use Rattle.map_frame.specs.Common.{Stand, Slot, Geometry, Layer, Tables, IsFramed, StandsAt, all_numbers, numbers_at}
 use Rattle.map_frame.specs.Common.{numbers_in, numbers_under, live}
-use Rattle.map_frame.specs.declared.layers.Geometry.TheVariants as geometry
+use Rattle.map_frame.specs.declared.tables.Geometry.TheVariants as geometry
 
 module _ {X : Type 0} (fs : List (Option X)) (n : ℕ) where
   -- what is there is not taken out

@@ -5,7 +5,7 @@ use Rattle.std.specs.List.{slice_get}
 use Rattle.ring_machine.specs.Common.{empty_collection}
 use Rattle.map_frame.specs.Common.{Feature, Slot, Layer, Tables, live, ShownLayer, ShownFrame, shown_frame, shown_item}
 use Rattle.map_frame.specs.Common.{shown_layer, doc_of, items_at, items_of, view_layer, shown_rest}
-use Rattle.map_frame.specs.declared.layers.Geometry.TheVariants as geometry
+use Rattle.map_frame.specs.declared.tables.Geometry.TheVariants as geometry
 
 -- ---- layers
 

@@ -1,5 +1,6 @@
 -- What building makes of the layers that were read, layer by layer and item by item.
-use Rattle.std.specs.Prelude.{◌≡◌, ℕ, ◌+◌, List, [], ◌∷◌, ◌++◌, length, Option, None, Some, slice_get, Bool, true, false, not, IsTrue, Vec}
+use Rattle.std.specs.Prelude.{◌≡◌, ℕ, ◌+◌, ◌≤◌, List, [], ◌∷◌, ◌++◌, length, Option, None, Some, slice_get, Bool, true, false, not, IsTrue, Vec}
+use Rattle.std.specs.Vec.Iter.{into_iter_items}
 use Rattle.map_frame.specs.Numbers.{feature_numbers}
 use Rattle.topo_outline.specs.Common.{form_of, view_head}
 use Rattle.topo_outline.specs.declared.document.Item.{Item}
@@ -10,11 +11,11 @@ use Rattle.topo_reader.specs.Common.{numbered}
 use Rattle.map_frame.specs.declared.building.Gathered.{Gathered}
 use Rattle.map_frame.specs.declared.feature.Feature.{Feature}
 use Rattle.map_frame.specs.declared.feature.Stand.{Stand}
-use Rattle.map_frame.specs.declared.layers.Slot.{Slot}
-use Rattle.map_frame.specs.declared.layers.Slot.TheVariants as slot
-use Rattle.map_frame.specs.declared.layers.Geometry.{Geometry}
-use Rattle.map_frame.specs.declared.layers.Geometry.TheVariants as geometry
-use Rattle.map_frame.specs.declared.layers.Layer.{Layer}
+use Rattle.map_frame.specs.declared.tables.Slot.{Slot}
+use Rattle.map_frame.specs.declared.tables.Slot.TheVariants as slot
+use Rattle.map_frame.specs.declared.tables.Geometry.{Geometry}
+use Rattle.map_frame.specs.declared.tables.Geometry.TheVariants as geometry
+use Rattle.map_frame.specs.declared.tables.Layer.{Layer}
 use Rattle.map_frame.specs.Seen.{view_feature}
 
 -- the features so far, where they stand, and the polygons of each feature to come
@@ -24,12 +25,18 @@ pub record Progress (A : Type 0) : Type 0 where
   pub waiting : List (Vec (Vec ℕ A) A)
 
 module _ {A : Type 0} where
-  abbrev pub progress : Gathered A → List (Vec (Vec ℕ A) A) → Progress A
-  progress g waiting = record {
+  abbrev pub progress : Gathered A → Progress A
+  progress g = record {
     features = g.features.items;
     stands = g.stands.items;
-    waiting = waiting;
+    waiting = into_iter_items g.waiting;
   }
+
+  -- there is room for so many features more, and each has polygons
+  pub record CanTake (n : ℕ) (now : Progress A) : Type 0 where
+    pub few : length now.features + n ≤ 200000
+    pub there : n ≤ length now.waiting
+    pub alike : length now.stands ≡ length now.features
 
   -- the feature that was read, with these polygons
   pub record IsRead (raw : RawFeature A) (polygons : List (List ℕ)) (f : Feature A) : Type 0 where
@@ -79,6 +86,14 @@ module _ {A : Type 0} where
   lone [] = None
   lone (s ∷ []) = first_of s
   lone (s ∷ t ∷ slots) = None
+
+  abbrev pub alone_or : Vec (Slot A) A → Option ℕ → Geometry A
+  alone_or slots (Some n) = geometry.Alone n
+  alone_or slots None = geometry.Items slots
+
+  -- the geometry of a layer with these slots: a feature that stands alone, or all of them
+  abbrev pub of_slots : Vec (Slot A) A → Geometry A
+  of_slots slots = alone_or slots (lone slots.items)
 
   -- one feature and nothing else
   abbrev pub is_lone : List (Item A) → Bool

@@ -1,6 +1,6 @@
 -- The words of this crate that others cite most, passed on from one place. Declares nothing.
-pub use Rattle.map_frame.specs.Building.{AreLayers, AreSlots, IsGeometry, IsLeaf, IsNext, IsSlot, Progress, first_of}
-pub use Rattle.map_frame.specs.Building.{is_lone, lone, progress}
+pub use Rattle.map_frame.specs.Building.{AreLayers, AreSlots, CanTake, IsGeometry, IsLeaf, IsNext, IsSlot, Progress, first_of}
+pub use Rattle.map_frame.specs.Building.{alone_or, is_lone, lone, of_slots, progress}
 pub use Rattle.map_frame.specs.Copied.{AreCopied, geometry_text, holds, layer_text, seen, slot_text}
 pub use Rattle.map_frame.specs.Framed.{Framed}
 pub use Rattle.map_frame.specs.Growing.{new_after, with_new, with_slot}
@@ -21,8 +21,8 @@ pub use Rattle.map_frame.specs.Shown.{shown_leaves, shown_rest, view_item_view}
 pub use Rattle.map_frame.specs.Texts.{Texts, texts_of, with_texts}
 pub use Rattle.map_frame.specs.declared.feature.Feature.{Feature}
 pub use Rattle.map_frame.specs.declared.feature.Stand.{Stand}
-pub use Rattle.map_frame.specs.declared.layers.Geometry.{Geometry}
-pub use Rattle.map_frame.specs.declared.layers.Layer.{Layer}
-pub use Rattle.map_frame.specs.declared.layers.Slot.{Slot}
+pub use Rattle.map_frame.specs.declared.tables.Geometry.{Geometry}
+pub use Rattle.map_frame.specs.declared.tables.Layer.{Layer}
+pub use Rattle.map_frame.specs.declared.tables.Slot.{Slot}
 pub use Rattle.map_frame.specs.declared.names.RingName.{RingName}
 pub use Rattle.map_frame.specs.declared.tables.Tables.{Tables}

@@ -3,11 +3,11 @@ use Rattle.std.specs.Prelude.{◌≡◌, ℕ, List, map, option_map}
 use Rattle.ring_machine.specs.Common.{Text, Head, FeatureOf}
 use Rattle.topo_outline.specs.Common.{view_head, view_kept}
 use Rattle.map_frame.specs.declared.feature.Feature.{Feature}
-use Rattle.map_frame.specs.declared.layers.Slot.{Slot}
-use Rattle.map_frame.specs.declared.layers.Slot.TheVariants as slot
-use Rattle.map_frame.specs.declared.layers.Geometry.{Geometry}
-use Rattle.map_frame.specs.declared.layers.Geometry.TheVariants as geometry
-use Rattle.map_frame.specs.declared.layers.Layer.{Layer}
+use Rattle.map_frame.specs.declared.tables.Slot.{Slot}
+use Rattle.map_frame.specs.declared.tables.Slot.TheVariants as slot
+use Rattle.map_frame.specs.declared.tables.Geometry.{Geometry}
+use Rattle.map_frame.specs.declared.tables.Geometry.TheVariants as geometry
+use Rattle.map_frame.specs.declared.tables.Layer.{Layer}
 use Rattle.map_frame.specs.declared.tables.Tables.{Tables}
 use Rattle.map_frame.specs.Seen.{view_feature}
 

@@ -2,9 +2,9 @@
 use Rattle.std.specs.Prelude.{ℕ, ◌==◌, if◌then◌else◌, List, [], ◌∷◌}
 use Rattle.std.specs.List.{flat_map}
 use Rattle.std.specs.Vec.{with_item}
-use Rattle.map_frame.specs.declared.layers.Slot.{Slot}
-use Rattle.map_frame.specs.declared.layers.Geometry.{Geometry}
-use Rattle.map_frame.specs.declared.layers.Geometry.TheVariants as geometry
+use Rattle.map_frame.specs.declared.tables.Slot.{Slot}
+use Rattle.map_frame.specs.declared.tables.Geometry.{Geometry}
+use Rattle.map_frame.specs.declared.tables.Geometry.TheVariants as geometry
 
 -- the number, and the new one after n
 abbrev pub new_after : ℕ → ℕ → ℕ → List ℕ

@@ -4,11 +4,11 @@ use Rattle.std.specs.List.{list_all, flat_map, AllByRecursion}
 use Rattle.ring_machine.specs.Common.{features, empty_collection, WellFormed, are_distinct}
 use Rattle.map_frame.specs.declared.feature.Feature.{Feature}
 use Rattle.map_frame.specs.declared.feature.Stand.{Stand}
-use Rattle.map_frame.specs.declared.layers.Slot.{Slot}
-use Rattle.map_frame.specs.declared.layers.Slot.TheVariants as slot
-use Rattle.map_frame.specs.declared.layers.Geometry.{Geometry}
-use Rattle.map_frame.specs.declared.layers.Geometry.TheVariants as geometry
-use Rattle.map_frame.specs.declared.layers.Layer.{Layer}
+use Rattle.map_frame.specs.declared.tables.Slot.{Slot}
+use Rattle.map_frame.specs.declared.tables.Slot.TheVariants as slot
+use Rattle.map_frame.specs.declared.tables.Geometry.{Geometry}
+use Rattle.map_frame.specs.declared.tables.Geometry.TheVariants as geometry
+use Rattle.map_frame.specs.declared.tables.Layer.{Layer}
 use Rattle.map_frame.specs.declared.tables.Tables.{Tables}
 use Rattle.map_frame.specs.Seen.{doc_of, items_at}
 use Rattle.map_frame.specs.Named.{AreNamed}

@@ -6,11 +6,11 @@ use Rattle.edit_records.specs.Common.{Place, Begins, Ends, Text_of, Number, Tree
 use Rattle.topo_outline.specs.Common.{view_head, view_kept}
 use Rattle.map_frame.specs.Numbers.{feature_numbers}
 use Rattle.map_frame.specs.declared.feature.Feature.{Feature}
-use Rattle.map_frame.specs.declared.layers.Slot.{Slot}
-use Rattle.map_frame.specs.declared.layers.Slot.TheVariants as slot
-use Rattle.map_frame.specs.declared.layers.Geometry.{Geometry}
-use Rattle.map_frame.specs.declared.layers.Geometry.TheVariants as geometry
-use Rattle.map_frame.specs.declared.layers.Layer.{Layer}
+use Rattle.map_frame.specs.declared.tables.Slot.{Slot}
+use Rattle.map_frame.specs.declared.tables.Slot.TheVariants as slot
+use Rattle.map_frame.specs.declared.tables.Geometry.{Geometry}
+use Rattle.map_frame.specs.declared.tables.Geometry.TheVariants as geometry
+use Rattle.map_frame.specs.declared.tables.Layer.{Layer}
 use Rattle.map_frame.specs.declared.tables.Tables.{Tables}
 use Rattle.map_frame.specs.Framed.{Framed}
 use Rattle.map_frame.specs.Texts.{with_texts}

@@ -5,7 +5,7 @@ use Rattle.topo_outline.specs.Common.{view_head}
 use Rattle.map_frame.specs.declared.feature.Feature.{Feature}
 use Rattle.map_frame.specs.declared.items.ItemView.{ItemView}
 use Rattle.map_frame.specs.declared.items.ItemView.TheVariants as item
-use Rattle.map_frame.specs.declared.layers.Slot.{Slot}
+use Rattle.map_frame.specs.declared.tables.Slot.{Slot}
 use Rattle.map_frame.specs.Readers.{ShownItem, Opens, Closes, Stands, Keeps, shown_item}
 use Rattle.map_frame.specs.Seen.{items_at, leaf_of}
 

@@ -1,12 +1,9 @@
 // Copies of a frame, in memory of the same allocator. Texts that were read are slices, and are
 // shared.
 ghost use Rattle.std.specs.Prelude.{◌≡◌, IfOk};
-ghost use Rattle.map_frame.specs.Copied.{AreCopied};
 
 use crate::feature::Feature;
-use crate::frame::Frame;
-use crate::layers::{Geometry, Layer, Slot};
-use crate::tables::Tables;
+use crate::tables::{Frame, Geometry, Layer, Slot, Tables};
 use std::alloc::{AllocError, Allocator};
 
 impl<'a, A: Allocator + Copy> Clone for Feature<'a, A> {
@@ -67,37 +64,30 @@ impl<'a, A: Allocator + Copy> Clone for Layer<'a, A> {
     }
 }
 
-impl<'a, A: Allocator + Copy> Tables<'a, A> {
-    /// The same texts and numbers. Fails for want of memory alone.
-    fn copy(&self) -> Result<Tables<'a, A>, AllocError>
-        ensures { IfOk result (λ copy. AreCopied self.now copy) }
-    {
-        let layers = self.layers.clone()?;
-        let members = self.members.clone()?;
-        let features = self.features.clone()?;
-        let stands = Vec::from_slice(self.alloc, self.stands.as_slice())?;
-        let names = Vec::from_slice(self.alloc, self.names.as_slice())?;
-        let empty = self.empty.clone()?;
-        Ok(Tables {
-            alloc: self.alloc,
-            transform: self.transform,
-            layers,
-            members,
-            features,
-            stands,
-            count: self.count,
-            names,
-            empty,
-        })
-    }
-}
-
 impl<'a, A: Allocator + Copy> Frame<'a, A> {
     /// The same document with the same next number. Fails for want of memory alone.
     pub fn copy(&self) -> Result<Frame<'a, A>, AllocError>
         ensures { IfOk result (λ copy. copy ≡ self.now) }
     {
-        let tables = self.tables.copy()?;
-        Ok(Frame { tables })
+        let tables = &self.tables;
+        let layers = tables.layers.clone()?;
+        let members = tables.members.clone()?;
+        let features = tables.features.clone()?;
+        let stands = Vec::from_slice(tables.alloc, tables.stands.as_slice())?;
+        let names = Vec::from_slice(tables.alloc, tables.names.as_slice())?;
+        let empty = tables.empty.clone()?;
+        Ok(Frame {
+            tables: Tables {
+                alloc: tables.alloc,
+                transform: tables.transform,
+                layers,
+                members,
+                features,
+                stands,
+                count: tables.count,
+                names,
+                empty,
+            },
+        })
     }
 }

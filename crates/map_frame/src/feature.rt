@@ -10,18 +10,17 @@ use std::mem;
 use topo_outline::{Form, Head, KeptMember};
 
 /// Where the text of an `id` comes from.
-#[derive(Drop)]
+#[derive(Clone, Drop)]
 pub(crate) enum IdSource<'a, A: Allocator + Copy = Global> {
-    Absent,
-    /// As it was read.
-    Read(&'a [u8]),
+    /// As it was read, or none.
+    Read(Option<&'a [u8]>),
     /// Given to the feature since.
     Given(Vec<u8, A>),
 }
 
 /// The text of `id`, any JSON value (TopoJSON 1.0, 2.2). It is seen as this text, and as none where
 /// there is no `id`.
-#[derive(Drop)]
+#[derive(Clone, Drop)]
 pub struct Id<'a, A: Allocator + Copy = Global> {
     source: IdSource<'a, A>,
 }
@@ -37,20 +36,6 @@ impl<'a, A: Allocator + Copy> Model for Id<'a, A> {
 }
 
 impl<'a, A: Allocator + Copy> Id<'a, A> {
-    /// No `id`, or this one as it was read.
-    pub(crate) fn read(text: Option<&'a [u8]>) -> Id<'a, A>
-        ensures { result ≡ option_map (λ t. t.now) text.entry }
-    {
-        match text {
-            Some(text) => Id {
-                source: IdSource::Read(text),
-            },
-            None => Id {
-                source: IdSource::Absent,
-            },
-        }
-    }
-
     /// The `id` with this text, a JSON value (RFC 8259, 3).
     pub fn given(text: Vec<u8, A>) -> Id<'a, A>
         ensures { result ≡ Some text.items }
@@ -65,37 +50,21 @@ impl<'a, A: Allocator + Copy> Id<'a, A> {
         ensures { option_map (λ t. t.now) result ≡ self.now }
     {
         match &self.source {
-            IdSource::Absent => None,
-            IdSource::Read(text) => Some(*text),
+            IdSource::Read(text) => *text,
             IdSource::Given(text) => Some(text.as_slice()),
         }
-    }
-}
-
-impl<'a, A: Allocator + Copy> Clone for Id<'a, A> {
-    ghost use Rattle.std.specs.Prelude.{◌≡◌};
-
-    ghost is_clone = { λ id copy. copy ≡ id };
-
-    fn clone(&self) -> Result<Id<'a, A>, AllocError> {
-        let source = match &self.source {
-            IdSource::Absent => IdSource::Absent,
-            IdSource::Read(text) => IdSource::Read(*text),
-            IdSource::Given(text) => IdSource::Given(text.clone()?),
-        };
-        Ok(Id { source })
     }
 }
 
 /// What a feature has beside its number and its rings. It is seen as its texts and its form.
 #[derive(Drop)]
 pub struct FeatureTexts<'a, A: Allocator + Copy = Global> {
-    id: Id<'a, A>,
-    form: Form,
+    pub(crate) id: Id<'a, A>,
+    pub(crate) form: Form,
     /// The text of `properties`, any JSON value.
-    properties: Option<&'a [u8]>,
+    pub(crate) properties: Option<&'a [u8]>,
     /// The members that are neither known nor a `bbox`, in order.
-    members: Vec<KeptMember<'a>, A>,
+    pub(crate) members: Vec<KeptMember<'a>, A>,
 }
 
 impl<'a, A: Allocator + Copy> Model for FeatureTexts<'a, A> {
@@ -119,7 +88,9 @@ impl<'a, A: Allocator + Copy> FeatureTexts<'a, A> {
         ensures { result ≡ read_texts (form_of form) (view_head head.entry) }
     {
         FeatureTexts {
-            id: Id::read(head.id),
+            id: Id {
+                source: IdSource::Read(head.id),
+            },
             form,
             properties: head.properties,
             members: head.members,
@@ -137,34 +108,6 @@ impl<'a, A: Allocator + Copy> FeatureTexts<'a, A> {
             properties: self.properties,
             members: self.members,
         }
-    }
-
-    /// The text of `id`, and none where there is none.
-    pub(crate) fn id(&self) -> Option<&[u8]>
-        ensures { option_map (λ t. t.now) result ≡ self.now.id }
-    {
-        self.id.text()
-    }
-
-    /// The kind of its geometry.
-    pub(crate) fn form(&self) -> Form
-        ensures { form_of result ≡ self.now.form }
-    {
-        self.form
-    }
-
-    /// The text of `properties`, any JSON value.
-    pub(crate) fn properties(&self) -> Option<&'a [u8]>
-        ensures { option_map (λ t. t.now) result ≡ self.now.properties }
-    {
-        self.properties
-    }
-
-    /// The members that are neither known nor a `bbox`, in order.
-    pub(crate) fn members(&self) -> &[KeptMember<'a>]
-        ensures { map view_kept result.now ≡ self.now.members }
-    {
-        self.members.as_slice()
     }
 
     /// Gives it this id, and hands out the one that it had.

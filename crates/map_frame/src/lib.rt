@@ -8,24 +8,16 @@
 #![tactic(auto)]
 
 mod building;
+mod changing;
 mod copying;
 mod feature;
-mod frame;
-mod frame_view;
-mod growing;
 mod items;
-mod layers;
 mod names;
 mod reading;
-mod renaming;
-mod room;
 mod tables;
-mod taking;
-mod texts;
 
 pub use feature::{FeatureTexts, Id};
-pub use frame::Frame;
-pub use frame_view::FrameView;
-pub use items::{ItemIter, ItemView};
+pub use items::{FrameView, ItemIter, ItemView};
 pub use names::RingName;
 pub use reading::FeatureView;
+pub use tables::Frame;

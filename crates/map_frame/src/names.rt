@@ -1,9 +1,8 @@
 // By a ring's number where it stands.
 ghost use Rattle.std.specs.Prelude.{◌≡◌, ◌<◌, ◌≤◌, ℕ, length, map, Some, OnOk, IfOk, slice_get};
 ghost use Rattle.std.specs.List.{flat_map};
-ghost use Rattle.map_frame.specs.Numbers.{polygon_numbers, feature_numbers};
-ghost use Rattle.map_frame.specs.Naming.{Gain, Loss, SameNames, IsOf, HasRoom, AllNamed};
-ghost use Rattle.map_frame.specs.Readers.{element};
+ghost use Rattle.map_frame.specs.Common.{AllNamed, Gain, HasRoom, IsOf, Loss, SameNames, element, feature_numbers};
+ghost use Rattle.map_frame.specs.Common.{polygon_numbers};
 
 use std::alloc::{AllocError, Allocator};
 
@@ -46,15 +45,6 @@ pub(crate) fn make_room<A: Allocator + Copy>(
     Ok(())
 }
 
-/// Keeps a name for the ring with this number.
-fn name_ring<A: Allocator + Copy>(names: &mut Vec<Option<RingName>, A>, r: usize, name: RingName)
-    requires { r < length names.old.items }
-    ensures gained { Gain names.old.items names.new.items (λ o k. (o ≡ name) × (k ≡ r)) }
-    ensures len { length names.new.items ≡ length names.old.items }
-{
-    names[r] = Some(name);
-}
-
 /// Keeps a name for each ring of a polygon.
 pub(crate) fn name_polygon<A: Allocator + Copy>(
     names: &mut Vec<Option<RingName>, A>,
@@ -73,7 +63,7 @@ pub(crate) fn name_polygon<A: Allocator + Copy>(
             polygon,
             ring,
         };
-        name_ring(names, rings[ring], name);
+        names[rings[ring]] = Some(name);
     }
 }
 

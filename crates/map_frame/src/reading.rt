@@ -1,18 +1,13 @@
 // What can be read of a frame: its features by their numbers, and where its rings stand.
-ghost use Rattle.std.specs.Prelude.{◌≡◌, ◌≢◌, ◌≤◌, ℕ, map, length, option_map, unwrap_or, slice_get, Some, None, IfSome};
+ghost use Rattle.std.specs.Prelude.{◌≡◌, ◌≢◌, ◌≤◌, ℕ, map, length, option_map, unwrap_or, slice_get, Some, None, IfOk, IfSome};
 ghost use Rattle.ring_machine.specs.Common.{feature, features, has_feature, is_layer};
 ghost use Rattle.topo_outline.specs.Common.{form_of, view_kept};
-ghost use Rattle.map_frame.specs.Numbers.{polygon_numbers};
-ghost use Rattle.map_frame.specs.Live.{live};
-ghost use Rattle.map_frame.specs.Named.{number_at};
-ghost use Rattle.map_frame.specs.Readers.{shown, ring_at};
-ghost use Rattle.map_frame.specs.Placed.{ArePlaced};
+ghost use Rattle.map_frame.specs.Common.{ArePlaced, live, number_at, polygon_numbers, ring_at, shown, texts_of};
 
-use crate::feature::Feature;
-use crate::frame::Frame;
-use crate::layers::Geometry;
+use crate::feature::{Feature, FeatureTexts};
 use crate::names::RingName;
-use std::alloc::{Allocator, Global};
+use crate::tables::{Frame, Geometry};
+use std::alloc::{AllocError, Allocator, Global};
 use std::marker::Model;
 use topo_outline::{Form, KeptMember};
 
@@ -36,28 +31,32 @@ impl<'m, 'a, A: Allocator + Copy> FeatureView<'m, 'a, A> {
     pub fn id(&self) -> Option<&'m [u8]>
         ensures { option_map (λ t. t.now) result ≡ self.now.id }
     {
-        self.feature.texts.id()
+        let texts = &self.feature.texts;
+        texts.id.text()
     }
 
     /// The kind of its geometry.
     pub fn form(&self) -> Form
         ensures { form_of result ≡ self.now.form }
     {
-        self.feature.texts.form()
+        let texts = &self.feature.texts;
+        texts.form
     }
 
     /// The text of `properties`, any JSON value.
     pub fn properties(&self) -> Option<&'a [u8]>
         ensures { option_map (λ t. t.now) result ≡ self.now.properties }
     {
-        self.feature.texts.properties()
+        let texts = &self.feature.texts;
+        texts.properties
     }
 
     /// The members that are neither known nor a `bbox`, in order.
     pub fn members(&self) -> &'m [KeptMember<'a>]
         ensures { map view_kept result.now ≡ self.now.members }
     {
-        self.feature.texts.members()
+        let texts = &self.feature.texts;
+        texts.members.as_slice()
     }
 
     /// How many polygons it has.
@@ -99,6 +98,17 @@ impl<'a, A: Allocator + Copy> Frame<'a, A> {
     {
         let feature = live_feature(self.tables.features.as_slice(), n)?;
         Some(FeatureView { feature })
+    }
+
+    /// A copy of what feature `n` has beside its number and its rings; `None` where no feature has the
+    /// number. Fails for want of memory alone.
+    pub fn texts(&self, n: u32) -> Result<Option<FeatureTexts<'a, A>>, AllocError>
+        ensures { IfOk result (λ texts. texts ≡ option_map texts_of (feature self.now.doc n)) }
+    {
+        match live_feature(self.tables.features.as_slice(), n) {
+            Some(feature) => Ok(Some(feature.texts.clone()?)),
+            None => Ok(None),
+        }
     }
 
     /// The numbers of the rings of the feature with this number: by polygon that of its outer ring,

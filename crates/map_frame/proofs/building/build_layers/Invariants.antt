@@ -6,5 +6,5 @@ use Rattle.map_frame.proofs.building.build_layers.Given as goal
 -- with those that are left they are all layers
 abbrev pub invariant-loop-raw : goal.invariant-loop-raw
 invariant-loop-raw g l =
-    LayersSoFar (into_iter_items l.initial.raw-iterator) (progress l.fn.gathered (into_iter_items l.fn.waiting))
-    (into_iter_items l.raw-iterator) l.layers.items (progress l.gathered (into_iter_items l.waiting))
+    LayersSoFar (into_iter_items l.initial.raw-iterator) (progress l.fn.gathered)
+    (into_iter_items l.raw-iterator) l.layers.items (progress l.gathered)

@@ -6,5 +6,5 @@ use Rattle.map_frame.proofs.building.build_slots.Given as goal
 -- with those of the items that are left they are the slots of all items
 abbrev pub invariant-loop-item : goal.invariant-loop-item
 invariant-loop-item g l =
-    SlotsSoFar l.layer (into_iter_items l.initial.item-iterator) (progress l.fn.gathered (into_iter_items l.fn.waiting))
-    (into_iter_items l.item-iterator) l.slots.items (progress l.gathered (into_iter_items l.waiting))
+    SlotsSoFar l.layer (into_iter_items l.initial.item-iterator) (progress l.fn.gathered)
+    (into_iter_items l.item-iterator) l.slots.items (progress l.gathered)

@@ -1,5 +1,5 @@
-use Rattle.kit_words.proofs.Common.{◌<◌, ◌≤◌, ◌∙◌, arith, length, get_or, refl, slice_get-get_or}
-use Rattle.map_frame.proofs.NamedLists.{ring_named, rings_named, gain_none, OfPolygon}
+use Rattle.kit_words.proofs.Common.{◌<◌, ◌≤◌, ◌∙◌, arith, length, length-set, get_or, slice_set, Some, refl, slice_get-get_or}
+use Rattle.map_frame.proofs.NamedLists.{put_name, ring_named, rings_named, gain_none, OfPolygon}
 use Rattle.map_frame.proofs.names.name_polygon.Goals as goal
 
 pub loop-ring-init : goal.loop-ring-init
@@ -13,10 +13,13 @@ loop-ring-preserved g c =
     let rings = c.args.rings.now in
     let n = c.loop-ring.ring in
     let within : n < length rings = omega (arith, c.loop-ring-test.true) in
+    let room : get_or rings n 0 < length c.args.names.now.items = c.requires (get_or rings n 0) (n, slice_get-get_or rings n 0 within) in
     record {
       gained = ring_named c.args.feature c.args.polygon rings n c.args.names.now.items c.loop-ring.names.items c.loop-ring.invariant.gained
-          c.name_ring.new.names.items (get_or rings n 0) (slice_get-get_or rings n 0 within) c.name_ring.ensures.gained;
-      len = c.name_ring.ensures.len ∙ c.loop-ring.invariant.len;
+          (slice_set c.loop-ring.names.items (get_or rings n 0) (Some (record { feature = c.args.feature; polygon = c.args.polygon; ring = n })))
+          (get_or rings n 0) (slice_get-get_or rings n 0 within)
+          (put_name c.loop-ring.names.items (get_or rings n 0) (record { feature = c.args.feature; polygon = c.args.polygon; ring = n }) (omega (arith, room, c.loop-ring.invariant.len)));
+      len = length-set c.loop-ring.names.items (get_or rings n 0) _ ∙ c.loop-ring.invariant.len;
     }
 
 pub returns-clause-gained : goal.returns-clause-gained
@@ -26,10 +29,10 @@ returns-clause-gained g c =
     let past : length rings ≤ n = omega (arith, c.loop-ring-test.false) in
     rings_named c.args.feature c.args.polygon rings n c.args.names.now.items c.loop-ring.names.items c.loop-ring.invariant.gained past
 
-pub name_ring-requires : goal.name_ring-requires
-name_ring-requires g c =
+pub index_mut-requires : goal.index_mut-requires
+index_mut-requires g c =
     let rings = c.args.rings.now in
     let n = c.loop-ring.ring in
     let within : n < length rings = omega (arith, c.loop-ring-test.true) in
     let room : get_or rings n 0 < length c.args.names.now.items = c.requires (get_or rings n 0) (n, slice_get-get_or rings n 0 within) in
-    omega (arith, room, c.loop-ring.invariant.len)
+    omega (arith, room, c.loop-ring.invariant.len, c.loop-ring.names.ok)
