@@ -185,10 +185,10 @@ fn follows(top: Option<Frame>, x: u8) -> Move
     ensures { result ≡ follows top x }
 {
     match (top, x) {
-        (_, b' ' | b'\t' | b'\n' | b'\r') => Move::Goes(Mode::After),
         (Some(Frame::List), b',') => Move::Goes(Mode::Value),
         (Some(Frame::Object), b',') => Move::Goes(Mode::Name),
         (Some(Frame::List), b']') | (Some(Frame::Object), b'}') => Move::Closes,
+        (_, b' ' | b'\t' | b'\n' | b'\r') => Move::Goes(Mode::After),
         _ => Move::Fails,
     }
 }
@@ -222,6 +222,7 @@ pub(crate) fn step(mode: Mode, top: Option<Frame>, x: u8) -> Move
     ensures { result ≡ step mode top x }
 {
     match (mode, top) {
+        (Mode::After, _) => follows(top, x),
         (Mode::Value, _) if is_space(x) => Move::Goes(mode),
         (Mode::Value, _) => begins(x),
         (Mode::FirstItem, Some(Frame::List)) if is_space(x) => Move::Goes(mode),
@@ -244,9 +245,7 @@ pub(crate) fn step(mode: Mode, top: Option<Frame>, x: u8) -> Move
         (Mode::Whole | Mode::Fraction | Mode::Power, _) if is_digit(x) => Move::Goes(mode),
         (Mode::Zero | Mode::Whole, _) if x == b'.' => Move::Goes(Mode::Point),
         (Mode::Zero | Mode::Whole | Mode::Fraction, _) if is_e(x) => Move::Goes(Mode::Exponent),
-        (Mode::After | Mode::Zero | Mode::Whole | Mode::Fraction | Mode::Power, _) => {
-            follows(top, x)
-        }
+        (Mode::Zero | Mode::Whole | Mode::Fraction | Mode::Power, _) => follows(top, x),
         (Mode::FirstName, Some(Frame::Object)) if x == b'}' => Move::Closes,
         (Mode::FirstName | Mode::Name, Some(Frame::Object)) => before_name(mode, x),
         (Mode::Colon, Some(Frame::Object)) if x == b':' => Move::Goes(Mode::Value),
