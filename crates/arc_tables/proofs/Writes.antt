@@ -1,6 +1,6 @@
 -- What a write at one key of a slab changes.
 use Rattle.kit_words.proofs.Common.{◌≡◌, ℕ, ◌≤◌, sym, ap, ◌∙◌, arith, List, [], ◌∷◌, ◌++◌, inl, inr, length, Option, Some}
-use Rattle.kit_words.proofs.Common.{None, IsSome, is_some, refl, cases_eq, length-append, Bool, true, false, if◌then◌else◌, list_any, ◌==◌, Contains, subst}
+use Rattle.kit_words.proofs.Common.{None, IsSome, is_some, refl, cases_eq, length-append, false, if◌then◌else◌, list_any, ◌==◌, Contains, subst}
 use Rattle.kit_words.proofs.Common.{Result, Ok, Err, OnErr}
 use Rattle.slab.specs.Slab.{Slab, get, ContainsKey, with_value}
 use Rattle.slab.proofs.SlabLemmas.{Updates-with_value}

@@ -1,6 +1,6 @@
 //! Laying a ring along its keys: over the arcs that have its segments, and over new ones.
 ghost use Rattle.std.specs.Prelude.{◌≡◌, ◌≢◌, ℕ, ◌<◌, ◌≤◌, ◌+◌, ◌-◌, OnOk, OnErr, IfOk, IfSome};
-ghost use Rattle.std.specs.Prelude.{true, false, None, take, drop, length, get_or, reverse};
+ghost use Rattle.std.specs.Prelude.{true, false, None, take, length, get_or, reverse};
 ghost use Rattle.std.specs.Prelude.{[], ◌∷◌, ◌++◌, ◌==◌};
 ghost use Rattle.std.specs.List.{list_any};
 ghost use Rattle.slab.specs.Slab.{get, ContainsKey};
