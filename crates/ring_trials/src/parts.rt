@@ -2,8 +2,8 @@
 use crate::given::{BOTH_SQUARES, LEFT, LEFT_BACK, Place, are_at, at, holds, ring};
 use grid_geometry::Pos;
 use ring_parts::{
-    Members, Path, canonical, first_cut, first_part, first_polygon, has_twice, is_cut_by,
-    is_wrong_side, second_part, second_polygon,
+    Members, Path, both_parts, canonical, first_cut, first_part, has_twice, is_cut_by,
+    is_wrong_side, second_part,
 };
 use std::alloc::{AllocError, Global};
 use std::process::Abort;
@@ -64,13 +64,12 @@ fn cuts_apart<R: Abort>(rt: &R, alloc: Global, whole: &[Vec<Pos>]) {
     let ends = [at(rt, (10, 10)), at(rt, (10, 0))];
     let path = path_along(rt, &ends);
     assert!(rt; is_cut_by(&path, whole));
-    let first = first_polygon(alloc, &path, whole).expect(rt, "memory");
+    let (first, second) = both_parts(alloc, &path, whole).expect(rt, "memory");
     holds(
         rt,
         "the first polygon",
         are_rings(first.as_slice(), APART[0]),
     );
-    let second = second_polygon(alloc, &path, whole).expect(rt, "memory");
     holds(
         rt,
         "the second polygon",

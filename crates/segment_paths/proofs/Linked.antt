@@ -1,5 +1,5 @@
 -- The links of a segment along its path.
-use Rattle.kit_words.proofs.Common.{◌≡◌, ◌<◌, ℕ, Bool, true, false, not, zero, suc, refl, sym, ap, subst, ◌∙◌, List, []}
+use Rattle.kit_words.proofs.Common.{◌≡◌, ◌<◌, ℕ, false, not, zero, suc, refl, sym, ap, subst, ◌∙◌, List, []}
 use Rattle.kit_words.proofs.Common.{◌∷◌, ◌++◌, map, length, get_or, Contains, inl, inr, cond, arith, IsStrictlySortedBy}
 use Rattle.kit_words.proofs.Common.{is_gt, tied_itself}
 use Rattle.grid_geometry.specs.Common.{Position, Segment, segment, segment_cmp, segment_eq, IsSegment, links}

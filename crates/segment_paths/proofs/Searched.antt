@@ -1,7 +1,7 @@
 -- A path found by a search among ascending ones.
 use Rattle.kit_words.proofs.Common.{◌≡◌, ◌<◌, ◌+◌, ℕ, zero, suc, true, false, refl, sym, ap, ap₂, ◌∙◌, subst, cond}
-use Rattle.kit_words.proofs.Common.{List, [], ◌∷◌, map, length, get_or, inl, inr, Result, Ok, Err, is_ok, arith}
-use Rattle.kit_words.proofs.Common.{IsSortedBy, IsStrictlySortedBy, IsPartitionPoint, IsBinarySearchResult, is_lt}
+use Rattle.kit_words.proofs.Common.{List, [], ◌∷◌, map, length, get_or, inl, inr, arith}
+use Rattle.kit_words.proofs.Common.{IsSortedBy, IsStrictlySortedBy, IsPartitionPoint, is_lt}
 use Rattle.kit_words.proofs.Common.{is_eq, ordering_index, IsNonDecreasingBy, Ordering, Less, Equal, Greater}
 use Rattle.kit_words.proofs.Common.{tied_itself, cases_lt, searchable_from_sorted}
 use Rattle.grid_geometry.specs.Common.{Position, Segment, segment_cmp, segment_eq}

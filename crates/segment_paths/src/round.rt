@@ -218,12 +218,10 @@ pub(crate) fn fresh_links<A: Allocator + Copy>(
     old: &[Piece],
     new: &[Piece],
 ) -> Result<Vec<Seg, A>, AllocError> {
-    let mut fresh = Vec::new(alloc);
-    for piece in new {
-        if old.binary_search(piece).is_err() {
-            fresh.push(piece.link)?;
-        }
-    }
+    let came = new
+        .iter()
+        .filter(|piece| old.binary_search(*piece).is_err());
+    let mut fresh: Vec<Seg, A> = came.map(|piece| piece.link).collect(alloc)?;
     fresh.dedup();
     Ok(fresh)
 }

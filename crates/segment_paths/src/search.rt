@@ -33,7 +33,12 @@ pub fn find_paths<I: SegIndex, A: Allocator + Copy>(
     ensures few { IfOk result (λ paths. inner_positions (paths_seen paths.items) ≤ most) }
     ensures fault { IfErr result (IsPathFault segments.now most) }
 {
-    let mut ways = Ways::none(alloc, segments);
+    let mut ways = Ways {
+        segments,
+        stops: Vec::new(alloc),
+        paths: Vec::new(alloc),
+        links: Vec::new(alloc),
+    };
     let mut room = most;
     let mut round = play(alloc, &mut index, &ways, segments, most)?;
     while let Some((s, t)) = round.conflict {

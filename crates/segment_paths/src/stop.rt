@@ -1,5 +1,5 @@
 // Positions that segments are led over.
-ghost use Rattle.std.specs.Prelude.{◌≡◌, ◌++◌, List, IfOk, OnOk};
+ghost use Rattle.std.specs.Prelude.{List, OnOk};
 ghost use Rattle.std.specs.List.{All};
 ghost use Rattle.grid_geometry.specs.Common.{Segment};
 ghost use Rattle.segment_paths.specs.Paths.{Path, IsKnown};
@@ -50,19 +50,4 @@ pub(crate) fn sort_stops<A: Allocator + Copy>(stops: &mut Vec<Stop, A>)
 {
     stops.sort_unstable();
     stops.dedup();
-}
-
-/// The stops of two lists, sorted, each once.
-pub(crate) fn joined<A: Allocator + Copy>(
-    alloc: A,
-    stops: &[Stop],
-    more: &[Stop],
-) -> Result<Vec<Stop, A>, AllocError>
-    ensures { IfOk result (λ all. (ss : List Segment) → All (IsStop ss) stops.now
-        → All (IsStop ss) more.now → All (IsStop ss) all.items) }
-{
-    let mut all = Vec::from_slice(alloc, stops)?;
-    all.extend_from_slice(more)?;
-    sort_stops(&mut all);
-    Ok(all)
 }

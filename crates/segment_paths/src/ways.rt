@@ -1,9 +1,9 @@
 // The paths so far.
 ghost use Rattle.std.specs.Prelude.{◌≡◌, ◌≤◌, ◌<◌, ◌+◌, [], List, Contains, IsTrue, IfOk, OnOk};
-ghost use Rattle.std.specs.Prelude.{length, ◌++◌, ◌∷◌, ◌<ℤ◌, MatchOption};
+ghost use Rattle.std.specs.Prelude.{length, take_while, ◌++◌, ◌∷◌, ◌<ℤ◌, MatchOption};
 ghost use Rattle.std.specs.List.Sorted.{IsStrictlySortedBy};
 ghost use Rattle.std.specs.List.{All};
-ghost use Rattle.grid_geometry.specs.Common.{Segment, segment_cmp, segment_lt};
+ghost use Rattle.grid_geometry.specs.Common.{Segment, segment_cmp, segment_eq, segment_lt};
 ghost use Rattle.snap_geometry.specs.Common.{is_near, along};
 ghost use Rattle.segment_paths.specs.Paths as spec;
 ghost use Rattle.segment_paths.specs.Paths.{IsKnown, IsWay, ArePaths, segments_of};
@@ -13,7 +13,7 @@ ghost use Rattle.segment_paths.specs.Stops.{IsStop, IsPiece, IsOf, AreWays};
 
 use crate::link::{Piece, links_of, push_pieces};
 use crate::path::{SegmentPath, positions_between};
-use crate::stop::{Stop, joined};
+use crate::stop::{Stop, sort_stops};
 use grid_geometry::{Pos, Seg};
 use snap_geometry::{along, is_near};
 use std::alloc::{AllocError, Allocator};
@@ -35,15 +35,10 @@ fn comes_next(segment: Seg, last: Pos, pos: Pos, end: Pos) -> bool
     ensures before { IsTrue result → along segment pos <ℤ along segment end }
 {
     let at = along(segment, pos);
-    let reached = along(segment, last);
-    if at <= reached {
+    if at <= along(segment, last) {
         return false;
     }
-    let most = along(segment, end);
-    if most <= at {
-        return false;
-    }
-    is_near(pos, segment)
+    at < along(segment, end) && is_near(pos, segment)
 }
 
 /// The positions of sorted stops of one segment, from its lesser end on.
@@ -103,18 +98,16 @@ fn push_path<A: Allocator + Copy>(
     Ok(())
 }
 
-/// How many of the stops have the segment of the first one before there is another.
-fn run_of(stops: &[Stop]) -> usize
-    requires { 0 < length stops.now }
-    ensures some { 0 < result }
+/// How many of the stops are of the segment, before there is one of another.
+fn run_of(segment: Seg, stops: &[Stop]) -> usize
+    ensures value { result
+        ≡ length (take_while (λ stop. segment_eq stop.segment segment) stops.now) }
     ensures within { result ≤ length stops.now }
 {
-    let segment = stops[0].segment;
-    let mut n = 1;
-    while n < stops.len() && stops[n].segment == segment {
-        n += 1;
-    }
-    n
+    stops
+        .iter()
+        .take_while(|stop| stop.segment == segment)
+        .count()
 }
 
 /// The paths over sorted stops.
@@ -129,7 +122,7 @@ pub(crate) fn paths_of<A: Allocator + Copy>(
     let mut rest = stops;
     while let [first, ..] = rest {
         let segment = first.segment;
-        let (of_it, others) = rest.split_at(run_of(rest));
+        let (of_it, others) = rest.split_at(run_of(segment, rest));
         let inner = inner_of(alloc, segment, of_it)?;
         push_path(&mut paths, segment, inner)?;
         rest = others;
@@ -153,27 +146,14 @@ pub(crate) fn room_after<A: Allocator + Copy>(
 }
 
 impl<'s, A: Allocator + Copy> Ways<'s, A> {
-    /// No path at all.
-    pub(crate) fn none(alloc: A, segments: &'s [Seg]) -> Ways<'s, A>
-        ensures ways { AreWays segments.now result }
-        ensures stops { result.stops.items ≡ [] }
-        ensures paths { result.paths.items ≡ [] }
-        ensures links { result.links.items ≡ [] }
-    {
-        Ways {
-            segments,
-            stops: Vec::new(alloc),
-            paths: Vec::new(alloc),
-            links: Vec::new(alloc),
-        }
-    }
-
     /// The paths with more stops.
     pub(crate) fn with(&self, alloc: A, more: &[Stop]) -> Result<Ways<'s, A>, AllocError>
         ensures { IfOk result (λ ways. (ss : List Segment) → AreWays ss self.now
             → All (IsStop ss) more.now → AreWays ss ways) }
     {
-        let stops = joined(alloc, self.stops.as_slice(), more)?;
+        let mut stops = Vec::from_slice(alloc, self.stops.as_slice())?;
+        stops.extend_from_slice(more)?;
+        sort_stops(&mut stops);
         let paths = paths_of(alloc, stops.as_slice())?;
         let links = links_of(alloc, paths.as_slice())?;
         Ok(Ways {

@@ -1,7 +1,7 @@
-use Rattle.kit_words.proofs.Common.{◌≡◌, ◌+◌, None, Some, Option, ap, subst, sym, arith, All-same}
-use Rattle.ring_machine.specs.Common.{least_conflict}
+use Rattle.kit_words.proofs.Common.{◌≡◌, ◌+◌, None, Some, Option, ap, refl, subst, arith, All-same}
 use Rattle.segment_paths.specs.Common.{IsPathFault, inner_positions, paths_seen, IsStop}
 use Rattle.segment_paths.proofs.Conflicting.{handed, has_more}
+use Rattle.segment_paths.proofs.Led.{ways_none}
 use Rattle.segment_paths.proofs.search.find_paths.Goals as goal
 
 no_pair : {X : Type 0} (o : Option X) (x : X) → o ≡ None → o ≡ Some x → ⊥
@@ -9,11 +9,11 @@ no_pair o x h k = cc
 
 pub loop-round-init : goal.loop-round-init
 loop-round-init g c = record {
-  ways = c.none-ways.ensures.ways;
-  room = omega (arith, ap (λ ps. inner_positions (paths_seen ps)) c.none-ways.ensures.paths);
-  stops = c.in_ok-round.ensures.round.stops c.args.segments.now c.none-ways.ensures.ways;
-  needed = λ least. (c.in_ok-round.ensures.round.needed c.none-ways.ensures.links (subst (λ ss. least_conflict ss ≡ None) (sym c.none-ways.ensures.ways.segments) least), c.none-ways.ensures.paths);
-  conflict = c.in_ok-round.ensures.round.conflict c.args.segments.now c.none-ways.ensures.ways;
+  ways = ways_none c.args.segments.now _ c.new.ensures.items c.new-2.ensures.items c.new-3.ensures.items refl;
+  room = omega (arith, ap (λ ps. inner_positions (paths_seen ps)) c.new-2.ensures.items);
+  stops = c.in_ok-round.ensures.round.stops c.args.segments.now (ways_none c.args.segments.now _ c.new.ensures.items c.new-2.ensures.items c.new-3.ensures.items refl);
+  needed = λ least. (c.in_ok-round.ensures.round.needed c.new-3.ensures.items least, c.new-2.ensures.items);
+  conflict = c.in_ok-round.ensures.round.conflict c.args.segments.now (ways_none c.args.segments.now _ c.new.ensures.items c.new-2.ensures.items c.new-3.ensures.items refl);
 }
 
 pub loop-round-preserved : goal.loop-round-preserved
@@ -32,7 +32,7 @@ loop-round-preserved g c =
 pub returns-in_err-round-clause-fault : goal.returns-in_err-round-clause-fault
 returns-in_err-round-clause-fault g c =
     handed (IsPathFault c.args.segments.now c.args.most) c.in_err-round.field-0.0 c.from_residual.result c.from_residual.ensures.1
-    (c.in_err-round.ensures.fault c.args.segments.now c.none-ways.ensures.ways)
+    (c.in_err-round.ensures.fault c.args.segments.now (ways_none c.args.segments.now _ c.new.ensures.items c.new-2.ensures.items c.new-3.ensures.items refl))
 
 pub returns-in_default-room_after-clause-fault : goal.returns-in_default-room_after-clause-fault
 returns-in_default-room_after-clause-fault g c =

@@ -1,10 +1,30 @@
-use Rattle.kit_words.proofs.Common.{subst, sym, arith, All-same, All-take, All-drop}
+use Rattle.kit_words.proofs.Common.{◌≡◌, ◌≤◌, ◌<◌, ◌+◌, ◌∙◌, ap, List, [], ◌∷◌, Bool, true, false, cond, length, get_or, take, take_while}
+use Rattle.kit_words.proofs.Common.{prefix_len, one-add, false≢true, subst, sym, arith, All-same, All-take, All-drop}
+use Rattle.std.proofs.Common.{length-drop}
+use Rattle.grid_geometry.specs.Common.{segment_eq}
+use Rattle.segment_index.proofs.Common.{segment_eq-is, is-itself}
+use Rattle.segment_paths.specs.declared.stop.Stop.{Stop}
 use Rattle.segment_paths.specs.Common.{ArePaths, paths_seen, IsStop}
 use Rattle.segment_paths.proofs.Led.{no_paths, at_place}
 use Rattle.segment_paths.proofs.ways.paths_of.Goals as goal
 
 pub loop-rest-init : goal.loop-rest-init
 loop-rest-init g c ss h = (subst (λ ps. ArePaths ss (paths_seen ps)) (sym c.new-paths.ensures.items) (no_paths ss), h)
+
+first_counts : (rest : List Stop) (first : Stop) → 1 ≤ length rest → first ≡ get_or rest 0 first
+    → 0 < length (take_while (λ s. segment_eq s.segment first.segment) rest)
+first_counts [] first l e = absurd (omega arith)
+first_counts (r ∷ rest) first l e =
+    by (segment_eq r.segment first.segment) (ap (λ s. segment_eq s.segment first.segment) (sym e) ∙ segment_eq-is first.segment first.segment ∙ is-itself first.segment)
+  where
+    by : (b : Bool) → b ≡ true → 0 < length (take (cond b (1 + prefix_len (λ s. segment_eq s.segment first.segment) rest) 0) (r ∷ rest))
+    by true h = subst (λ n. 0 < length (take n (r ∷ rest))) (sym (one-add (prefix_len (λ s. segment_eq s.segment first.segment) rest))) (omega arith)
+    by false h = absurd (false≢true h)
+
+pub loop-rest-smaller : goal.loop-rest-smaller
+loop-rest-smaller g c =
+    let rest = c.loop-rest.rest.now in
+    omega (arith, c.run_of.ensures.value, first_counts rest c.first-item.result c.in-len1-up.len_at_least c.first-item.is, length-drop c.run_of.result rest, ap length c.split_at.ensures.back, c.in-len1-up.len_at_least)
 
 pub loop-rest-preserved : goal.loop-rest-preserved
 loop-rest-preserved g c ss h =
