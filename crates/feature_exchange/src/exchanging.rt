@@ -5,15 +5,11 @@ ghost use Rattle.std.specs.List.{list_all, flat_map, AllByRecursion};
 ghost use Rattle.ring_machine.specs.Common.{feature, feature_at, is_ring, are_distinct};
 ghost use Rattle.edit_records.specs.Common.{exchanged, had_before, IsMap};
 ghost use Rattle.map_frame.specs.Common.{IsOf, feature_numbers};
-ghost use Rattle.feature_exchange.specs.Laid.{numbers_of};
 ghost use Rattle.ring_store.specs.Common.{AreStanding, ring_in};
 ghost use Rattle.topo_outline.specs.Common.{KeepsTexts};
-ghost use Rattle.feature_exchange.specs.Changed.{seen, changed_as, frame_after, next_after, MayGrow};
-ghost use Rattle.feature_exchange.specs.Holds.{Holds};
-ghost use Rattle.feature_exchange.specs.Laying.{LaysMore, asked, asked_rings};
-ghost use Rattle.feature_exchange.specs.Ready.{IsReady, numbered, all_numbered, change_had, all_had, put_in};
-ghost use Rattle.feature_exchange.specs.Stored.{stored_in, document_of};
-ghost use Rattle.feature_exchange.specs.declared.change.Change.{Change};
+ghost use Rattle.feature_exchange.specs.Common.{Change, Holds, LaysMore, IsReady, MayGrow, stored_in, document_of, seen};
+ghost use Rattle.feature_exchange.specs.Common.{numbers_of, asked, asked_rings, numbered, all_numbered, change_had, all_had};
+ghost use Rattle.feature_exchange.specs.Common.{changed_as, frame_after, next_after, put_in};
 
 use crate::change::{Change, WholeFeature};
 use crate::laid::{LaidRing, gather_rings};
@@ -106,10 +102,8 @@ fn grow_after<'a, A: Allocator + Copy>(
     let Some(n) = after else {
         return Ok(());
     };
-    match frame.grow(n) {
-        Ok(_) => Ok(()),
-        Err(e) => Err(e),
-    }
+    frame.grow(n)?;
+    Ok(())
 }
 
 /// Makes room for the names of laid rings, and the new number where one is to come.
@@ -127,10 +121,8 @@ fn make_room<'a, A: Allocator + Copy>(
 {
     let numbers = laid_numbers(alloc, laid)?;
     frame.reserve_names(numbers.as_slice())?;
-    match grow_after(frame, after) {
-        Ok(()) => Ok(()),
-        Err(e) => Err(e),
-    }
+    grow_after(frame, after)?;
+    Ok(())
 }
 
 /// Gives these numbers these features, each in the place of its number, where `after` is a feature a
@@ -214,12 +206,7 @@ fn lay_ready<'a, I: SegIndex, A: Allocator + Copy>(
     ensures err { OnErr result (frame.new ≡ record frame.old { room = frame.new.room }) }
     ensures cells { tables.new.index.cells ≡ tables.old.index.cells }
 {
-    let lists = match lay_features(tables, changes, laid) {
-        Ok(lists) => lists,
-        Err(e) => return Err(e),
-    };
-    match make_room(tables.alloc, frame, after, laid.as_slice()) {
-        Ok(()) => Ok(lists),
-        Err(e) => Err(e),
-    }
+    let lists = lay_features(tables, changes, laid)?;
+    make_room(tables.alloc, frame, after, laid.as_slice())?;
+    Ok(lists)
 }

@@ -4,9 +4,8 @@ ghost use Rattle.std.specs.List.{list_all, flat_map};
 ghost use Rattle.ring_machine.specs.Common.{is_ring};
 ghost use Rattle.map_frame.specs.Common.{polygon_numbers, feature_numbers};
 ghost use Rattle.ring_parts.specs.Common.{rings_seen, polygons_seen};
-ghost use Rattle.feature_exchange.specs.Laid.{numbers_of, AreThere};
 ghost use Rattle.ring_store.specs.Common.{AreStanding, ring_in};
-ghost use Rattle.feature_exchange.specs.Laying.{LaysMore, asked, asked_rings, polygons_in};
+ghost use Rattle.feature_exchange.specs.Common.{numbers_of, AreThere, LaysMore, asked, asked_rings, polygons_in};
 
 use crate::change::{Change, WholeFeature};
 use crate::laid::LaidRing;
@@ -36,10 +35,7 @@ fn lay_polygon<I: SegIndex, A: Allocator + Copy>(
         ≡ rings_seen rings.now) }
     ensures cells { tables.new.index.cells ≡ tables.old.index.cells }
 {
-    let mut came = match lay_rings(tables, rings) {
-        Ok(came) => came,
-        Err(e) => return Err(e),
-    };
+    let mut came = lay_rings(tables, rings)?;
     match append_laid(tables.alloc, &mut came, laid) {
         Ok(numbers) => Ok(numbers),
         Err(e) => {
@@ -62,10 +58,8 @@ fn append_laid<A: Allocator + Copy>(
     ensures still { OnErr result (came.new.items ≡ came.old.items) }
 {
     let numbers = laid_numbers(alloc, came.as_slice())?;
-    match laid.append(came) {
-        Ok(()) => Ok(numbers),
-        Err(e) => Err(e),
-    }
+    laid.append(came)?;
+    Ok(numbers)
 }
 
 /// Lays the rings of these polygons, and appends them to those that are laid. Where that fails for

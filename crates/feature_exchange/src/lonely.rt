@@ -9,23 +9,6 @@ use ring_store::{Borders, Neighbours, Place, edge_at};
 use std::alloc::Allocator;
 use vertex_index::{VertexKey, Vertices};
 
-/// Takes out the vertex of a key, unless a ring visits it.
-fn remove_lonely<A: Allocator + Copy>(
-    vertices: &mut Vertices<A>,
-    borders: &Borders<A>,
-    k: VertexKey,
-)
-    requires round { AllRound borders.now }
-    requires placed { IsTrue (table.contains_key vertices.old k) }
-    ensures { (IsVisited borders.now k × (vertices.new ≡ vertices.old))
-        ⊎ (¬ (IsVisited borders.now k) × (vertices.new ≡ table.remove vertices.old k)) }
-{
-    match borders.neighbours(k) {
-        Neighbours::None => vertices.remove(k),
-        _ => {}
-    }
-}
-
 /// Takes out the vertex of a key, unless a ring visits it: one does where the segment to the next
 /// key still stands, which is looked for beside `near`.
 fn remove_unused<A: Allocator + Copy>(
@@ -40,8 +23,12 @@ fn remove_unused<A: Allocator + Copy>(
     ensures { (IsVisited borders.now k × (vertices.new ≡ vertices.old))
         ⊎ (¬ (IsVisited borders.now k) × (vertices.new ≡ table.remove vertices.old k)) }
 {
-    if borders.uses_along(near, k, next) == 0 {
-        remove_lonely(vertices, borders, k);
+    if borders.uses_along(near, k, next) != 0 {
+        return;
+    }
+    match borders.neighbours(k) {
+        Neighbours::None => vertices.remove(k),
+        _ => {}
     }
 }
 

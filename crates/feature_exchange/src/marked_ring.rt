@@ -4,8 +4,7 @@ ghost use Rattle.std.specs.FinMap as table;
 ghost use Rattle.grid_geometry.specs.Common.{Position};
 ghost use Rattle.ring_machine.specs.Common.{canonical};
 ghost use Rattle.vertex_index.specs.Common.{place};
-ghost use Rattle.feature_exchange.specs.Along.{AlongVertices, ring_in};
-ghost use Rattle.feature_exchange.specs.Marked.{meets, MarksAlong};
+ghost use Rattle.feature_exchange.specs.Common.{AlongVertices, MarksAlong, meets, ring_in};
 
 use crate::ring_iter::least_place;
 use grid_geometry::Pos;

@@ -2,8 +2,7 @@
 ghost use Rattle.std.specs.Prelude.{◌≡◌, ◌++◌, IfOk, OnOk};
 ghost use Rattle.std.specs.List.{flat_map};
 ghost use Rattle.map_frame.specs.Common.{polygon_numbers};
-ghost use Rattle.feature_exchange.specs.Laid.{numbers_of};
-ghost use Rattle.feature_exchange.specs.Under.{rings_under};
+ghost use Rattle.feature_exchange.specs.Common.{numbers_of, rings_under};
 
 use crate::change::Change;
 use crate::laid::LaidRing;

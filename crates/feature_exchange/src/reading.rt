@@ -6,9 +6,7 @@ ghost use Rattle.ring_machine.specs.Common.{canonical, feature_at};
 ghost use Rattle.map_frame.specs.Common.{polygon_numbers};
 ghost use Rattle.ring_parts.specs.Common.{rings_seen, polygons_seen};
 ghost use Rattle.vertex_index.specs.Common.{place};
-ghost use Rattle.feature_exchange.specs.Holds.{IsWhole};
-ghost use Rattle.feature_exchange.specs.Stored.{stored_in, document_of};
-ghost use Rattle.feature_exchange.specs.Along.{AlongVertices, ring_in};
+ghost use Rattle.feature_exchange.specs.Common.{AlongVertices, IsWhole, document_of, ring_in, stored_in};
 
 use crate::change::Change;
 use grid_geometry::Pos;

@@ -72,10 +72,8 @@ fn lay_new<I: SegIndex, A: Allocator + Copy>(
     ensures cells { I.cells index.new ≡ I.cells index.old }
 {
     key_ring(vertices, ring, keys)?;
-    match lay_along(vertices, borders, index, keys.as_slice()) {
-        Ok(r) => Ok(r),
-        Err(e) => Err(e),
-    }
+    let r = lay_along(vertices, borders, index, keys.as_slice())?;
+    Ok(r)
 }
 
 /// Lays a ring. Where that fails for want of memory, nothing has changed.

@@ -1,14 +1,12 @@
 // The positions of all vertices, read from the tables.
-ghost use Rattle.std.specs.Prelude.{◌≡◌, ◌++◌, ℕ, true, [], map, Contains, IfOk, IsTrue, OnOk};
+ghost use Rattle.std.specs.Prelude.{◌≡◌, ◌++◌, ℕ, true, map, Contains, IfOk, IsTrue, OnOk};
 ghost use Rattle.std.specs.FinMap as table;
-ghost use Rattle.std.specs.List.{flat_map, fold};
-ghost use Rattle.ring_machine.specs.Common.{features, rings, add_position, are_distinct};
+ghost use Rattle.std.specs.List.{flat_map};
+ghost use Rattle.ring_machine.specs.Common.{features, rings, are_distinct};
 ghost use Rattle.ring_machine.specs.Query as query;
 ghost use Rattle.arc_tables.specs.Common.{begins};
 ghost use Rattle.map_frame.specs.Common.{polygon_numbers};
-ghost use Rattle.feature_exchange.specs.Along.{AreAlong};
-ghost use Rattle.feature_exchange.specs.Holds.{IsWhole};
-ghost use Rattle.feature_exchange.specs.Stored.{stored_in, document_of, edges_under};
+ghost use Rattle.feature_exchange.specs.Common.{AreAlong, IsWhole, document_of, edges_under, stored_in};
 
 use crate::reading::positions_under;
 use grid_geometry::Pos;
@@ -72,14 +70,6 @@ fn all_keys<'a, A: Allocator + Copy>(
     Ok(keys)
 }
 
-/// The positions ascending, each once.
-fn sort_once<A: Allocator + Copy>(found: &mut Vec<Pos, A>)
-    ensures { found.new.items ≡ fold add_position [] found.old.items }
-{
-    found.sort_unstable();
-    found.dedup();
-}
-
 /// The positions of all vertices of these tables, ascending, each once. Walks the map. Fails for want
 /// of memory alone.
 pub fn read_vertices<'a, I: SegIndex, A: Allocator + Copy>(
@@ -93,6 +83,7 @@ pub fn read_vertices<'a, I: SegIndex, A: Allocator + Copy>(
 {
     let keys = all_keys(tables.alloc, &tables.borders, frame)?;
     let mut found = positions_under(tables.alloc, &tables.vertices, keys.as_slice())?;
-    sort_once(&mut found);
+    found.sort_unstable();
+    found.dedup();
     Ok(found)
 }

@@ -3,6 +3,6 @@ use Rattle.map_frame.specs.Common.{IsOf}
 use Rattle.feature_exchange.specs.Common.{numbers_of}
 use Rattle.feature_exchange.proofs.exchanging.lay_ready.Goals as goal
 
-pub returns-in-Ok-make_room-clause-room : goal.returns-in-Ok-make_room-clause-room
-returns-in-Ok-make_room-clause-room g c =
-    λ r i. c.in-Ok-make_room.ensures.room r (subst (λ z. IsOf z r) (sym (ap numbers_of c.as_slice.ensures.value)) i)
+pub returns-clause-room : goal.returns-clause-room
+returns-clause-room g c =
+    λ r i. c.in_ok-make_room.ensures.room r (subst (λ z. IsOf z r) (sym (ap numbers_of c.as_slice.ensures.value)) i)

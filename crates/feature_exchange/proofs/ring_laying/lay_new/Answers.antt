@@ -27,14 +27,14 @@ pub lay_along-requires-clause-holds : goal.lay_along-requires-clause-holds
 lay_along-requires-clause-holds g c =
     holds_with c.args.vertices.now c.args.borders.now (g.I.SegIndex.held c.args.index.now) c.requires.stands c.key_ring.new.keys.items c.key_ring.new.vertices c.key_ring.ensures.put c.key_ring.ensures.distinct
 
-pub returns-in-Ok-clause-ok : goal.returns-in-Ok-clause-ok
-returns-in-Ok-clause-ok g c =
-    subst (λ z. c.lay_along.new.borders ≡ table.insert c.args.borders.now c.in-Ok.r (edges z)) c.as_slice.ensures.value c.in-Ok.ensures.ok
+pub returns-clause-ok : goal.returns-clause-ok
+returns-clause-ok g c =
+    subst (λ z. c.lay_along.new.borders ≡ table.insert c.args.borders.now c.in_ok-r.r (edges z)) c.as_slice.ensures.value c.in_ok-r.ensures.ok
 
-pub returns-in-Ok-clause-stands : goal.returns-in-Ok-clause-stands
-returns-in-Ok-clause-stands g c =
+pub returns-clause-stands : goal.returns-clause-stands
+returns-clause-stands g c =
     stands_with c.args.vertices.now c.args.borders.now (g.I.SegIndex.held c.args.index.now) c.requires.stands c.key_ring.new.keys.items c.key_ring.new.vertices c.key_ring.ensures.put c.key_ring.ensures.distinct
     (keys_round c.args.vertices.now c.key_ring.new.vertices c.key_ring.new.keys.items c.args.ring.now c.key_ring.ensures.put c.key_ring.ensures.different c.in_ok-key_ring.ensures.at c.requires.ring)
-    c.in-Ok.r c.in-Ok.ensures.free c.lay_along.new.borders
-    (subst (λ z. c.lay_along.new.borders ≡ table.insert c.args.borders.now c.in-Ok.r (edges z)) c.as_slice.ensures.value c.in-Ok.ensures.ok)
+    c.in_ok-r.r c.in_ok-r.ensures.free c.lay_along.new.borders
+    (subst (λ z. c.lay_along.new.borders ≡ table.insert c.args.borders.now c.in_ok-r.r (edges z)) c.as_slice.ensures.value c.in_ok-r.ensures.ok)
     (g.I.SegIndex.held c.lay_along.new.index) c.lay_along.ensures.holds

@@ -1,5 +1,6 @@
 use Rattle.kit_words.proofs.Common.{◌≡◌, ℕ, true, sym, ap, ◌∙◌, subst, map, Contains}
 use Rattle.std.specs.FinMap as table
+use Rattle.ring_machine.proofs.Common.{sorted_once}
 use Rattle.vertex_index.specs.Common.{place}
 use Rattle.feature_exchange.specs.Common.{stored}
 use Rattle.feature_exchange.proofs.VertexLists.{keys_placed, vertices_found}
@@ -15,5 +16,6 @@ positions_under-requires g c =
 
 pub returns : goal.returns
 returns g c =
-    vertices_found (stored c.args.frame.now c.args.tables.now.borders c.args.tables.now.vertices) c.requires.whole c.in_ok-keys.keys.items c.in_ok-keys.ensures c.in_ok-found.found.items c.sort_once.new.found.items
-    (c.in_ok-found.ensures ∙ ap (map (place c.args.tables.now.vertices)) c.as_slice.ensures.value) c.sort_once.ensures
+    vertices_found (stored c.args.frame.now c.args.tables.now.borders c.args.tables.now.vertices) c.requires.whole c.in_ok-keys.keys.items c.in_ok-keys.ensures c.in_ok-found.found.items _
+    (c.in_ok-found.ensures ∙ ap (map (place c.args.tables.now.vertices)) c.as_slice.ensures.value)
+    (sorted_once _ _ _ c.sort_unstable.ensures.permutation c.sort_unstable.ensures.sorted c.dedup.ensures.filtered)
