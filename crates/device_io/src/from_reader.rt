@@ -35,12 +35,8 @@ impl<R: Read> Source for FromReader<R> {
     ghost has_failed = { reader_failed };
 
     fn get(&mut self, room: &mut [u8]) -> Result<usize, Failed> {
-        match self.reader.read(room) {
-            Ok(n) => Ok(n),
-            Err(_) => {
-                self.failed = true;
-                Err(Failed)
-            }
-        }
+        let read = self.reader.read(room);
+        self.failed = read.is_err();
+        read.map_err(|_| Failed)
     }
 }

@@ -52,15 +52,9 @@ impl<W: Write> Sink for ToWriter<W> {
     }
 
     fn flush(&mut self) -> Result<(), Failed> {
-        match self.writer.flush() {
-            Ok(()) => {
-                self.flushed = true;
-                Ok(())
-            }
-            Err(_) => {
-                self.failed = true;
-                Err(Failed)
-            }
-        }
+        let sent = self.writer.flush();
+        self.flushed |= sent.is_ok();
+        self.failed = sent.is_err();
+        sent.map_err(|_| Failed)
     }
 }

@@ -11,12 +11,7 @@ pub(crate) fn digits_len(bytes: &[u8]) -> usize
     ensures value { result ≡ digits_len bytes.now }
     ensures bound { result ≤ length bytes.now }
 {
-    for (i, x) in bytes.iter().enumerate() {
-        if !matches!(*x, b'0'..=b'9') {
-            return i;
-        }
-    }
-    bytes.len()
+    bytes.iter().take_while(|x| x.is_ascii_digit()).count()
 }
 
 /// Whether there is nothing but zeros.

@@ -94,16 +94,6 @@ fn unsigned(is_negative: bool, bytes: &[u8]) -> Option<Decimal<'_>>
     behind_integer(is_negative, integer, rest)
 }
 
-/// The number, perhaps behind a minus.
-fn parts_of(text: &[u8]) -> Option<Decimal<'_>>
-    ensures { option_map parts result ≡ parts_of text.now }
-{
-    match text {
-        [b'-', rest @ ..] => unsigned(true, rest),
-        _ => unsigned(false, text),
-    }
-}
-
 /// The parts of a number (RFC 8259, 6).
 ///
 /// `None` comes for bytes that are none, and for a number whose exponent has more than three digits.
@@ -111,5 +101,8 @@ pub fn decimal_of(text: &[u8]) -> Option<Decimal<'_>>
     ensures value { option_map parts result ≡ parts_of text.now }
     ensures numbers { IsNumber text.now → IsNone result → 3 < length (exponent_digits text.now) }
 {
-    parts_of(text)
+    match text {
+        [b'-', rest @ ..] => unsigned(true, rest),
+        _ => unsigned(false, text),
+    }
 }

@@ -52,17 +52,6 @@ fn push_digits<A: Allocator>(
     }
 }
 
-/// Appends a power of ten, with its e.
-fn push_power<A: Allocator>(text: &mut Vec<u8, A>, power: i128) -> Result<(), AllocError>
-    ensures { OnOk result
-        (text.new.items ≡ text.old.items ++ (codes "e" ++ signed_decimal power)) }
-{
-    text.extend_from_slice(b"e")?;
-    let mut buffer = Buffer::new();
-    text.extend_from_slice(buffer.format(power).as_bytes())?;
-    Ok(())
-}
-
 /// Appends the number divided by 10^`digits`, as a number of a JSON text.
 pub fn push_shifted<A: Allocator>(
     text: &mut Vec<u8, A>,
@@ -76,6 +65,8 @@ pub fn push_shifted<A: Allocator>(
     push_sign(text, number.is_negative)?;
     push_digits(text, number.integer, number.fraction)?;
     let power = i128::from(number.exponent) - number.fraction.len() as i128 - digits as i128;
-    push_power(text, power)?;
+    text.extend_from_slice(b"e")?;
+    let mut buffer = Buffer::new();
+    text.extend_from_slice(buffer.format(power).as_bytes())?;
     Ok(())
 }

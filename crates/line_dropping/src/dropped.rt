@@ -117,35 +117,12 @@ fn without_line(heap: Global, text: &mut [u8], line: Span<'_>) -> Result<(), All
     Ok(())
 }
 
-/// The text without the lines of the topology whose root this is.
-#[tactic(auto, using(crate::proofs::Putting::length_without, crate::proofs::Walking::fold_step, crate::proofs::Walking::fold_end))]
-fn text_without<A: Allocator + Copy>(
-    alloc: A,
-    heap: Global,
-    bytes: &[u8],
-    root: Span<'_>,
-) -> Result<Dropped<A>, AllocError>
-    ensures text { IfOk result (λ dropped.
-        dropped.text.items ≡ fold without_line bytes.now (all_lines (node root.entry))) }
-    ensures lines { IfOk result (λ dropped. dropped.lines ≡ length (all_lines (node root.entry))) }
-    ensures long { IfOk result (λ dropped. length dropped.text.items ≡ length bytes.now) }
-{
-    let lines = all_geometries(alloc, heap, Shape::Lines, root)?;
-    let mut text = Vec::from_slice(alloc, bytes)?;
-    for line in lines.as_slice() {
-        without_line(heap, text.as_mut_slice(), *line)?;
-    }
-    Ok(Dropped {
-        text,
-        lines: lines.len(),
-    })
-}
-
 /// The text of a topology without its lines, each of which becomes a geometry whose `type` is `null`
 /// (TopoJSON 1.0, 2.2.3 and 2.2.4), and how many they are. Every other value keeps its place.
 ///
 /// Bytes that are no JSON with at most 100 lists and objects one in another are given as they are.
 /// `Err` comes for want of memory.
+#[tactic(auto, using(crate::proofs::Putting::length_without, crate::proofs::Walking::fold_step, crate::proofs::Walking::fold_end))]
 pub fn without_lines<A: Allocator + Copy>(
     alloc: A,
     heap: Global,
@@ -159,12 +136,21 @@ pub fn without_lines<A: Allocator + Copy>(
         (¬ Json 100 bytes.now) → dropped.text.items ≡ bytes.now) }
     ensures long { IfOk result (λ dropped. length dropped.text.items ≡ length bytes.now) }
 {
-    match scan(alloc, bytes) {
-        Ok(root) => text_without(alloc, heap, bytes, root.span()),
+    let root = match scan(alloc, bytes) {
+        Ok(root) => root,
         Err(ScanFault::NotJson { place: _ } | ScanFault::TooDeep { place: _ }) => {
             let text = Vec::from_slice(alloc, bytes)?;
-            Ok(Dropped { text, lines: 0 })
+            return Ok(Dropped { text, lines: 0 });
         }
-        Err(ScanFault::OutOfMemory) => Err(AllocError),
+        Err(ScanFault::OutOfMemory) => return Err(AllocError),
+    };
+    let lines = all_geometries(alloc, heap, Shape::Lines, root.span())?;
+    let mut text = Vec::from_slice(alloc, bytes)?;
+    for line in lines.as_slice() {
+        without_line(heap, text.as_mut_slice(), *line)?;
     }
+    Ok(Dropped {
+        text,
+        lines: lines.len(),
+    })
 }

@@ -1,6 +1,10 @@
+use Rattle.kit_words.proofs.Common.{arith, common_steps}
 use Rattle.exact_decimals.specs.Common.{parts_of, parts}
 use Rattle.exact_decimals.proofs.Numbers.{number_long, none_seen}
 use Rattle.exact_decimals.proofs.reading.decimal_of.Goals as goal
 
-pub returns-clause-numbers : goal.returns-clause-numbers
-returns-clause-numbers c = λ n none. number_long n (none_seen parts c.parts_of.result (parts_of c.args.text.now) none c.parts_of.ensures)
+pub returns-in-45-clause-numbers : goal.returns-in-45-clause-numbers
+returns-in-45-clause-numbers c = λ n none. number_long n (none_seen parts c.unsigned.result (parts_of c.args.text.now) none (grind (arith, common_steps)))
+
+pub returns-in_default-clause-numbers : goal.returns-in_default-clause-numbers
+returns-in_default-clause-numbers c = λ n none. number_long n (none_seen parts c.unsigned-in_default.result (parts_of c.args.text.now) none (grind (arith, common_steps)))
