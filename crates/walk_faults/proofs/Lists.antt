@@ -1,7 +1,8 @@
 -- The elements of a list so far, and all of them.
 use Rattle.kit_words.proofs.Common.{◌≡◌, ◌<◌, ◌≤◌, ◌+◌, ℕ, true, refl, sym, ap, ◌∙◌, List, [], ◌∷◌, ◌++◌, map, length}
-use Rattle.kit_words.proofs.Common.{take, drop, get_or, inl, inr, ◌||◌, arith, flat_map, false≢true, drop_more}
+use Rattle.kit_words.proofs.Common.{take, drop, get_or, inl, inr, ◌||◌, arith, flat_map, false≢true, drop_more, take_more}
 use Rattle.kit_words.proofs.Common.{length-flat_map-take}
+use Rattle.std.proofs.lemmas.List.{flat_map_more}
 use Rattle.grid_geometry.specs.Common.{Segment}
 use Rattle.ring_machine.proofs.Common.{In, or_true, or_right}
 use Rattle.segment_index.specs.Common.{has, segment_is}
@@ -44,6 +45,13 @@ pub flat_past : {X Y : Type 0} (f : X → List Y) (xs : List X) (i : ℕ) (x : X
     → found ≡ flat_map f (take i xs) → n ≡ length (f x) → most < length found + n → most < length (flat_map f xs)
 flat_past f xs i x found n most l e is count more =
     omega (arith, length-flat_map-take f xs i x l, ap length is, ap (λ y. length (f y)) e, count, more)
+
+-- what the next one gives comes behind what those before it gave
+pub flat_next : {X Y : Type 0} (f : X → List Y) (xs : List X) (i : ℕ) (x : X) (before after : List Y) → i < length xs → x ≡ get_or xs i x
+    → before ≡ flat_map f (take i xs) → after ≡ before ++ f x → after ≡ flat_map f (take (i + 1) xs)
+flat_next f xs i x before after l e so_far is =
+    is ∙ ap (λ z. z ++ f x) so_far ∙ flat_map_more f [] (take i xs) x
+    ∙ ap (flat_map f) (sym (take_more xs i x l ∙ ap (λ z. take i xs ++ z ∷ []) (sym e)))
 
 -- what is left begins with the next one
 pub next_drop : {X : Type 0} (xs : List X) (i : ℕ) (x : X) → i < length xs → x ≡ get_or xs i x → drop i xs ≡ x ∷ drop (i + 1) xs

@@ -1,5 +1,6 @@
 // What is found in a map of walks.
-ghost use Rattle.std.specs.Prelude.{◌↔◌, IsTrue};
+ghost use Rattle.std.specs.Prelude.{◌≡◌, ◌≤◌, ◌<◌, ◌↔◌, ◌++◌, ◌∷◌, [], length, IsTrue, IfErr, OnOk};
+ghost use Rattle.walk_faults.specs.Findings.{OnlyIfMany};
 ghost use Rattle.walk_faults.specs.Opens.{IsNothing};
 
 use grid_geometry::{Pos, Seg};
@@ -80,4 +81,20 @@ impl From<AllocError> for FindFault {
     fn from(_e: AllocError) -> FindFault {
         FindFault::OutOfMemory
     }
+}
+
+/// Appends one element to a list, unless it has `most` elements.
+pub(crate) fn push_at_most<T: Drop, A: Allocator>(
+    out: &mut Vec<T, A>,
+    x: T,
+    most: usize,
+) -> Result<(), FindFault>
+    ensures pushed { OnOk result (out.new.items ≡ out.old.items ++ x ∷ []) }
+    ensures room { OnOk result (length out.old.items < most) }
+    ensures fault { IfErr result (OnlyIfMany (most ≤ length out.old.items)) }
+{
+    if out.len() >= most {
+        return Err(FindFault::TooMany);
+    }
+    out.push(x).map_err(|_| FindFault::OutOfMemory)
 }

@@ -4,7 +4,6 @@
 //! It costs a sort of all positions and segments, and what an index does for each of them.
 #![tactic(auto)]
 
-mod bounded;
 mod findings;
 mod gathered;
 mod meeting;

@@ -4,15 +4,13 @@ ghost use Rattle.std.specs.Prelude.{IfOk, IfErr, OnOk};
 ghost use Rattle.grid_geometry.specs.Conflict as geometry;
 ghost use Rattle.grid_geometry.specs.Common.{Segment, segment_lt};
 ghost use Rattle.walk_faults.specs.Findings.{OnlyIfMany, touch_at, crossing_at};
-ghost use Rattle.walk_faults.specs.Meeting.{AreHeld, touching, crossing};
-ghost use Rattle.walk_faults.specs.Meeting.{touches_among, crossings_among};
+ghost use Rattle.walk_faults.specs.Meeting.{AreHeld, touches_among, crossings_among};
 
-use crate::bounded::push_at_most;
-use crate::findings::{Crossing, FindFault, Touch};
+use crate::findings::{Crossing, FindFault, Touch, push_at_most};
 use crate::gathered::sort_segments;
 use grid_geometry::{Pos, Rect, Seg, cross, on};
 use segment_index::SegIndex;
-use std::alloc::{AllocError, Allocator};
+use std::alloc::Allocator;
 
 /// The box of one position.
 fn box_at(p: Pos) -> Rect
@@ -39,52 +37,6 @@ fn crosses_after(s: Seg, t: Seg) -> bool
     ensures { result ≡ (segment_lt s t && geometry.cross s t) }
 {
     s < t && cross(s, t)
-}
-
-/// Keeps the segments on which p lies and of which it is no end.
-fn keep_touching<A: Allocator>(segments: &mut Vec<Seg, A>, p: Pos)
-    ensures { segments.new.items ≡ touching p segments.old.items }
-{
-    segments.retain(|t| within(p, *t));
-}
-
-/// Keeps the segments after s that cross it.
-fn keep_crossing<A: Allocator>(segments: &mut Vec<Seg, A>, s: Seg)
-    ensures { segments.new.items ≡ crossing s segments.old.items }
-{
-    segments.retain(|t| crosses_after(s, *t));
-}
-
-/// The held segments on which p lies and of which it is no end, ascending.
-fn touching_at<I: SegIndex, A: Allocator + Copy>(
-    alloc: A,
-    index: &I,
-    p: Pos,
-) -> Result<Vec<Seg, A>, AllocError>
-    ensures { IfOk result (λ found. (ss : List Segment) → AreHeld (I.held index.now) ss
-        → found.items ≡ touching p ss) }
-{
-    let mut near = Vec::new(alloc);
-    index.candidates(box_at(p), &mut near)?;
-    keep_touching(&mut near, p);
-    sort_segments(&mut near);
-    Ok(near)
-}
-
-/// The held segments after s that cross it, ascending.
-fn crossing_after<I: SegIndex, A: Allocator + Copy>(
-    alloc: A,
-    index: &I,
-    s: Seg,
-) -> Result<Vec<Seg, A>, AllocError>
-    ensures { IfOk result (λ found. (ss : List Segment) → AreHeld (I.held index.now) ss
-        → found.items ≡ crossing s ss) }
-{
-    let mut near = Vec::new(alloc);
-    index.candidates(s.rect(), &mut near)?;
-    keep_crossing(&mut near, s);
-    sort_segments(&mut near);
-    Ok(near)
 }
 
 /// Appends a vertex with each of the segments.
@@ -146,7 +98,10 @@ pub(crate) fn touches<I: SegIndex, A: Allocator + Copy>(
 {
     let mut found = Vec::new(alloc);
     for p in vertices {
-        let near = touching_at(alloc, index, *p)?;
+        let mut near = Vec::new(alloc);
+        index.candidates(box_at(*p), &mut near)?;
+        near.retain(|t| within(*p, *t));
+        sort_segments(&mut near);
         push_touches(&mut found, *p, near.as_slice(), most)?;
     }
     Ok(found)
@@ -167,7 +122,10 @@ pub(crate) fn crossings<I: SegIndex, A: Allocator + Copy>(
 {
     let mut found = Vec::new(alloc);
     for s in segments {
-        let near = crossing_after(alloc, index, *s)?;
+        let mut near = Vec::new(alloc);
+        index.candidates(s.rect(), &mut near)?;
+        near.retain(|t| crosses_after(*s, *t));
+        sort_segments(&mut near);
         push_crossings(&mut found, *s, near.as_slice(), most)?;
     }
     Ok(found)

@@ -6,8 +6,7 @@ ghost use Rattle.walk_faults.specs.Findings as spec;
 ghost use Rattle.walk_faults.specs.Findings.{OnlyIfMany, repeat_at, short_walks, all_repeats};
 ghost use Rattle.walk_faults.specs.Seen.{walk_seen};
 
-use crate::bounded::push_at_most;
-use crate::findings::{FindFault, Repeat};
+use crate::findings::{FindFault, Repeat, push_at_most};
 use crate::gathered::sort_positions;
 use crate::walks::Walk;
 use grid_geometry::Pos;
