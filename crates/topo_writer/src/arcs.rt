@@ -1,7 +1,7 @@
 //! The arcs of a text, each border once, found by the edges that they begin and end with. Of their
 //! positions nothing is kept but their text, and which rings of the map they are cut of.
 ghost use Rattle.std.specs.Prelude.{◌≡◌, ◌+◌, ◌<◌, ◌≤◌, pos, negsuc, true, false, Some, OnOk, IfOk};
-ghost use Rattle.std.specs.Prelude.{List, [], ◌∷◌, ◌++◌, length};
+ghost use Rattle.std.specs.Prelude.{List, [], length};
 ghost use Rattle.std.specs.List.{AllByRecursion};
 ghost use Rattle.indexmap.specs.IndexMap.{get, Updates};
 ghost use Rattle.grid_geometry.specs.Common.{Position};
@@ -147,17 +147,5 @@ impl<A: Allocator + Copy> Arcs<A> {
             indexes.push(index)?;
         }
         Ok(indexes)
-    }
-
-    /// Names the ring whose pieces were the last.
-    pub(crate) fn name_ring(&mut self, name: RingName) -> Result<(), AllocError>
-        ensures rings { OnOk result (self.new.rings.items ≡ self.old.rings.items ++ name ∷ []) }
-        ensures count { OnOk result (self.new.count ≡ self.old.count) }
-        ensures starts { OnOk result (self.new.starts ≡ self.old.starts) }
-        ensures delta { OnOk result (self.new.delta ≡ self.old.delta) }
-        ensures listed { OnOk result (self.new.listed ≡ self.old.listed) }
-    {
-        self.rings.push(name)?;
-        Ok(())
     }
 }

@@ -109,37 +109,6 @@ fn push_item<'m, 'a, I: SegIndex, A: Allocator + Copy>(
     }
 }
 
-/// Sends an item in the innermost of these collections, after a comma where something stands there
-/// already. Whether something stands before what follows.
-fn send_item<'m, 'a, I: SegIndex, A: Allocator + Copy, W: Sink>(
-    map: &MarkedMap<'_, 'a, I, A>,
-    arcs: &mut Arcs<A>,
-    heads: &mut Vec<&'m Head<'a, A>, A>,
-    more: bool,
-    item: ItemView<'m, 'a, A>,
-    text: &mut Vec<u8, A>,
-    out: &mut W,
-) -> Result<bool, WriteFault>
-    requires working { W.has_failed out.old ≡ false }
-    requires proper { Proper map.now }
-    requires formed { WellFormed map.now }
-    requires there { IsThere map.now (view_item_view item) }
-    requires table { FindsArcs map.now arcs.old }
-    requires leads { Leads map.now arcs.old (view_item_view item ∷ []) }
-    ensures table { OnOk result (FindsArcs map.now arcs.new) }
-    ensures arcs { OnOk result (TakesItem map.now arcs.old arcs.new item.entry) }
-    ensures heads { OnOk result (open_heads heads.new.items
-        ≡ open_after (open_heads heads.old.items) (written map.now item.entry)) }
-    ensures more { IfOk result (λ after. after ≡ more_after more (written map.now item.entry)) }
-    ensures sends { Sends W.Sink of_device out.old out.new result
-        (items_text (open_heads heads.old.items) more (written map.now item.entry)) }
-{
-    text.clear();
-    let after = push_item(map, arcs, text, heads, more, item)?;
-    put_all(out, text.as_slice())?;
-    Ok(after)
-}
-
 /// Sends the items of a layer of the map, by the indexes of their rings' arcs in the text of the
 /// whole map, one after another. A piece that is no arc yet becomes the next one.
 pub(crate) fn send_items<'m, 'a, I: SegIndex, A: Allocator + Copy, W: Sink>(
@@ -163,7 +132,9 @@ pub(crate) fn send_items<'m, 'a, I: SegIndex, A: Allocator + Copy, W: Sink>(
     let mut heads = Vec::new(*text.allocator());
     let mut more = false;
     for item in items {
-        more = send_item(map, arcs, &mut heads, more, item, text, out)?;
+        text.clear();
+        more = push_item(map, arcs, text, &mut heads, more, item)?;
+        put_all(out, text.as_slice())?;
     }
     Ok(())
 }

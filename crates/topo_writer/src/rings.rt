@@ -54,7 +54,7 @@ fn push_ring_of<'a, I: SegIndex, A: Allocator + Copy>(
     let alloc = *text.allocator();
     let ring = cut_named(alloc, map, name)?;
     let indexes = arcs.index_all(alloc, &ring)?;
-    arcs.name_ring(name)?;
+    arcs.rings.push(name)?;
     push_ring(text, indexes.as_slice())?;
     Ok(())
 }

@@ -1,4 +1,4 @@
-use Rattle.kit_words.proofs.Common.{arith, ◌≡◌, ◌∷◌, [], ◌++◌, sym, ap, ap₂, ◌∙◌, length}
+use Rattle.kit_words.proofs.Common.{arith, ◌≡◌, ◌∷◌, [], ◌++◌, sym, ap, ◌∙◌, length}
 use Rattle.indexmap.specs.IndexMap.{get}
 use Rattle.ring_machine.specs.Common.{edge_eq, is_junction}
 use Rattle.map_text.specs.Common.{pieces, ring_text}
@@ -28,34 +28,32 @@ pub returns-clause-table : goal.returns-clause-table
 returns-clause-table g c =
     let d = c.args.map.now in
     let old = c.args.arcs.now.rings.items in
-    let new = c.name_ring.new.self.rings.items in
+    let new = c.push.new.self.items in
     let name = c.args.name in
     let cut : c.in_ok-ring.ring ≡ pieces (is_junction d) (named_ring d name) = c.in_ok-ring.ensures in
-    let more : new ≡ old ++ name ∷ [] = c.in_ok-name_ring.ensures.rings ∙ ap (λ r. r.items ++ name ∷ []) c.in_ok-indexes.ensures.rings in
+    let more : new ≡ old ++ name ∷ [] = c.in_ok-push.ensures.items ∙ ap (λ r. r.items ++ name ∷ []) c.in_ok-indexes.ensures.rings in
     let all = named_found d c.requires.proper old name c.requires.there c.in_ok-ring.ring cut new more in
     let finds =
     c.in_ok-indexes.ensures.arcs (arcs_along d old) c.requires.table.finds (named_fits d c.requires.proper old name c.requires.there c.in_ok-ring.ring cut) in
     record {
       finds = record {
         has = record {
-          mirrors = λ e. ap (λ s. get edge_eq s e) c.in_ok-name_ring.ensures.starts ∙ finds.has.mirrors e ∙ ap (λ z. found z e) all;
-          counts = c.in_ok-name_ring.ensures.count ∙ finds.has.counts ∙ ap length all;
+          mirrors = λ e. finds.has.mirrors e ∙ ap (λ z. found z e) all;
+          counts = finds.has.counts ∙ ap length all;
         };
-        listed =
-            ap (λ v. v.items) c.in_ok-name_ring.ensures.listed ∙ finds.listed
-            ∙ ap₂ (λ b z. listed_arcs b z) (sym c.in_ok-name_ring.ensures.delta) all;
+        listed = finds.listed ∙ ap (λ z. listed_arcs c.index_all.new.self.delta z) all;
       };
-      delta = c.in_ok-name_ring.ensures.delta ∙ c.in_ok-indexes.ensures.delta ∙ c.requires.table.delta;
+      delta = c.in_ok-indexes.ensures.delta ∙ c.requires.table.delta;
     }
 
 pub returns-clause-text : goal.returns-clause-text
 returns-clause-text g c =
     let d = c.args.map.now in
     let old = c.args.arcs.now.rings.items in
-    let new = c.name_ring.new.self.rings.items in
+    let new = c.push.new.self.items in
     let name = c.args.name in
     let cut : c.in_ok-ring.ring ≡ pieces (is_junction d) (named_ring d name) = c.in_ok-ring.ensures in
-    let more : new ≡ old ++ name ∷ [] = c.in_ok-name_ring.ensures.rings ∙ ap (λ r. r.items ++ name ∷ []) c.in_ok-indexes.ensures.rings in
+    let more : new ≡ old ++ name ∷ [] = c.in_ok-push.ensures.items ∙ ap (λ r. r.items ++ name ∷ []) c.in_ok-indexes.ensures.rings in
     c.in_ok-push_ring.ensures
     ∙ ap (λ z. c.args.text.now.items ++ ring_text z)
     (c.as_slice.ensures.value
