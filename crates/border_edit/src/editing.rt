@@ -99,24 +99,17 @@ impl Editing<'_> {
         requires writer { W.has_failed answers ≡ false }
     {
         let alloc = self.rt.alloc();
-        let mut script = KeptScript::new(alloc, script);
-        let mut answers = NotedAnswers::new(alloc, answers);
+        let mut kept = KeptScript::new(alloc, script);
+        let mut noted = NotedAnswers::new(alloc, answers);
         let mut saved = ToWriter::new(Vec::new(alloc));
         let depth = self.words.depth;
         let outcome = run(
-            alloc,
-            alloc,
-            self.seed,
-            self.map,
-            &mut script,
-            depth,
-            &mut answers,
-            &mut saved,
+            alloc, alloc, self.seed, self.map, &mut kept, depth, &mut noted, &mut saved,
         );
         let ending = ending_of_run(&outcome, saved.writer.as_slice());
-        let ending = ending.unless_short(script.is_short() || answers.is_short());
+        let ending = ending.unless_short(kept.is_short() || noted.is_short());
         let ending = save(self.rt, self.words, ending, errors);
-        let ending = list(self.rt, ending, path, script.kept(), answers.refusals());
+        let ending = list(self.rt, ending, path, kept.kept(), noted.refusals());
         end(ending, errors)
     }
 

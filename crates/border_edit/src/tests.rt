@@ -1,3 +1,5 @@
 //! What the words of the program are read as, and which lines are listed as refused.
 mod listed;
 mod words;
+
+pub(crate) use words::given;

@@ -1,6 +1,3 @@
 //! What is written of small maps, what the words are read as, and how the program ends.
-mod endings;
-mod mended;
-mod places;
-mod points;
+mod runs;
 mod words;

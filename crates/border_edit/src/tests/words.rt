@@ -5,114 +5,73 @@ use std::alloc::{AllocError, Global};
 use std::test::Fail;
 
 /// Words as the program is given them, its own name first, from a line with one space between them.
-fn given(alloc: Global, line: &str) -> Result<Vec<String>, AllocError> {
+pub(crate) fn given(alloc: Global, line: &str) -> Result<Vec<String>, AllocError> {
     let mut given = Vec::new(alloc);
-    given.push(String::from_str(alloc, "border_edit")?)?;
     for word in line.split(' ') {
         given.push(String::from_str(alloc, word)?)?;
     }
     Ok(given)
 }
 
-#[test]
-fn a_map_a_script_and_a_file_are_taken(rt: HostRuntime) -> Result<(), Fail> {
-    let table = [
-        "map.json script.txt --out saved.json",
-        "--out saved.json map.json script.txt",
-        "map.json --out=saved.json script.txt",
-    ];
-    for line in table {
-        let given = given(rt.alloc(), line)?;
-        let words = words(rt.alloc(), given.as_slice())?;
-        assert_eq!(rt; words.map.as_str(), "map.json");
-        assert_eq!(rt; words.script.as_str(), "script.txt");
-        assert_eq!(rt; words.out.as_str(), "saved.json");
-        assert_eq!(rt; words.depth, 100);
-        assert!(rt; words.refused.is_none());
-        assert!(rt; !words.progress);
-    }
-    Ok(())
-}
+/// Words, and what they are read as: MAP, SCRIPT, FILE, how many changes are kept, FILE2, and whether
+/// it is told what is begun; or the status that they stop the program with.
+const READ: &str = "\
+border_edit map.json script.txt --out saved.json => map.json script.txt saved.json 100 - false
+border_edit --out saved.json map.json script.txt => map.json script.txt saved.json 100 - false
+border_edit map.json --out=saved.json script.txt => map.json script.txt saved.json 100 - false
+border_edit m s --out f --undo 2 => m s f 2 - false
+border_edit --undo 1 m s --out f => m s f 1 - false
+border_edit m --undo=1000 s --out f => m s f 1000 - false
+border_edit m - --out f --refused list.txt --progress => m - f 100 list.txt true
+border_edit --progress --refused=list.txt m - --out=f => m - f 100 list.txt true
+border_edit => 64
+border_edit map.json => 64
+border_edit map.json script.txt => 64
+border_edit map.json script.txt --out => 64
+border_edit map.json --out saved.json => 64
+border_edit map.json script.txt more --out saved.json => 64
+border_edit --quiet map.json script.txt --out saved.json => 64
+border_edit m s --out f --undo => 64
+border_edit m s --out f --undo 0 => 64
+border_edit m s --out f --undo 1001 => 64
+border_edit m s --out f --undo -1 => 64
+border_edit m s --out f --undo two => 64
+border_edit m s --out f --undo  => 64
+border_edit m s --undo 2 => 64
+border_edit m s --out f --refused => 64
+border_edit m s --out f --refused a --refused b => 64
+border_edit m s --out f --refused f => 64
+border_edit --help => 0
+border_edit --version => 0
+border_edit map.json -h => 0";
 
-#[test]
-fn the_depth_of_undo_is_taken(rt: HostRuntime) -> Result<(), Fail> {
-    let table = [
-        ("m s --out f --undo 2", 2),
-        ("--undo 1 m s --out f", 1),
-        ("m --undo=1000 s --out f", 1000),
-    ];
-    for (line, depth) in table {
-        let given = given(rt.alloc(), line)?;
-        let words = words(rt.alloc(), given.as_slice())?;
-        assert_eq!(rt; words.map.as_str(), "m");
-        assert_eq!(rt; words.script.as_str(), "s");
-        assert_eq!(rt; words.out.as_str(), "f");
-        assert_eq!(rt; words.depth, depth);
-    }
-    Ok(())
-}
-
-#[test]
-fn standard_input_a_list_and_progress_are_taken(rt: HostRuntime) -> Result<(), Fail> {
-    let table = [
-        "m - --out f --refused list.txt --progress",
-        "--progress --refused=list.txt m - --out=f",
-    ];
-    for line in table {
-        let given = given(rt.alloc(), line)?;
-        let words = words(rt.alloc(), given.as_slice())?;
-        assert_eq!(rt; words.script.as_str(), "-");
-        assert!(rt; words.progress);
-        match &words.refused {
-            Some(list) => assert_eq!(rt; list.as_str(), "list.txt"),
-            None => assert!(rt; false, "{line:?}"),
+/// What words are read as.
+fn read(alloc: Global, line: &str) -> Result<String, AllocError> {
+    let given = given(alloc, line)?;
+    match words(alloc, given.as_slice()) {
+        Ok(words) => {
+            let refused = match &words.refused {
+                Some(list) => list.as_str(),
+                None => "-",
+            };
+            let map = words.map.as_str();
+            let script = words.script.as_str();
+            let out = words.out.as_str();
+            let (depth, progress) = (words.depth, words.progress);
+            format!(in alloc; "{map} {script} {out} {depth} {refused} {progress}")
+        }
+        Err(error) => {
+            let status = Stop::from(error).status();
+            format!(in alloc; "{status}")
         }
     }
-    Ok(())
 }
 
 #[test]
-fn all_other_words_stop_the_program(rt: HostRuntime) -> Result<(), Fail> {
-    let table = [
-        ("map.json", 64),
-        ("map.json script.txt", 64),
-        ("map.json script.txt --out", 64),
-        ("map.json --out saved.json", 64),
-        ("map.json script.txt more --out saved.json", 64),
-        ("--quiet map.json script.txt --out saved.json", 64),
-        ("m s --out f --undo", 64),
-        ("m s --out f --undo 0", 64),
-        ("m s --out f --undo 1001", 64),
-        ("m s --out f --undo -1", 64),
-        ("m s --out f --undo two", 64),
-        // The last word has no letters.
-        ("m s --out f --undo ", 64),
-        ("m s --undo 2", 64),
-        ("m s --out f --refused", 64),
-        ("m s --out f --refused a --refused b", 64),
-        // FILE2 is FILE.
-        ("m s --out f --refused f", 64),
-        ("--help", 0),
-        ("--version", 0),
-        ("map.json -h", 0),
-    ];
-    for (line, status) in table {
-        let given = given(rt.alloc(), line)?;
-        match words(rt.alloc(), given.as_slice()) {
-            Ok(_) => assert!(rt; false, "{line:?}"),
-            Err(error) => assert_eq!(rt; Stop::from(error).status(), status, "{line:?}"),
-        }
-    }
-    Ok(())
-}
-
-#[test]
-fn no_words_stop_the_program(rt: HostRuntime) -> Result<(), Fail> {
-    let mut given = Vec::new(rt.alloc());
-    given.push(String::from_str(rt.alloc(), "border_edit")?)?;
-    match words(rt.alloc(), given.as_slice()) {
-        Ok(_) => assert!(rt; false),
-        Err(error) => assert_eq!(rt; Stop::from(error).status(), 64),
+fn words_are_read(rt: HostRuntime) -> Result<(), Fail> {
+    for row in READ.lines() {
+        let (line, want) = row.split_once(" => ").unwrap_or((row, ""));
+        assert!(rt; read(rt.alloc(), line)?.as_str() == want, "{row}");
     }
     Ok(())
 }
