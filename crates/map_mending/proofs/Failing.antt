@@ -1,6 +1,7 @@
 -- Why a map is not mended, step by step.
-use Rattle.kit_words.proofs.Common.{◌≡◌, ◌<◌, ℕ, zero, suc, List, [], ◌∷◌, map, length, get_or, false, sym, ap, ◌∙◌}
-use Rattle.kit_words.proofs.Common.{subst, Result, Ok, Err, arith, IfErr, IsErrAnd, IsTrue, None, nat_le, nat_tests}
+use Rattle.kit_words.proofs.Common.{◌≡◌, ◌<◌, ℕ, zero, suc, List, [], ◌∷◌, map, length, get_or, false, refl, sym, ap, ◌∙◌}
+use Rattle.kit_words.proofs.Common.{subst, Result, Ok, Err, arith, IfErr, IsErrAnd, IsTrue, Option, Some, None, MatchOption}
+use Rattle.kit_words.proofs.Common.{nat_le, nat_tests}
 use Rattle.std.specs.Prelude.{sum_by}
 use Rattle.topo_outline.specs.Common.{leaves}
 use Rattle.topo_reader.specs.Common.{Polygons, Opened, document_of}
@@ -25,6 +26,11 @@ use Rattle.map_mending.specs.declared.fault.MendFault.TheVariants.{TooLarge, Unm
 pub handed : {R : Type 0} (P : MendFault → Type 0) (fault : MendFault) (r : Result R MendFault) → IsErrAnd r (λ y. y ≡ fault) → P fault → IfErr r P
 handed P fault (Ok x) is h = absurd is
 handed P fault (Err y) is h = subst P (sym is) h
+
+-- what holds where there is none
+pub apart_if : {X : Type 0} (o : Option X) (P : Type 0) (Q : X → Type 0) → ((x : X) → o ≡ Some x → ⊥) → MatchOption o P Q → P
+apart_if None P Q none h = h
+apart_if (Some x) P Q none h = absurd (none x refl)
 
 -- an element that is seen
 pub seen_at : {X Y : Type 0} (see : X → Y) (xs : List X) (k : ℕ) (x : X) → k < length xs → x ≡ get_or xs k x → IsAt (map see xs) k (see x)

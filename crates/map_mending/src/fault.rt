@@ -2,7 +2,6 @@
 use grid_geometry::Seg;
 use segment_paths::PathFault;
 use std::alloc::{AllocError, AllocFailed};
-use walk_mending::PartFault;
 
 /// Why a map is not mended.
 #[derive(Clone, Copy, Debug, PartialEq, Eq)]

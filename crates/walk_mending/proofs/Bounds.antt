@@ -1,9 +1,12 @@
 -- Which segments bound: all of rings, the odd ones of other walks, and those of one polygon more.
 use Rattle.kit_words.proofs.Common.{◌≡◌, ◌<◌, ◌+◌, ℕ, Bool, true, false, refl, sym, ap, ◌∙◌, cond, List, [], ◌∷◌, map}
-use Rattle.kit_words.proofs.Common.{get_or, length, ◌||◌, Contains, arith, nat_lt, IsTrue, count_by, flat_map, list_all}
+use Rattle.kit_words.proofs.Common.{get_or, length, take, ◌&&◌, ◌||◌, Contains, arith, nat_le, nat_lt, IsTrue, count_by, flat_map}
+use Rattle.kit_words.proofs.Common.{list_all, and_from}
 use Rattle.kit_words.proofs.Common.{list_any, IsPermutation, nat_tests, list_all-map, list_all_at, sum_by-IsPermutation}
 use Rattle.kit_words.proofs.Common.{sum_by-cons}
+use Rattle.std.proofs.lemmas.List.Folds.{list_all_more}
 use Rattle.grid_geometry.specs.Common.{Position, Segment, segment_cmp, segment_eq}
+use Rattle.ring_machine.specs.Common.{begins_least, is_distinct, is_ring}
 use Rattle.topo_reader.specs.Common.{is_simple}
 use Rattle.ring_machine.proofs.Common.{In, contains_in, in_contains, in_any}
 use Rattle.ring_parts.proofs.Lists as lists
@@ -63,3 +66,35 @@ pub fails_at : {X Y : Type 0} (test : Y → Bool) (seen : X → Y) (xs : List X)
     → test (seen x) ≡ false → false ≡ list_all test (map seen xs)
 fails_at test seen xs i x l e h =
     sym (list_all-map test seen xs ∙ list_all_at (λ y. test (seen y)) xs i x l (ap (λ y. test (seen y)) (sym e) ∙ h))
+
+-- where one element more passes, all so far pass
+pub passes_on : {X Y : Type 0} (test : Y → Bool) (seen : X → Y) (xs : List X) (i : ℕ) (x : X) → i < length xs → x ≡ get_or xs i x
+    → list_all test (map seen (take i xs)) ≡ true → test (seen x) ≡ true → list_all test (map seen (take (i + 1) xs)) ≡ true
+passes_on test seen xs i x l e so_far here =
+    list_all-map test seen (take (i + 1) xs) ∙ list_all_more (λ y. test (seen y)) xs i x l
+    ∙ and_from (list_all (λ y. test (seen y)) (take i xs)) (test (seen (get_or xs i x))) (sym (list_all-map test seen (take i xs)) ∙ so_far)
+    (ap (λ y. test (seen y)) (sym e) ∙ here)
+
+-- ---- as a ring, begun at its least position
+
+reorder : (b n d : Bool) → (b && (n && d)) ≡ (n && (d && b))
+reorder true true true = refl
+reorder true true false = refl
+reorder true false d = refl
+reorder false true true = refl
+reorder false true false = refl
+reorder false false d = refl
+
+and_none : (b : Bool) → (b && false) ≡ false
+and_none true = refl
+and_none false = refl
+
+pub is_ring_if : (ring : List Position) → begins_least ring ≡ true → is_simple ring ≡ true → is_ring ring ≡ true
+is_ring_if ring b s = sym (reorder (begins_least ring) (nat_le 3 (length ring)) (is_distinct ring)) ∙ and_from (begins_least ring) (is_simple ring) b s
+
+pub not_least : (ring : List Position) → begins_least ring ≡ false → is_ring ring ≡ false
+not_least ring b = sym (reorder (begins_least ring) (nat_le 3 (length ring)) (is_distinct ring)) ∙ ap (λ z. z && is_simple ring) b
+
+pub not_simple : (ring : List Position) → is_simple ring ≡ false → is_ring ring ≡ false
+not_simple ring s =
+    sym (reorder (begins_least ring) (nat_le 3 (length ring)) (is_distinct ring)) ∙ ap (λ z. begins_least ring && z) s ∙ and_none (begins_least ring)

@@ -1,13 +1,13 @@
 -- Of sorted positions equal ones are neighbours.
 use Rattle.kit_words.proofs.Common.{◌≡◌, ◌≤◌, ◌<◌, ◌+◌, ℕ, suc, Bool, true, false, refl, sym, ap, ap₂, ◌∙◌, subst, cond}
-use Rattle.kit_words.proofs.Common.{List, [], ◌∷◌, length, drop, get_or, inl, ◌&&◌, ◌||◌, arith, not, list_any}
-use Rattle.kit_words.proofs.Common.{IsPermutation, IsSorted, is_lt, false≢true, drop_all, ranks_by, sorted_far}
+use Rattle.kit_words.proofs.Common.{List, [], ◌∷◌, length, drop, zip, get_or, inl, nat_le, nat_tests, ◌&&◌, ◌||◌, arith, not, list_any}
+use Rattle.kit_words.proofs.Common.{IsPermutation, IsSorted, is_lt, false≢true, ranks_by, sorted_far}
 use Rattle.kit_words.proofs.Common.{sum_by-IsPermutation}
 use Rattle.grid_geometry.specs.Common.{Position, position_cmp, position_eq, position_lt, Edge, links}
 use Rattle.ring_machine.specs.Common.{has, is_distinct}
+use Rattle.topo_reader.specs.Common.{is_simple}
 use Rattle.ring_machine.proofs.Common.{In, in_contains, same_answer, in-has, has-in, and_both, position_eq-true}
 use Rattle.ring_machine.proofs.Common.{position_eq-refl, position_lt-total, not_true, position_total}
-use Rattle.walk_faults.proofs.Lists.{next_drop}
 use Rattle.walk_faults.proofs.Neighbours.{times, in_times, times_in, times-same, times-other, times-le}
 
 by_bool : {X : Type 0} (p : Bool) → (p ≡ true → X) → (p ≡ false → X) → X
@@ -71,7 +71,7 @@ neighbours_of_sorted (a ∷ b ∷ ps) up = by (position_eq a b) refl (has ps a) 
     by false e false f h = h
 
 -- equal neighbours tell that some position stands twice
-pub neighbours_tell : (walk sorted : List Position) → IsPermutation walk sorted → IsSorted position_cmp sorted
+neighbours_tell : (walk sorted : List Position) → IsPermutation walk sorted → IsSorted position_cmp sorted
     → not (list_any is_still (links sorted)) ≡ is_distinct walk
 neighbours_tell walk sorted p up = neighbours_of_sorted sorted up ∙ same_answer (is_distinct sorted) (is_distinct walk)
     (λ d. distinct_if walk (λ q h. distinct_once sorted d q (omega (arith, h, as_often q))))
@@ -80,23 +80,18 @@ neighbours_tell walk sorted p up = neighbours_of_sorted sorted up ∙ same_answe
     as_often : (q : Position) → times q sorted ≡ times q walk
     as_often q = sum_by-IsPermutation (λ r. cond {A = ℕ} (position_eq q r) 1 0) walk sorted p
 
--- ---- neighbours one after another
+-- neighbours stand in the list and in the same one without its first element
+neighbours : (ps : List Position) → zip ps (drop 1 ps) ≡ links ps
+neighbours [] = refl
+neighbours (a ∷ []) = refl
+neighbours (a ∷ b ∷ ps) = ap (λ z. (a, b) ∷ z) (neighbours (b ∷ ps))
 
--- two that differ
-pub still_step : (rest : List Position) (i : ℕ) (before pos : Position) (b : Bool) → i < length rest → pos ≡ get_or rest i pos → position_eq before pos ≡ false
-    → list_any is_still (links (before ∷ drop i rest)) ≡ b → list_any is_still (links (pos ∷ drop (i + 1) rest)) ≡ b
-still_step rest i before pos b l e differ h =
-    sym (ap (λ t. t || list_any is_still (links (pos ∷ drop (i + 1) rest))) differ)
-    ∙ sym (ap (λ z. list_any is_still (links (before ∷ z))) (next_drop rest i pos l e)) ∙ h
+long : (n : ℕ) → 3 ≤ n → nat_le 3 n ≡ true
+long n l = grind (arith, nat_tests)
 
--- two that are equal
-pub still_here : (rest : List Position) (i : ℕ) (before pos : Position) (b : Bool) → i < length rest → pos ≡ get_or rest i pos → position_eq before pos ≡ true
-    → list_any is_still (links (before ∷ drop i rest)) ≡ b → true ≡ b
-still_here rest i before pos b l e same h =
-    sym (ap (λ t. t || list_any is_still (links (pos ∷ drop (i + 1) rest))) same)
-    ∙ sym (ap (λ z. list_any is_still (links (before ∷ z))) (next_drop rest i pos l e)) ∙ h
-
--- none of them all
-pub still_end : (rest : List Position) (i : ℕ) (before : Position) (b : Bool) → length rest ≤ i
-    → list_any is_still (links (before ∷ drop i rest)) ≡ b → false ≡ b
-still_end rest i before b l h = sym (ap (λ z. list_any is_still (links (before ∷ z))) (drop_all i rest l)) ∙ h
+-- at least three positions of which no neighbours are equal, once they are sorted, are a ring
+pub simple_if : (walk sorted : List Position) (b : Bool) → 3 ≤ length walk → IsPermutation walk sorted → IsSorted position_cmp sorted
+    → b ≡ list_any is_still (zip sorted (drop 1 sorted)) → not b ≡ is_simple walk
+simple_if walk sorted b l p up e =
+    ap not (e ∙ ap (list_any is_still) (neighbours sorted)) ∙ neighbours_tell walk sorted p up
+    ∙ sym (ap (λ t. t && is_distinct walk) (long (length walk) l))

@@ -1,7 +1,7 @@
 -- What is kept of a polygon that is mended: its positions in order, and the ends of its odd segments.
 use Rattle.kit_words.proofs.Common.{◌≡◌, ℕ, true, false, sym, ap, ◌∙◌, subst, cond, List, [], ◌∷◌, ◌++◌, map, arith}
-use Rattle.kit_words.proofs.Common.{nat_lt, Result, Ok, Err, IfOk, IfErr, IfOk-weaker, flat_map, list_all, list_any}
-use Rattle.kit_words.proofs.Common.{nat_tests}
+use Rattle.kit_words.proofs.Common.{nat_lt, Result, Ok, Err, Option, Some, None, IfOk, IfSome, flat_map, list_all, list_any}
+use Rattle.kit_words.proofs.Common.{MatchOption, nat_tests}
 use Rattle.grid_geometry.specs.Common.{Position, Segment, segment_eq}
 use Rattle.ring_machine.specs.Common.{canonical, has}
 use Rattle.ring_machine.proofs.Common.{canonical_parts, In, in_left, in_any, in_flat, in_swap, in-map, in-has}
@@ -9,10 +9,8 @@ use Rattle.segment_paths.specs.Common.{Path}
 use Rattle.walk_faults.specs.Common.{walk_segments}
 use Rattle.walk_faults.proofs.Common.{segment_ends}
 use Rattle.topo_reader.specs.Common.{is_simple}
-use Rattle.walk_mending.specs.declared.mending.PartFault.{PartFault}
-use Rattle.walk_mending.specs.declared.mending.PartFault.TheVariants.{Unparted, OutOfMemory}
 use Rattle.walk_mending.specs.Common.{laid, KeepsInOrder, times_in, all_rings, IsMended, stays, parted, ArePartsOf}
-use Rattle.walk_mending.specs.Common.{KeepsOddEnds, OnlyIfApart}
+use Rattle.walk_mending.specs.Common.{AreApart, HasOdd, KeepsOddEnds}
 use Rattle.walk_mending.proofs.Along.{laid_keeps}
 use Rattle.walk_mending.proofs.Bounds.{any_counted}
 use Rattle.walk_mending.proofs.Cancelling.{among-in, is_odd}
@@ -60,19 +58,17 @@ odd_ends walks parts (parted h are) s odd =
 
 -- ---- results
 
--- that the rings do not fit is said where more holds
-pub fault_if : {T : Type 0} (P Q : Type 0) → (P → Q) → (r : Result T PartFault) → IfErr r (OnlyIfApart P) → IfErr r (OnlyIfApart Q)
-fault_if P Q f (Ok x) h = tt
-fault_if P Q f (Err Unparted) h = f h
-fault_if P Q f (Err OutOfMemory) h = tt
+pub mended_if : {X E : Type 0} (walks : List (List Position)) (seen : X → List (List (List Position))) (r : Result (Option X) E) → list_all is_simple walks ≡ false
+    → IfOk r (λ o. MatchOption o (HasOdd walks) (λ x. ArePartsOf walks (seen x))) → IfOk r (λ o. MatchOption o (AreApart walks) (λ x. IsMended walks (seen x)))
+mended_if walks seen (Ok (Some x)) h k = parted h k
+mended_if walks seen (Ok None) h k = (h, k)
+mended_if walks seen (Err e) h k = tt
 
-pub mended_if : {X E : Type 0} (walks : List (List Position)) (seen : X → List (List (List Position))) (r : Result X E) → list_all is_simple walks ≡ false
-    → IfOk r (λ x. ArePartsOf walks (seen x)) → IfOk r (λ x. IsMended walks (seen x))
-mended_if walks seen r h = IfOk-weaker r (λ x. ArePartsOf walks (seen x)) (λ x. IsMended walks (seen x)) (λ x are. parted h are)
-
-pub ends_if : {X E : Type 0} (walks : List (List Position)) (seen : X → List (List (List Position))) (r : Result X E)
-    → IfOk r (λ x. IsMended walks (seen x)) → IfOk r (λ x. KeepsOddEnds walks (seen x))
-ends_if walks seen r = IfOk-weaker r (λ x. IsMended walks (seen x)) (λ x. KeepsOddEnds walks (seen x)) (λ x m. odd_ends walks (seen x) m)
+pub ends_if : {X E : Type 0} (walks : List (List Position)) (seen : X → List (List (List Position))) (r : Result (Option X) E)
+    → IfOk r (λ o. MatchOption o (AreApart walks) (λ x. IsMended walks (seen x))) → IfOk r (λ o. IfSome o (λ x. KeepsOddEnds walks (seen x)))
+ends_if walks seen (Ok (Some x)) k = odd_ends walks (seen x) k
+ends_if walks seen (Ok None) k = tt
+ends_if walks seen (Err e) k = tt
 
 pub stays_if : (walks : List (List Position)) (parts : List (List (List Position))) → list_all is_simple walks ≡ true
     → parts ≡ map canonical walks ∷ [] → IsMended walks parts

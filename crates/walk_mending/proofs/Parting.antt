@@ -2,7 +2,7 @@
 use Rattle.kit_words.proofs.Common.{◌≡◌, ◌<◌, ◌+◌, ℕ, zero, suc, ◌==◌, Bool, true, false, refl, sym, ap, ◌∙◌, subst}
 use Rattle.kit_words.proofs.Common.{cond, List, [], ◌∷◌, length, ◌&&◌, ◌||◌, arith, Decides, flat_map, list_all}
 use Rattle.kit_words.proofs.Common.{IsPermutation, IsStrictlySortedBy, Less, and_parts, and_from, nat_tests}
-use Rattle.kit_words.proofs.Common.{list_all-append, sum_by-cons}
+use Rattle.kit_words.proofs.Common.{list_all-append, sum_by-cons, map, false≢true}
 use Rattle.grid_geometry.specs.Common.{Position, Segment, segment_cmp, segment_eq}
 use Rattle.ring_machine.specs.Common.{is_ring}
 use Rattle.ring_machine.proofs.Common.{segment_eq-true, in_recursion}
@@ -73,7 +73,7 @@ segment_decides s t = (segment_eq-true s t, λ e. ap (segment_eq s) (sym e) ∙ 
 not_none : (n : ℕ) → (suc n == 0) ≡ true → ⊥
 not_none n e = grind (arith, nat_tests)
 
-pub none_left : (ss : List Segment) (n : ℕ) (b : Bool) → n ≡ length ss → b ≡ (n == 0) → b ≡ true → ss ≡ []
+pub none_left : {X : Type 0} (ss : List X) (n : ℕ) (b : Bool) → n ≡ length ss → b ≡ (n == 0) → b ≡ true → ss ≡ []
 none_left [] n b l e h = refl
 none_left (s ∷ ss) zero b l e h = absurd (omega (arith, l))
 none_left (s ∷ ss) (suc n) b l e h = absurd (not_none n (sym e ∙ h))
@@ -92,3 +92,25 @@ no_parts walks parts odd none is e =
 pub some_odd : (walks : List (List Position)) (odd : List Segment) → 0 < length odd → ((s : Segment) → is_among odd s ≡ is_odd_in walks s) → HasOdd walks
 some_odd walks [] l is = absurd (omega (arith, l))
 some_odd walks (s ∷ ss) l is = (s, sym (is s) ∙ ap (λ b. b || is_among ss s) (segment_eq-refl s))
+
+-- ---- a part alone
+
+-- without a ring
+pub unfilled_empty : {X : Type 0} (seen : X → List Position) (xs : List X) (n : ℕ) (b : Bool) → n ≡ length xs → b ≡ (n == 0) → b ≡ true
+    → is_filled (map seen xs) ≡ false
+unfilled_empty seen xs n b l e h = ap (λ z. is_filled (map seen z)) (none_left xs n b l e h)
+
+and_none : (b : Bool) → (b && false) ≡ false
+and_none true = refl
+and_none false = refl
+
+-- with a walk that is no ring
+pub unfilled_if : (part : List (List Position)) → list_all is_ring part ≡ false → is_filled part ≡ false
+unfilled_if part e = ap (λ b. has_ring part && b) e ∙ and_none (has_ring part)
+
+-- with rings alone
+pub filled_if : {X : Type 0} (seen : X → List Position) (xs : List X) (n : ℕ) (b : Bool) → n ≡ length xs → b ≡ (n == 0) → b ≡ false
+    → list_all is_ring (map seen xs) ≡ true → is_filled (map seen xs) ≡ true
+filled_if seen [] zero b l e h k = absurd (false≢true (sym h ∙ e))
+filled_if seen [] (suc n) b l e h k = absurd (omega (arith, l))
+filled_if seen (x ∷ xs) n b l e h k = k

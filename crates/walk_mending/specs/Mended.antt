@@ -4,8 +4,6 @@ use Rattle.std.specs.List.{flat_map, list_all, list_any}
 use Rattle.grid_geometry.specs.Common.{Position, Segment}
 use Rattle.ring_machine.specs.Common.{canonical, has, is_ring}
 use Rattle.topo_reader.specs.Common.{is_simple}
-use Rattle.walk_mending.specs.declared.mending.PartFault.{PartFault}
-use Rattle.walk_mending.specs.declared.mending.PartFault.TheVariants.{Unparted, OutOfMemory}
 use Rattle.walk_mending.specs.Odd.{times_in, is_odd_in}
 
 -- the rings of all parts
@@ -47,8 +45,3 @@ HasOdd walks = (s : Segment) × IsTrue (is_odd_in walks s)
 -- not all walks are rings, and yet they bound something
 abbrev pub AreApart : List (List Position) → Type 0
 AreApart walks = IsFalse (list_all is_simple walks) × HasOdd walks
-
--- that the rings do not fit is said only where this holds
-abbrev pub OnlyIfApart : Type 0 → PartFault → Type 0
-OnlyIfApart Apart Unparted = Apart
-OnlyIfApart Apart OutOfMemory = Unit {0}

@@ -1,5 +1,5 @@
 // Walks, led along the paths of their segments.
-ghost use Rattle.std.specs.Prelude.{◌≡◌, ◌++◌, map, reverse, IfOk, OnOk};
+ghost use Rattle.std.specs.Prelude.{◌≡◌, ◌++◌, map, IfOk, OnOk};
 ghost use Rattle.std.specs.List.Sorted.{IsStrictlySortedBy};
 ghost use Rattle.grid_geometry.specs.Common.{segment_cmp};
 ghost use Rattle.segment_paths.specs.Common.{path_seen};
@@ -21,19 +21,6 @@ fn inner_of<'p, A: Allocator + Copy>(paths: &'p [SegmentPath<A>], lo: Pos, hi: P
     }
 }
 
-/// Appends positions, the last one first.
-fn push_reversed<A: Allocator + Copy>(
-    alloc: A,
-    found: &mut Vec<Pos, A>,
-    inner: &[Pos],
-) -> Result<(), AllocError>
-    ensures { OnOk result (found.new.items ≡ found.old.items ++ reverse inner.now) }
-{
-    let mut turned = Vec::from_slice(alloc, inner)?;
-    turned.reverse();
-    found.extend_from_slice(turned.as_slice())
-}
-
 /// Appends the positions from where an edge begins up to its end, which is left out.
 fn push_edge<A: Allocator + Copy>(
     alloc: A,
@@ -48,10 +35,11 @@ fn push_edge<A: Allocator + Copy>(
 {
     found.push(from)?;
     if from < to {
-        found.extend_from_slice(inner_of(paths, from, to))
-    } else {
-        push_reversed(alloc, found, inner_of(paths, to, from))
+        return found.extend_from_slice(inner_of(paths, from, to));
     }
+    let mut turned = Vec::from_slice(alloc, inner_of(paths, to, from))?;
+    turned.reverse();
+    found.extend_from_slice(turned.as_slice())
 }
 
 /// The walk, led along the paths of its segments, which stand in the order of their segments, at

@@ -17,5 +17,5 @@ mod simple;
 
 pub use bounding::bounding_segments;
 pub use laying::laid_walk;
-pub use mending::{PartFault, mended_polygon};
+pub use mending::mended_polygon;
 pub use simple::all_simple;

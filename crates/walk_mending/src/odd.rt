@@ -1,11 +1,11 @@
 // The segments that stand an odd number of times.
-ghost use Rattle.std.specs.Prelude.{◌≡◌, ◌↔◌, ◌%◌, ◌==◌, IfOk, IsTrue, OnOk};
+ghost use Rattle.std.specs.Prelude.{◌≡◌, ◌↔◌, ◌%◌, ◌==◌, IfOk, IsTrue};
 ghost use Rattle.std.specs.List.{count_by};
 ghost use Rattle.std.specs.List.Sorted.{IsSorted, IsStrictlySortedBy};
 ghost use Rattle.grid_geometry.specs.Common.{Segment, segment_cmp, segment_eq};
 ghost use Rattle.walk_faults.specs.Common.{rings_seen};
 ghost use Rattle.walk_mending.specs.Odd.{is_among, is_odd_in};
-ghost use Rattle.walk_mending.specs.Cancelled.{EndsIn, IsCancelled};
+ghost use Rattle.walk_mending.specs.Cancelled.{EndsIn};
 
 use crate::segments::sorted;
 use grid_geometry::{Pos, Seg};
@@ -21,18 +21,6 @@ fn ends_in(kept: &[Seg], segment: Seg) -> bool
     }
 }
 
-/// Takes the last segment out where it is this one, else puts this one behind it.
-fn cancel<A: Allocator>(kept: &mut Vec<Seg, A>, segment: Seg) -> Result<(), AllocError>
-    ensures { OnOk result (IsCancelled kept.old.items segment kept.new.items) }
-{
-    if ends_in(kept.as_slice(), segment) {
-        kept.pop();
-    } else {
-        kept.push(segment)?;
-    }
-    Ok(())
-}
-
 /// Of ascending segments those that stand an odd number of times, each once.
 pub(crate) fn odd_among<A: Allocator + Copy>(
     alloc: A,
@@ -45,7 +33,11 @@ pub(crate) fn odd_among<A: Allocator + Copy>(
 {
     let mut kept = Vec::new(alloc);
     for segment in sorted {
-        cancel(&mut kept, *segment)?;
+        if ends_in(kept.as_slice(), *segment) {
+            kept.pop();
+        } else {
+            kept.push(*segment)?;
+        }
     }
     Ok(kept)
 }

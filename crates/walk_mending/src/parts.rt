@@ -1,8 +1,8 @@
 // Whether polygons are parts of one with these odd segments.
-ghost use Rattle.std.specs.Prelude.{◌≡◌, ◌++◌, ◌&&◌, IsTrue, IfOk, OnOk};
+ghost use Rattle.std.specs.Prelude.{◌≡◌, ◌&&◌, IsTrue, IfOk};
 ghost use Rattle.std.specs.List.{flat_map, list_all};
 ghost use Rattle.ring_machine.specs.Common.{is_ring};
-ghost use Rattle.walk_faults.specs.Common.{walk_segments, rings_seen, polygons_seen};
+ghost use Rattle.walk_faults.specs.Common.{walk_segments, polygons_seen};
 ghost use Rattle.std.specs.List.Sorted.{IsPermutation};
 ghost use Rattle.walk_mending.specs.Mended.{all_rings, has_ring};
 
@@ -10,17 +10,6 @@ use crate::segments::push_all;
 use crate::simple::are_rings;
 use grid_geometry::{Pos, Seg};
 use std::alloc::{AllocError, Allocator};
-
-/// Whether a part has a ring, and all of its rings are such, each begun at its least position.
-fn is_filled<A: Allocator + Copy>(alloc: A, part: &[Vec<Pos, A>]) -> Result<bool, AllocError>
-    ensures { IfOk result (λ filled. filled
-        ≡ (has_ring (rings_seen part.now) && list_all is_ring (rings_seen part.now))) }
-{
-    if part.is_empty() {
-        return Ok(false);
-    }
-    are_rings(alloc, part)
-}
 
 /// Whether each part has a ring, and all of their rings are such, each begun at its least position.
 pub(crate) fn all_filled<A: Allocator + Copy>(
@@ -31,27 +20,11 @@ pub(crate) fn all_filled<A: Allocator + Copy>(
         ≡ list_all (λ part. has_ring part && list_all is_ring part) (polygons_seen parts.now)) }
 {
     for part in parts {
-        if !is_filled(alloc, part.as_slice())? {
+        if part.is_empty() || !are_rings(alloc, part.as_slice())? {
             return Ok(false);
         }
     }
     Ok(true)
-}
-
-/// The segments of all parts, ascending, as often as they stand there.
-fn part_segments<A: Allocator + Copy>(
-    alloc: A,
-    parts: &[Vec<Vec<Pos, A>, A>],
-) -> Result<Vec<Seg, A>, AllocError>
-    ensures { IfOk result (λ found. IsPermutation
-        (flat_map walk_segments (all_rings (polygons_seen parts.now))) found.items) }
-{
-    let mut segments = Vec::new(alloc);
-    for part in parts {
-        push_all(&mut segments, part.as_slice())?;
-    }
-    segments.sort_unstable();
-    Ok(segments)
 }
 
 /// Whether the parts have exactly these segments, which ascend, each once.
@@ -63,6 +36,10 @@ pub(crate) fn have_exactly<A: Allocator + Copy>(
     ensures { IfOk result (λ have. IsTrue have → IsPermutation
         (flat_map walk_segments (all_rings (polygons_seen parts.now))) odd.now) }
 {
-    let segments = part_segments(alloc, parts)?;
+    let mut segments = Vec::new(alloc);
+    for part in parts {
+        push_all(&mut segments, part.as_slice())?;
+    }
+    segments.sort_unstable();
     Ok(segments.as_slice() == odd)
 }

@@ -1,7 +1,7 @@
 // Which walks are rings.
-ghost use Rattle.std.specs.Prelude.{◌≡◌, IfOk};
-ghost use Rattle.std.specs.List.{list_all, list_any};
-ghost use Rattle.grid_geometry.specs.Common.{position_eq, links};
+ghost use Rattle.std.specs.Prelude.{◌≡◌, drop, IfOk};
+ghost use Rattle.std.specs.List.{list_all, list_any, zip};
+ghost use Rattle.grid_geometry.specs.Common.{position_eq};
 ghost use Rattle.ring_machine.specs.Ring as machine;
 ghost use Rattle.topo_reader.specs.Document as document;
 ghost use Rattle.walk_faults.specs.Common.{rings_seen};
@@ -15,38 +15,26 @@ pub(crate) const LEAST: usize = 3;
 
 /// Whether two neighbours are equal.
 fn has_equal_neighbours(positions: &[Pos]) -> bool
-    ensures { result ≡ list_any (λ e. position_eq e.0 e.1) (links positions.now) }
+    ensures { result
+        ≡ list_any (λ e. position_eq e.0 e.1) (zip positions.now (drop 1 positions.now)) }
 {
-    let [first, rest @ ..] = positions else {
-        return false;
-    };
-    let mut before = *first;
-    for pos in rest {
-        if before == *pos {
-            return true;
-        }
-        before = *pos;
-    }
-    false
+    positions
+        .iter()
+        .zip(positions.iter().skip(1))
+        .any(|(before, pos)| *before == *pos)
 }
 
-/// Whether no two positions are equal: sorted, equal ones are neighbours.
-fn all_differ<A: Allocator + Copy>(alloc: A, walk: &[Pos]) -> Result<bool, AllocError>
-    ensures { IfOk result (λ differ. differ ≡ machine.is_distinct walk.now) }
-{
-    let mut sorted = Vec::from_slice(alloc, walk)?;
-    sorted.sort_unstable();
-    Ok(!has_equal_neighbours(sorted.as_slice()))
-}
-
-/// Whether a walk is a ring, wherever it begins: at least three positions, no two equal.
+/// Whether a walk is a ring, wherever it begins: at least three positions, no two equal. Sorted,
+/// equal ones are neighbours.
 pub(crate) fn is_simple<A: Allocator + Copy>(alloc: A, walk: &[Pos]) -> Result<bool, AllocError>
     ensures { IfOk result (λ simple. simple ≡ document.is_simple walk.now) }
 {
     if walk.len() < LEAST {
         return Ok(false);
     }
-    all_differ(alloc, walk)
+    let mut sorted = Vec::from_slice(alloc, walk)?;
+    sorted.sort_unstable();
+    Ok(!has_equal_neighbours(sorted.as_slice()))
 }
 
 /// Whether all walks are rings.
@@ -77,16 +65,6 @@ fn begins_least(ring: &[Pos]) -> bool
     true
 }
 
-/// Whether it is a ring, begun at its least position.
-fn is_ring<A: Allocator + Copy>(alloc: A, ring: &[Pos]) -> Result<bool, AllocError>
-    ensures { IfOk result (λ is. is ≡ machine.is_ring ring.now) }
-{
-    if !begins_least(ring) {
-        return Ok(false);
-    }
-    is_simple(alloc, ring)
-}
-
 /// Whether all are rings, each begun at its least position.
 pub(crate) fn are_rings<A: Allocator + Copy>(
     alloc: A,
@@ -95,7 +73,7 @@ pub(crate) fn are_rings<A: Allocator + Copy>(
     ensures { IfOk result (λ are. are ≡ list_all machine.is_ring (rings_seen rings.now)) }
 {
     for ring in rings {
-        if !is_ring(alloc, ring.as_slice())? {
+        if !begins_least(ring.as_slice()) || !is_simple(alloc, ring.as_slice())? {
             return Ok(false);
         }
     }

@@ -4,7 +4,7 @@ use grid_geometry::{Pos, Seg, inside};
 use std::alloc::{AllocError, Global};
 use std::process::Abort;
 use std::test::Fail;
-use walk_mending::{PartFault, all_simple, mended_polygon};
+use walk_mending::{all_simple, mended_polygon};
 
 /// How many polygons are drawn.
 const POLYGONS: u32 = 400;
@@ -199,9 +199,9 @@ fn regions_agree<R: Abort>(rt: &R, walks: &Walks<Global>, parts: &Parts<Global>)
     }
 }
 
-fn agrees<R: Abort>(rt: &R, alloc: Global, draw: &mut Draw) -> Result<bool, PartFault> {
+fn agrees<R: Abort>(rt: &R, alloc: Global, draw: &mut Draw) -> Result<bool, AllocError> {
     let walks = draw.polygon(rt, alloc)?;
-    let parts = mended_polygon(alloc, walks.as_slice())?;
+    let parts = mended_polygon(alloc, walks.as_slice())?.expect(rt, "parted");
     let simple = all_simple(alloc, walks.as_slice())?;
     if !simple {
         segments_agree(rt, &walks, &parts);

@@ -6,7 +6,7 @@ use segment_paths::SegmentPath;
 use std::alloc::{AllocError, Allocator, Global};
 use std::process::Abort;
 use std::test::Fail;
-use walk_mending::{PartFault, bounding_segments, laid_walk, mended_polygon};
+use walk_mending::{bounding_segments, laid_walk, mended_polygon};
 
 /// A polygon's walks, the paths along which they are led, and what stands in its place.
 type Row = (&'static [Given], &'static [Given], &'static str);
@@ -138,12 +138,12 @@ fn mended<R: Abort, A: Allocator + Copy>(
     rt: &R,
     alloc: A,
     row: &Row,
-) -> Result<Parts<A>, PartFault> {
+) -> Result<Parts<A>, AllocError> {
     let laid = laid(rt, alloc, row)?;
-    mended_polygon(alloc, laid.as_slice())
+    Ok(mended_polygon(alloc, laid.as_slice())?.expect(rt, "parted"))
 }
 
-fn is_mended<R: Abort>(rt: &R, alloc: Global, row: &Row) -> Result<(), PartFault> {
+fn is_mended<R: Abort>(rt: &R, alloc: Global, row: &Row) -> Result<(), AllocError> {
     let parts = mended(rt, alloc, row)?;
     let text = lines(alloc, &parts)?;
     assert_eq!(rt; text.as_str(), row.2);
@@ -160,7 +160,7 @@ fn polygons_are_mended(rt: HostRuntime) {
 /// More than the growths of any row.
 const MANY: u64 = 1000;
 
-fn is_refused_in_turn<R: Abort>(rt: &R, alloc: Global, row: &Row) -> Result<(), PartFault> {
+fn is_refused_in_turn<R: Abort>(rt: &R, alloc: Global, row: &Row) -> Result<(), AllocError> {
     for nth in 1..MANY {
         let refusing = Refusing::new(alloc, nth);
         let parts = mended(rt, &refusing, row);
@@ -169,7 +169,7 @@ fn is_refused_in_turn<R: Abort>(rt: &R, alloc: Global, row: &Row) -> Result<(), 
             assert_eq!(rt; text.as_str(), row.2);
             return Ok(());
         }
-        assert!(rt; matches!(&parts, Err(PartFault::OutOfMemory)));
+        assert!(rt; parts.is_err());
     }
     assert!(rt; false, "too many growths");
     Ok(())

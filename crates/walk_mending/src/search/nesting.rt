@@ -1,5 +1,5 @@
 // Rings nested: outer ones with their holes.
-use crate::search::old::{is_old, turned};
+use crate::search::old::turned;
 use grid_geometry::{Pos, area2, orient};
 use ring_parts::canonical;
 use std::alloc::{AllocError, Allocator};
@@ -48,23 +48,22 @@ struct Found<A: Allocator + Copy> {
 }
 
 impl<A: Allocator + Copy> Found<A> {
-    /// The ring over a closed way, in the direction in which it was there before, if it was.
+    /// The ring over a closed way, in the direction in which it was there before, if it was; the
+    /// rings from before ascend.
     fn new(alloc: A, old: &[Vec<Pos, A>], way: &[Pos]) -> Result<Found<A>, AllocError> {
-        let extent = Extent::of(way);
-        let positions = canonical(alloc, way)?;
-        if is_old(old, &positions) {
-            return Ok(Found {
-                positions,
-                stays: true,
-                extent,
-            });
+        let mut positions = canonical(alloc, way)?;
+        let mut stays = old.binary_search(&positions).is_ok();
+        if !stays {
+            let back = turned(alloc, way)?;
+            if old.binary_search(&back).is_ok() {
+                positions = back;
+                stays = true;
+            }
         }
-        let back = turned(alloc, way)?;
-        let stays = is_old(old, &back);
         Ok(Found {
-            positions: if stays { back } else { positions },
+            positions,
             stays,
-            extent,
+            extent: Extent::of(way),
         })
     }
 
@@ -108,34 +107,24 @@ fn counts_for_middle(p: Pos, q: Pos, a: Pos, b: Pos) -> bool {
 
 /// Whether a ring has the middle of the other's first edge inside, by the even-odd rule.
 fn holds_middle(ring: &[Pos], other: &[Pos]) -> bool {
-    let ([first, rest @ ..], [p, q, ..]) = (ring, other) else {
+    let [p, q, ..] = other else {
         return false;
     };
-    let mut odd = false;
-    let mut from = *first;
-    for to in rest {
-        odd ^= counts_for_middle(*p, *q, from, *to);
-        from = *to;
-    }
-    odd ^ counts_for_middle(*p, *q, from, *first)
-}
-
-/// How many of the other rings hold the one at this place.
-fn depth<A: Allocator + Copy>(rings: &[Found<A>], place: usize, ring: &Found<A>) -> usize {
-    let mut depth: usize = 0;
-    for (k, other) in rings.iter().enumerate() {
-        if k != place && other.holds(ring) {
-            depth = depth.saturating_add(1);
-        }
-    }
-    depth
+    let edges = ring.iter().zip(ring.iter().skip(1).chain(ring));
+    let passed = edges.filter(|(from, to)| counts_for_middle(*p, *q, **from, **to));
+    passed.count() % 2 == 1
 }
 
 /// How many others hold each of the rings.
 fn depths<A: Allocator + Copy>(alloc: A, rings: &[Found<A>]) -> Result<Vec<usize, A>, AllocError> {
     let mut depths = Vec::new(alloc);
     for (place, ring) in rings.iter().enumerate() {
-        depths.push(depth(rings, place, ring))?;
+        let others = rings.iter().enumerate();
+        depths.push(
+            others
+                .filter(|(k, other)| *k != place && other.holds(ring))
+                .count(),
+        )?;
     }
     Ok(depths)
 }
@@ -147,12 +136,8 @@ fn around<A: Allocator + Copy>(
     depth: usize,
     hole: &Found<A>,
 ) -> Option<usize> {
-    for (place, (ring, at)) in rings.iter().zip(depths).enumerate() {
-        if *at == depth && ring.holds(hole) {
-            return Some(place);
-        }
-    }
-    None
+    let mut with_depths = rings.iter().zip(depths);
+    with_depths.position(|(ring, at)| *at == depth && ring.holds(hole))
 }
 
 /// The outer rings, each as a polygon, and for each ring in which of them it is the outer one.
@@ -209,9 +194,8 @@ pub(crate) fn nested<A: Allocator + Copy>(
         rings.push(Found::new(alloc, old, way.as_slice())?)?;
     }
     let depths = depths(alloc, rings.as_slice())?;
-    let to_left = match walks {
-        [first, ..] => turns_left(first.as_slice()),
-        [] => true,
-    };
+    let to_left = walks
+        .first()
+        .is_none_or(|first| turns_left(first.as_slice()));
     grouped(alloc, rings.as_slice(), depths.as_slice(), to_left)
 }

@@ -29,8 +29,3 @@ pub(crate) fn turned<A: Allocator + Copy>(
     begin_at_least(&mut turned);
     Ok(turned)
 }
-
-/// Whether the ring is one of those before; they ascend.
-pub(crate) fn is_old<A: Allocator + Copy>(old: &[Vec<Pos, A>], ring: &Vec<Pos, A>) -> bool {
-    old.binary_search(ring).is_ok()
-}

@@ -5,14 +5,6 @@ use grid_geometry::{Pos, Seg};
 use std::alloc::{AllocError, Allocator};
 use std::collections::BTreeSet;
 
-/// Takes out the segment between two positions, and whether it was there.
-fn take_out<A: Allocator + Copy>(left: &mut BTreeSet<Seg, A>, from: Pos, to: Pos) -> bool {
-    match Seg::new(from, to) {
-        Some(segment) => left.remove(&segment),
-        None => false,
-    }
-}
-
 /// The closed way from an edge on, along segments that are left, which are taken out.
 fn way_from<A: Allocator + Copy>(
     alloc: A,
@@ -24,7 +16,7 @@ fn way_from<A: Allocator + Copy>(
     let (mut from, mut to) = edge;
     let most = left.len();
     for _ in 0..most {
-        if !take_out(left, from, to) {
+        if !Seg::new(from, to).is_some_and(|segment| left.remove(&segment)) {
             break;
         }
         way.push(from)?;
@@ -58,18 +50,8 @@ fn cut_off<A: Allocator + Copy>(
     Ok(ring)
 }
 
-/// Appends a closed way of three positions or more.
-fn push_long<A: Allocator + Copy>(
-    ways: &mut Vec<Vec<Pos, A>, A>,
-    way: Vec<Pos, A>,
-) -> Result<(), AllocError> {
-    if way.len() >= LEAST {
-        ways.push(way)?;
-    }
-    Ok(())
-}
-
-/// Appends the closed ways into which one is cut where it comes to a position again.
+/// Appends the closed ways of three positions or more into which one is cut where it comes to a
+/// position again.
 fn push_loops<A: Allocator + Copy>(
     alloc: A,
     ways: &mut Vec<Vec<Pos, A>, A>,
@@ -82,10 +64,15 @@ fn push_loops<A: Allocator + Copy>(
             stack.push(*pos)?;
         } else {
             let ring = cut_off(alloc, &mut stack, &mut passed, *pos)?;
-            push_long(ways, ring)?;
+            if ring.len() >= LEAST {
+                ways.push(ring)?;
+            }
         }
     }
-    push_long(ways, stack)
+    if stack.len() >= LEAST {
+        ways.push(stack)?;
+    }
+    Ok(())
 }
 
 /// Appends the closed ways that begin along a walk.
@@ -96,17 +83,11 @@ fn push_along<A: Allocator + Copy>(
     left: &mut BTreeSet<Seg, A>,
     walk: &[Pos],
 ) -> Result<(), AllocError> {
-    let [first, rest @ ..] = walk else {
-        return Ok(());
-    };
-    let mut from = *first;
-    for to in rest {
-        let way = way_from(alloc, turns, left, (from, *to))?;
+    for (from, to) in walk.iter().zip(walk.iter().skip(1).chain(walk)) {
+        let way = way_from(alloc, turns, left, (*from, *to))?;
         push_loops(alloc, ways, way.as_slice())?;
-        from = *to;
     }
-    let way = way_from(alloc, turns, left, (from, *first))?;
-    push_loops(alloc, ways, way.as_slice())
+    Ok(())
 }
 
 /// The segments as a set.

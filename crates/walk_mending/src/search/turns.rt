@@ -10,36 +10,19 @@ pub(crate) type Turns<A> = BTreeMap<(Pos, Pos), Pos, A>;
 /// A position of a walk, and its two neighbours there.
 type Corner = (Pos, Seg);
 
-/// Appends a corner, where its neighbours differ.
-fn push_corner<A: Allocator>(
-    corners: &mut Vec<Corner, A>,
-    before: Pos,
-    at: Pos,
-    after: Pos,
-) -> Result<(), AllocError> {
-    if let Some(neighbours) = Seg::new(before, after) {
-        corners.push((at, neighbours))?;
-    }
-    Ok(())
-}
-
-/// Appends the corners of a walk.
+/// Appends the corners of a walk, where the neighbours differ.
 fn push_corners<A: Allocator>(
     corners: &mut Vec<Corner, A>,
     walk: &[Pos],
 ) -> Result<(), AllocError> {
-    let [first, inner @ .., last] = walk else {
-        return Ok(());
-    };
-    let mut before = *last;
-    let mut at = *first;
-    for after in inner {
-        push_corner(corners, before, at, *after)?;
-        before = at;
-        at = *after;
+    let before = walk.iter().rev().take(1).chain(walk);
+    let after = walk.iter().skip(1).chain(walk);
+    for ((before, at), after) in before.zip(walk).zip(after) {
+        if let Some(neighbours) = Seg::new(*before, *after) {
+            corners.push((*at, neighbours))?;
+        }
     }
-    push_corner(corners, before, at, *last)?;
-    push_corner(corners, at, *last, *first)
+    Ok(())
 }
 
 /// The corners of walks, ascending.
@@ -73,31 +56,20 @@ fn is_low(at: Pos, other: Pos) -> bool {
 
 /// The order in angle of two positions around a third one.
 fn by_angle(at: Pos, p: Pos, q: Pos) -> Ordering {
-    match is_low(at, p).cmp(&is_low(at, q)) {
-        Ordering::Equal => 0.cmp(&orient(at, p, q)),
-        halves => halves,
-    }
+    let halves = is_low(at, p).cmp(&is_low(at, q));
+    halves.then(0.cmp(&orient(at, p, q)))
 }
 
 /// Whether two neighbours of a position are so on some walk.
 fn is_corner(corners: &[Corner], at: Pos, p: Pos, q: Pos) -> bool {
-    match Seg::new(p, q) {
-        Some(neighbours) => corners.binary_search(&(at, neighbours)).is_ok(),
-        None => false,
-    }
+    Seg::new(p, q).is_some_and(|neighbours| corners.binary_search(&(at, neighbours)).is_ok())
 }
 
 /// How many corners of walks are kept where neighbours are joined two by two.
 fn count_kept(corners: &[Corner], at: Pos, around: &[Pos]) -> usize {
-    let mut kept: usize = 0;
-    for pair in around.chunks(2) {
-        if let [p, q] = pair
-            && is_corner(corners, at, *p, *q)
-        {
-            kept = kept.saturating_add(1);
-        }
-    }
-    kept
+    let pairs = around.chunks(2);
+    let kept = pairs.filter(|pair| matches!(pair, [p, q] if is_corner(corners, at, *p, *q)));
+    kept.count()
 }
 
 /// Puts the neighbours of a position in the order in which they are joined two by two: in angle, so

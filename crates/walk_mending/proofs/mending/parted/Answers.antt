@@ -5,8 +5,8 @@ use Rattle.walk_mending.specs.Common.{all_rings}
 use Rattle.walk_mending.proofs.Parting.{are_parts, is_filled, none_left, no_parts, some_odd}
 use Rattle.walk_mending.proofs.mending.parted.Goals as goal
 
-pub returns-then-exact-clause-parts : goal.returns-then-exact-clause-parts
-returns-then-exact-clause-parts g c =
+pub returns-then-exact : goal.returns-then-exact
+returns-then-exact g c =
     are_parts (rings_seen c.args.walks.now) (polygons_seen c.in_ok-parts.parts.items) c.in_ok-odd.odd.items
     (ap (λ z. list_all is_filled (polygons_seen z)) (sym c.as_slice-2.ensures.value) ∙ sym c.in_ok-filled.ensures ∙ c.if-filled.true)
     c.in_ok-odd.ensures.ascending c.in_ok-odd.ensures.odd
@@ -14,14 +14,14 @@ returns-then-exact-clause-parts g c =
     (subst (IsPermutation (flat_map walk_segments (all_rings (polygons_seen c.as_slice-3.result.now)))) c.as_slice-4.ensures.value
     (c.in_ok-exact.ensures c.if-exact.true)))
 
-pub returns-then-is_empty-clause-parts : goal.returns-then-is_empty-clause-parts
-returns-then-is_empty-clause-parts g c =
+pub returns-then-is_empty : goal.returns-then-is_empty
+returns-then-is_empty g c =
     let odd = c.in_ok-odd.odd in
     no_parts (rings_seen c.args.walks.now) (polygons_seen c.new.result.items) odd.items
     (none_left odd.items odd.len c.is_empty.result odd.ok.0 c.is_empty.ensures c.if-is_empty.true) c.in_ok-odd.ensures.odd (ap polygons_seen c.new.ensures.items)
 
-pub returns-clause-fault : goal.returns-clause-fault
-returns-clause-fault g c =
+pub returns : goal.returns
+returns g c =
     let odd = c.in_ok-odd.odd in
     some_odd (rings_seen c.args.walks.now) odd.items
     (some_left odd.items odd.len c.is_empty.result odd.ok.0 c.is_empty.ensures c.if-is_empty.false) c.in_ok-odd.ensures.odd

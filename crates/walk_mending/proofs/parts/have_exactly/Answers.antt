@@ -1,4 +1,4 @@
-use Rattle.kit_words.proofs.Common.{sym, ◌∙◌, subst, flat_map, IsPermutation, slice_eq-Decides}
+use Rattle.kit_words.proofs.Common.{ap, sym, ◌∙◌, subst, flat_map, take_all, IsPermutation, slice_eq-Decides}
 use Rattle.walk_faults.specs.Common.{walk_segments, polygons_seen}
 use Rattle.walk_mending.specs.Common.{all_rings}
 use Rattle.walk_mending.proofs.Parting.{segment_decides}
@@ -6,6 +6,11 @@ use Rattle.walk_mending.proofs.parts.have_exactly.Goals as goal
 
 pub returns : goal.returns
 returns g c = λ e.
-    subst (IsPermutation (flat_map walk_segments (all_rings (polygons_seen c.args.parts.now))))
-    (sym c.as_slice.ensures.value ∙ (slice_eq-Decides segment_decides c.as_slice.result.now c.args.odd.now c.eq.result c.eq.ensures).0 e)
-    c.in_ok-segments.ensures
+    let sorted = c.as_slice-2.result.now in
+    let all =
+    c.loop-part.invariant
+    ∙ ap (λ z. flat_map walk_segments (all_rings (polygons_seen z))) (take_all c.loop-part.part-index c.args.parts.now c.loop-part-test.false) in
+    subst (λ ss. IsPermutation ss c.args.odd.now) all
+    (subst (IsPermutation c.loop-part.segments.items)
+    (sym c.as_slice-2.ensures.value ∙ (slice_eq-Decides segment_decides sorted c.args.odd.now c.eq.result c.eq.ensures).0 e)
+    c.sort_unstable.ensures.permutation)

@@ -1,7 +1,7 @@
 use Rattle.kit_words.proofs.Common.{◌≡◌, take, flat_map}
 use Rattle.walk_faults.specs.Common.{walk_segments, polygons_seen}
 use Rattle.walk_mending.specs.Common.{all_rings}
-use Rattle.walk_mending.proofs.parts.part_segments.Given as goal
+use Rattle.walk_mending.proofs.parts.have_exactly.Given as goal
 
 -- those of the parts so far
 abbrev pub invariant-loop-part : goal.invariant-loop-part
