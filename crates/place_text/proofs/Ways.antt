@@ -2,14 +2,14 @@
 use Rattle.kit_words.proofs.Common.{◌≡◌, ◌<◌, ◌+◌, ℕ, suc, Bool, true, false, ◌||◌, ◌==◌, not, refl, sym, ap, ap₂, ◌∙◌}
 use Rattle.kit_words.proofs.Common.{List, [], ◌∷◌, ◌++◌, map, length, take, drop, get_or, drop-cons, arith, pos}
 use Rattle.kit_words.proofs.Common.{append_assoc, ◌-ℤ◌, codes, nat_lt, nat_tests, ints, map-append, length-map}
-use Rattle.kit_words.proofs.Common.{take_more, flat_map-append}
+use Rattle.kit_words.proofs.Common.{take_more, flat_map-append, Bor, Option, None, Some, option_map, unwrap_or}
 use Rattle.std.proofs.Common.{append-nil}
 use Rattle.ring_machine.specs.Common.{Text}
 use Rattle.grid_geometry.specs.Common.{Position, position}
 use Rattle.map_text.specs.Common.{further, commas, comma_if, pair_text, pairs, differences, arc_text, list_text}
-use Rattle.segment_paths.specs.Common.{path_seen}
+use Rattle.segment_paths.specs.Common.{path_seen, paths_seen}
 use Rattle.segment_paths.specs.declared.path.SegmentPath.{SegmentPath}
-use Rattle.place_text.specs.Common.{pair_behind, way, behind_if}
+use Rattle.place_text.specs.Common.{pair_behind, way, ways, behind_if}
 use Rattle.place_text.proofs.Appending.{four}
 use Rattle.place_text.proofs.Listed.{commas_next}
 use Rattle.place_text.proofs.Numbered.{so_many}
@@ -138,6 +138,12 @@ whole_way {A = A} delta inside path inner old same is_inner =
     ∙ ap (λ (p : SegmentPath A). old ++ arc_text delta (way (path_seen p))) same
 
 -- ---- the list of all arcs
+
+-- the paths that are told, and none where they are not
+pub told_is : {A : Type 0} (paths : Option (Bor (List (SegmentPath A)))) (none : Bor (List (SegmentPath A))) → none.now ≡ []
+    → map way (paths_seen (unwrap_or paths none).now) ≡ ways (option_map (λ ps. paths_seen ps.now) paths)
+told_is None none e = ap (λ ps. map way (paths_seen ps)) e
+told_is (Some paths) none e = refl
 
 -- the arcs of both kinds between brackets
 pub arcs_both : {A : Type 0} (arc : A → Text) (xs ys zs : List A) (more : Bool) (old t1 t2 t3 new : Text)

@@ -9,7 +9,7 @@ use itoa::{Buffer, Integer};
 use std::alloc::{AllocError, Allocator};
 
 /// Appends a number in decimal.
-pub(crate) fn push_number<A: Allocator, I: Integer>(
+pub fn push_number<A: Allocator, I: Integer>(
     text: &mut Vec<u8, A>,
     number: I,
 ) -> Result<(), AllocError>
@@ -33,11 +33,7 @@ pub(crate) fn push_comma<A: Allocator>(text: &mut Vec<u8, A>, more: bool) -> Res
 fn push_pair<A: Allocator>(text: &mut Vec<u8, A>, x: i64, y: i64) -> Result<(), AllocError>
     ensures { OnOk result (text.new.items ≡ text.old.items ++ pair_text (position x y)) }
 {
-    text.extend_from_slice(b"[")?;
-    push_number(text, x)?;
-    text.extend_from_slice(b",")?;
-    push_number(text, y)?;
-    text.extend_from_slice(b"]")
+    append!(text; b"[" push_number(x) b"," push_number(y) b"]")
 }
 
 /// Appends a position, as a pair of numbers.

@@ -13,6 +13,7 @@ use crate::numbers::{push_behind, push_comma, push_number, push_position};
 use crate::owners::Owners;
 use crate::places::{Kind, Place};
 use crate::sides::Side;
+use crate::tables::numbers_at;
 use grid_geometry::Seg;
 use segment_paths::SegmentPath;
 use std::alloc::{AllocError, Allocator};
@@ -37,13 +38,8 @@ fn push_ring<A: Allocator>(text: &mut Vec<u8, A>, ring: Option<RingAt>) -> Resul
     let Some(ring) = ring else {
         return Ok(());
     };
-    text.extend_from_slice(b",\"feature\":")?;
-    push_number(text, ring.feature)?;
-    text.extend_from_slice(b",\"polygon\":")?;
-    push_number(text, ring.polygon)?;
-    text.extend_from_slice(b",\"ring\":")?;
-    push_number(text, ring.ring)?;
-    Ok(())
+    append!(text; b",\"feature\":" push_number(ring.feature)
+        b",\"polygon\":" push_number(ring.polygon) b",\"ring\":" push_number(ring.ring))
 }
 
 /// Appends the numbers of features, as a further member.
@@ -55,8 +51,7 @@ fn push_features<A: Allocator>(text: &mut Vec<u8, A>, numbers: &[usize]) -> Resu
         push_comma(text, index > 0)?;
         push_number(text, *number)?;
     }
-    text.extend_from_slice(b"]")?;
-    Ok(())
+    append!(text; b"]")
 }
 
 /// Appends whose a place is, as further members.
@@ -70,7 +65,7 @@ fn push_whose<A: Allocator, B: Allocator + Copy>(
 {
     match place.kind {
         Kind::Short | Kind::Repeats => push_ring(text, place.ring),
-        Kind::On => push_features(text, owners.tables.of_vertex(place.pos)),
+        Kind::On => push_features(text, numbers_at(&owners.tables.vertices, &place.pos)),
         Kind::Cross => push_features(text, owners.of_pair(place.number)),
     }
 }
@@ -83,10 +78,7 @@ fn push_finding<A: Allocator>(
 ) -> Result<(), AllocError>
     ensures { OnOk result (text.new.items ≡ text.old.items ++ finding_text kind number) }
 {
-    text.extend_from_slice(b"{\"kind\":")?;
-    push_kind(text, kind)?;
-    text.extend_from_slice(b",\"number\":")?;
-    push_number(text, number)
+    append!(text; b"{\"kind\":" push_kind(kind) b",\"number\":" push_number(number))
 }
 
 /// What a layer lists.
@@ -116,13 +108,8 @@ impl Geometry for Place {
         _number: usize,
         _index: usize,
     ) -> Result<(), AllocError> {
-        text.extend_from_slice(b"{\"type\":\"Point\",\"properties\":")?;
-        push_finding(text, self.kind, self.number)?;
-        push_whose(text, owners, self)?;
-        text.extend_from_slice(b"},\"coordinates\":")?;
-        push_position(text, self.pos)?;
-        text.extend_from_slice(b"}")?;
-        Ok(())
+        append!(text; b"{\"type\":\"Point\",\"properties\":" push_finding(self.kind, self.number)
+            push_whose(owners, self) b"},\"coordinates\":" push_position(self.pos) b"}")
     }
 }
 
@@ -138,13 +125,10 @@ impl Geometry for Side {
         index: usize,
     ) -> Result<(), AllocError> {
         let side = *self;
-        text.extend_from_slice(b"{\"type\":\"LineString\",\"properties\":")?;
-        push_finding(text, side.kind, side.number)?;
-        push_features(text, owners.tables.of_segment(side.segment))?;
-        text.extend_from_slice(b"},\"arcs\":[")?;
-        push_number(text, index)?;
-        text.extend_from_slice(b"]}")?;
-        Ok(())
+        append!(text; b"{\"type\":\"LineString\",\"properties\":"
+            push_finding(side.kind, side.number)
+            push_features(numbers_at(&owners.tables.segments, &side.segment))
+            b"},\"arcs\":[" push_number(index) b"]}")
     }
 }
 
@@ -159,13 +143,9 @@ impl<C: Allocator + Copy> Geometry for SegmentPath<C> {
         number: usize,
         index: usize,
     ) -> Result<(), AllocError> {
-        text.extend_from_slice(b"{\"type\":\"LineString\",\"properties\":{\"number\":")?;
-        push_number(text, number)?;
-        push_features(text, owners.tables.of_segment(self.segment))?;
-        text.extend_from_slice(b"},\"arcs\":[")?;
-        push_number(text, index)?;
-        text.extend_from_slice(b"]}")?;
-        Ok(())
+        append!(text; b"{\"type\":\"LineString\",\"properties\":{\"number\":" push_number(number)
+            push_features(numbers_at(&owners.tables.segments, &self.segment))
+            b"},\"arcs\":[" push_number(index) b"]}")
     }
 }
 
@@ -177,12 +157,8 @@ pub(crate) fn push_arc<A: Allocator>(
 ) -> Result<(), AllocError>
     ensures { OnOk result (text.new.items ≡ text.old.items ++ arc_text delta (ends segment)) }
 {
-    text.extend_from_slice(b"[")?;
-    push_position(text, segment.lo)?;
-    text.extend_from_slice(b",")?;
-    push_behind(text, delta, segment.lo, segment.hi)?;
-    text.extend_from_slice(b"]")?;
-    Ok(())
+    append!(text; b"[" push_position(segment.lo) b"," push_behind(delta, segment.lo, segment.hi)
+        b"]")
 }
 
 /// Appends the positions of a path, as an arc (TopoJSON 1.0, 2.1.3).
@@ -204,8 +180,5 @@ pub(crate) fn push_way<A: Allocator, B: Allocator + Copy>(
         push_behind(text, delta, from, *to)?;
         from = *to;
     }
-    text.extend_from_slice(b",")?;
-    push_behind(text, delta, from, end)?;
-    text.extend_from_slice(b"]")?;
-    Ok(())
+    append!(text; b"," push_behind(delta, from, end) b"]")
 }

@@ -12,7 +12,7 @@ ghost use Rattle.place_text.specs.Tables.{numbers_in, asked_with, touch_pos, sid
 ghost use Rattle.place_text.specs.Tables.{numbers_of, path_segment, told_paths, Answers, AnswersBoth};
 
 use crate::sides::Side;
-use crate::tables::{Table, Tables, ask, tell_all};
+use crate::tables::{Table, Tables, ask, numbers_at, tell_all};
 use grid_geometry::{Pos, Seg};
 use segment_paths::SegmentPath;
 use std::alloc::{AllocError, Allocator};
@@ -77,28 +77,6 @@ fn ask_paths<A: Allocator + Copy>(
     Ok(())
 }
 
-/// The features of all that is asked for.
-fn told_tables<A: Allocator + Copy>(
-    alloc: A,
-    walks: &[Vec<Vec<Vec<Pos, A>, A>, A>],
-    touches: &[Touch],
-    sides: &[Side],
-    paths: Option<&[SegmentPath<A>]>,
-) -> Result<Tables<A>, AllocError>
-    ensures { IfOk result (λ tables. Answers (features_seen walks.now) touches.now sides.now
-        (told_paths (option_map (λ ps. paths_seen ps.now) paths.entry)) tables) }
-{
-    let mut tables = Tables {
-        vertices: BTreeMap::new(alloc),
-        segments: BTreeMap::new(alloc),
-    };
-    ask_vertices(alloc, &mut tables.vertices, touches)?;
-    ask_sides(alloc, &mut tables.segments, sides)?;
-    ask_paths(alloc, &mut tables.segments, paths)?;
-    tell_all(&mut tables, walks)?;
-    Ok(tables)
-}
-
 /// The numbers of both lists, ascending, each once.
 fn union<A: Allocator + Copy>(
     alloc: A,
@@ -126,8 +104,8 @@ fn pairs<A: Allocator + Copy>(
 {
     let mut pairs = Vec::new(alloc);
     for pair in crossings {
-        let first = tables.of_segment(pair.first);
-        let second = tables.of_segment(pair.second);
+        let first = numbers_at(&tables.segments, &pair.first);
+        let second = numbers_at(&tables.segments, &pair.second);
         pairs.push(union(alloc, first, second)?)?;
     }
     Ok(pairs)
@@ -149,7 +127,14 @@ pub(crate) fn owners_of<A: Allocator + Copy>(
     ensures pairs { IfOk result (λ owners. map numbers_of owners.pairs.items
         ≡ map (pair_features (features_seen walks.now)) findings.now.crossings.items) }
 {
-    let tables = told_tables(alloc, walks, findings.touches.as_slice(), sides, paths)?;
+    let mut tables = Tables {
+        vertices: BTreeMap::new(alloc),
+        segments: BTreeMap::new(alloc),
+    };
+    ask_vertices(alloc, &mut tables.vertices, findings.touches.as_slice())?;
+    ask_sides(alloc, &mut tables.segments, sides)?;
+    ask_paths(alloc, &mut tables.segments, paths)?;
+    tell_all(&mut tables, walks)?;
     let pairs = pairs(alloc, &tables, findings.crossings.as_slice())?;
     Ok(Owners { tables, pairs })
 }

@@ -35,28 +35,6 @@ fn push_touched<A: Allocator + Copy>(
     Ok(())
 }
 
-/// Appends the two segments of a pair with this number.
-fn push_pair<A: Allocator + Copy>(
-    sides: &mut Vec<Side, A>,
-    number: usize,
-    pair: Crossing,
-) -> Result<(), AllocError>
-    ensures { OnOk result
-        (sides.new.items ≡ sides.old.items ++ crossing_sides number pair) }
-{
-    sides.push(Side {
-        segment: pair.first,
-        kind: Kind::Cross,
-        number,
-    })?;
-    sides.push(Side {
-        segment: pair.second,
-        kind: Kind::Cross,
-        number,
-    })?;
-    Ok(())
-}
-
 /// Appends the segments that cross, pair after pair.
 fn push_crossed<A: Allocator + Copy>(
     sides: &mut Vec<Side, A>,
@@ -66,7 +44,16 @@ fn push_crossed<A: Allocator + Copy>(
         (sides.new.items ≡ sides.old.items ++ each_at crossing_sides 0 pairs.now) }
 {
     for (number, pair) in pairs.iter().enumerate() {
-        push_pair(sides, number, *pair)?;
+        sides.push(Side {
+            segment: pair.first,
+            kind: Kind::Cross,
+            number,
+        })?;
+        sides.push(Side {
+            segment: pair.second,
+            kind: Kind::Cross,
+            number,
+        })?;
     }
     Ok(())
 }

@@ -1,11 +1,11 @@
 // By vertex and by segment the numbers of the features that have it.
-ghost use Rattle.std.specs.Prelude.{◌≡◌, ◌∷◌, [], option_map, option_copied, unwrap_or, OnOk};
+ghost use Rattle.std.specs.Prelude.{◌≡◌, ◌∷◌, [], option_map, OnOk};
 ghost use Rattle.std.specs.List.{flat_map};
-ghost use Rattle.grid_geometry.specs.Common.{position_cmp, segment_cmp};
 ghost use Rattle.walk_faults.specs.Common.{segment_at, walk_segments, rings_seen, polygons_seen};
 ghost use Rattle.walk_faults.specs.Common.{features_seen};
 ghost use Rattle.place_text.specs.Owners.{feature_positions, feature_segments};
-ghost use Rattle.place_text.specs.Tables.{once, once_if, numbers_of, numbers_in, numbers_at, asked_with};
+ghost use Rattle.place_text.specs.Tables.{once, once_if, numbers_in, asked_with};
+ghost use Rattle.place_text.specs.Tables as spec;
 ghost use Rattle.place_text.specs.Tables.{Tells, TellsAll, AreEmpty};
 
 use grid_geometry::{Pos, Seg};
@@ -144,28 +144,15 @@ pub(crate) fn tell_all<A: Allocator + Copy>(
     Ok(())
 }
 
-/// The numbers that a list has; none where there is no list.
-fn or_none<'t, A: Allocator + Copy>(numbers: Option<&'t Vec<usize, A>>) -> &'t [usize]
-    ensures { result.now ≡ unwrap_or (option_map numbers_of (option_copied numbers.entry)) [] }
+/// The features that have what is asked for; none where it was not.
+pub(crate) fn numbers_at<'t, K: Ord, A: Allocator + Copy>(
+    table: &'t Table<K, A>,
+    key: &K,
+) -> &'t [usize]
+    ensures { result.now ≡ spec.numbers_at K.cmp table.now key.now }
 {
-    match numbers {
+    match table.get(key) {
         Some(numbers) => numbers.as_slice(),
         None => &[],
-    }
-}
-
-impl<A: Allocator + Copy> Tables<A> {
-    /// The features that have the vertex, which was asked for.
-    pub(crate) fn of_vertex(&self, pos: Pos) -> &[usize]
-        ensures { result.now ≡ numbers_at position_cmp self.now.vertices pos }
-    {
-        or_none(self.vertices.get(&pos))
-    }
-
-    /// The features that have the segment, which was asked for.
-    pub(crate) fn of_segment(&self, segment: Seg) -> &[usize]
-        ensures { result.now ≡ numbers_at segment_cmp self.now.segments segment }
-    {
-        or_none(self.segments.get(&segment))
     }
 }

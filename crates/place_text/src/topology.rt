@@ -1,5 +1,5 @@
 // The topology of places.
-ghost use Rattle.std.specs.Prelude.{◌≡◌, ◌≤◌, ◌+◌, ◌||◌, [], ◌∷◌, ◌++◌, length, nat_lt, map, option_map, IfOk, OnOk};
+ghost use Rattle.std.specs.Prelude.{◌≡◌, ◌≤◌, ◌+◌, [], ◌∷◌, ◌++◌, length, map, option_map, IfOk, OnOk};
 ghost use Rattle.map_text.specs.Common.{arc_text, arcs_text, commas};
 ghost use Rattle.segment_paths.specs.Common.{paths_seen};
 ghost use Rattle.walk_faults.specs.Common.{Found, each_at, features_seen};
@@ -36,8 +36,7 @@ fn push_collection<A: Allocator, B: Allocator + Copy, G: Geometry>(
         push_comma(text, number > 0)?;
         geometry.push(text, owners, number, others + number)?;
     }
-    text.extend_from_slice(b"]}")?;
-    Ok(())
+    append!(text; b"]}")
 }
 
 /// Appends the arcs of the segments, with commas between them.
@@ -56,13 +55,6 @@ fn push_side_arcs<A: Allocator>(
     Ok(())
 }
 
-/// Whether something stands before the element with this index, where perhaps others come first.
-fn follows(more: bool, index: usize) -> bool
-    ensures { result ≡ (more || nat_lt 0 index) }
-{
-    more || index > 0
-}
-
 /// Appends the arcs of the paths, with commas before them, but where nothing stands before.
 fn push_way_arcs<A: Allocator, B: Allocator + Copy>(
     text: &mut Vec<u8, A>,
@@ -74,21 +66,10 @@ fn push_way_arcs<A: Allocator, B: Allocator + Copy>(
         ++ behind_if more (map (arc_text delta) (map way (paths_seen paths.now)))) }
 {
     for (index, path) in paths.iter().enumerate() {
-        push_comma(text, follows(more, index))?;
+        push_comma(text, more || index > 0)?;
         push_way(text, delta, path)?;
     }
     Ok(())
-}
-
-/// The paths that are told, and none where they are not.
-fn told<'p, B: Allocator + Copy>(paths: Option<&'p [SegmentPath<B>]>) -> &'p [SegmentPath<B>]
-    ensures { map way (paths_seen result.now)
-        ≡ ways (option_map (λ ps. paths_seen ps.now) paths.entry) }
-{
-    match paths {
-        Some(paths) => paths,
-        None => &[],
-    }
 }
 
 /// Appends the list of the arcs: one for each segment, and one for each path, if these are told.
@@ -101,11 +82,9 @@ fn push_arcs<A: Allocator, B: Allocator + Copy>(
     ensures { OnOk result (text.new.items ≡ text.old.items ++ arcs_text delta
         (map side_ends sides.now ++ ways (option_map (λ ps. paths_seen ps.now) paths.entry))) }
 {
-    text.extend_from_slice(b"[")?;
-    push_side_arcs(text, delta, sides)?;
-    push_way_arcs(text, delta, !sides.is_empty(), told(paths))?;
-    text.extend_from_slice(b"]")?;
-    Ok(())
+    let told = paths.unwrap_or(&[]);
+    append!(text; b"[" push_side_arcs(delta, sides)
+        push_way_arcs(delta, !sides.is_empty(), told) b"]")
 }
 
 /// Appends the transform, where there is one.
@@ -138,44 +117,27 @@ fn push_path_layer<A: Allocator, B: Allocator + Copy>(
     let Some(paths) = paths else {
         return Ok(());
     };
-    text.extend_from_slice(b",\"paths\":")?;
-    push_collection(text, owners, others, paths)?;
-    Ok(())
+    append!(text; b",\"paths\":" push_collection(owners, others, paths))
 }
 
-/// The objects of a topology, and whose they are.
-#[derive(Drop)]
-struct Layers<'l, B: Allocator + Copy> {
-    owners: &'l Owners<B>,
-    places: &'l [Place],
-    sides: &'l [Side],
-    /// The paths, if they are told.
-    paths: Option<&'l [SegmentPath<B>]>,
-}
-
-/// Appends a topology of these layers (TopoJSON 1.0, 2.1).
+/// Appends a topology of these places, segments and, if they are told, paths (TopoJSON 1.0, 2.1).
 fn push_topology<A: Allocator, B: Allocator + Copy>(
     text: &mut Vec<u8, A>,
     transform: Option<&[u8]>,
-    layers: &Layers<'_, B>,
+    owners: &Owners<B>,
+    places: &[Place],
+    sides: &[Side],
+    paths: Option<&[SegmentPath<B>]>,
 ) -> Result<(), AllocError>
     ensures { OnOk result (text.new.items ≡ text.old.items
-        ++ topology_text (told_by layers.now.owners.now) (option_map (λ t. t.now) transform.entry)
-        layers.now.places.now layers.now.sides.now
-        (option_map (λ ps. paths_seen ps.now) layers.now.paths)) }
+        ++ topology_text (told_by owners.now) (option_map (λ t. t.now) transform.entry)
+        places.now sides.now (option_map (λ ps. paths_seen ps.now) paths.entry)) }
 {
-    let sides = layers.sides;
-    text.extend_from_slice(b"{\"type\":\"Topology\"")?;
-    push_transform(text, transform)?;
-    text.extend_from_slice(b",\"objects\":{\"places\":")?;
-    push_collection(text, layers.owners, 0, layers.places)?;
-    text.extend_from_slice(b",\"segments\":")?;
-    push_collection(text, layers.owners, 0, sides)?;
-    push_path_layer(text, layers.owners, sides.len(), layers.paths)?;
-    text.extend_from_slice(b"},\"arcs\":")?;
-    push_arcs(text, transform.is_some(), sides, layers.paths)?;
-    text.extend_from_slice(b"}")?;
-    Ok(())
+    append!(text; b"{\"type\":\"Topology\"" push_transform(transform)
+        b",\"objects\":{\"places\":" push_collection(owners, 0, places)
+        b",\"segments\":" push_collection(owners, 0, sides)
+        push_path_layer(owners, sides.len(), paths)
+        b"},\"arcs\":" push_arcs(transform.is_some(), sides, paths) b"}")
 }
 
 /// The text of the places of what was found in these walks: a topology (TopoJSON 1.0) with the
@@ -203,13 +165,8 @@ pub fn text_of_places<A: Allocator + Copy>(
     let places = places(alloc, walks, findings)?;
     let sides = sides(alloc, findings)?;
     let owners = owners_of(alloc, walks, findings, sides.as_slice(), paths)?;
-    let layers = Layers {
-        owners: &owners,
-        places: places.as_slice(),
-        sides: sides.as_slice(),
-        paths,
-    };
+    let (places, sides) = (places.as_slice(), sides.as_slice());
     let mut text = Vec::new(alloc);
-    push_topology(&mut text, transform, &layers)?;
+    push_topology(&mut text, transform, &owners, places, sides, paths)?;
     Ok(text)
 }

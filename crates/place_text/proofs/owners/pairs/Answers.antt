@@ -9,9 +9,9 @@ loop-pair-preserved g c = λ features all.
     let pair = c.pair-item.result in
     let segments = c.args.tables.now.segments in
     let both = subst (AnswersBoth features segments) (sym c.pair-item.is) (all i pair c.loop-pair-test.true) in
-    pair_step numbers_of features c.args.crossings.now i pair c.of_segment-first.result.now c.of_segment-second.result.now
+    pair_step numbers_of features c.args.crossings.now i pair c.numbers_at-first.result.now c.numbers_at-second.result.now
     c.loop-pair.pairs.items c.push.new.self.items c.in_ok-union.field-0
-    c.loop-pair-test.true c.pair-item.is (c.of_segment-first.ensures ∙ both.0) (c.of_segment-second.ensures ∙ both.1)
+    c.loop-pair-test.true c.pair-item.is (c.numbers_at-first.ensures ∙ both.0) (c.numbers_at-second.ensures ∙ both.1)
     c.in_ok-union.ensures (c.loop-pair.invariant features all) c.in_ok-push.ensures.items
 
 pub returns : goal.returns

@@ -10,20 +10,19 @@ use Rattle.place_text.proofs.topology.push_topology.Goals as goal
 pub returns : goal.returns
 returns g c =
     let transform = option_map (λ t. t.now) c.args.transform in
-    let layers = c.args.layers.now in
-    let told = told_by layers.owners.now in
-    let paths = option_map (λ ps. paths_seen ps.now) layers.paths in
-    let sides = layers.sides.now in
+    let told = told_by c.args.owners.now in
+    let paths = option_map (λ ps. paths_seen ps.now) c.args.paths in
+    let sides = c.args.sides.now in
     let all = map side_ends sides ++ ways paths in
     ten c.args.text.now.items (codes "{\"type\":\"Topology\"") (transform_text transform)
-    (codes ",\"objects\":{\"places\":") (collection_text (map (place_text told) layers.places.now))
+    (codes ",\"objects\":{\"places\":") (collection_text (map (place_text told) c.args.places.now))
     (codes ",\"segments\":") (collection_text (sides_text told sides)) (path_layer told (length sides) paths)
     (codes "},\"arcs\":") (arcs_text (is_some transform) all) (codes "}")
     c.extend_from_slice.new.self.items c.push_transform.new.text.items c.extend_from_slice-2.new.self.items c.push_collection.new.text.items
     c.extend_from_slice-3.new.self.items c.push_collection-2.new.text.items c.push_path_layer.new.text.items c.extend_from_slice-4.new.self.items
     c.push_arcs.new.text.items c.extend_from_slice-5.new.self.items
     c.in_ok-extend_from_slice.ensures.items c.in_ok-push_transform.ensures c.in_ok-extend_from_slice-2.ensures.items
-    (c.in_ok-push_collection.ensures ∙ ap (λ z. c.extend_from_slice-2.new.self.items ++ collection_text z) (each_is_map (place_text told) 0 layers.places.now))
+    (c.in_ok-push_collection.ensures ∙ ap (λ z. c.extend_from_slice-2.new.self.items ++ collection_text z) (each_is_map (place_text told) 0 c.args.places.now))
     c.in_ok-extend_from_slice-3.ensures.items
     (c.in_ok-push_collection-2.ensures ∙ ap (λ z. c.extend_from_slice-3.new.self.items ++ collection_text z) (each_from_nought (side_text told) 0 sides))
     c.in_ok-push_path_layer.ensures

@@ -17,5 +17,5 @@ returns g c =
     (subst (λ sides. Answers features found.touches.items sides (told_paths paths) owners.tables) c.as_slice.ensures.value c.in_ok-owners.ensures.tables)
     c.in_ok-owners.ensures.pairs
     (c.in_ok-push_topology.ensures
-    ∙ ap (λ z. z ++ topology_text (told_by owners) transform c.as_slice-2.result.now c.as_slice-3.result.now paths) c.new-text.ensures.items
-    ∙ ap₂ (λ (ps : List Place) (ss : List Side). topology_text (told_by owners) transform ps ss paths) c.as_slice-2.ensures.value c.as_slice-3.ensures.value)
+    ∙ ap (λ z. z ++ topology_text (told_by owners) transform c.as_slice-places.result.now c.as_slice-sides.result.now paths) c.new-text.ensures.items
+    ∙ ap₂ (λ (ps : List Place) (ss : List Side). topology_text (told_by owners) transform ps ss paths) c.as_slice-places.ensures.value c.as_slice-sides.ensures.value)

@@ -12,5 +12,5 @@ returns g c =
     c.extend_from_slice.new.self.items c.push_number.new.text.items c.push_features.new.text.items c.extend_from_slice-2.new.self.items c.push_number-2.new.text.items
     c.extend_from_slice-3.new.self.items
     c.in_ok-extend_from_slice.ensures.items c.in_ok-push_number.ensures
-    (c.in_ok-push_features.ensures ∙ ap (λ ns. c.push_number.new.text.items ++ features_text ns) c.of_segment.ensures)
+    (c.in_ok-push_features.ensures ∙ ap (λ ns. c.push_number.new.text.items ++ features_text ns) c.numbers_at.ensures)
     c.in_ok-extend_from_slice-2.ensures.items c.in_ok-push_number-2.ensures c.in_ok-extend_from_slice-3.ensures.items
