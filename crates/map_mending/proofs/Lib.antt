@@ -6,4 +6,5 @@ pub mod Settling
 pub mod Stays
 pub mod Kept
 pub mod Failing
+pub mod Counting
 mod Examples

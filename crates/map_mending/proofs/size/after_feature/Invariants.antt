@@ -1,7 +1,7 @@
 use Rattle.kit_words.proofs.Common.{length}
 use Rattle.std.specs.Prelude.{sum_by}
 use Rattle.topo_reader.specs.Common.{polygon_positions}
-use Rattle.topo_reader.proofs.Common.{Counts}
+use Rattle.map_mending.proofs.Counting.{Counts}
 use Rattle.map_mending.proofs.size.after_feature.Given as goal
 
 abbrev pub invariant-loop-rings : goal.invariant-loop-rings

@@ -1,6 +1,6 @@
 use Rattle.kit_words.proofs.Common.{length}
 use Rattle.topo_reader.specs.Common.{positions_of}
-use Rattle.topo_reader.proofs.Common.{Counts}
+use Rattle.map_mending.proofs.Counting.{Counts}
 use Rattle.map_mending.proofs.size.after_polygon.Given as goal
 
 abbrev pub invariant-loop-ring : goal.invariant-loop-ring
