@@ -13,6 +13,22 @@ macro_rules! or_return {
     };
 }
 
+// Appends words and what functions append in turn, as in
+// `append!(text; b"lines " push_number(dropped) b"\n")`.
+macro_rules! append {
+    ($text:expr;) => {
+        Ok(())
+    };
+    ($text:expr; $word:literal $($rest:tt)*) => {{
+        $text.extend_from_slice($word)?;
+        append!($text; $($rest)*)
+    }};
+    ($text:expr; $push:ident($($part:expr),+) $($rest:tt)*) => {{
+        $push($text, $($part),+)?;
+        append!($text; $($rest)*)
+    }};
+}
+
 mod asked;
 mod lines;
 mod looking;
