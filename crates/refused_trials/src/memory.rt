@@ -70,7 +70,8 @@ fn is_refused<R: Abort>(rt: &R, alloc: Global, row: &Row, whole: &[u8], nth: u64
         100,
     );
     if heap.was_refused() {
-        holds(rt, map, is_front(&told, answers, whole));
+        let made_do = is_whole(&told, answers, whole);
+        holds(rt, map, made_do || is_front(&told, answers, whole));
         true
     } else {
         holds(rt, map, is_whole(&told, answers, whole));

@@ -57,8 +57,8 @@ struct Usual {
     after: Vec<u8>,
 }
 
-/// Whether the edit has its usual answer; where a growth of it was refused, the map shows what it did
-/// before, and the edit is made again.
+/// Whether the edit has its usual answer; where a growth of it was refused, either it made do with less
+/// room, or the map shows what it did before, and the edit is made again.
 fn is_usual<R: Abort, I: SegIndex, A: Allocator + Copy>(
     rt: &R,
     alloc: Global,
@@ -70,6 +70,9 @@ fn is_usual<R: Abort, I: SegIndex, A: Allocator + Copy>(
     let answer = make(rt, heap, map, usual.edit);
     if !refusing.was_refused() {
         return answer == usual.answer;
+    }
+    if answer == usual.answer {
+        return shows(rt, alloc, map, usual.after.as_slice());
     }
     answer == Err(EditFault::OutOfMemory)
         && shows(rt, alloc, map, usual.before.as_slice())

@@ -77,6 +77,8 @@ enum Outcome {
     Part,
     /// The undo was refused it.
     NoUndo,
+    /// One of them was, and made do with less room.
+    MadeDo,
     /// Neither was.
     Usual,
 }
@@ -134,13 +136,24 @@ fn edit_and_undo<R: Abort, I: SegIndex, A: Allocator + Copy>(
 ) -> Outcome {
     let told = told_of(editor.map());
     let is_made = is_made(rt, alloc, editor, usual.edit);
-    assert!(rt; is_made != refusing.was_refused(), "{:?}", usual.edit);
+    assert!(rt; is_made || refusing.was_refused(), "{:?}", usual.edit);
     if !is_made {
         return edit_was_refused(rt, alloc, calm, editor, usual, told);
     }
+    let made_do = refusing.was_refused();
+    let is_usual = !made_do || is_written(rt, alloc, calm, editor.map(), usual.after.as_slice());
     let told = told_of(editor.map());
     let is_undone = is_undone(rt, editor);
-    assert!(rt; is_undone != refusing.was_refused(), "{:?}", usual.edit);
+    assert!(rt;
+        is_usual && (is_undone || refusing.was_refused()),
+        "{:?}",
+        usual.edit
+    );
+    if is_undone && refusing.was_refused() {
+        let is_back = is_written(rt, alloc, calm, editor.map(), usual.before.as_slice());
+        assert!(rt; is_back, "{:?}", usual.edit);
+        return Outcome::MadeDo;
+    }
     if is_undone {
         return Outcome::Usual;
     }
@@ -182,6 +195,7 @@ fn refuse_each<R: Abort>(rt: &R, alloc: Global, usual: &Usual, first: u64) -> Ta
             Outcome::NoEdit => tally.edits = tally.edits.wrapping_add(1),
             Outcome::Part => tally.parts = tally.parts.wrapping_add(1),
             Outcome::NoUndo => tally.undos = tally.undos.wrapping_add(1),
+            Outcome::MadeDo => {}
             Outcome::Usual => return tally,
         }
     }
