@@ -35,13 +35,14 @@ fn is_refused_in_turn<R: Abort>(rt: &R, alloc: Global) -> Result<(), Fail> {
         let seed = fixed_seed().expect(rt, "a seed");
         let map = BOW_TIE.as_bytes();
         let outcome = mend_map(&refusing, alloc, seed, map, asked, &mut texts);
-        if !refusing.was_refused() {
-            assert!(rt; outcome.is_ok());
-            assert_eq!(rt; texts.report.as_slice(), REPORT.as_bytes());
-            assert!(rt; texts.places.is_some());
+        let was_refused = refusing.was_refused();
+        let is_usual = outcome.is_ok()
+            && texts.report.as_slice() == REPORT.as_bytes()
+            && texts.places.is_some();
+        assert!(rt; is_usual || (was_refused && is_out_of_memory(&outcome)));
+        if !was_refused {
             return Ok(());
         }
-        assert!(rt; is_out_of_memory(&outcome));
     }
     assert!(rt; false, "too many growths");
     Ok(())

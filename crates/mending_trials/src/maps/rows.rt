@@ -108,12 +108,15 @@ fn is_refused_in_turn<R: Abort>(
     for nth in 1..MANY {
         let refusing = Refusing::new(alloc, nth);
         let text = told_of(alloc, &refusing, map);
-        if !refusing.was_refused() {
-            let text = text.ok().ok_or("mended")?;
-            assert_eq!(rt; text.as_str(), want, "{map}");
+        let was_refused = refusing.was_refused();
+        let is_usual = match &text {
+            Ok(text) => text.as_str() == want,
+            Err(fault) => was_refused && matches!(fault, MendFault::OutOfMemory),
+        };
+        assert!(rt; is_usual, "{map}");
+        if !was_refused {
             return Ok(());
         }
-        assert!(rt; matches!(&text, Err(MendFault::OutOfMemory)), "{map}");
     }
     assert!(rt; false, "too many growths");
     Ok(())
