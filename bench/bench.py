@@ -15,7 +15,8 @@ The reference is bench/reference, a plain C++ program that opens maps with the s
 saves the same text, written for speed, with nothing proved. It is built by `g++ -O2` into bench/out where the compiler is
 there; else a line says that it is not, and no ratio is told. It is given each script that the program was given, piece by
 piece, in the same run of this script; the ratio is the program's number over the reference's, of seconds, of rates or of
-memory.
+memory. Both are started as ./run starts the program, so that the C library asks the system for large pages, unless
+GLIBC_TUNABLES is set already: with GLIBC_TUNABLES= before the command both have usual pages.
 
 For each map there is one line a measure:
 

@@ -15,6 +15,8 @@ import termios
 import threading
 import time
 
+# What `./run` starts the program with, if the caller has not set it: the C library asks the system for large pages.
+PAGES = {"GLIBC_TUNABLES": "glibc.malloc.hugetlb=1"}
 # How long to wait before asking again whether a program has read all that was written, in seconds.
 PAUSE = 0.0005
 
@@ -154,7 +156,8 @@ class Runner:
         """A run of the program, with what it writes in a folder of its own; it is ended when it lasts too long."""
         with open(f"{own}/out", "wb") as to, open(f"{own}/err", "wb") as errors:
             words = [*self.words, path, script, "--out", self.saved, *more]
-            child = subprocess.Popen(words, stdin=subprocess.DEVNULL, stdout=to, stderr=errors)
+            how = {"stdin": subprocess.DEVNULL, "stdout": to, "stderr": errors, "env": {**PAGES, **os.environ}}
+            child = subprocess.Popen(words, **how)
             late = threading.Timer(self.limit, child.kill)
             late.start()
             try:

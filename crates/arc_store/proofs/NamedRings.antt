@@ -5,18 +5,20 @@ use Rattle.kit_words.proofs.Common.{is_some, option_map, append_assoc, ◌⊎◌
 use Rattle.kit_words.proofs.Common.{AllByRecursion, append-nil, map-append, take_more, slice_get-map}
 use Rattle.std.specs.FinMap as table
 use Rattle.grid_geometry.specs.Common.{Position, Segment, segment}
-use Rattle.ring_machine.specs.Common.{DocumentOf, rings, features, are_distinct}
+use Rattle.ring_machine.specs.Common.{DocumentOf, rings, features, are_distinct, is_segment}
 use Rattle.ring_machine.proofs.Common.{In, filter-in, contains_in, in_contains, in_mapped, mapped_there, in-map}
 use Rattle.ring_machine.proofs.Common.{in_recursion}
-use Rattle.vertex_index.specs.Common.{Placement}
+use Rattle.vertex_index.specs.Common.{Placement, place}
 use Rattle.arc_tables.specs.Common.{HasSegment, ListsUsers, Rings, Edge, is_seg, AllDifferent}
+use Rattle.arc_tables.proofs.Counting.{times_segment}
+use Rattle.ring_store.specs.Common.{Joined}
 use Rattle.map_frame.specs.Common.{Framed, number_at, ring_at}
 use Rattle.map_frame.specs.declared.names.RingName.{RingName}
 use Rattle.map_frame.proofs.Common.{same_some, in_get}
 use Rattle.feature_exchange.specs.Common.{IsWhole, stored, Stored, document_of, ring_under}
 use Rattle.arc_store.specs.Common.{ListsNames, RingHas, AreOnce, ListsRings, users}
-use Rattle.feature_exchange.proofs.Common.{framed, rings_are, segment_ends}
-use Rattle.ring_store.proofs.Common.{place_is, place_kept}
+use Rattle.feature_exchange.proofs.Common.{framed, joined_back, joined_kept, rings_are, segment_between, segment_ends}
+use Rattle.ring_store.proofs.Common.{kept_place, place_is, place_kept}
 use Rattle.arc_store.proofs.FrameNames.{name_there, number_there, one_name}
 use Rattle.arc_store.proofs.FrameReads.{ring-in_rings}
 use Rattle.arc_store.proofs.Insertions.{has_segment}
@@ -163,6 +165,27 @@ module _ (f : Framed) (m : Rings) (places : Placement) (whole : IsWhole (stored 
 
         unlisted : (r : ℕ) → Contains l.found r → In r numbers
         unlisted r c = subst (In r) (sym l.appended) (contains_in l.found r c)
+
+  -- the other end of a segment has a key, and some ring has the segment of the two
+  pub other_end : (t : Segment) → is_segment (document_of s) t ≡ true → (a : ℕ) → table.get places a ≡ Some t.lo
+      → (b r : ℕ) × (table.get places b ≡ Some t.hi) × HasSegment m a b r
+  other_end t h a at =
+      let e = segment_between s whole t h in
+      let kept = joined_kept s whole e.a e.b e.joined in
+      let x = kept_place places e.a kept.0 in
+      let y = kept_place places e.b kept.1 in
+      elim (segment_ends (place places e.a) (place places e.b)) [
+        | inl n ↦
+            let is : e.a ≡ a = whole.distinct e.a a t.lo (x ∙ ap Some (sym n.0 ∙ sym (ap (λ (z : Segment). z.lo) e.is))) at in
+            (e.b, e.joined.ring, y ∙ ap Some (sym n.1 ∙ sym (ap (λ (z : Segment). z.hi) e.is)), subst (λ z. HasSegment m z e.b e.joined.ring) is (by_keys e.a e.b e.joined))
+        | inr n ↦
+            let is : e.b ≡ a = whole.distinct e.b a t.lo (y ∙ ap Some (sym n.0 ∙ sym (ap (λ (z : Segment). z.lo) e.is))) at in
+            let back = joined_back s e.a e.b e.joined in
+            (e.a, back.ring, x ∙ ap Some (sym n.1 ∙ sym (ap (λ (z : Segment). z.hi) e.is)), subst (λ z. HasSegment m z e.a back.ring) is (by_keys e.b e.a back))
+      ]
+    where
+      by_keys : (j k : ℕ) (i : Joined m j k) → HasSegment m j k i.ring
+      by_keys j k i = record { edges = i.edges; held = i.held; has = times_segment j k i.edges i.has }
 
   -- no ring has a segment with an end that has no key
   none_at : (t : Segment) (p : Position) → (t.lo ≡ p) ⊎ (t.hi ≡ p) → (o : Option ℕ) → o ≡ None

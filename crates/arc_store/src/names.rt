@@ -1,5 +1,6 @@
-ghost use Rattle.std.specs.Prelude.{◌≡◌, ℕ, [], length, unwrap_or, Some, Contains, OnOk};
+ghost use Rattle.std.specs.Prelude.{◌≡◌, ℕ, [], length, unwrap_or, Some, Contains, IsTrue, OnOk};
 ghost use Rattle.grid_geometry.specs.Common.{edges, segment};
+ghost use Rattle.ring_machine.specs.Common.{is_segment};
 ghost use Rattle.map_frame.specs.Common.{number_at, ring_at};
 ghost use Rattle.map_frame.specs.declared.names.RingName.{RingName};
 ghost use Rattle.arc_store.specs.Named.{ListsNames, ListsRings};
@@ -64,6 +65,25 @@ impl<'a, I: SegIndex, A: Allocator + Copy> Map<'a, I, A> {
         self.rings.borders.push_users(a, b, &mut numbers)?;
         push_names(&self.frame, numbers.as_slice(), out)?;
         Ok(())
+    }
+
+    /// Appends the rings that have this segment of the map, each once. Fails for want of memory alone;
+    /// some of them may then have been appended.
+    pub fn push_rings_of<B: Allocator>(
+        &self,
+        s: Seg,
+        out: &mut Vec<RingName, B>,
+    ) -> Result<(), AllocError>
+        requires { IsTrue (is_segment self.now.doc s) }
+        ensures { OnOk result (ListsRings self.now.doc (segment s.lo s.hi) out.old.items out.new.items) }
+    {
+        let Some(a) = self.rings.vertices.key_of(s.lo) else {
+            return Ok(());
+        };
+        match self.rings.borders.users_around(a) {
+            Some(numbers) => push_names(&self.frame, numbers, out),
+            None => self.push_users(s.lo, s.hi, out),
+        }
     }
 
     /// Appends the rings that have a segment in common with this ring: of the feature with this

@@ -12,6 +12,10 @@ use Rattle.arc_tables.proofs.Different.{contained_any, any_contained}
 pub none_unless : (a b : ℕ) (ps : List ℕ) → (Contains ps a → times a b (links ps) ≡ 0) → times a b (links ps) ≡ 0
 none_unless a b ps h = elim (cases_Bool (list_any (λ k. k == a) ps)) [ inl e ↦ h (any_contained a ps e) | inr e ↦ none_at a b ps (λ m. both_ways _ e (contained_any a ps m)) ]
 
+-- a vertex with a segment of a path stands in it
+pub stands_in : (a b : ℕ) (ps : List ℕ) → 1 ≤ times a b (links ps) → Contains ps a
+stands_in a b ps h = elim (cases_Bool (list_any (λ k. k == a) ps)) [ inl e ↦ any_contained a ps e | inr e ↦ absurd (omega (arith, h, none_at a b ps (λ m. both_ways _ e (contained_any a ps m)))) ]
+
 pub if_none_map : {X : Type 0} {P Q : Type 0} (o : Option X) → (P → Q) → IfNone o P → IfNone o Q
 if_none_map None f p = f p
 if_none_map (Some x) f p = tt

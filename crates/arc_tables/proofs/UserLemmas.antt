@@ -1,12 +1,15 @@
 -- Which rings have a segment: those of the arc that has it.
 use Rattle.kit_words.proofs.Common.{◌≡◌, ℕ, ◌≤◌, true, sym, ap, ◌∙◌, subst, arith, List, [], ◌++◌, Option, Some, None}
-use Rattle.kit_words.proofs.Common.{append-nil}
+use Rattle.kit_words.proofs.Common.{append-nil, ◌∷◌, refl, inl, inr, length, get_or, Contains}
 use Rattle.slab.specs.Slab.{get}
 use Rattle.arc_tables.specs.Common.{Ring, Tables, Edge, links, chain, times, has_segment, path_of, users_in, uses_in}
-use Rattle.arc_tables.specs.Common.{uses_arc, edges_in, rings_of, Sound, HasSegment, ListsUsers}
+use Rattle.arc_tables.specs.Common.{uses_arc, edges_in, rings_of, stand_at, Sound, HasSegment, ListsUsers}
 use Rattle.arc_tables.proofs.Counting.{segment_times, times_segment, chain_has, chain_uses}
 use Rattle.arc_tables.proofs.RingLemmas.{get_rings, ring_here}
 use Rattle.arc_tables.proofs.CutLemmas.{present}
+use Rattle.arc_tables.proofs.Different.{none_contained}
+use Rattle.arc_tables.proofs.Finding.{stands_in}
+use Rattle.slab.proofs.SlabLemmas.{Contains-cons_cases}
 
 module _ {A : Type 0} where
   edges_there : (path : ℕ → List ℕ) (o : Option (Ring A)) (es : List Edge) → edges_in path o ≡ Some es
@@ -45,6 +48,23 @@ module _ {A : Type 0} where
       );
       once = s.whole.known.single n;
     }
+
+    one_alone : (xs : List ℕ) (d : ℕ) → length xs ≡ 1 → xs ≡ get_or xs 0 d ∷ []
+    one_alone [] d h = absurd (omega arith)
+    one_alone (x ∷ []) d h = refl
+    one_alone (x ∷ y ∷ xs) d h = absurd (omega (arith, h))
+
+    -- the one arc that a is listed for has each segment of a
+    pub listed_alone : Sound t → (among : List ℕ) (d : ℕ) → among ≡ stand_at t.stands.items a → length among ≡ 1
+        → (users : List ℕ) → users ≡ users_in (get t.arcs (get_or among 0 d))
+        → (r : ℕ) → HasSegment (rings_of t) a b r → ListsUsers (rings_of t) a b [] users
+    listed_alone s among d stand one users is r h =
+        let n = get_or among 0 d in
+        let alone : stand_at t.stands.items a ≡ n ∷ [] = sym stand ∙ one_alone among d one in
+        let u = arc_used r h in
+        let there : Contains (n ∷ []) u.0 = subst (λ z. Contains z u.0) alone (s.whole.listed u.0 a (stands_in a b (path_of t u.0) u.2)) in
+        let same : n ≡ u.0 = elim (Contains-cons_cases n u.0 [] there) [ inl e ↦ e | inr m ↦ absurd (none_contained u.0 [] refl m) ] in
+        listed_here s n (subst (λ z. 1 ≤ times a b (links (path_of t z))) (sym same) u.2) [] users users is refl
 
     -- no arc has the segment
     pub listed_nowhere : ((n : ℕ) → times a b (links (path_of t n)) ≡ 0) → (old : List ℕ)

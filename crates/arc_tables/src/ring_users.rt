@@ -1,10 +1,11 @@
 //! The lists of the rings that have a segment, and of those that have one of a ring's.
-ghost use Rattle.std.specs.Prelude.{◌≡◌, ◌++◌, OnOk};
+ghost use Rattle.std.specs.Prelude.{◌≡◌, ◌++◌, ℕ, [], OnOk, IfSome};
 ghost use Rattle.slab.specs.Slab.{get};
 ghost use Rattle.arc_tables.specs.Sound.{rings_of, Sound};
-ghost use Rattle.arc_tables.specs.Users.{ListsUsers, ListsSharing, sharers_in};
+ghost use Rattle.arc_tables.specs.Users.{HasSegment, ListsUsers, ListsSharing, sharers_in};
 
 use crate::arc::Arc;
+use crate::place::arcs_at;
 use crate::tables::Tables;
 use slab::Slab;
 use std::alloc::{AllocError, Allocator};
@@ -44,6 +45,22 @@ impl<A: Allocator + Copy> Tables<A> {
         }
         Ok(())
     }
+
+    /// The numbers of the rings that have a segment of vertex a, each once, where a is listed for one
+    /// arc alone: all its segments are of that arc. `None` where it may stand in several.
+    pub fn users_around(&self, a: VertexKey) -> Option<&[usize]>
+        requires { Sound self.now }
+        ensures { IfSome result (λ found. (b r : ℕ) → HasSegment (rings_of self.now) a b r
+            → ListsUsers (rings_of self.now) a b [] found.now) }
+    {
+        let among = arcs_at(&self.stands, a);
+        if among.len() != 1 {
+            return None;
+        }
+        let arc = self.arcs.get(among[0])?;
+        Some(arc.rings.as_slice())
+    }
+
     /// Appends the numbers of the rings that have a segment in common with ring `r`, itself among
     /// them, some perhaps several times: those of each arc that it uses. Where there is no such
     /// ring nothing is appended. Fails for want of memory alone; some of them may then have been

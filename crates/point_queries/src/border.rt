@@ -3,7 +3,7 @@ ghost use Rattle.std.specs.Prelude.{◌≡◌, map, IfOk, OnOk};
 ghost use Rattle.std.specs.List.{flat_map};
 ghost use Rattle.ring_machine.specs.Query as query;
 ghost use Rattle.arc_store.specs.Common.{ListsUsers};
-ghost use Rattle.point_queries.specs.Users.{on_edge};
+ghost use Rattle.point_queries.specs.Users.{AreSegments, on_edge};
 
 use crate::numbers::{Numbers, sort_once};
 use arc_store::{Map, RingName};
@@ -12,7 +12,7 @@ use segment_index::SegIndex;
 use std::alloc::{AllocError, Allocator};
 
 /// The box of one position.
-fn box_at(p: Pos) -> Rect
+pub(crate) fn box_at(p: Pos) -> Rect
     ensures { result ≡ record { x0 = p.x; y0 = p.y; x1 = p.x; y1 = p.y } }
 {
     Rect {
@@ -30,12 +30,13 @@ fn push_on<'a, I: SegIndex, A: Allocator + Copy>(
     near: &[Seg],
     out: &mut Vec<RingName, A>,
 ) -> Result<(), AllocError>
+    requires { AreSegments map.now.doc near.now }
     ensures { OnOk result (ListsUsers map.now.doc (flat_map (on_edge p) near.now)
         out.old.items out.new.items) }
 {
     for s in near {
         if on(p, *s) {
-            map.push_users(s.lo, s.hi, out)?;
+            map.push_rings_of(*s, out)?;
         }
     }
     Ok(())

@@ -6,10 +6,11 @@ ghost use Rattle.ring_parts.specs.Common.{rings_seen, polygons_seen};
 ghost use Rattle.ring_boxes.specs.Common.{Covers, Keeps};
 ghost use Rattle.point_queries.specs.Covered.{CoversFeature};
 
+use crate::border::box_at;
 use arc_store::Map;
-use grid_geometry::Pos;
+use grid_geometry::{Pos, Rect};
 use ring_boxes::RingBoxes;
-use segment_index::SegIndex;
+use segment_index::{SegIndex, widen};
 use std::alloc::{AllocError, Allocator};
 
 /// Adds the boxes of these rings.
@@ -61,6 +62,32 @@ pub fn add_boxes<'a, I: SegIndex, A: Allocator + Copy>(
     add_polygons(boxes, polygons.as_slice())
 }
 
+/// The first position of feature `n`, if it has one.
+fn first_position<'a, I: SegIndex, A: Allocator + Copy>(
+    map: &Map<'a, I, A>,
+    n: u32,
+) -> Option<Pos> {
+    map.ring(n, 0, 0)?.next()
+}
+
+/// The least box that has a position, and what another has.
+fn around(extent: Option<Rect>, p: Pos) -> Rect {
+    let mut rect = extent.unwrap_or(box_at(p));
+    widen(&mut rect, box_at(p));
+    rect
+}
+
+/// A box around a position of each feature that has one.
+fn extent_of<'a, I: SegIndex, A: Allocator + Copy>(map: &Map<'a, I, A>) -> Option<Rect> {
+    let mut extent: Option<Rect> = None;
+    for feature in 0..map.next_number() {
+        if let Some(p) = first_position(map, feature) {
+            extent = Some(around(extent, p));
+        }
+    }
+    extent
+}
+
 /// The boxes of all rings of a map, as `at_near` needs them. Walks it. Fails for want of memory
 /// alone.
 pub fn boxes_of<'a, I: SegIndex, A: Allocator + Copy>(
@@ -70,7 +97,7 @@ pub fn boxes_of<'a, I: SegIndex, A: Allocator + Copy>(
     ensures { IfOk result (λ boxes. Covers boxes (rings map.now.doc)) }
 {
     let _ = map.frame(); // it tells that no two features have one number
-    let mut boxes = RingBoxes::new(alloc);
+    let mut boxes = RingBoxes::over(alloc, extent_of(map), map.feature_count())?;
     for n in 0..map.next_number() {
         add_boxes(map, &mut boxes, n)?;
     }

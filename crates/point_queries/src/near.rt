@@ -3,12 +3,13 @@ ghost use Rattle.std.specs.Prelude.{◌≡◌, ◌≤◌, ◌⊎◌, true, int_l
 ghost use Rattle.std.specs.Prelude.{OnOk, IfSome};
 ghost use Rattle.std.specs.List.{filter, list_any};
 ghost use Rattle.std.specs.List.Sorted.{IsPermutation};
-ghost use Rattle.ring_machine.specs.Common.{rings};
+ghost use Rattle.ring_machine.specs.Common.{rings, is_segment};
 ghost use Rattle.ring_machine.specs.Query as query;
 ghost use Rattle.ring_boxes.specs.Common.{Covers};
 ghost use Rattle.point_queries.specs.Odd as odd;
 ghost use Rattle.map_frame.specs.declared.names.RingName.{RingName};
 ghost use Rattle.point_queries.specs.Near.{ray_to, ray_back, is_behind, AreBehind, SeesMore, Cancels, HaveOdd};
+ghost use Rattle.point_queries.specs.Users.{AreSegments};
 
 use crate::border::border_at;
 use crate::inside::{inside_at, inside_of};
@@ -120,12 +121,13 @@ fn push_unseen<'a, I: SegIndex, A: Allocator + Copy>(
     suspects: &[RingName],
     names: &mut Vec<RingName, A>,
 ) -> Result<(), AllocError>
+    requires { IsTrue (is_segment map.now.doc s) }
     ensures { OnOk result (SeesMore map.now.doc s suspects.now names.old.items names.new.items) }
 {
     if has_each(names.as_slice(), suspects) {
         return Ok(());
     }
-    map.push_users(s.lo, s.hi, names)
+    map.push_rings_of(s, names)
 }
 
 /// The rings that have one of those of these segments which pass the level of p behind it, until
@@ -137,6 +139,7 @@ fn rings_behind<'a, I: SegIndex, A: Allocator + Copy>(
     near: &[Seg],
     suspects: &[RingName],
 ) -> Result<Vec<RingName, A>, AllocError>
+    requires { AreSegments map.now.doc near.now }
     ensures { IfOk result (λ names. AreBehind map.now.doc p suspects.now near.now names.items) }
 {
     let mut names = Vec::new(alloc);

@@ -1,6 +1,7 @@
 // The polygons that have an odd number of given segments.
 ghost use Rattle.std.specs.Prelude.{IfOk, OnOk};
 ghost use Rattle.point_queries.specs.Odd.{ListsOdd, HavePassed, Toggles, AreOdd};
+ghost use Rattle.point_queries.specs.Users.{AreSegments};
 
 use crate::passed::passed;
 use arc_store::{Map, RingName};
@@ -23,10 +24,11 @@ fn push_rings<'a, I: SegIndex, A: Allocator + Copy>(
     segments: &[Seg],
     out: &mut Vec<RingName, A>,
 ) -> Result<(), AllocError>
+    requires { AreSegments map.now.doc segments.now }
     ensures { OnOk result (ListsOdd map.now.doc segments.now out.old.items out.new.items) }
 {
     for s in segments {
-        map.push_users(s.lo, s.hi, out)?;
+        map.push_rings_of(*s, out)?;
     }
     Ok(())
 }

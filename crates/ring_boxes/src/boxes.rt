@@ -45,6 +45,15 @@ impl<A: Allocator + Copy> RingBoxes<A> {
         }
     }
 
+    /// No boxes yet, and cells for about so many in an extent; no answer depends on these.
+    pub fn over(alloc: A, extent: Option<Rect>, count: usize) -> Result<Self, AllocError>
+        ensures { IfOk result (λ boxes. boxes ≡ set.empty) }
+    {
+        let mut index = TreeIndex::new(alloc, extent);
+        index.prepare(count)?;
+        Ok(Self { alloc, index })
+    }
+
     /// Adds the box of a ring, unless it is held already. Fails only for want of memory; each ring
     /// that lay in a box then still does.
     pub fn add(&mut self, ring: &[Pos]) -> Result<(), AllocError>

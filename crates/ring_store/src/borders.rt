@@ -1,6 +1,6 @@
 //! Rings over shared arcs, as a caller sees them.
-ghost use Rattle.std.specs.Prelude.{◌≡◌, ◌≤◌, ◌++◌, true, None, IfOk, OnOk, OnErr, IfSome, length, ◌<◌, ◌^◌, ◌⊎◌, ℕ, option_map};
-ghost use Rattle.arc_tables.specs.Common.{begins, edges, users_of, ListsUsers, ListsSharing, AreApart, through, collapsed, throughs, gained, ArePuts};
+ghost use Rattle.std.specs.Prelude.{◌≡◌, ◌≤◌, ◌++◌, [], true, None, IfOk, OnOk, OnErr, IfSome, length, ◌<◌, ◌^◌, ◌⊎◌, ℕ, option_map};
+ghost use Rattle.arc_tables.specs.Common.{begins, edges, users_of, HasSegment, ListsUsers, ListsSharing, AreApart, through, collapsed, throughs, gained, ArePuts};
 ghost use Rattle.ring_store.specs.Joined.{Joined};
 ghost use Rattle.std.specs.FinMap as map;
 
@@ -116,6 +116,15 @@ impl<A: Allocator + Copy> Borders<A> {
         ensures { OnOk result (ListsUsers self.now a b out.old.items out.new.items) }
     {
         self.tables.push_users(a, b, out)
+    }
+
+    /// The numbers of the rings that have a segment of this vertex, each once, where all rings go on
+    /// there along one border; `None` where they may part. Takes no memory.
+    pub fn users_around(&self, a: VertexKey) -> Option<&[usize]>
+        ensures { IfSome result (λ found. (b r : ℕ) → HasSegment self.now a b r
+            → ListsUsers self.now a b [] found.now) }
+    {
+        self.tables.users_around(a)
     }
 
     /// Appends the numbers of the rings that have a segment in common with ring `r`, itself among

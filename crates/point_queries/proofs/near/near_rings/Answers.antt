@@ -1,4 +1,4 @@
-use Rattle.kit_words.proofs.Common.{◌≡◌, ◌∙◌, ap, ap₂, sym, subst, [], filter, list_any}
+use Rattle.kit_words.proofs.Common.{◌≡◌, ◌∙◌, ap, ap₂, sym, subst, [], ◌++◌, Contains, filter, list_any}
 use Rattle.grid_geometry.specs.Common.{Box}
 use Rattle.ring_machine.proofs.Common.{in_permuted}
 use Rattle.ring_boxes.specs.Common.{IsAround}
@@ -19,6 +19,11 @@ ray_back-requires-clause-behind g c =
     let r : Box = record { x0 = c.bounds.inside.x0; y0 = c.bounds.inside.y0; x1 = c.bounds.inside.x1; y1 = c.bounds.inside.y1 } in
     let around : IsAround c.args.boxes.now c.args.p r = subst (IsAround c.args.boxes.now c.args.p) (sym c.bounds.view_is) c.in_ok-bounds.ensures in
     in_back c.args.p r around.has_it c.bounds.invariant.least.across
+
+pub rings_behind-requires : goal.rings_behind-requires
+rings_behind-requires g c = λ s k.
+    let near = c.in_ok-candidates.ensures.near in
+    near.among s (subst (λ z. Contains z s) (c.as_slice-2.ensures.value ∙ near.appended ∙ ap (λ z. z ++ near.found) c.new-near.ensures.items) k)
 
 pub returns : goal.returns
 returns g c =

@@ -8,7 +8,4 @@ returns-then-has_each g c =
     inr (refl, λ name k. subst (λ z. Contains z name) c.as_slice.ensures.value (c.has_each.ensures c.if-has_each.true name k))
 
 pub returns : goal.returns
-returns g c =
-    on_ok_weaker c.push_users.result
-    (λ listed. subst (λ (z : Segment). SeesMore c.args.map.now.doc z c.args.suspects.now c.args.names.now.items c.push_users.new.out.items) c.s.view_is (inl listed))
-    c.push_users.ensures
+returns g c = on_ok_weaker c.push_rings_of.result (λ listed. inl listed) c.push_rings_of.ensures

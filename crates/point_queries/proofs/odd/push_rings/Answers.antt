@@ -12,12 +12,12 @@ pub loop-s-preserved : goal.loop-s-preserved
 loop-s-preserved g c =
     let d = c.args.map.now.doc in
     let segments = c.args.segments.now in
-    let s : Segment = record { lo = c.s.inside.lo; hi = c.s.inside.hi } in
+    let s : Segment = c.s-item.result in
     let mid = c.loop-s.out.items in
     let within : c.loop-s.s-index < length segments = omega (arith, c.loop-s-test.true) in
-    odd_more_listed d segments c.loop-s.s-index c.s-item.result c.args.out.now.items mid c.push_users.new.out.items within c.loop-s.invariant
-    (subst (λ z. ListsOdd d (z ∷ []) mid c.push_users.new.out.items) (c.s.view_is ∙ c.s-item.is)
-    (odd_one_listed d s mid c.push_users.new.out.items c.in_ok-push_users.ensures))
+    odd_more_listed d segments c.loop-s.s-index c.s-item.result c.args.out.now.items mid c.push_rings_of.new.out.items within c.loop-s.invariant
+    (subst (λ z. ListsOdd d (z ∷ []) mid c.push_rings_of.new.out.items) c.s-item.is
+    (odd_one_listed d s mid c.push_rings_of.new.out.items c.in_ok-push_rings_of.ensures))
 
 pub returns : goal.returns
 returns g c =
