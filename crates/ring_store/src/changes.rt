@@ -46,7 +46,7 @@ pub(crate) fn spokes<A: Allocator + Copy>(
     requires { machine.has around.now p ≡ false }
     ensures { IfOk result (λ found. found.items ≡ planned.spokes p around.now) }
 {
-    let mut segments = Vec::new(alloc);
+    let mut segments = Vec::with_capacity(alloc, around.len())?;
     for x in around {
         push_segment(&mut segments, *x, p)?;
     }
@@ -64,7 +64,7 @@ pub(crate) fn positions_around<I: SegIndex, A: Allocator + Copy>(
 {
     let mut keys = Vec::new(tables.alloc);
     tables.borders.push_neighbours(k, &mut keys)?;
-    let mut around = Vec::new(tables.alloc);
+    let mut around = Vec::with_capacity(tables.alloc, keys.len())?;
     for x in keys.as_slice() {
         around.push(tables.vertices.pos(*x))?;
     }
