@@ -8,15 +8,15 @@ use Rattle.grid_geometry.proofs.Common.{segment-comm}
 use Rattle.ring_machine.specs.Common.{rings, is_vertex, is_segment, has, canonical, is_bridged, holds_other}
 use Rattle.ring_machine.specs.Common.{remove_sweeps, del, around, all_equal, is_junction}
 use Rattle.ring_machine.proofs.Common.{In, place_around, has-in, in-has, in-map, same_ends, ring_distinct, any_in}
-use Rattle.ring_machine.proofs.Common.{in_mapped}
+use Rattle.ring_machine.proofs.Common.{in_mapped, canonical_length, in_canonical}
 use Rattle.arc_tables.specs.Common.{AreApart, Edge, times, begins}
 use Rattle.ring_store.specs.declared.neighbours.Neighbours.TheVariants as Neighbours
 use Rattle.ring_store.specs.declared.neighbours.Neighbours.TheVariants.{One, More}
 use Rattle.ring_store.specs.Common.{Joined, Three, Passes, AreNeighbours}
 use Rattle.vertex_index.specs.Common.{place}
 use Rattle.feature_exchange.specs.Common.{Stored, positions_along, document_of, IsWhole}
-use Rattle.ring_store.proofs.Common.{IsKept, place_is, place_kept, one_key, length-canonical, times_edge, edge_times}
-use Rattle.ring_store.proofs.Common.{edge_ends, in_canonical, of_canonical}
+use Rattle.ring_store.proofs.Common.{IsKept, place_is, place_kept, one_key, times_edge, edge_times}
+use Rattle.ring_store.proofs.Common.{edge_ends, of_canonical}
 use Rattle.feature_exchange.proofs.Common.{joined_apart, Laid, begin_kept, segment_between, joined_back, key_vertex}
 use Rattle.feature_exchange.proofs.Common.{document_ring, laid_ring, joined_at, joined_kept, joined_around}
 use Rattle.feature_exchange.proofs.Common.{joined_segment, joined_differ, two_positions, end_is, end_of_two}
@@ -253,7 +253,7 @@ module _ (s : Stored) (w : IsWhole s) (m : ℕ) (p : Position) (here : table.get
 
   pub ring_length : (es : List Edge) → length (canonical (positions_along s.places es)) ≡ length es
   ring_length es =
-      omega (arith, length-canonical (positions_along s.places es), length-map (begins es) (place s.places), length-map es (λ (e : Edge). e.0))
+      omega (arith, canonical_length (positions_along s.places es), length-map (begins es) (place s.places), length-map es (λ (e : Edge). e.0))
 
   -- a ring passes m where it has p
   pub passes_has : (r : ℕ) (es : List Edge) → table.get s.rings r ≡ Some es → (x : ℕ) → 1 ≤ times m x es

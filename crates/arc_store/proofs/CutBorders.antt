@@ -1,28 +1,21 @@
 -- What a path that may cut a feature makes of the document: its segments come, its ends and inner
 -- positions are counted once more, and each ring is one.
-use Rattle.kit_words.proofs.Common.{◌≡◌, ℕ, ◌+◌, ◌*◌, Bool, false, refl, sym, ap, ap₂, ◌∙◌, List, [], ◌∷◌, ◌++◌, map}
-use Rattle.kit_words.proofs.Common.{length, ◌||◌, Some, arith, not, list_any, flat_map, filter, sum_by, append-nil}
-use Rattle.kit_words.proofs.Common.{flat_map-append, sum_by-filter_both, sum_by-append, sum_by-cons}
+use Rattle.kit_words.proofs.Common.{◌≡◌, ℕ, ◌+◌, ◌*◌, false, refl, sym, ap, ◌∙◌, List, [], ◌∷◌, ◌++◌, map, length, ◌||◌}
+use Rattle.kit_words.proofs.Common.{Some, arith, not, list_any, flat_map, filter, sum_by, append-nil, flat_map-append}
+use Rattle.kit_words.proofs.Common.{sum_by-filter_both, sum_by-append, sum_by-cons}
 use Rattle.grid_geometry.specs.Common.{Position, Segment, segment_eq, Edge, links}
 use Rattle.ring_machine.specs.Common.{canonical, has, is_ring, segment_of, Document, Feature, Text, feature, rings_of}
 use Rattle.ring_machine.specs.Common.{rings, size, is_vertex, is_segment, Path, cut, instead, stays, first_part}
 use Rattle.ring_machine.specs.Common.{second_part, first_polygon, second_polygon, goes_first, or_else, no_feature}
 use Rattle.ring_machine.specs.Common.{positions_of}
-use Rattle.ring_machine.proofs.Common.{new_part, parts, cut_is, CutRing, In, has_feature-found, feature_stands, there}
-use Rattle.ring_machine.proofs.Common.{none_in, all_in, none_parts, SplitDocument, split_document, SplitFeature}
+use Rattle.ring_machine.proofs.Common.{parts, cut_is, CutRing, In, has_feature-found, feature_stands, there}
+use Rattle.ring_machine.proofs.Common.{none_in, all_in, SplitDocument, split_document, SplitFeature}
 use Rattle.ring_machine.proofs.Common.{target_there, CutsRing, is_edge_of, cut_of, path_segments}
-use Rattle.ring_machine.proofs.Common.{canonical_parts_segments, parts_length, size-instead_at}
+use Rattle.ring_machine.proofs.Common.{canonical_parts_segments, parts_length, size-instead_at, new_feature}
 use Rattle.ring_machine.proofs.SplitBorders.{any_ring_after}
+use Rattle.ring_machine.proofs.SplitProper.{none_weaker}
 use Rattle.arc_store.specs.Common.{IsCuttable}
 use Rattle.arc_store.proofs.Insertions.{has_segment, is_segment_by}
-
--- what is weaker than a test that none passes
-none_weaker : {A : Type 0} (strong weak : A → Bool) → ((x : A) → strong x ≡ false → weak x ≡ false)
-    → (xs : List A) → list_any strong xs ≡ false → list_any weak xs ≡ false
-none_weaker strong weak h [] k = refl
-none_weaker strong weak h (x ∷ xs) k =
-    let k' = none_parts (strong x) (list_any strong xs) k in
-    ap₂ (λ a b. a || b) (h x k'.0) (none_weaker strong weak h xs k'.1)
 
 -- ---- positions counted
 
@@ -104,7 +97,7 @@ module _ (d : Document) (next n : ℕ) (id : Text) (path : Path) (a : IsCuttable
   cut_size =
       let f : Feature = split.old in
       let both : sum_by length (flat_map rings_of (parts d n id path next f)) ≡ sum_by length (rings_of (stays path f)) + sum_by length (second_polygon path polygon) =
-      ap (λ ps. sum_by length (rings_of (stays path f) ++ flat_map rings_of (map (new_part path next id f) ps))) split.split.target
+      ap (λ ps. sum_by length (rings_of (stays path f) ++ flat_map rings_of (map (new_feature path next id f) ps))) split.split.target
       ∙ sum_by-append length (rings_of (stays path f)) ((second_polygon path polygon ++ []) ++ [])
       ∙ ap (λ z. sum_by length (rings_of (stays path f)) + sum_by length z) (append-nil (second_polygon path polygon ++ []) ∙ append-nil (second_polygon path polygon)) in
       let is : size (cut d n id path next) ≡ size (instead n (parts d n id path next) d) = ap size (cut_is d n id path next) in

@@ -1,13 +1,13 @@
 -- The rings of a frame by their names: each ring has a name, and no two have one.
-use Rattle.kit_words.proofs.Common.{◌≡◌, ℕ, zero, suc, true, refl, sym, ap, ◌∙◌, List, [], ◌∷◌, map, inl, Some}
-use Rattle.kit_words.proofs.Common.{option_map, ◌==◌, slice_get, flat_map}
+use Rattle.kit_words.proofs.Common.{◌≡◌, ℕ, true, refl, sym, ap, ◌∙◌, List, [], ◌∷◌, map, inl, Some, option_map, ◌==◌}
+use Rattle.kit_words.proofs.Common.{slice_get}
 use Rattle.ring_machine.specs.Common.{FeatureOf, DocumentOf, features, feature, rings, rings_of, are_distinct}
-use Rattle.ring_machine.proofs.Common.{In, found, in_flat}
+use Rattle.ring_machine.proofs.Common.{In, found, in_flat, slice-in}
 use Rattle.map_frame.specs.declared.names.RingName.{RingName}
 use Rattle.map_frame.specs.Common.{number_at, element, ring_at}
-use Rattle.map_frame.proofs.EditedFeatures.{first_distinct}
-use Rattle.map_frame.proofs.Common.{element_is, same_some, in_part, one_part, found_at, ring_in, one_owner}
-use Rattle.map_frame.proofs.Common.{rest_distinct, in_get, of_in}
+use Rattle.map_frame.proofs.Common.{element_is, same_some, in_part, one_part, found_at, ring_in, one_owner, of_in}
+use Rattle.map_frame.proofs.GrownTables.{part_distinct}
+use Rattle.map_frame.proofs.NamedLists.{name_same}
 use Rattle.ring_store.proofs.Common.{singles}
 
 -- a ring's number is one of the frame
@@ -19,17 +19,14 @@ number_there d name r e =
 
 -- ---- each ring has a name
 
-pub place_of : {X : Type 0} (xs : List X) (x : X) → In x xs → (i : ℕ) × (slice_get xs i ≡ Some x)
-place_of xs x i = of_in xs x i
-
 -- each ring of a feature
 pub ring_named : {R : Type 0} (d : DocumentOf R) → are_distinct (map (λ f. f.number) (features d)) ≡ true
     → (f : FeatureOf R) → In f (features d) → (r : R) → In r (rings_of f)
     → (name : RingName) × (name.feature ≡ f.number) × (ring_at d name.feature name.polygon name.ring ≡ Some r)
 ring_named {R} d distinct f i r h =
     let p = in_flat (λ (polygon : List R). polygon) r f.polygons h in
-    let at = place_of f.polygons p.0 p.1 in
-    let ring = place_of p.0 r p.2 in (
+    let at = of_in f.polygons p.0 p.1 in
+    let ring = of_in p.0 r p.2 in (
       record { feature = f.number; polygon = at.0; ring = ring.0 },
       refl,
       ap (λ o. element (element (option_map (λ x. x.polygons) o) at.0) ring.0) (found f (features d) distinct i)
@@ -45,25 +42,10 @@ name_there d distinct r h =
 
 -- ---- no two rings have one
 
-part_distinct : {X : Type 0} (g : X → List ℕ) (xs : List X) (i : ℕ) (x : X) → are_distinct (flat_map g xs) ≡ true
-    → slice_get xs i ≡ Some x → are_distinct (g x) ≡ true
-part_distinct g [] i x d e = absurd cc
-part_distinct g (y ∷ xs) zero x d e =
-    ap (λ z. are_distinct (g z)) (sym (same_some y x e)) ∙ first_distinct (g y) (flat_map g xs) d
-part_distinct g (y ∷ xs) (suc i) x d e =
-    part_distinct g xs i x (rest_distinct (g y) (flat_map g xs) d) e
-
 one_place : (rs : List ℕ) → are_distinct rs ≡ true → (i j r : ℕ) → slice_get rs i ≡ Some r
     → slice_get rs j ≡ Some r → i ≡ j
 one_place rs d i j r e f =
     one_part (λ k. k ∷ []) rs (ap are_distinct (singles rs) ∙ d) i j r r r e f (inl refl) (inl refl)
-
-name_same : (a b : RingName) → a.feature ≡ b.feature → a.polygon ≡ b.polygon → a.ring ≡ b.ring → a ≡ b
-name_same a b e f h =
-    ap (λ x. at x a.polygon a.ring) e ∙ ap (λ x. at b.feature x a.ring) f ∙ ap (λ x. at b.feature b.polygon x) h
-  where
-    at : ℕ → ℕ → ℕ → RingName
-    at x y z = record { feature = x; polygon = y; ring = z }
 
 -- of one feature two names of a ring are the same
 same_within : (f : FeatureOf ℕ) → are_distinct (rings_of f) ≡ true → (a b : RingName) (r : ℕ) → a.feature ≡ b.feature
@@ -72,7 +54,7 @@ same_within : (f : FeatureOf ℕ) → are_distinct (rings_of f) ≡ true → (a 
 same_within f distinct a b r features e h =
     let v = element_is (slice_get f.polygons a.polygon) a.ring r e in
     let w = element_is (slice_get f.polygons b.polygon) b.ring r h in
-    let polygons : a.polygon ≡ b.polygon = one_part (λ (polygon : List ℕ). polygon) f.polygons distinct a.polygon b.polygon v.0 w.0 r v.1 w.1 (in_get v.0 a.ring r v.2) (in_get w.0 b.ring r w.2) in
+    let polygons : a.polygon ≡ b.polygon = one_part (λ (polygon : List ℕ). polygon) f.polygons distinct a.polygon b.polygon v.0 w.0 r v.1 w.1 (slice-in v.0 a.ring r v.2) (slice-in w.0 b.ring r w.2) in
     let same : w.0 ≡ v.0 = same_some w.0 v.0 (sym w.1 ∙ ap (slice_get f.polygons) (sym polygons) ∙ v.1) in
     let rings : a.ring ≡ b.ring = one_place v.0 (part_distinct (λ (polygon : List ℕ). polygon) f.polygons a.polygon v.0 distinct v.1) a.ring b.ring r v.2 (ap (λ z. slice_get z b.ring) (sym same) ∙ w.2) in
     name_same a b features polygons rings

@@ -1,6 +1,6 @@
 -- What an index that holds the segments of a document says of the document.
 use Rattle.kit_words.proofs.Common.{◌≡◌, true, false, sym, ap, ◌∙◌, subst, List, [], ◌∷◌, ◌⊎◌, inl, inr, None}
-use Rattle.kit_words.proofs.Common.{false≢true}
+use Rattle.kit_words.proofs.Common.{false≢true, false_from_ne_true}
 use Rattle.std.specs.FinSet as set
 use Rattle.grid_geometry.specs.Common.{Position, Segment, segment_eq, segment_lt, is_end, Edge, edges, conflict}
 use Rattle.grid_geometry.proofs.Common.{conflict-comm, conflict-same}
@@ -9,7 +9,7 @@ use Rattle.ring_machine.specs.Common.{segment_of, segments, Document, rings, pos
 use Rattle.ring_machine.specs.Common.{all_segments, Proper, first_pair, least_conflict}
 use Rattle.ring_machine.proofs.Common.{segment_ordered, In, in-map, in-flat_map, has-in, in-has, edge_in, first_end}
 use Rattle.ring_machine.proofs.Common.{vertex_in, segment_eq-true, edges_start, in_mapped, in_flat, any_in, in_any}
-use Rattle.ring_machine.proofs.Common.{same_answer, refuted}
+use Rattle.ring_machine.proofs.Common.{same_answer}
 use Rattle.segment_index.specs.Common.{SegmentSet, has}
 use Rattle.local_planarity.specs.Common.{IsEnds}
 use Rattle.feature_exchange.specs.Common.{IsIndexed}
@@ -67,9 +67,9 @@ vertex_end d p h =
 
 pub none_conflict : (ss : List Segment) → least_conflict ss ≡ None → (s t : Segment) → In s ss
     → In t ss → conflict s t ≡ false
-none_conflict ss h s t i j = refuted _ (λ e.
-    let f : segment_lt s t ≡ false = refuted _ (λ f. none_bad ss h (s, t) (record { order = f; left = i; right = j; meet = e })) in
-    let g : segment_lt t s ≡ false = refuted _ (λ g. none_bad ss h (t, s) (record { order = g; left = j; right = i; meet = conflict-comm t s ∙ e })) in
+none_conflict ss h s t i j = false_from_ne_true _ (λ e.
+    let f : segment_lt s t ≡ false = false_from_ne_true _ (λ f. none_bad ss h (s, t) (record { order = f; left = i; right = j; meet = e })) in
+    let g : segment_lt t s ≡ false = false_from_ne_true _ (λ g. none_bad ss h (t, s) (record { order = g; left = j; right = i; meet = conflict-comm t s ∙ e })) in
     false≢true (sym (ap (conflict s) (sym (segment_ordered.total s t f g)) ∙ conflict-same s) ∙ e))
 
 -- ---- what the index says

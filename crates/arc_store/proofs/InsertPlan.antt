@@ -1,12 +1,12 @@
 -- The plan of an insertion between two vertices: what comes and goes, and what is kept.
 use Rattle.kit_words.proofs.Common.{◌≡◌, ◌≤◌, ◌+◌, ℕ, true, false, sym, ap, ap₂, ◌∙◌, subst, List, [], ◌∷◌, ◌||◌, ◌&&◌}
-use Rattle.kit_words.proofs.Common.{inl, inr, arith, Some, ◌≢◌, Option, None, not, false≢true}
+use Rattle.kit_words.proofs.Common.{inl, inr, arith, Some, ◌≢◌, Option, None, not, false≢true, false_from_ne_true}
 use Rattle.std.specs.FinMap as table
 use Rattle.std.specs.FinSet as set
 use Rattle.grid_geometry.specs.Common.{Position, Segment, segment, segment_eq}
 use Rattle.grid_geometry.proofs.Common.{segment-comm}
 use Rattle.ring_machine.specs.Common.{has, Document, size, is_vertex, is_segment, first_of, insert_refusals, ins}
-use Rattle.ring_machine.proofs.Common.{In, has-in, segment_ordered, any_in, refuted}
+use Rattle.ring_machine.proofs.Common.{In, has-in, segment_ordered, any_in}
 use Rattle.vertex_index.specs.Common.{Placement}
 use Rattle.segment_index.specs.Candidates.{SegmentSet, AreSingle, segment_is, has as has_segment}
 use Rattle.segment_index.specs.Frames.{Frame as GridFrame}
@@ -60,7 +60,7 @@ module _ {frame : Framed} {rings : Rings} {places : Placement} {held : SegmentSe
 
   -- q is neither end
   pub insert_off : has (a ∷ b ∷ []) q ≡ false
-  insert_off = refuted _ (λ e. elim (has-in q (a ∷ b ∷ []) e) [
+  insert_off = false_from_ne_true _ (λ e. elim (has-in q (a ∷ b ∷ []) e) [
     | inl m ↦ other a (end_vertex d a (segment a b) has_border (two_ends a b).0) m
     | inr n ↦ elim n [ inl m ↦ other b (end_vertex d b (segment a b) has_border (two_ends a b).1) m | inr m ↦ m ]
   ])

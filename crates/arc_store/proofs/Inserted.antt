@@ -1,15 +1,15 @@
 -- What an insertion of a vertex does to a map that is kept.
 use Rattle.kit_words.proofs.Common.{◌≡◌, ◌≢◌, ◌≤◌, ◌+◌, ℕ, Bool, true, false, refl, sym, ap, ap₂, ◌∙◌, subst, cond}
 use Rattle.kit_words.proofs.Common.{List, [], ◌∷◌, map, length, ◌⊎◌, inl, inr, ◌&&◌, ◌||◌, arith, Some, None, is_some}
-use Rattle.kit_words.proofs.Common.{not, option_map, unwrap_or, list_any, false≢true, ℕ_discrete}
+use Rattle.kit_words.proofs.Common.{not, option_map, unwrap_or, list_any, false≢true, ℕ_discrete, or_cases}
+use Rattle.kit_words.proofs.Common.{false_from_ne_true}
 use Rattle.std.specs.FinMap as table
 use Rattle.std.specs.FinSet as set
 use Rattle.grid_geometry.specs.Common.{Position, Segment, segment, segment_eq}
 use Rattle.ring_machine.specs.Common.{canonical, is_ring, segment_of, rings, size, is_segment, ins, ins_ring, Proper}
 use Rattle.ring_machine.proofs.Common.{g_ins, ins_is, starts, starts_of, by_edges, In, document-agrees, all_of, all_in}
-use Rattle.ring_machine.proofs.Common.{in-map, in-flat_map, segment_eq-true, rings-in_rings, ins_is_proper, or_true}
-use Rattle.ring_machine.proofs.Common.{refuted, contains_in, in_contains, in_mapped, in_flat, is_some-mapped}
-use Rattle.ring_machine.proofs.Common.{mapped_there}
+use Rattle.ring_machine.proofs.Common.{in-map, in-flat_map, segment_eq-true, rings-in_rings, ins_is_proper, contains_in}
+use Rattle.ring_machine.proofs.Common.{in_contains, in_mapped, in_flat, is_some-mapped, mapped_there}
 use Rattle.vertex_index.proofs.Common.{get-inserted}
 use Rattle.segment_index.specs.Candidates.{SegmentSet, has as among}
 use Rattle.arc_tables.specs.Common.{Edge, is_seg, Rings, begins, over, through}
@@ -242,9 +242,9 @@ module _ (s : Stored) (after : Rings) (j k n : ℕ) (a b q : Position) (w : IsWh
 
       -- what comes in is not the segment of a and b
       apart_from_it : list_any (segment_eq t) (segment a q ∷ segment q b ∷ []) ≡ true → segment_eq t (segment a b) ≡ false
-      apart_from_it u = refuted _ (λ v. elim (or_true (segment_eq t (segment a q)) (segment_eq t (segment q b) || false) u) [
+      apart_from_it u = false_from_ne_true _ (λ v. elim (or_cases (segment_eq t (segment a q)) (segment_eq t (segment q b) || false) u) [
         | inl k' ↦ new (segment a q) come_inserted.first_new (segment_eq-true t (segment a q) k') v
-        | inr k' ↦ elim (or_true (segment_eq t (segment q b)) false k') [
+        | inr k' ↦ elim (or_cases (segment_eq t (segment q b)) false k') [
           | inl l ↦ new (segment q b) come_inserted.second_new (segment_eq-true t (segment q b) l) v
           | inr l ↦ false≢true l
         ]

@@ -1,7 +1,7 @@
 -- What an insertion of a position makes of the segments and the size of a document.
 use Rattle.kit_words.proofs.Common.{◌≡◌, ◌≢◌, ◌+◌, Bool, true, false, refl, sym, ap, ap₂, ◌∙◌, cond, List, [], ◌∷◌, map}
 use Rattle.kit_words.proofs.Common.{length, ◌⊎◌, inl, inr, ◌&&◌, ◌||◌, arith, not, flat_map, list_any, filter, sum_by}
-use Rattle.kit_words.proofs.Common.{false≢true, length-append, length-map, list_any-append}
+use Rattle.kit_words.proofs.Common.{false≢true, length-append, length-map, list_any-append, false_from_ne_true}
 use Rattle.grid_geometry.specs.Common.{Position, Segment, segment, segment_eq, is_end, IsSegment, Edge, edges}
 use Rattle.grid_geometry.proofs.Common.{segment-comm}
 use Rattle.ring_machine.specs.Common.{is_ring, canonical, segment_of, segments, Document, rings, size, is_vertex}
@@ -9,9 +9,9 @@ use Rattle.ring_machine.specs.Common.{is_segment, ins, ins_ring}
 use Rattle.ring_machine.proofs.Common.{g_ins, ins_is, ins-keeps, is_of, starts, starts_of, by_edges, closed}
 use Rattle.ring_machine.proofs.Common.{edited_chain, starts-flat_map, In, segment_eq-true, segment_eq-sym, same_ends}
 use Rattle.ring_machine.proofs.Common.{ring_once, rings-in_rings, ring_distinct, edges_start, AtMostOne, any_alike}
-use Rattle.ring_machine.proofs.Common.{refuted, canonical_turns, ring_chain}
+use Rattle.ring_machine.proofs.Common.{canonical_turns, ring_chain, canonical_length}
 use Rattle.arc_tables.specs.Common.{one}
-use Rattle.ring_store.proofs.Common.{sum_by-map, sum_more, length-canonical}
+use Rattle.ring_store.proofs.Common.{sum_by-map, sum_more}
 use Rattle.feature_exchange.proofs.Common.{two_positions, two_ends, end_of_two}
 use Rattle.arc_store.proofs.Indexed.{end_vertex}
 use Rattle.arc_store.proofs.RingEdits.{edges_turned}
@@ -153,7 +153,7 @@ vertex_differs d a q h k e = false≢true (sym k ∙ ap (is_vertex d) (sym e) �
 -- what ends at no vertex is no segment
 pub not_segment : (d : Document) (q : Position) (t : Segment) → is_vertex d q ≡ false → is_end q t ≡ true
     → is_segment d t ≡ false
-not_segment d q t k e = refuted _ (λ h. false≢true (sym k ∙ end_vertex d q t h e))
+not_segment d q t k e = false_from_ne_true _ (λ h. false≢true (sym k ∙ end_vertex d q t h e))
 
 -- the two that come in are segments, are two, and are new
 pub record Comes (d : Document) (s t : Segment) : Type 0 where
@@ -172,7 +172,7 @@ segments_come d a b q apart border free =
     record {
       first = two_positions a q a_differs;
       second = two_positions q b (λ e. b_differs (sym e));
-      two = refuted _ (λ h. elim (end_of_two a q b (ap (is_end a) (sym (segment_eq-true (segment a q) (segment q b) h)) ∙ (two_ends a q).0)) [
+      two = false_from_ne_true _ (λ h. elim (end_of_two a q b (ap (is_end a) (sym (segment_eq-true (segment a q) (segment q b) h)) ∙ (two_ends a q).0)) [
         | inl e ↦ a_differs e
         | inr e ↦ apart e
       ]);
@@ -200,7 +200,7 @@ length_inserted a b q (x ∷ y ∷ z ∷ ps) h =
     omega (
       arith,
       ap length (ins_is a b q ring),
-      length-canonical (by_edges (starts_of (g_ins s q)) ring),
+      canonical_length (by_edges (starts_of (g_ins s q)) ring),
       length_led s q x (edges ring) (ring_once s x y z ps (ring_distinct ring h)),
       ap one (has_segment_by s ring),
       length-map (edges ring) (λ e. e.0),

@@ -3,15 +3,14 @@
 use Rattle.kit_words.proofs.Common.{◌≡◌, ◌≤◌, ℕ, ◌+◌, Bool, false, sym, ap, ap₂, ◌∙◌, cond, List, [], ◌∷◌, ◌++◌, map}
 use Rattle.kit_words.proofs.Common.{length, reverse, take, drop, Some, None, arith, ◌==◌, not, flat_map, filter, sum_by}
 use Rattle.kit_words.proofs.Common.{prefix_len, eqb-false, append-nil, length-append, length-map, length-reverse}
-use Rattle.kit_words.proofs.Common.{take-append-drop, sum_by-append, sum_by-cons}
+use Rattle.kit_words.proofs.Common.{take-append-drop, sum_by-append, sum_by-cons, false_from_ne_true}
 use Rattle.std.proofs.lemmas.Bool.{eqb-true}
 use Rattle.grid_geometry.specs.Common.{Position, Edge, edges}
 use Rattle.ring_machine.specs.Common.{canonical, Document, Feature, feature, rings_of, size, WellFormed, take_out, join}
 use Rattle.ring_machine.specs.Common.{joined, joined_polygons, joined_feature, is_common, passed_alike, off_run}
 use Rattle.ring_machine.specs.Common.{feature_at, or_else, no_feature}
-use Rattle.ring_machine.proofs.Common.{feature_stands, MergeAccepted, join_order, formed-take_out}
-use Rattle.ring_machine.proofs.Common.{feature-take_out_other, size-take_out_at, size-instead_at, refuted, length_edges}
-use Rattle.ring_store.proofs.Common.{length-canonical}
+use Rattle.ring_machine.proofs.Common.{feature_stands, MergeAccepted, join_order, formed-take_out, canonical_length}
+use Rattle.ring_machine.proofs.Common.{feature-take_out_other, size-take_out_at, size-instead_at, length_edges}
 use Rattle.edit_records.specs.Common.{LayerTree, Fills, AreFormed, exchanged}
 use Rattle.edit_records.proofs.Common.{join-made, feature-own}
 use Rattle.map_frame.specs.Common.{texts_of, with_texts}
@@ -46,7 +45,7 @@ rests_short : (r s other : List Position) → length other ≡ length s
 rests_short r s other e = omega (
   arith,
   e,
-  length-canonical (map (λ e. e.0) (rests r s other)),
+  canonical_length (map (λ e. e.0) (rests r s other)),
   length-map (rests r s other) (λ e. e.0),
   length-append (off_run (is_common s) (edges r)) (off_run (is_common r) (edges other)),
   rest_short (is_common s) r,
@@ -60,7 +59,7 @@ joined_short r s = rests_short r s (cond (passed_alike r s) (reverse s) s) (grin
 -- ---- the document
 
 pub differ : (a b : ℕ) → (a == b) ≡ false → (b == a) ≡ false
-differ a b h = refuted _ (λ e. eqb-false a b h (sym (eqb-true b a e)))
+differ a b h = false_from_ne_true _ (λ e. eqb-false a b h (sym (eqb-true b a e)))
 
 module _ (d : Document) (n m : ℕ) (formed : WellFormed d) (a : MergeAccepted d n m) where
   abbrev pub merged : List (List Position)

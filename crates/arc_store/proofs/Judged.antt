@@ -1,6 +1,6 @@
 -- What the tests of an edit of one vertex say of its refusals.
-use Rattle.kit_words.proofs.Common.{ℕ, ◌≡◌, ◌≤◌, Bool, true, sym, ap, ap₂, ◌∙◌, subst, List, [], ◌∷◌, ◌||◌, ◌&&◌}
-use Rattle.kit_words.proofs.Common.{Option, None, arith, not, nat_le, list_any}
+use Rattle.kit_words.proofs.Common.{◌≡◌, Bool, sym, ap, ap₂, ◌∙◌, subst, List, [], ◌∷◌, ◌||◌, ◌&&◌, Option, None, not}
+use Rattle.kit_words.proofs.Common.{list_any, le-leb}
 use Rattle.std.specs.FinSet as set
 use Rattle.grid_geometry.specs.Common.{is_held, Position, Segment, segment, segment_eq}
 use Rattle.grid_geometry.proofs.Common.{segment-comm}
@@ -19,11 +19,6 @@ use Rattle.arc_store.proofs.Insertions.{segments_ins}
 use Rattle.ring_machine.proofs.Common.{segment_eq-sym}
 use Rattle.arc_store.proofs.MovePlan.{refuses_first}
 
--- ---- what both have in common
-
-pub at_most : (m n : ℕ) → m ≤ n → nat_le m n ≡ true
-at_most m n h = grind arith
-
 -- ---- an insertion
 
 module _ (d : Document) (held : SegmentSet) (a b q : Position) (i : IsInsertable d held a b q) where
@@ -36,7 +31,7 @@ module _ (d : Document) (held : SegmentSet) (a b q : Position) (i : IsInsertable
       let rest : List (Option Refusal) = planar (ins d a b q) ∷ (Sweeps unless not (insert_sweeps d a b q)) ∷ [] in
       ap (λ x. first_of ((NoSegment unless x) ∷ (Occupied unless not (is_vertex d q)) ∷ (TooLarge unless is_small (ins d a b q)) ∷ rest)) i.border
       ∙ ap (λ x. first_of ((Occupied unless not x) ∷ (TooLarge unless is_small (ins d a b q)) ∷ rest)) i.free
-      ∙ ap (λ x. first_of ((TooLarge unless x) ∷ rest)) (at_most (size (ins d a b q)) 4000000 i.small)
+      ∙ ap (λ x. first_of ((TooLarge unless x) ∷ rest)) (le-leb (size (ins d a b q)) 4000000 i.small)
 
   -- the segments after the insertion, in the words of the tests
   insert_after : IsAfter held (One (segment a b)) (segment a q ∷ segment b q ∷ []) (all_segments (ins d a b q))

@@ -6,12 +6,12 @@ use Rattle.grid_geometry.specs.Ring.{Edge as Side}
 use Rattle.grid_geometry.proofs.Common.{segment-comm}
 use Rattle.ring_machine.specs.Common.{is_ring, canonical}
 use Rattle.ring_machine.proofs.Common.{segment_ordered, same_ends, segment_eq-true, In, Pivot, by_edges}
-use Rattle.ring_machine.proofs.Common.{canonical_by_edges, ring_long, ring_distinct, same_answer}
+use Rattle.ring_machine.proofs.Common.{canonical_by_edges, ring_long, ring_distinct, same_answer, canonical_length}
 use Rattle.arc_tables.specs.Common.{Edge, links, is_seg, begins, edges, over, drawn, onto}
 use Rattle.ring_store.specs.Common.{GoesRound}
 use Rattle.arc_store.proofs.RingEdits.{distinct_turned}
-use Rattle.ring_store.proofs.Common.{length-canonical, laid, edges_round, is_seg_ends, ends_is_seg, keys_distinct}
-use Rattle.arc_tables.proofs.Common.{onto_p, onto_b}
+use Rattle.ring_store.proofs.Common.{laid, edges_round, ends_is_seg, keys_distinct}
+use Rattle.arc_tables.proofs.Common.{onto_p, onto_b, ends_of}
 
 -- ---- ways
 
@@ -54,7 +54,7 @@ over_keeps a b q e = grind arith
 
 -- where an edge goes, both of its keys come to be one
 pub meets_onto : (m k : ℕ) (e : Edge) → is_seg m k e ≡ true → onto m k e.0 ≡ onto m k e.1
-meets_onto m k e h = elim (is_seg_ends m k e h) [
+meets_onto m k e h = elim (ends_of m k e h) [
   | inl i ↦ onto_p m k e.0 i.0 ∙ sym (ap (onto m k) i.1 ∙ onto_b m k)
   | inr i ↦ ap (onto m k) i.0 ∙ onto_b m k ∙ sym (onto_p m k e.1 i.1)
 ]
@@ -96,7 +96,7 @@ pub seg_same : (at : ℕ → Position) (j k : ℕ) (e : Edge) → (at e.0 ≡ at
 seg_same at j k e f g f' g' = same_answer _ (is_seg j k e) (λ h. elim (same_ends (at j, at k) (at e.0, at e.1) (sym (segment_eq-true _ _ h))) [
   | inl s ↦ ends_is_seg j k e (inl (f s.0, g' s.1))
   | inr s ↦ ends_is_seg j k e (inr (g s.0, f' s.1))
-]) (λ h. elim (is_seg_ends j k e h) [
+]) (λ h. elim (ends_of j k e h) [
   | inl s ↦ ap₂ (λ y z. segment_eq (segment (at y) (at z)) (segment (at j) (at k))) s.0 s.1 ∙ segment_ordered.eq-refl (segment (at j) (at k))
   | inr s ↦ ap₂ (λ y z. segment_eq (segment (at y) (at z)) (segment (at j) (at k))) s.0 s.1 ∙ ap (λ z. segment_eq z (segment (at j) (at k))) (segment-comm (at k) (at j)) ∙ segment_ordered.eq-refl (segment (at j) (at k))
 ])
@@ -107,7 +107,7 @@ pub round_of_way : (at : ℕ → Position) (k : ℕ) (es : List Edge) → Way k 
 round_of_way at k es w h = record {
   keys = begins es;
   along = sym (closed_way k es w);
-  long = omega (arith, ring_long (canonical (map at (begins es))) h, length-canonical (map at (begins es)), length-map (begins es) at);
+  long = omega (arith, ring_long (canonical (map at (begins es))) h, canonical_length (map at (begins es)), length-map (begins es) at);
   different = keys_distinct at (begins es) (distinct_turned (map at (begins es)) (ring_distinct (canonical (map at (begins es))) h));
 }
 

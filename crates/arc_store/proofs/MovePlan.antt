@@ -1,13 +1,13 @@
 -- The plan of a move: what stands around the vertex, what comes and goes, and when it is refused.
 use Rattle.kit_words.proofs.Common.{◌≡◌, ℕ, Bool, true, false, sym, ap, ap₂, ◌∙◌, subst, List, [], ◌∷◌, map, ◌||◌, ◌&&◌}
-use Rattle.kit_words.proofs.Common.{Some, None, Option, Result, Ok, Err, OnOk, OnErr, not, list_any, map-map}
+use Rattle.kit_words.proofs.Common.{Some, None, Option, Result, Ok, Err, OnOk, OnErr, not, list_any, map-map, and_parts}
 use Rattle.std.specs.FinMap as table
 use Rattle.std.specs.FinSet as set
 use Rattle.grid_geometry.specs.Common.{Position, Segment, segment, is_end}
 use Rattle.ring_machine.specs.Common.{Document, Refusal, NoVertex, Occupied, Sweeps, is_vertex, is_segment, positions}
 use Rattle.ring_machine.specs.Common.{all_segments, least_conflict, first_pair, first_of, conflict_of, move_refusals}
 use Rattle.ring_machine.specs.Common.{◌unless◌, crosses_on_way, edge_sweeps, move_sweeps, put}
-use Rattle.ring_machine.proofs.Common.{and_both, any_in, in_contains}
+use Rattle.ring_machine.proofs.Common.{any_in, in_contains}
 use Rattle.vertex_index.specs.Common.{Placement, place}
 use Rattle.segment_index.specs.Candidates.{SegmentSet, AreAmong, AreSingle, segment_is, has as has_segment}
 use Rattle.segment_index.proofs.Common.{same_segment}
@@ -60,7 +60,7 @@ module _ (s : Stored) (held : SegmentSet) (h : Holds s held) (k : ℕ) (p q : Po
   pub plan_held : AreAmong held (spokes p around)
   plan_held t i =
       h.indexed t
-      ∙ (and_both (is_segment (document_of s) t) (is_end p t)
+      ∙ (and_parts (is_segment (document_of s) t) (is_end p t)
       (segments_at s h.whole k p at r.keys r.joined t ∙ sym (has-eq (segments_to s.places p r.keys) t) ∙ subst (λ z. has_segment z t ≡ true) (spokes_are p) i)).0
 
   pub plan_once : AreSingle (spokes p around)

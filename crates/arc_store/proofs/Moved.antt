@@ -2,19 +2,20 @@
 use Rattle.kit_words.proofs.Common.{◌≡◌, ◌≢◌, ◌≤◌, ◌+◌, ℕ, Bool, true, false, refl, sym, ap, ap₂, ◌∙◌, subst, cond}
 use Rattle.kit_words.proofs.Common.{List, [], ◌∷◌, ◌++◌, map, length, ◌||◌, ◌&&◌, inl, inr, arith, Some, is_some, ◌==◌}
 use Rattle.kit_words.proofs.Common.{not, unwrap_or, pos, list_any, sum_by, fold, false≢true, Decides-eqb, map-append}
-use Rattle.kit_words.proofs.Common.{length-map, ℕ_discrete}
+use Rattle.kit_words.proofs.Common.{length-map, ℕ_discrete, and_parts, or_cases, or_right, or_parts, false_from_ne_true}
+use Rattle.kit_words.proofs.Common.{not-true}
 use Rattle.std.specs.FinMap as table
 use Rattle.std.specs.FinSet as set
 use Rattle.grid_geometry.specs.Common.{Position, position, position_eq, Segment, segment, segment_eq, is_end}
 use Rattle.grid_geometry.proofs.Common.{segment-comm}
-use Rattle.ring_machine.specs.Common.{canonical, has, is_distinct, Document, rings, size, is_vertex, is_segment}
-use Rattle.ring_machine.specs.Common.{all_segments, put, put_ring, Proper, are_distinct}
-use Rattle.ring_machine.proofs.Common.{Pivot, pivot_of, canonical_parts, canonical_swap, In, document-agrees, all_of}
-use Rattle.ring_machine.proofs.Common.{none_in, in-map, has-in, in-has, and_both, or_true, or_right, refuted}
-use Rattle.ring_machine.proofs.Common.{segment_ordered, none_parts, not_true, segment_eq-true, rings-in_rings}
+use Rattle.ring_machine.specs.Common.{canonical, has, Document, rings, size, is_vertex, is_segment, all_segments, put}
+use Rattle.ring_machine.specs.Common.{put_ring, Proper, are_distinct}
+use Rattle.ring_machine.proofs.Common.{Pivot, canonical_parts, canonical_swap, In, document-agrees, all_of, none_in}
+use Rattle.ring_machine.proofs.Common.{in-map, has-in, in-has, segment_ordered, segment_eq-true, rings-in_rings}
 use Rattle.ring_machine.proofs.Common.{put_is_proper, put-distinct, contains_in, in_contains, in_mapped, any_in, in_any}
-use Rattle.ring_machine.proofs.Common.{same_answer}
+use Rattle.ring_machine.proofs.Common.{same_answer, canonical_length, in_canonical}
 use Rattle.ring_machine.proofs.Keys.{shifted, key_moved}
+use Rattle.ring_machine.proofs.SidesKept.{pivot_some}
 use Rattle.vertex_index.specs.Common.{Placement, AreDistinct, place}
 use Rattle.vertex_index.proofs.Common.{get-inserted}
 use Rattle.segment_index.specs.Candidates.{SegmentSet, AreSingle, has as has_segment, segment_is, times_in}
@@ -27,8 +28,7 @@ use Rattle.feature_exchange.proofs.Common.{end_of_two, two_ends, joined_back, fr
 use Rattle.feature_exchange.proofs.Common.{positions_distinct, positions_long, ring_under_is, segment_between}
 use Rattle.feature_exchange.proofs.Common.{joined_segment, joined_kept, joined_differ, AreJoined, segments_to}
 use Rattle.feature_exchange.proofs.Common.{segments_at, one_to}
-use Rattle.ring_store.proofs.Common.{in_canonical, length-canonical, has_key, insert_other, IsKept, place_is}
-use Rattle.ring_store.proofs.Common.{kept_place, place_kept, one_key, has-eq}
+use Rattle.ring_store.proofs.Common.{has_key, insert_other, IsKept, place_is, kept_place, place_kept, one_key, has-eq}
 use Rattle.arc_store.specs.Common.{IsMovable}
 use Rattle.arc_store.proofs.Indexed.{end_vertex}
 
@@ -38,10 +38,6 @@ map_alike : {A B : Type 0} (f g : A → B) → ((a : A) → f a ≡ g a) → (xs
     → map f xs ≡ map g xs
 map_alike f g h [] = refl
 map_alike f g h (x ∷ xs) = ap₂ (λ y z. y ∷ z) (h x) (map_alike f g h xs)
-
-pivot_some : (ps : List Position) → 1 ≤ length ps → is_distinct ps ≡ true → Pivot ps
-pivot_some [] l d = absurd (omega arith)
-pivot_some (p ∷ ps) l d = pivot_of p ps d
 
 -- positions that are changed before or after the ring is turned
 pub canonical_map : (f : Position → Position) (ps : List Position) → Pivot (map f ps)
@@ -60,16 +56,16 @@ pub segments_to_single : (places : Placement) (q : Position) → AreDistinct pla
     → AreSingle (segments_to places q xs)
 segments_to_single places q d [] kept h t = omega arith
 segments_to_single places q d (x ∷ xs) kept h t =
-    let h' = and_both (not (has_key x xs)) (are_distinct xs) h in
-    by (segment_is t (segment (place places x) q)) refl (not_true _ h'.0) (segments_to_single places q d xs (λ y i. kept y (inr i)) h'.1 t)
+    let h' = and_parts (not (has_key x xs)) (are_distinct xs) h in
+    by (segment_is t (segment (place places x) q)) refl (not-true _ h'.0) (segments_to_single places q d xs (λ y i. kept y (inr i)) h'.1 t)
   where
     none : (ys : List ℕ) → ((y : ℕ) → In y ys → IsKept places y) → t ≡ segment (place places x) q
         → has_key x ys ≡ false → times_in (segments_to places q ys) t ≡ 0
     none [] kept' e n = refl
     none (y ∷ ys) kept' e n =
-        let n' = none_parts (y == x) (has_key x ys) n in
+        let n' = or_parts (y == x) (has_key x ys) n in
         ap₂ (λ a b. cond a 1 0 + b)
-        (refuted _ (λ f. false≢true (sym n'.0 ∙ (Decides-eqb y x).1 (one_to places q d y x (kept' y (inl refl)) (kept x (inl refl)) (sym (same_segment t (segment (place places y) q) f) ∙ e)))))
+        (false_from_ne_true _ (λ f. false≢true (sym n'.0 ∙ (Decides-eqb y x).1 (one_to places q d y x (kept' y (inl refl)) (kept x (inl refl)) (sym (same_segment t (segment (place places y) q) f) ∙ e)))))
         (none ys (λ z i. kept' z (inr i)) e n'.1)
 
     by : (b : Bool) → segment_is t (segment (place places x) q) ≡ b → has_key x xs ≡ false
@@ -85,7 +81,7 @@ size-put d p q = ap (sum_by length) (rings-in_rings (put_ring p q) d) ∙ over 0
   where
     one : (ring : List Position) → length (put_ring p q ring) ≡ length ring
     one ring =
-        length-canonical (map (λ r. cond (position_eq r p) q r) ring) ∙ length-map ring (λ r. cond (position_eq r p) q r)
+        canonical_length (map (λ r. cond (position_eq r p) q r) ring) ∙ length-map ring (λ r. cond (position_eq r p) q r)
 
     over : (n : ℕ) (rs : List (List Position))
         → fold (λ a x. a + length x) n (map (put_ring p q) rs) ≡ fold (λ a x. a + length x) n rs
@@ -147,7 +143,7 @@ module _ (s : Stored) (w : IsWhole s) (k : ℕ) (p q : Position) (at : table.get
 
   ring_free : (r : ℕ) (es : List Edge) → table.get s.rings r ≡ Some es
       → has (positions_along s.places es) q ≡ false
-  ring_free r es e = refuted _ (λ i. false≢true (sym (none_in (λ ring. has ring q) (rings (document_of s)) (canonical (positions_along s.places es)) free (ring_laid s w r es e))
+  ring_free r es e = false_from_ne_true _ (λ i. false≢true (sym (none_in (λ ring. has ring q) (rings (document_of s)) (canonical (positions_along s.places es)) free (ring_laid s w r es e))
       ∙ in-has q (canonical (positions_along s.places es)) (in_canonical (positions_along s.places es) q (has-in q (positions_along s.places es) i))))
 
   positions_moved : (r : ℕ) (es : List Edge) → table.get s.rings r ≡ Some es
@@ -217,7 +213,7 @@ module _ (s : Stored) (w : IsWhole s) (k : ℕ) (p q : Position) (at : table.get
       → is_end p (segment (place s.places a) (place s.places b)) ≡ false
   not_end a b j m n =
       let both = joined_kept s w a b j in
-      refuted _ (λ e. elim (end_of_two p (place s.places a) (place s.places b) e) [
+      false_from_ne_true _ (λ e. elim (end_of_two p (place s.places a) (place s.places b) e) [
         | inl i ↦ m (one_key s.places w.distinct a k both.0 kept (sym i ∙ sym here))
         | inr i ↦ n (one_key s.places w.distinct b k both.1 kept (sym i ∙ sym here))
       ])
@@ -229,11 +225,11 @@ module _ (s : Stored) (w : IsWhole s) (k : ℕ) (p q : Position) (at : table.get
   segments_moved xs j t = same_answer _ _ (λ h.
       let b = segment_between (moved_to s k q) whole_moved t (ap (λ d. is_segment d t) document_moved ∙ h) in
       forth b.a b.b b.joined b.is (ℕ_discrete b.a k) (ℕ_discrete b.b k))
-      (λ h. elim (or_true (is_segment (document_of s) t && not (is_end p t)) (list_any (segment_eq t) (segments_to s.places q xs)) h) [
+      (λ h. elim (or_cases (is_segment (document_of s) t && not (is_end p t)) (list_any (segment_eq t) (segments_to s.places q xs)) h) [
         | inl i ↦
-            let both = and_both (is_segment (document_of s) t) (not (is_end p t)) i in
+            let both = and_parts (is_segment (document_of s) t) (not (is_end p t)) i in
             let b = segment_between s w t both.0 in
-            ap (is_segment (put (document_of s) p q)) b.is ∙ stays b.a b.b b.joined (off b.a b.b (not_true _ both.1) b.is).0 (off b.a b.b (not_true _ both.1) b.is).1
+            ap (is_segment (put (document_of s) p q)) b.is ∙ stays b.a b.b b.joined (off b.a b.b (not-true _ both.1) b.is).0 (off b.a b.b (not-true _ both.1) b.is).1
         | inr i ↦
             let u = any_in (segment_eq t) (segments_to s.places q xs) i in
             let x = in_mapped (λ x. segment (place s.places x) q) u.0 xs u.1 in
@@ -280,7 +276,7 @@ module _ (s : Stored) (w : IsWhole s) (k : ℕ) (p q : Position) (at : table.get
       → is_segment (document_of s) t ≡ false
   added_new xs t i =
       let x = in_mapped (λ x. segment (place s.places x) q) t xs i in
-      refuted _ (λ e. false≢true (sym free ∙ end_vertex (document_of s) q t e (ap (is_end q) (sym x.2) ∙ (two_ends (place s.places x.0) q).1)))
+      false_from_ne_true _ (λ e. false≢true (sym free ∙ end_vertex (document_of s) q t e (ap (is_end q) (sym x.2) ∙ (two_ends (place s.places x.0) q).1)))
 
   -- no two are one
   pub added_single : (xs : List ℕ) → AreJoined s k xs → are_distinct xs ≡ true
@@ -314,8 +310,8 @@ module _ (s : Stored) (w : IsWhole s) (k : ℕ) (p q : Position) (at : table.get
       either held added at_p e = grind arith
 
       apart_from_held : (set.contains held t && has_segment (segments_to s.places q xs) t) ≡ false
-      apart_from_held = refuted _ (λ e.
-          let both = and_both (set.contains held t) (has_segment (segments_to s.places q xs) t) e in
+      apart_from_held = false_from_ne_true _ (λ e.
+          let both = and_parts (set.contains held t) (has_segment (segments_to s.places q xs) t) e in
           let u = any_in (segment_eq t) (segments_to s.places q xs) (sym (has-eq (segments_to s.places q xs) t) ∙ both.1) in
           false≢true (sym (added_new xs u.0 u.1) ∙ ap (is_segment (document_of s)) (sym (segment_eq-true t u.0 u.2)) ∙ sym (i t) ∙ both.0))
 

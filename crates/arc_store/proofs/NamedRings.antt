@@ -7,14 +7,14 @@ use Rattle.std.specs.FinMap as table
 use Rattle.grid_geometry.specs.Common.{Position, Segment, segment}
 use Rattle.ring_machine.specs.Common.{DocumentOf, rings, features, are_distinct, is_segment}
 use Rattle.ring_machine.proofs.Common.{In, filter-in, contains_in, in_contains, in_mapped, mapped_there, in-map}
-use Rattle.ring_machine.proofs.Common.{in_recursion}
+use Rattle.ring_machine.proofs.Common.{in_recursion, slice-in}
 use Rattle.vertex_index.specs.Common.{Placement, place}
 use Rattle.arc_tables.specs.Common.{HasSegment, ListsUsers, Rings, Edge, is_seg, AllDifferent}
 use Rattle.arc_tables.proofs.Counting.{times_segment}
 use Rattle.ring_store.specs.Common.{Joined}
 use Rattle.map_frame.specs.Common.{Framed, number_at, ring_at}
 use Rattle.map_frame.specs.declared.names.RingName.{RingName}
-use Rattle.map_frame.proofs.Common.{same_some, in_get}
+use Rattle.map_frame.proofs.Common.{same_some}
 use Rattle.feature_exchange.specs.Common.{IsWhole, stored, Stored, document_of, ring_under}
 use Rattle.arc_store.specs.Common.{ListsNames, RingHas, AreOnce, ListsRings, users}
 use Rattle.feature_exchange.proofs.Common.{framed, joined_back, joined_kept, rings_are, segment_between, segment_ends}
@@ -73,9 +73,9 @@ different_once : (ns : List ℕ) → AllDifferent ns → (i j x : ℕ) → slice
 different_once [] d i j x e h = absurd cc
 different_once (n ∷ ns) d zero zero x e h = refl
 different_once (n ∷ ns) d zero (suc j) x e h =
-    absurd (other_than n ns d.0 x (in_get ns j x h) (sym (same_some n x e)))
+    absurd (other_than n ns d.0 x (slice-in ns j x h) (sym (same_some n x e)))
 different_once (n ∷ ns) d (suc i) zero x e h =
-    absurd (other_than n ns d.0 x (in_get ns i x e) (sym (same_some n x h)))
+    absurd (other_than n ns d.0 x (slice-in ns i x e) (sym (same_some n x h)))
 different_once (n ∷ ns) d (suc i) (suc j) x e h = ap suc (different_once ns d.1 i j x e h)
 
 named_once : (d : DocumentOf ℕ) (found : List RingName) (numbers : List ℕ) → map (number_at d) found ≡ map Some numbers

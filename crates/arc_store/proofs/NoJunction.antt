@@ -1,9 +1,9 @@
 -- No junction stands where no vertex does.
 use Rattle.kit_words.proofs.Common.{◌≡◌, Bool, false, refl, sym, ap, ◌∙◌, subst, cond, List, [], ◌∷◌, ◌++◌, take, inl}
-use Rattle.kit_words.proofs.Common.{inr, map, not, filter, flat_map, list_any, false≢true}
+use Rattle.kit_words.proofs.Common.{inr, map, not, filter, flat_map, list_any, false≢true, or_parts, false_from_ne_true}
 use Rattle.grid_geometry.specs.Common.{Position, position_eq, Segment}
 use Rattle.ring_machine.specs.Common.{has, between_each, spots, Document, rings, is_vertex, all_equal, is_junction}
-use Rattle.ring_machine.proofs.Common.{position_eq-true, refuted, none_parts, In, in-append, in-has}
+use Rattle.ring_machine.proofs.Common.{position_eq-true, In, in-append, in-has}
 
 place_in : (ps : List Position) (p : Position) (s : Segment) → In (p, s) (between_each ps) → In p ps
 place_in (a ∷ b ∷ c ∷ ps) p s (inl e) = inr (inl (ap (λ (spot : Position × Segment). spot.0) e))
@@ -33,13 +33,13 @@ none_left test (x ∷ xs) h ys =
 not_there : (ring : List Position) (p : Position) → has ring p ≡ false → (spot : Position × Segment) → In spot (spots ring)
     → position_eq p spot.0 ≡ false
 not_there ring p h spot i =
-    refuted _ (λ e. false≢true (sym h ∙ in-has p ring (subst (λ q. In q ring) (sym (position_eq-true p spot.0 e)) (spot_in ring spot.0 spot.1 i))))
+    false_from_ne_true _ (λ e. false≢true (sym h ∙ in-has p ring (subst (λ q. In q ring) (sym (position_eq-true p spot.0 e)) (spot_in ring spot.0 spot.1 i))))
 
 nowhere : (rs : List (List Position)) (p : Position) → list_any (λ ring. has ring p) rs ≡ false
     → filter (λ (spot : Position × Segment). position_eq p spot.0) (flat_map spots rs) ≡ []
 nowhere [] p h = refl
 nowhere (r ∷ rs) p h =
-    let n = none_parts (has r p) (list_any (λ ring. has ring p) rs) h in
+    let n = or_parts (has r p) (list_any (λ ring. has ring p) rs) h in
     none_left (λ (spot : Position × Segment). position_eq p spot.0) (spots r) (not_there r p n.0) (flat_map spots rs) ∙ nowhere rs p n.1
 
 pub no_vertex : (d : Document) (p : Position) → is_vertex d p ≡ false → is_junction d p ≡ false

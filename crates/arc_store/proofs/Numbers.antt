@@ -5,22 +5,22 @@ use Rattle.std.specs.FinMap as table
 use Rattle.grid_geometry.specs.Common.{segment, Position}
 use Rattle.grid_geometry.specs.Ring.{edges as ring_edges}
 use Rattle.ring_machine.specs.Common.{canonical, rings, size, ins}
-use Rattle.ring_machine.proofs.Common.{is_of, In, any_in, in_any, canonical_turns}
+use Rattle.ring_machine.proofs.Common.{is_of, In, any_in, in_any, canonical_turns, any_there}
 use Rattle.arc_tables.specs.Common.{Edge, is_seg, times}
 use Rattle.vertex_index.specs.Common.{place}
+use Rattle.arc_tables.proofs.Common.{ends_of}
 use Rattle.feature_exchange.specs.Common.{Stored, positions_along, edges_under, ring_under, document_of, IsWhole}
 use Rattle.ring_store.proofs.Common.{place_is, place_kept, IsKept, one_key, filter-mapped, laid, edges_round, edge_ends}
-use Rattle.ring_store.proofs.Common.{times_edge, edge_times, is_seg_ends, ends_is_seg}
+use Rattle.ring_store.proofs.Common.{times_edge, edge_times, ends_is_seg}
 use Rattle.feature_exchange.proofs.Common.{document_ring, begin_kept, framed, ring_under_is, rings_are}
 use Rattle.arc_store.proofs.Insertions.{size_ins, has_segment, has_segment_by, any_mapped}
 use Rattle.arc_store.proofs.KeyWays.{seg_same}
-use Rattle.arc_store.proofs.Removals.{any_alike_in}
 use Rattle.arc_store.proofs.RingEdits.{edges_turned}
 
 -- a segment is among the edges where it stands there once or more
 pub any_times : (x y : ℕ) (es : List Edge) → (list_any (is_seg x y) es ≡ true) ↔ (1 ≤ times x y es)
 any_times x y es = (
-  λ h. let e = any_in (is_seg x y) es h in edge_times x y es e.0 e.1 (is_seg_ends x y e.0 e.2),
+  λ h. let e = any_in (is_seg x y) es h in edge_times x y es e.0 e.1 (ends_of x y e.0 e.2),
   λ h. let e = times_edge x y es h in in_any (is_seg x y) e.0 es e.1 (ends_is_seg x y e.0 e.2),
 )
 
@@ -40,7 +40,7 @@ module _ (s : Stored) (w : IsWhole s) (x y : ℕ) (x_kept : IsKept s.places x) (
       ∙ sym (edges_turned (is_of t) ps (canonical ps) (canonical_turns ps))
       ∙ ap (list_any (is_of t)) (edges_round (place s.places) es (w.round r es e))
       ∙ any_mapped (laid (place s.places)) (is_of t) es
-      ∙ any_alike_in (λ f. is_of t (laid (place s.places) f)) (is_seg x y) es (λ f i.
+      ∙ any_there (λ f. is_of t (laid (place s.places) f)) (is_seg x y) es (λ f i.
       let ends = edge_ends es (w.round r es e) f i in
       let from = begin_kept s w r es e f.0 ends.0 in
       let to = begin_kept s w r es e f.1 ends.1 in

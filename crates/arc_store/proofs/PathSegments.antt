@@ -1,29 +1,24 @@
 -- The segments of a path that has no position twice: each of them once.
 use Rattle.kit_words.proofs.Common.{◌≡◌, ◌≤◌, ◌+◌, Bool, true, false, refl, sym, ap, ◌∙◌, subst, cond, List, [], ◌∷◌}
-use Rattle.kit_words.proofs.Common.{inl, inr, arith, not, false≢true}
-use Rattle.grid_geometry.specs.Common.{Position, Segment, Edge, links}
+use Rattle.kit_words.proofs.Common.{inl, inr, arith, not, false≢true, and_parts, false_from_ne_true, not-true}
+use Rattle.grid_geometry.specs.Common.{Position, Segment, links}
 use Rattle.ring_machine.specs.Common.{Path, Document, is_segment, positions_of, is_path_segment, has, is_distinct}
 use Rattle.ring_machine.specs.Common.{segment_of}
-use Rattle.ring_machine.proofs.Common.{In, in_mapped, any_in, in-has, none_in, and_both, refuted, not_true, same_ends}
-use Rattle.ring_machine.proofs.Common.{path_segments}
+use Rattle.ring_machine.proofs.Common.{In, in_mapped, any_in, in-has, none_in, same_ends, path_segments}
+use Rattle.ring_machine.proofs.Neighbours.{links_in}
 use Rattle.segment_index.specs.Candidates.{SegmentSet, AreSingle, segment_is, has as has_segment, times_in}
 use Rattle.segment_index.proofs.Common.{same_segment, times-none}
 use Rattle.ring_parts.proofs.Common.{segments_along}
 use Rattle.feature_exchange.specs.Common.{IsIndexed}
 use Rattle.ring_store.specs.Common.{AreNew}
 
-link_ends : (ps : List Position) (e : Edge) → In e (links ps) → In e.0 ps × In e.1 ps
-link_ends (p ∷ q ∷ ps) e (inl h) = (inl (ap (λ (z : Edge). z.0) h), inr (inl (ap (λ (z : Edge). z.1) h)))
-link_ends (p ∷ q ∷ ps) e (inr h) = let k = link_ends (q ∷ ps) e h in (inr k.0, inr k.1)
-link_ends _ e h = absurd h
-
 -- a way that does not come back to p has no other segment with the end p
 once : (p q : Position) (ps : List Position) → has (q ∷ ps) p ≡ false → (t : Segment)
     → segment_is t (segment_of (p, q)) ≡ true → has_segment (segments_along (q ∷ ps)) t ≡ false
-once p q ps h t e = refuted (has_segment (segments_along (q ∷ ps)) t) (λ k.
+once p q ps h t e = false_from_ne_true (has_segment (segments_along (q ∷ ps)) t) (λ k.
     let u = any_in (segment_is t) (segments_along (q ∷ ps)) k in
     let x = in_mapped segment_of u.0 (links (q ∷ ps)) u.1 in
-    let ends = link_ends (q ∷ ps) x.0 x.1 in
+    let ends = links_in (q ∷ ps) x.0 x.1 in
     let same : segment_of x.0 ≡ segment_of (p, q) = x.2 ∙ sym (same_segment t u.0 u.2) ∙ same_segment t (segment_of (p, q)) e in
     elim (same_ends x.0 (p, q) same) [
       | inl m ↦ away (subst (λ z. In z (q ∷ ps)) (sym m.0) ends.0)
@@ -37,8 +32,8 @@ pub way_single : (ps : List Position) → is_distinct ps ≡ true → AreSingle 
 way_single [] d t = omega arith
 way_single (p ∷ []) d t = omega arith
 way_single (p ∷ q ∷ ps) d t =
-    let d' = and_both (not (has (q ∷ ps) p)) (is_distinct (q ∷ ps)) d in
-    by (not_true _ d'.0) (segment_is t (segment_of (p, q))) refl (way_single (q ∷ ps) d'.1 t)
+    let d' = and_parts (not (has (q ∷ ps) p)) (is_distinct (q ∷ ps)) d in
+    by (not-true _ d'.0) (segment_is t (segment_of (p, q))) refl (way_single (q ∷ ps) d'.1 t)
   where
     by : has (q ∷ ps) p ≡ false → (b : Bool) → segment_is t (segment_of (p, q)) ≡ b
         → times_in (segments_along (q ∷ ps)) t ≤ 1

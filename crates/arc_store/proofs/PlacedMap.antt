@@ -1,9 +1,9 @@
 -- Where the features of a map stand, and what is true of its document.
 use Rattle.kit_words.proofs.Common.{◌≡◌, ◌<◌, ◌≤◌, ℕ, true, false, refl, sym, ap, ◌∙◌, subst, arith, List, Option, Some}
-use Rattle.kit_words.proofs.Common.{None, option_map, is_some, false≢true, true_from_ne_false}
+use Rattle.kit_words.proofs.Common.{None, option_map, is_some, false≢true, true_from_ne_false, false_from_ne_true}
 use Rattle.ring_machine.specs.Common.{DocumentOf, FeatureOf, Document, feature, in_feature, in_rings, has_feature}
 use Rattle.ring_machine.specs.Common.{feature_at, or_else, no_feature}
-use Rattle.ring_machine.proofs.Common.{feature-in_rings, has_feature-found, refuted}
+use Rattle.ring_machine.proofs.Common.{feature-in_rings, has_feature-found}
 use Rattle.edit_records.specs.Common.{LayerTree, Fills, has_place, IsMap, IsHeld, Record}
 use Rattle.edit_records.proofs.Common.{fills-nowhere, fills-grown, fills-in_rings}
 use Rattle.vertex_index.specs.Common.{Placement}
@@ -33,7 +33,7 @@ pub later_new : {R : Type 0} (trees : List LayerTree) (next : ℕ) (d : Document
     → (m : ℕ) → next ≤ m → has_feature d m ≡ false
 later_new trees next d h m later =
     has_feature-found d m
-    ∙ ap is_some (fills-nowhere trees d h.fills m (refuted _ (λ e. let l = h.known m e in omega (arith, l))))
+    ∙ ap is_some (fills-nowhere trees d h.fills m (false_from_ne_true _ (λ e. let l = h.known m e in omega (arith, l))))
 
 module _ {frame : Framed} {rings : Rings} {places : Placement} {held : SegmentSet} {positions : ℕ}
     (kept : IsKept frame rings places held positions) {l : ℕ} {cells : Option GridFrame} {o : Option Record} {now : State}
@@ -94,7 +94,7 @@ module _ {frame : Framed} {rings : Rings} {places : Placement} {held : SegmentSe
 -- a number that is yet to come has no place
 pub next_free : {R : Type 0} (trees : List LayerTree) (next : ℕ) (d : DocumentOf R) → ArePlaced trees next d
     → has_place trees next ≡ false
-next_free trees next d h = refuted _ (λ e. let l = h.known next e in omega (arith, l))
+next_free trees next d h = false_from_ne_true _ (λ e. let l = h.known next e in omega (arith, l))
 
 -- the features stand at these places too
 pub fills_after : (after : Option ℕ) (trees : List LayerTree) (next : ℕ) (d : Document) → ArePlaced trees next d

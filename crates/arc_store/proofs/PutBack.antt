@@ -1,12 +1,12 @@
 -- Vertices put back one after the other: what becomes of the vertices and the segments of a document.
 use Rattle.kit_words.proofs.Common.{◌≡◌, ◌≤◌, ◌+◌, Bool, true, false, refl, sym, ap, ap₂, ◌∙◌, cond, List, [], ◌∷◌}
 use Rattle.kit_words.proofs.Common.{◌++◌, map, ◌⊎◌, inl, inr, ◌&&◌, ◌||◌, arith, not, reverse, list_any, fold}
-use Rattle.kit_words.proofs.Common.{false≢true, map-append, reverse-append}
+use Rattle.kit_words.proofs.Common.{false≢true, map-append, reverse-append, and_parts, or_cases, or_right}
+use Rattle.kit_words.proofs.Common.{false_from_ne_true}
 use Rattle.grid_geometry.specs.Common.{Position, Segment, segment, segment_eq, is_end}
 use Rattle.grid_geometry.proofs.Common.{segment-comm}
 use Rattle.ring_machine.specs.Common.{Document, is_vertex, is_segment}
-use Rattle.ring_machine.proofs.Common.{In, any_in, in_any, or_true, or_right, and_both, refuted, segment_ordered}
-use Rattle.ring_machine.proofs.Common.{segment_eq-true}
+use Rattle.ring_machine.proofs.Common.{In, any_in, in_any, segment_ordered, segment_eq-true}
 use Rattle.edit_records.specs.Common.{put_back, IsMap, IsRemoved, AreRemoved}
 use Rattle.segment_index.specs.Common.{AreSingle, segment_is, has, times_in}
 use Rattle.segment_index.proofs.Common.{same_segment, times-none}
@@ -87,8 +87,8 @@ module _ (d : Document) (r : Removal) (h : IsRemoved d (removal_seen r)) where
   pub vertex_came : (p : Position) → is_vertex (with_one d r) p ≡ true → (is_vertex d p ≡ true) ⊎ (p ≡ r.at)
   vertex_came p v =
       let u = vertex_end (with_one d r) p v in
-      elim (or_true (is_segment d u.0 && not (segment_eq u.0 (segment r.a r.b))) (list_any (segment_eq u.0) (over_segments r.a r.b r.at)) (sym (segments_after u.0) ∙ u.1)) [
-        | inl s ↦ inl (end_vertex d p u.0 (and_both (is_segment d u.0) (not (segment_eq u.0 (segment r.a r.b))) s).0 u.2)
+      elim (or_cases (is_segment d u.0 && not (segment_eq u.0 (segment r.a r.b))) (list_any (segment_eq u.0) (over_segments r.a r.b r.at)) (sym (segments_after u.0) ∙ u.1)) [
+        | inl s ↦ inl (end_vertex d p u.0 (and_parts (is_segment d u.0) (not (segment_eq u.0 (segment r.a r.b))) s).0 u.2)
         | inr s ↦ let w = any_in (segment_eq u.0) (over_segments r.a r.b r.at) s in
             at w.0 w.1 (ap (is_end p) (sym (segment_eq-true u.0 w.0 w.2)) ∙ u.2)
       ]
@@ -107,14 +107,14 @@ module _ (d : Document) (r : Removal) (h : IsRemoved d (removal_seen r)) where
 
   -- what is no vertex afterwards was none
   was_free : (p : Position) → is_vertex (with_one d r) p ≡ false → is_vertex d p ≡ false
-  was_free p f = refuted (is_vertex d p) (λ v. false≢true (sym f ∙ vertex_stays p v))
+  was_free p f = false_from_ne_true (is_vertex d p) (λ v. false≢true (sym f ∙ vertex_stays p v))
 
   -- its neighbours are joined no more
   unjoined : is_segment (with_one d r) (segment r.a r.b) ≡ false
   unjoined =
       segments_after (segment r.a r.b)
       ∙ ap₂ (λ y z. (y && not (segment_eq (segment r.a r.b) (segment r.a r.b))) || z) h.joined
-      (refuted (list_any (segment_eq (segment r.a r.b)) (over_segments r.a r.b r.at)) (λ i.
+      (false_from_ne_true (list_any (segment_eq (segment r.a r.b)) (over_segments r.a r.b r.at)) (λ i.
       let u = any_in (segment_eq (segment r.a r.b)) (over_segments r.a r.b r.at) i in
       at u.0 u.1 (segment_eq-true (segment r.a r.b) u.0 u.2)))
       ∙ ap (λ z. not z || false) (segment_ordered.eq-refl (segment r.a r.b))
@@ -145,9 +145,9 @@ coming_end : (d : Document) (rs : List Removal) → AreOut d rs → (t : Segment
     → has (comings rs) t ≡ true → (q : Position) × (is_vertex d q ≡ false) × (is_end q t ≡ true)
 coming_end d [] h t i = absurd (false≢true i)
 coming_end d (r ∷ rs) h t i =
-    elim (or_true (segment_is t (segment r.a r.at)) (segment_is t (segment r.b r.at) || has (comings rs) t) i) [
+    elim (or_cases (segment_is t (segment r.a r.at)) (segment_is t (segment r.b r.at) || has (comings rs) t) i) [
       | inl e ↦ (r.at, h.0.free, ap (is_end r.at) (same_segment t (segment r.a r.at) e) ∙ (two_ends r.a r.at).1)
-      | inr j ↦ elim (or_true (segment_is t (segment r.b r.at)) (has (comings rs) t) j) [
+      | inr j ↦ elim (or_cases (segment_is t (segment r.b r.at)) (has (comings rs) t) j) [
         | inl e ↦ (r.at, h.0.free, ap (is_end r.at) (same_segment t (segment r.b r.at) e) ∙ (two_ends r.b r.at).1)
         | inr k ↦ let u = coming_end (with_one d r) rs h.1 t k in (u.0, was_free d r h.0 u.0 u.1, u.2)
       ]
@@ -161,13 +161,13 @@ comings_new d rs h t i = let u = coming_end d rs h t i in not_segment d u.0 t u.
 segment_stays_out : (d : Document) (rs : List Removal) → AreOut d rs → (t : Segment)
     → is_segment d t ≡ true → has (comings rs) t ≡ false
 segment_stays_out d rs h t s =
-    refuted (has (comings rs) t) (λ i. false≢true (sym (comings_new d rs h t i) ∙ s))
+    false_from_ne_true (has (comings rs) t) (λ i. false≢true (sym (comings_new d rs h t i) ∙ s))
 
 -- none comes between two that are vertices
 none_between : (d : Document) (rs : List Removal) → AreOut d rs → (a b : Position)
     → is_vertex d a ≡ true → is_vertex d b ≡ true → has (comings rs) (segment a b) ≡ false
 none_between d rs h a b v w =
-    refuted (has (comings rs) (segment a b)) (λ i.
+    false_from_ne_true (has (comings rs) (segment a b)) (λ i.
     let u = coming_end d rs h (segment a b) i in
     elim (end_of_two u.0 a b u.2) [
       | inl e ↦ false≢true (sym u.1 ∙ ap (is_vertex d) e ∙ v)
@@ -199,7 +199,7 @@ pub goings_there : (d : Document) (rs : List Removal) → AreOut d rs → (t : S
     → has (goings rs) t ≡ true → (is_segment d t || has (comings rs) t) ≡ true
 goings_there d [] h t i = absurd (false≢true i)
 goings_there d (r ∷ rs) h t i =
-    elim (or_true (segment_is t (segment r.a r.b)) (has (goings rs) t) i) [
+    elim (or_cases (segment_is t (segment r.a r.b)) (has (goings rs) t) i) [
       | inl e ↦ ap (λ b. b || has (comings (r ∷ rs)) t) (ap (is_segment d) (same_segment t (segment r.a r.b) e) ∙ h.0.joined)
       | inr j ↦ by (is_segment d t) (segment_is t (segment r.a r.b)) (segment_is t (segment r.a r.at)) (segment_is t (segment r.b r.at)) (has (comings rs) t)
           (ap (λ b. b || has (comings rs) t) (sym (segments_had d r h.0 t)) ∙ goings_there (with_one d r) rs h.1 t j)
@@ -222,7 +222,7 @@ goings_single d (r ∷ rs) h t = by (segment_is t (segment r.a r.b)) refl (going
 
     once : has (goings rs) (segment r.a r.b) ≡ false
     once =
-        refuted (has (goings rs) (segment r.a r.b)) (λ i. false≢true (sym gone ∙ goings_there (with_one d r) rs h.1 (segment r.a r.b) i))
+        false_from_ne_true (has (goings rs) (segment r.a r.b)) (λ i. false≢true (sym gone ∙ goings_there (with_one d r) rs h.1 (segment r.a r.b) i))
 
     by : (u : Bool) → segment_is t (segment r.a r.b) ≡ u → times_in (goings rs) t ≤ 1
         → cond u 1 0 + times_in (goings rs) t ≤ 1

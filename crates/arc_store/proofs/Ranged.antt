@@ -1,6 +1,6 @@
 -- Each position of a map's rings is in range, since each vertex stands at one.
 use Rattle.kit_words.proofs.Common.{◌≡◌, ℕ, List, [], ◌∷◌, ◌++◌, map, Option, Some, None, refl, sym, subst, arith}
-use Rattle.kit_words.proofs.Common.{unwrap_or, pos, AllByRecursion}
+use Rattle.kit_words.proofs.Common.{unwrap_or, pos, AllByRecursion, all_front, all_back, all_joined}
 use Rattle.std.specs.FinMap as table
 use Rattle.grid_geometry.specs.Common.{Position, InRange, position}
 use Rattle.ring_machine.specs.Common.{canonical, rings}
@@ -8,11 +8,6 @@ use Rattle.ring_machine.proofs.Common.{canonical_parts, rings-in_rings}
 use Rattle.vertex_index.specs.Common.{Placement, place, AreInRange}
 use Rattle.arc_tables.specs.Common.{begins}
 use Rattle.feature_exchange.specs.Common.{Stored, edges_under, ring_under, document_of}
-use Rattle.feature_exchange.proofs.Readied.{all_left, all_right}
-
-each_joined : {A : Type 0} (P : A → Type 0) (xs ys : List A) → AllByRecursion P xs → AllByRecursion P ys → AllByRecursion P (xs ++ ys)
-each_joined P [] ys h k = k
-each_joined P (x ∷ xs) ys h k = (h.0, each_joined P xs ys h.1 k)
 
 each_made : {A B : Type 0} (P : B → Type 0) (f : A → B) (xs : List A) → ((x : A) → P (f x)) → AllByRecursion P (map f xs)
 each_made P f [] h = tt
@@ -22,7 +17,7 @@ each_canonical : (P : Position → Type 0) (ps : List Position) → AllByRecursi
 each_canonical P ps h =
     let parts = canonical_parts ps in
     let whole : AllByRecursion P (parts.0 ++ parts.1) = subst (AllByRecursion P) parts.2 h in
-    subst (AllByRecursion P) (sym parts.3) (each_joined P parts.1 parts.0 (all_right P parts.0 parts.1 whole) (all_left P parts.0 parts.1 whole))
+    subst (AllByRecursion P) (sym parts.3) (all_joined P parts.1 parts.0 (all_back P parts.0 parts.1 whole) (all_front P parts.0 parts.1 whole))
 
 place_in_range : (m : Placement) (k : ℕ) → AreInRange m → InRange (place m k)
 place_in_range m k h = by (table.get m k) refl

@@ -1,10 +1,11 @@
 -- What a kept map answers on its vertices and on the rings of a segment.
 use Rattle.kit_words.proofs.Common.{◌≡◌, ◌≢◌, ℕ, Bool, true, false, refl, sym, ap, ap₂, ◌∙◌, subst, cond, List, [], ◌∷◌}
 use Rattle.kit_words.proofs.Common.{length, ◌⊎◌, inl, inr, Option, Some, None, is_some, IfSome, IfNone, filter, is_gt}
+use Rattle.kit_words.proofs.Common.{false_from_ne_true}
 use Rattle.std.specs.FinMap as table
 use Rattle.grid_geometry.specs.Common.{Position, Segment, segment, IsSegment}
 use Rattle.ring_machine.specs.Common.{rings, is_vertex}
-use Rattle.ring_machine.proofs.Common.{In, in_any, refuted}
+use Rattle.ring_machine.proofs.Common.{In, in_any}
 use Rattle.arc_tables.specs.Rings as shared
 use Rattle.vertex_index.specs.Common.{place}
 use Rattle.feature_exchange.specs.Common.{Stored, document_of, IsWhole}
@@ -24,13 +25,13 @@ pub none_pass : {A : Type 0} (test : A → Bool) (xs : List A)
     → ((x : A) → In x xs → test x ≡ true → ⊥) → length (filter test xs) ≡ 0
 none_pass test [] h = refl
 none_pass test (x ∷ xs) h =
-    ap (λ b. length (cond b (x ∷ filter test xs) (filter test xs))) (refuted _ (h x (inl refl))) ∙ none_pass test xs (λ y i. h y (inr i))
+    ap (λ b. length (cond b (x ∷ filter test xs) (filter test xs))) (false_from_ne_true _ (h x (inl refl))) ∙ none_pass test xs (λ y i. h y (inr i))
 
 module _ (s : Stored) (w : IsWhole s) where
   -- what has no key is no vertex
   pub no_vertex : (p : Position) → ((k : ℕ) → table.get s.places k ≢ Some p)
       → is_vertex (document_of s) p ≡ false
-  no_vertex p h = refuted _ (λ e. let k = vertex_key s w p e in h k.0 k.1)
+  no_vertex p h = false_from_ne_true _ (λ e. let k = vertex_key s w p e in h k.0 k.1)
 
   -- a position is a vertex where a key is found
   pub found_vertex : (p : Position) (o : Option ℕ) → IfSome o (λ k. table.get s.places k ≡ Some p)

@@ -3,18 +3,19 @@
 use Rattle.kit_words.proofs.Common.{◌≡◌, ◌+◌, Bool, true, false, refl, sym, ap, ap₂, ◌∙◌, subst, cond, List, [], ◌∷◌}
 use Rattle.kit_words.proofs.Common.{◌++◌, length, inl, inr, ◌&&◌, ◌||◌, arith, append_assoc, not, flat_map, list_any}
 use Rattle.kit_words.proofs.Common.{list_all, filter, sum_by, false≢true, length-append, filter-append, list_any-append}
+use Rattle.kit_words.proofs.Common.{false_from_ne_true}
 use Rattle.grid_geometry.specs.Common.{Position, position_eq, Segment, segment, segment_eq, is_end, Edge, edges, links}
 use Rattle.grid_geometry.proofs.Common.{segment-comm}
 use Rattle.ring_machine.specs.Common.{has, is_distinct, is_ring, canonical, segment_of, spots, Document, rings, size}
 use Rattle.ring_machine.specs.Common.{is_vertex, is_segment, is_bridged, holds_other, remove_sweeps, del, del_ring}
 use Rattle.ring_machine.specs.Common.{around, all_equal, is_junction}
-use Rattle.ring_machine.proofs.Common.{position_eq-true, position_eq-refl, refuted, segment_ordered, is_of}
+use Rattle.ring_machine.proofs.Common.{position_eq-true, position_eq-refl, segment_ordered, is_of, canonical_length}
 use Rattle.ring_machine.proofs.Common.{links-append, In, in-append, in_left, all_in, has-in, in-has, edge_in, end_place}
 use Rattle.ring_machine.proofs.Common.{place_around, others, filter_lacks, segment_eq-true, segment_eq-sym}
 use Rattle.ring_machine.proofs.Common.{rings-in_rings, Rotated, ring_distinct, ring_long, any_in, in_any, same_answer}
-use Rattle.ring_machine.proofs.Common.{in_mapped, in_flat, in_filter, canonical_turns, ring_is_canonical}
+use Rattle.ring_machine.proofs.Common.{in_mapped, in_flat, canonical_turns, ring_is_canonical, any_there, in-filter}
 use Rattle.arc_tables.specs.Common.{one}
-use Rattle.ring_store.proofs.Common.{sum_by-map, sum_more, length-canonical, beside_edges}
+use Rattle.ring_store.proofs.Common.{sum_by-map, sum_more, beside_edges}
 use Rattle.feature_exchange.proofs.Common.{two_ends, end_of_two}
 use Rattle.arc_store.proofs.Insertions.{AreRings, has_segment, has_segment_by, is_segment_by, any_mapped, any_parts}
 use Rattle.arc_store.proofs.RingEdits.{edges_turned, edge_turned, BegunAt, begun_at}
@@ -31,7 +32,7 @@ length-rotated xs ys r = omega (arith, ap length r.from, ap length r.to, length-
 -- an edge of a ring without p does not end at p
 off_edge : (p x : Position) (ps : List Position) → has (x ∷ ps) p ≡ false → (s : Segment) (e : Edge) → In e (edges (x ∷ ps))
     → is_of s e ≡ true → is_end p s ≡ false
-off_edge p x ps n s e i is = refuted _ (λ u.
+off_edge p x ps n s e i is = false_from_ne_true _ (λ u.
     let ends = edge_in x ps e i in
     false≢true (sym n ∙ elim (end_of_two p e.0 e.1 (ap (is_end p) (segment_eq-true (segment_of e) s is) ∙ u)) [
       | inl m ↦ in-has p (x ∷ ps) (subst (λ z. In z (x ∷ ps)) (sym m) ends.0)
@@ -58,7 +59,7 @@ module _ (p : Position) (ring : List Position) (d : is_distinct ring ≡ true) (
   -- one position goes
   length_with : length ring ≡ length (del_ring p ring) + 1
   length_with =
-      omega (arith, length-rotated ring (p ∷ rest) t.turned, length-canonical (others p ring), length-rotated (others p ring) rest others_begun)
+      omega (arith, length-rotated ring (p ∷ rest) t.turned, canonical_length (others p ring), length-rotated (others p ring) rest others_begun)
 
   -- the edges that stay
   abbrev inner : List Edge
@@ -190,11 +191,6 @@ all_equal_in (u ∷ ss) h s t i j = sym (is s i) ∙ is t j
 
 -- ---- the document
 
-pub any_alike_in : {A : Type 0} (f g : A → Bool) (xs : List A) → ((a : A) → In a xs → f a ≡ g a)
-    → list_any f xs ≡ list_any g xs
-any_alike_in f g [] h = refl
-any_alike_in f g (x ∷ xs) h = ap₂ (λ a b. a || b) (h x (inl refl)) (any_alike_in f g xs (λ y i. h y (inr i)))
-
 -- wherever a ring has p, its neighbours are the ends of this segment
 abbrev pub HasSides : Document → Position → Segment → Type 0
 HasSides d p bridge =
@@ -246,7 +242,7 @@ module _ (d : Document) (p : Position) (are : AreRings d) where
         is_segment_by (del d p) s
         ∙ ap (list_any (has_segment s)) (rings-in_rings (del_ring p) d)
         ∙ any_mapped (del_ring p) (has_segment s) (rings d)
-        ∙ any_alike_in (λ ring. has_segment s (del_ring p ring)) (λ ring. (has_segment s ring && not (is_end p s)) || (has ring p && segment_eq s bridge)) (rings d) (ring_segments s)
+        ∙ any_there (λ ring. has_segment s (del_ring p ring)) (λ ring. (has_segment s ring && not (is_end p s)) || (has ring p && segment_eq s bridge)) (rings d) (ring_segments s)
         ∙ any_parts (has_segment s) (λ ring. has ring p) (not (is_end p s)) (segment_eq s bridge) (rings d)
         ∙ ap₂ (λ y z. (y && not (is_end p s)) || (z && segment_eq s bridge)) (sym (is_segment_by d s)) vertex
 
@@ -255,7 +251,7 @@ module _ (d : Document) (p : Position) (are : AreRings d) where
     pub around_is : (s : Segment) → In s (around d p) → s ≡ bridge
     around_is s i =
         let u = in_mapped (λ (spot : Position × Segment). spot.1) s (filter (λ spot. position_eq p spot.0) (flat_map spots (rings d))) i in
-        let f = in_filter (λ (spot : Position × Segment). position_eq p spot.0) u.0 (flat_map spots (rings d)) u.1 in
+        let f = in-filter (λ (spot : Position × Segment). position_eq p spot.0) u.0 (flat_map spots (rings d)) u.1 in
         let r = in_flat spots u.0 (rings d) f.0 in
         at r.0 r.1 (subst (λ z. In z (spots r.0)) (pair u.0 s (position_eq-true p u.0.0 f.1) u.2) r.2)
       where

@@ -1,11 +1,11 @@
 -- The plan of a removal from between two vertices: what comes and goes, and what is kept.
 use Rattle.kit_words.proofs.Common.{◌≡◌, ◌≤◌, ◌+◌, ◌-◌, ℕ, true, false, refl, sym, ap, ap₂, ◌∙◌, subst, List, [], ◌∷◌}
-use Rattle.kit_words.proofs.Common.{inl, inr, arith, Option, Some, false≢true}
+use Rattle.kit_words.proofs.Common.{inl, inr, arith, Option, Some, false≢true, false_from_ne_true}
 use Rattle.std.specs.FinMap as table
 use Rattle.std.specs.FinSet as set
 use Rattle.grid_geometry.specs.Common.{Position, Segment, segment}
 use Rattle.ring_machine.specs.Common.{Document, size, is_segment, is_vertex, are_long, is_bridged, del, is_junction}
-use Rattle.ring_machine.proofs.Common.{In, segment_eq-true, any_in, refuted}
+use Rattle.ring_machine.proofs.Common.{In, segment_eq-true, any_in}
 use Rattle.vertex_index.specs.Common.{Placement, place}
 use Rattle.segment_index.specs.Common.{SegmentSet, AreAmong, AreSingle, segment_is}
 use Rattle.segment_index.specs.Frames.{Frame as GridFrame}
@@ -140,7 +140,7 @@ module _ {frame : Framed} {rings : Rings} {places : Placement} {held : SegmentSe
   -- and are two
   remove_single : AreSingle (spokes p (a ∷ b ∷ []))
   remove_single =
-      two_single (segment a p) (segment b p) (refuted _ (λ e.
+      two_single (segment a p) (segment b p) (false_from_ne_true _ (λ e.
       f.read.two.0 (one_to places p whole.distinct j k (joined_kept s whole m j joined_j).1 (joined_kept s whole m k joined_k).1 (segment_eq-true (segment a p) (segment b p) e))))
 
   pub planned : IsPlanned (document_of s) held p after before

@@ -2,18 +2,20 @@
 use Rattle.kit_words.proofs.Common.{◌≡◌, ◌≢◌, ◌≤◌, ◌+◌, ℕ, Bool, true, false, refl, sym, ap, ap₂, ◌∙◌, subst, cond}
 use Rattle.kit_words.proofs.Common.{List, [], ◌∷◌, ◌++◌, map, length, inl, inr, ◌&&◌, ◌||◌, arith, Some, is_some, not}
 use Rattle.kit_words.proofs.Common.{option_map, unwrap_or, filter, list_any, false≢true, cases_Bool, ℕ_discrete}
+use Rattle.kit_words.proofs.Common.{false_from_ne_true}
 use Rattle.std.specs.FinMap as table
 use Rattle.std.specs.FinSet as set
 use Rattle.grid_geometry.specs.Common.{Position, position_eq, Segment, segment, segment_eq, is_end}
 use Rattle.grid_geometry.specs.Ring as geometry
 use Rattle.grid_geometry.proofs.Common.{segment-comm}
 use Rattle.ring_machine.specs.Common.{canonical, has, is_ring, rings, size, is_segment, del, del_ring, Proper}
-use Rattle.ring_machine.proofs.Common.{is_of, segment_ordered, position_eq-true, position_eq-refl, refuted, Pivot}
+use Rattle.ring_machine.proofs.Common.{is_of, segment_ordered, position_eq-true, position_eq-refl, Pivot}
 use Rattle.ring_machine.proofs.Common.{starts, starts_of, by_edges, In, filter-in, document-agrees, all_of, all_in}
 use Rattle.ring_machine.proofs.Common.{in-map, has-in, in-has, rings-in_rings, ring_long, ring_distinct, del_is_proper}
 use Rattle.ring_machine.proofs.Common.{segment_eq-true, in_any, contains_in, in_contains, in_mapped, in_flat}
-use Rattle.ring_machine.proofs.Common.{same_answer, is_some-mapped, mapped_there, ring_is_canonical}
-use Rattle.ring_machine.proofs.Removal.{g_del, del_is, Beside, others, filter_lacks, onto as drawn_onto}
+use Rattle.ring_machine.proofs.Common.{same_answer, is_some-mapped, mapped_there, ring_is_canonical, in_canonical}
+use Rattle.ring_machine.proofs.Common.{onto as drawn_onto, others, filter_lacks, Beside}
+use Rattle.ring_machine.proofs.Removal.{g_del, del_is}
 use Rattle.segment_index.specs.Candidates.{SegmentSet, has as among}
 use Rattle.arc_tables.specs.Common.{Edge, is_seg, Rings, begins, onto, drawn, collapsed}
 use Rattle.ring_store.specs.Common.{Joined, GoesRound}
@@ -21,8 +23,7 @@ use Rattle.vertex_index.specs.Common.{place}
 use Rattle.feature_exchange.specs.Common.{Stored, positions_along, edges_under, ring_under, document_of, IsWhole}
 use Rattle.feature_exchange.specs.Common.{IsIndexed, Holds}
 use Rattle.ring_store.proofs.Common.{has-eq, filter-mapped, IsKept, place_is, place_kept, one_key, place_alike}
-use Rattle.ring_store.proofs.Common.{remove_here, remove_other, laid, edge_ends, edge_apart, is_seg_ends, ends_is_seg}
-use Rattle.ring_store.proofs.Common.{in_canonical, of_canonical}
+use Rattle.ring_store.proofs.Common.{remove_here, remove_other, laid, edge_ends, edge_apart, ends_is_seg, of_canonical}
 use Rattle.arc_store.specs.Common.{IsLeavable}
 use Rattle.arc_store.proofs.Around.{AreTwo, two_ways, bridged_two, segments_two}
 use Rattle.feature_exchange.proofs.Common.{two_ends, AreJoined, segments_at, document_ring, rings_are, ring_under_is}
@@ -32,7 +33,7 @@ use Rattle.arc_store.proofs.Numbers.{users_of, framed_has}
 use Rattle.arc_store.proofs.Removals.{segments_off, size_del}
 use Rattle.arc_store.proofs.KeyWays.{edited_along, edited_way, drawn_keeps, round_way, round_of_way, meets_onto}
 use Rattle.arc_store.proofs.RingEdits.{ring_pivot, begun_at, edge_on, edge_back, beside_next, beside_last}
-use Rattle.arc_tables.proofs.Common.{onto_p, onto_other}
+use Rattle.arc_tables.proofs.Common.{onto_p, onto_other, ends_of}
 
 -- ---- one ring
 
@@ -82,7 +83,7 @@ collapsed_same m k (e ∷ es) h =
   where
     by : (e.0 ≢ m) × (e.1 ≢ m) → (t : Bool) → is_seg m k e ≡ t
         → cond t [] ((onto m k e.0, onto m k e.1) ∷ []) ≡ e ∷ []
-    by f true i = absurd (elim (is_seg_ends m k e i) [ inl j ↦ f.0 j.0 | inr j ↦ f.1 j.1 ])
+    by f true i = absurd (elim (ends_of m k e i) [ inl j ↦ f.0 j.0 | inr j ↦ f.1 j.1 ])
     by f false i = ap₂ (λ y z. (y, z) ∷ []) (onto_other m k e.0 f.0) (onto_other m k e.1 f.1)
 
 -- ---- the map
@@ -164,7 +165,7 @@ module _ (s : Stored) (after : Rings) (m j k : ℕ) (p : Position) (w : IsWhole 
           ap (λ t. cond t (place s.places k) (place s.places x)) (ap (λ z. position_eq (place s.places z) (place s.places m)) e ∙ position_eq-refl (place s.places m))
           ∙ sym (place_stays k k_differs) ∙ ap (place next.places) (sym (onto_p m k x e))
       by (no f) =
-          ap (λ t. cond t (place s.places k) (place s.places x)) (refuted _ (λ e. elsewhere x h f (position_eq-true (place s.places x) (place s.places m) e ∙ p_is)))
+          ap (λ t. cond t (place s.places k) (place s.places x)) (false_from_ne_true _ (λ e. elsewhere x h f (position_eq-true (place s.places x) (place s.places m) e ∙ p_is)))
           ∙ sym (place_stays x f) ∙ ap (place next.places) (sym (onto_other m k x f))
 
   -- the ring of the edited edges, where the ring has p and where not
@@ -274,7 +275,7 @@ module _ (s : Stored) (after : Rings) (m j k : ℕ) (p : Position) (w : IsWhole 
       was = subst (In (place s.places x)) (sym (ring_under_is s w r es e)) (in_canonical (positions_along s.places es) (place s.places x) (in-map (place s.places) x (begins es) u))
 
       off : position_eq (place s.places x) p ≡ false
-      off = refuted _ (λ v. elsewhere x (begin_kept s w r es e x u) f (position_eq-true (place s.places x) p v))
+      off = false_from_ne_true _ (λ v. elsewhere x (begin_kept s w r es e x u) f (position_eq-true (place s.places x) p v))
 
   still_passed : (r : ℕ) (es : List Edge) → table.get s.rings r ≡ Some es → (x : ℕ)
       → In x (begins es) → x ≢ m → In x (begins (collapsed m k es))

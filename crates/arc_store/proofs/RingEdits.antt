@@ -1,11 +1,11 @@
 -- Rings that are turned: what stays, and what stands beside a position of them.
 use Rattle.kit_words.proofs.Common.{◌≡◌, ◌≢◌, ◌≤◌, Bool, true, false, refl, sym, ap, ◌∙◌, subst, List, [], ◌∷◌, ◌++◌}
-use Rattle.kit_words.proofs.Common.{length, inl, inr, ◌||◌, arith, not, list_any, false≢true, length-append}
-use Rattle.kit_words.proofs.Common.{list_any-append}
+use Rattle.kit_words.proofs.Common.{length, inl, inr, arith, not, list_any, false≢true, length-append, list_any-append}
+use Rattle.kit_words.proofs.Common.{and_parts, not-true, or_comm}
 use Rattle.grid_geometry.specs.Common.{Position, Edge, edges, links}
 use Rattle.ring_machine.specs.Common.{has, is_distinct, is_ring, canonical}
-use Rattle.ring_machine.proofs.Common.{and_both, Pivot, pivot_of, canonical_parts, In, in_right, in-has, Rotated}
-use Rattle.ring_machine.proofs.Common.{rotated-trans, rotated_distinct, not_true, NextTo, second, last, Beside}
+use Rattle.ring_machine.proofs.Common.{Pivot, pivot_of, canonical_parts, In, in_right, in-has, Rotated}
+use Rattle.ring_machine.proofs.Common.{rotated-trans, rotated_distinct, NextTo, second, last, Beside}
 use Rattle.ring_machine.proofs.Common.{ring_distinct, distinct_swap, in_swap, in_split}
 use Rattle.ring_store.proofs.Common.{edges_swap}
 
@@ -21,9 +21,6 @@ distinct_turned ps d =
 pub ring_pivot : (ps : List Position) → is_ring (canonical ps) ≡ true → Pivot ps
 ring_pivot [] h = absurd (false≢true h)
 ring_pivot (p ∷ ps) h = pivot_of p ps (distinct_turned (p ∷ ps) (ring_distinct (canonical (p ∷ ps)) h))
-
-or_comm : (a b : Bool) → (a || b) ≡ (b || a)
-or_comm a b = grind arith
 
 pub any_swap : {A : Type 0} (test : A → Bool) (xs ys : List A)
     → list_any test (xs ++ ys) ≡ list_any test (ys ++ xs)
@@ -82,9 +79,9 @@ module _ (p : Position) (ring : List Position) (d : is_distinct ring ≡ true) (
 
   after_distinct : (has (t.x ∷ t.mid ++ t.y ∷ []) p ≡ false) × (has (t.mid ++ t.y ∷ []) t.x ≡ false) × (is_distinct (t.mid ++ t.y ∷ []) ≡ true)
   after_distinct =
-      let a = and_both (not (has (t.x ∷ t.mid ++ t.y ∷ []) p)) (is_distinct (t.x ∷ t.mid ++ t.y ∷ [])) begun_distinct in
-      let b = and_both (not (has (t.mid ++ t.y ∷ []) t.x)) (is_distinct (t.mid ++ t.y ∷ [])) a.1 in
-      (not_true _ a.0, not_true _ b.0, b.1)
+      let a = and_parts (not (has (t.x ∷ t.mid ++ t.y ∷ []) p)) (is_distinct (t.x ∷ t.mid ++ t.y ∷ [])) begun_distinct in
+      let b = and_parts (not (has (t.mid ++ t.y ∷ []) t.x)) (is_distinct (t.mid ++ t.y ∷ [])) a.1 in
+      (not-true _ a.0, not-true _ b.0, b.1)
 
   absent : (ps : List Position) (q r : Position) → has ps q ≡ false → In r ps → q ≢ r
   absent ps q r h i e = false≢true (sym h ∙ ap (has ps) e ∙ in-has r ps i)

@@ -4,10 +4,10 @@ use Rattle.kit_words.proofs.Common.{subst, List, [], ◌∷◌, length, map, ari
 use Rattle.kit_words.proofs.Common.{IfSome, IfNone, sum_by, length-map, sum_by-cons}
 use Rattle.std.specs.FinMap as table
 use Rattle.ring_machine.specs.Common.{rings, size, canonical}
-use Rattle.ring_machine.proofs.Common.{In, in_contains, in-map, rings-in_rings}
+use Rattle.ring_machine.proofs.Common.{In, in_contains, in-map, rings-in_rings, canonical_length}
 use Rattle.vertex_index.specs.Common.{place}
 use Rattle.arc_tables.specs.Common.{begins, Edge}
-use Rattle.ring_store.proofs.Common.{length-canonical, begins_round}
+use Rattle.ring_store.proofs.Common.{begins_round}
 use Rattle.feature_exchange.specs.Common.{IsWhole, Stored, document_of, ring_under}
 
 part_of_sum : {X : Type 0} (f : X → ℕ) (xs : List X) (x : X) → In x xs → f x ≤ sum_by f xs
@@ -63,6 +63,6 @@ module _ (s : Stored) (whole : IsWhole s) (number : ℕ) where
           one,
           ap (sum_by length) (rings-in_rings (ring_under s) s.frame),
           ap length keys_value,
-          length-canonical (map (place s.places) keys),
+          canonical_length (map (place s.places) keys),
           length-map keys (place s.places),
         )

@@ -1,15 +1,15 @@
 -- How many segments an index holds, and a document has.
-use Rattle.kit_words.proofs.Common.{◌≡◌, ◌+◌, Bool, false, sym, ap, ap₂, ◌∙◌, List, [], ◌∷◌, length, ◌||◌, arith, leb}
-use Rattle.kit_words.proofs.Common.{fold}
+use Rattle.kit_words.proofs.Common.{◌≡◌, ◌+◌, Bool, false, sym, ap, ap₂, ◌∙◌, List, [], ◌∷◌, length, ◌||◌, arith, fold}
+use Rattle.kit_words.proofs.Common.{or_right}
 use Rattle.std.specs.FinSet as set
 use Rattle.grid_geometry.specs.Common.{Segment, segment_cmp}
 use Rattle.ring_machine.specs.Common.{Document, all_segments, add_segment, distinct_segments}
-use Rattle.segment_index.specs.Common.{SegmentSet, AreSingle, segment_is, has, times_in}
-use Rattle.segment_index.proofs.Common.{segment_total, same_sets, is-itself, has-is}
+use Rattle.segment_index.specs.Common.{SegmentSet, AreSingle, segment_is, has}
+use Rattle.segment_index.proofs.Common.{segment_total, same_sets, is-itself}
+use Rattle.local_planarity.proofs.Added.{single_first, single_rest}
 use Rattle.feature_exchange.specs.Common.{IsIndexed}
 use Rattle.ring_store.specs.Common.{AreNew, Gains}
 use Rattle.ring_store.proofs.Common.{has-eq, or_nothing, has_all, single_all}
-use Rattle.ring_machine.proofs.Common.{or_right}
 
 or_swap : (a b c : Bool) → (a || (b || c)) ≡ (b || (a || c))
 or_swap a b c = grind arith
@@ -27,14 +27,6 @@ contains_gained h [] t = or_nothing (set.contains h t)
 contains_gained h (x ∷ xs) t =
     set.contains-insert segment_total (gained h xs) x t ∙ ap (λ b. segment_is t x || b) (contains_gained h xs t)
     ∙ or_swap (segment_is t x) (set.contains h t) (has xs t)
-
-single_rest : (x : Segment) (xs : List Segment) → AreSingle (x ∷ xs) → AreSingle xs
-single_rest x xs h t = omega (arith, h t)
-
-single_first : (x : Segment) (xs : List Segment) → AreSingle (x ∷ xs) → has xs x ≡ false
-single_first x xs h =
-    let none : times_in xs x ≡ 0 = grind (arith, is-itself x, h x) in
-    has-is xs x ∙ ap (leb 1) none
 
 new_rest : (h : SegmentSet) (x : Segment) (xs : List Segment) → AreNew h (x ∷ xs) → AreNew h xs
 new_rest h x xs new t e = new t (or_right (segment_is t x) (has xs t) e)

@@ -1,11 +1,11 @@
 -- A feature that is cut, as two features that come in the places of their numbers.
 use Rattle.kit_words.proofs.Common.{◌≡◌, ◌<◌, ℕ, zero, suc, Bool, true, false, sym, ap, ap₂, ◌∙◌, subst, cond, List, []}
-use Rattle.kit_words.proofs.Common.{◌∷◌, length, get_or, take, slice_set, Option, Some, arith, list_any}
+use Rattle.kit_words.proofs.Common.{◌∷◌, length, get_or, take, slice_set, Option, Some, arith, list_any, or_parts}
 use Rattle.grid_geometry.specs.Common.{Position}
 use Rattle.ring_machine.specs.Common.{Document, Feature, Text, Polygon, feature, Path, cut, stays, is_cut_by}
 use Rattle.ring_machine.specs.Common.{first_that, change_first, first_polygon, second_polygon, feature_at, or_else}
 use Rattle.ring_machine.specs.Common.{no_feature}
-use Rattle.ring_machine.proofs.Common.{new_part, has_feature-found, none_parts, there}
+use Rattle.ring_machine.proofs.Common.{has_feature-found, there, new_feature}
 use Rattle.edit_records.specs.Common.{LayerTree, grown, exchanged}
 use Rattle.edit_records.proofs.Common.{cut-made, feature-own}
 use Rattle.map_frame.specs.Common.{ArePlaced, texts_of, with_texts}
@@ -24,7 +24,7 @@ module _ {A : Type 0} (test : A → Bool) where
   changed_at g [] i a l h k = absurd (omega (arith, l))
   changed_at g (x ∷ xs) zero a l h k = ap (λ b. cond b (g x ∷ xs) (x ∷ change_first test g xs)) k
   changed_at g (x ∷ xs) (suc i) a l h k =
-      let h' = none_parts (test x) (list_any test (take i xs)) h in
+      let h' = or_parts (test x) (list_any test (take i xs)) h in
       ap (λ b. cond b (g x ∷ xs) (x ∷ change_first test g xs)) h'.0
       ∙ ap (λ z. x ∷ z) (changed_at g xs i a (omega (arith, l)) h'.1 k)
 
@@ -59,7 +59,7 @@ module _ (trees : List LayerTree) (d : Document) (n new : ℕ) (id : Text) (path
       ap₂ (λ m ps. with_texts m (texts_of found.0) ps) (feature-own d n found.0 found.1) here
       ∙ ap (λ (f : Feature). with_texts n (texts_of f) (slice_set f.polygons place (first_polygon path p))) (sym at)
 
-  new_is : new_part path new id found.0 p ≡ part_of d n new id (second_polygon path p)
+  new_is : new_feature path new id found.0 p ≡ part_of d n new id (second_polygon path p)
   new_is =
       ap (λ (f : Feature). with_texts new (record (texts_of f) { id = Some id; form = Polygon }) (second_polygon path p ∷ [])) (sym at)
 

@@ -1,6 +1,6 @@
 -- How many tests a planned edit takes at most, in the words of its documents.
 use Rattle.kit_words.proofs.Common.{◌≡◌, ◌≤◌, ◌+◌, ℕ, true, false, sym, ap, ap₂, ◌∙◌, subst, List, [], ◌∷◌, ◌&&◌}
-use Rattle.kit_words.proofs.Common.{Option, Some, arith, not}
+use Rattle.kit_words.proofs.Common.{Option, Some, arith, not, or_right}
 use Rattle.std.specs.FinMap as table
 use Rattle.std.specs.FinSet as set
 use Rattle.grid_geometry.specs.Common.{Position, Segment, Box, segment}
@@ -28,7 +28,6 @@ use Rattle.arc_store.proofs.MovePlan.{plan_after, plan_new, plan_single}
 use Rattle.arc_store.proofs.RemovalJudged.{remove_after}
 use Rattle.arc_store.proofs.RemovePlan.{IsPlanned}
 use Rattle.ring_store.proofs.Common.{has_all, or_nothing}
-use Rattle.ring_machine.proofs.Common.{or_right}
 
 -- the segments of a document, each once, are its segments
 has_distinct : (d : Document) (t : Segment) → has (distinct_segments d) t ≡ has (all_segments d) t

@@ -3,19 +3,19 @@ use Rattle.kit_words.proofs.Common.{◌≡◌, ℕ, Bool, true, false, refl, sym
 use Rattle.kit_words.proofs.Common.{length, ◌||◌, ◌&&◌, arith, Some, ◌==◌, not, T, list_any, fold, AllByRecursion}
 use Rattle.kit_words.proofs.Common.{IsDistinct, nat_cmp, is_lt, is_eq, eq_by_cmp, Ordering, Less, Equal}
 use Rattle.kit_words.proofs.Common.{eq_by_cmp_equiv, below_all, false≢true, nat_tests, length-map}
-use Rattle.kit_words.proofs.Common.{length-from_same_keys}
+use Rattle.kit_words.proofs.Common.{length-from_same_keys, and_parts, or_parts, not-true}
 use Rattle.std.specs.FinMap as table
 use Rattle.grid_geometry.specs.Common.{Position, position_cmp, position_eq, position_lt}
 use Rattle.ring_machine.specs.Common.{rings, positions, is_vertex, add_position, vertices, has, is_distinct}
 use Rattle.ring_machine.specs.Common.{are_distinct}
 use Rattle.ring_machine.proofs.Common.{In, any_in, in_any, in_mapped, in_flat, same_answer, in-map, in-flat_map, has-in}
-use Rattle.ring_machine.proofs.Common.{in-has, and_both, none_parts, not_true, Rising, position_total, ties}
+use Rattle.ring_machine.proofs.Common.{in-has, Rising, position_total, ties}
 use Rattle.vertex_index.specs.Common.{place}
-use Rattle.ring_store.proofs.Common.{has_key, kept_place, place_is, place_kept, distinct_places, IsKept}
+use Rattle.ring_store.proofs.Common.{has_key, kept_place, place_is, place_kept, distinct_places, IsKept, first_of_two}
+use Rattle.ring_store.proofs.Common.{second_of_two}
 use Rattle.feature_exchange.specs.Common.{IsWhole, Stored, document_of}
 use Rattle.feature_exchange.proofs.Common.{key_vertex, vertex_key}
 use Rattle.feature_exchange.proofs.VertexLists.{vertices_rise, in_vertices, of_vertices}
-use Rattle.arc_store.proofs.RingUsers.{first_true, second_true}
 
 -- ---- positions, each once
 
@@ -41,13 +41,13 @@ distinct_once : (ps : List Position) → is_distinct ps ≡ true → IsDistinct 
 unfolding IsDistinct
 distinct_once [] h = tt
 distinct_once (p ∷ ps) h =
-    let h' = and_both (not (has ps p)) (is_distinct ps) h in
-    (apart ps (not_true (has ps p) h'.0), distinct_once ps h'.1)
+    let h' = and_parts (not (has ps p)) (is_distinct ps) h in
+    (apart ps (not-true (has ps p) h'.0), distinct_once ps h'.1)
   where
     apart : (qs : List Position) → has qs p ≡ false → AllByRecursion (λ q. same p q ≡ false) qs
     apart [] k = tt
     apart (q ∷ qs) k =
-        let k' = none_parts (position_eq p q) (has qs p) k in
+        let k' = or_parts (position_eq p q) (has qs p) k in
         (sym (ties p q) ∙ k'.0, apart qs k'.1)
 
 -- two lists of the same positions, each once, are as long
@@ -77,7 +77,7 @@ module _ {X : Type 0} where
       → has_key k (map (λ e. e.0) es) ≡ false
   none_below k [] h = refl
   none_below k (e ∷ es) h =
-      ap₂ (λ y z. y || z) (above (nat_cmp k e.0) refl (first_true (is_lt (nat_cmp k e.0)) (below_all nat_cmp k es) h)) (none_below k es (second_true (is_lt (nat_cmp k e.0)) (below_all nat_cmp k es) h))
+      ap₂ (λ y z. y || z) (above (nat_cmp k e.0) refl (first_of_two (is_lt (nat_cmp k e.0)) (below_all nat_cmp k es) h)) (none_below k es (second_of_two (is_lt (nat_cmp k e.0)) (below_all nat_cmp k es) h))
     where
       above : (o : Ordering) → nat_cmp k e.0 ≡ o → T (is_lt o) → (e.0 == k) ≡ false
       above Less m t = grind (arith, nat_tests)
@@ -88,7 +88,7 @@ module _ {X : Type 0} where
       → are_distinct (map (λ e. e.0) es) ≡ true
   sorted_keys [] h = refl
   sorted_keys (e ∷ es) h =
-      ap₂ (λ y z. not y && z) (none_below e.0 es (first_true (below_all nat_cmp e.0 es) (table.is_sorted nat_cmp es) h)) (sorted_keys es (second_true (below_all nat_cmp e.0 es) (table.is_sorted nat_cmp es) h))
+      ap₂ (λ y z. not y && z) (none_below e.0 es (first_of_two (below_all nat_cmp e.0 es) (table.is_sorted nat_cmp es) h)) (sorted_keys es (second_of_two (below_all nat_cmp e.0 es) (table.is_sorted nat_cmp es) h))
 
 module _ (s : Stored) (w : IsWhole s) where
   key_kept : (k : ℕ) → In k (table.keys s.places) → IsKept s.places k

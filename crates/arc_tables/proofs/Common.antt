@@ -9,4 +9,4 @@ pub use Rattle.arc_tables.proofs.Putting.{put_everywhere, puts_map, rings_linked
 pub use Rattle.arc_tables.proofs.Removing.{drawn-turns, once_collapsed, onto_b, onto_other, onto_p}
 pub use Rattle.arc_tables.proofs.RingLemmas.{around, held_ring, holds_ring, none_there, ring_here, rings_grown}
 pub use Rattle.arc_tables.proofs.RingLemmas.{rings_kept, rings_taken}
-pub use Rattle.arc_tables.proofs.Segments.{either_result, on_err_map, on_ok_map}
+pub use Rattle.arc_tables.proofs.Segments.{either_result, ends_of, on_err_map, on_ok_map}

@@ -1,28 +1,15 @@
 -- When an edge is of a segment, and how often a segment stands.
-use Rattle.kit_words.proofs.Common.{◌≡◌, ℕ, ◌≤◌, Bool, true, refl, List, [], ◌∷◌, ◌⊎◌, arith, Result, Ok, Err, IfOk}
-use Rattle.kit_words.proofs.Common.{OnOk, OnErr, nat_tests}
-use Rattle.arc_tables.specs.Common.{Edge, links, is_seg, one, times, Once}
+use Rattle.kit_words.proofs.Common.{◌≡◌, ℕ, ◌≤◌, true, refl, List, [], ◌∷◌, ◌⊎◌, arith, Result, Ok, Err, IfOk, OnOk}
+use Rattle.kit_words.proofs.Common.{OnErr, nat_tests}
+use Rattle.arc_tables.specs.Common.{Edge, links, is_seg, times, Once}
 
 -- the ends of an edge of the segment
 pub ends_of : (a b : ℕ) (e : Edge) → is_seg a b e ≡ true → ((e.0 ≡ a) × (e.1 ≡ b)) ⊎ ((e.0 ≡ b) × (e.1 ≡ a))
 ends_of a b e h = grind (arith, nat_tests)
 
-pub is_forth : (a b : ℕ) (e : Edge) → e.0 ≡ a → e.1 ≡ b → is_seg a b e ≡ true
-is_forth a b e f g = grind (arith, nat_tests)
-
-pub is_back : (a b : ℕ) (e : Edge) → e.0 ≡ b → e.1 ≡ a → is_seg a b e ≡ true
-is_back a b e f g = grind (arith, nat_tests)
-
 pub times_comm : (a b : ℕ) (es : List Edge) → times a b es ≡ times b a es
 times_comm a b [] = refl
 times_comm a b (e ∷ es) = grind (arith, times_comm a b es)
-
--- one that is not true counts nothing
-pub counts_none : (t : Bool) → (t ≡ true → ⊥) → one t ≡ 0
-counts_none t h = grind arith
-
-pub counted : (t : Bool) → one t ≡ 0 → t ≡ true → ⊥
-counted t h e = grind arith
 
 -- each segment of t stands where one of s stood, and no more often
 abbrev pub StandsFor : (ℕ → List ℕ) → (ℕ → List ℕ) → ℕ → ℕ → Type 0

@@ -2,7 +2,7 @@
 use Rattle.kit_words.proofs.Common.{◌≡◌, ◌≢◌, inl, inr, false, ℕ, zero, suc, ◌<◌, refl, sym, ap, ◌∙◌, subst, List, []}
 use Rattle.kit_words.proofs.Common.{◌∷◌, Contains, length, set, get_or, arith, ◌==◌, list_any, cases_eq, both_ways}
 use Rattle.arc_tables.specs.Common.{Stand, including, stand_at, ListsMore, UnlistsOnly, UnlistsOff}
-use Rattle.arc_tables.proofs.Different.{contained_any, in_including, itself_including}
+use Rattle.arc_tables.proofs.Different.{contained_any, in_including}
 
 module _ {A : Type 0} where
   pub stand_set : (ss : List (Stand A)) (i : ℕ) (s : Stand A) → i < length ss → stand_at (set ss i s) i ≡ s.arcs
@@ -33,9 +33,6 @@ module _ {A : Type 0} where
   -- one vertex lists one more arc
   pub lists_including : (ss : List (Stand A)) (i n : ℕ) (s : Stand A) → i < length ss → s.arcs ≡ including n (stand_at ss i) → ListsMore ss (set ss i s)
   lists_including ss i n s l e j m = lists_at ss i m s l (λ y. subst (λ z. Contains z m) (sym e) (in_including n (stand_at ss i) m y)) j
-
-  pub listed_including : (ss : List (Stand A)) (i n : ℕ) (s : Stand A) → i < length ss → s.arcs ≡ including n (stand_at ss i) → Contains (stand_at (set ss i s) i) n
-  listed_including ss i n s l e = subst (λ z. Contains z n) (sym (stand_set ss i s l ∙ e)) (itself_including n (stand_at ss i))
 
   -- a vertex lists what it did
   pub lists_same : (ss : List (Stand A)) (i : ℕ) (s : Stand A) → i < length ss → s.arcs ≡ stand_at ss i → ListsMore ss (set ss i s)

@@ -1,9 +1,9 @@
 -- Tables that hold the same belong together still.
-use Rattle.kit_words.proofs.Common.{◌≡◌, ◌≢◌, ℕ, refl, sym, ap, ◌∙◌, subst, List, Contains, Some, None, [], ◌∷◌, ◌++◌}
+use Rattle.kit_words.proofs.Common.{◌≡◌, ◌≢◌, ℕ, refl, sym, subst, List, Contains, Some, None, [], ◌∷◌, ◌++◌}
 use Rattle.kit_words.proofs.Common.{inl, inr, arith, Contains-push_cases, cases_eq}
 use Rattle.slab.specs.Slab.{Slab, get}
-use Rattle.arc_tables.specs.Common.{Use, Arc, Ring, Stand, Edge, Grows, Tables, path_in, stand_at, Listed, ListsMore}
-use Rattle.arc_tables.specs.Common.{Whole, SameRings, SamePaths, SameKeys, SameUsers, GoesOn, store, store_of}
+use Rattle.arc_tables.specs.Common.{Arc, Ring, Stand, Edge, Grows, Tables, path_in, stand_at, Listed, ListsMore}
+use Rattle.arc_tables.specs.Common.{Whole, SameRings, SamePaths, SameKeys, SameUsers, store, store_of}
 use Rattle.arc_tables.proofs.Moves.{kept_grows, keeps_same}
 use Rattle.arc_tables.proofs.Growing.{known_alike, same_users}
 
@@ -23,13 +23,6 @@ module _ {A : Type 0} where
   whole_same s t paths m rings more w = record {
     known = known_alike s.arcs t.arcs s.rings t.rings m rings w.known;
     listed = listed_paths s.arcs t.arcs s.stands.items t.stands.items paths more w.listed;
-  }
-
-  -- a ring goes on, where only room was made before
-  pub goes_on_after : (old mid new : Slab (Ring A)) (r : ℕ) (u : Use) → SameRings old mid → GoesOn mid new r u → GoesOn old new r u
-  goes_on_after old mid new r u same g = record {
-    ring = g.ring ∙ ap (λ z. z ++ u ∷ []) (same r);
-    others = λ k f. g.others k f ∙ same k;
   }
 
   -- arc n, which is new, is listed for its vertices

@@ -1,18 +1,12 @@
 -- What a write at one key of a slab changes.
-use Rattle.kit_words.proofs.Common.{◌≡◌, ℕ, ◌≤◌, sym, ap, ◌∙◌, arith, List, [], ◌∷◌, ◌++◌, inl, inr, length, Option, Some}
-use Rattle.kit_words.proofs.Common.{None, IsSome, is_some, refl, cases_eq, length-append, false, if◌then◌else◌, list_any, ◌==◌, Contains, subst}
-use Rattle.kit_words.proofs.Common.{Result, Ok, Err, OnErr}
+use Rattle.kit_words.proofs.Common.{◌≡◌, ℕ, sym, ap, ◌∙◌, List, [], ◌∷◌, ◌++◌, inl, inr, is_some, cases_eq, false}
+use Rattle.kit_words.proofs.Common.{if◌then◌else◌, list_any, ◌==◌, Contains, subst}
 use Rattle.slab.specs.Slab.{Slab, get, ContainsKey, with_value}
 use Rattle.slab.proofs.SlabLemmas.{Updates-with_value}
 use Rattle.arc_tables.specs.Common.{Use, Arc, Ring, path_in, users_in, uses_in, SamePaths, SameUsers, SameRings, SameKeys}
-use Rattle.arc_tables.specs.Common.{GoesOn, OpenAt, Tables, Stand, store, including, stand_at}
+use Rattle.arc_tables.specs.Common.{GoesOn, Stand, including, stand_at}
 use Rattle.arc_tables.proofs.Different.{itself_including}
 use Rattle.arc_tables.proofs.StoreLemmas.{uses_changed, uses_other, still_held}
-
--- what holds whatever the result holds at an error
-pub at_err : {X E : Type 0} {P : Type 0} (r : Result X E) → P → OnErr r P
-at_err (Ok x) p = tt
-at_err (Err e) p = p
 
 -- a list without a number, with it
 pub including_new : (n : ℕ) (xs : List ℕ) → list_any (λ k. k == n) xs ≡ false → including n xs ≡ xs ++ n ∷ []
@@ -22,14 +16,6 @@ module _ {A : Type 0} where
   -- a vertex that lists an arc too lists it
   pub listed_now : (ss ss' : List (Stand A)) (k n : ℕ) → stand_at ss' k ≡ including n (stand_at ss k) → Contains (stand_at ss' k) n
   listed_now ss ss' k n e = subst (λ z. Contains z n) (sym e) (itself_including n (stand_at ss k))
-
-  -- an arc with keys is there
-  pub path_there : (o : Option (Arc A)) → 1 ≤ length (path_in o) → IsSome o
-  path_there None l = absurd (omega arith)
-  path_there (Some arc) l = refl
-
-  pub open_there : (t : Tables A) (r n a : ℕ) → OpenAt (store t) r n a → ContainsKey t.arcs n
-  open_there t r n a o = path_there (get t.arcs n) (omega (arith, ap length o.path, length-append o.ps (a ∷ [])))
 
   -- an arc has other keys, and the rings that it had
   pub rekeyed_users : (arcs : Slab (Arc A)) (n : ℕ) (v : Arc A) → ContainsKey arcs n → v.rings ≡ users_in (get arcs n) → SameUsers arcs (with_value arcs n v)

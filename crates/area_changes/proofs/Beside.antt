@@ -2,12 +2,12 @@
 use Rattle.kit_words.proofs.Common.{cond, ◌≡◌, ◌≤◌, ◌<◌, ◌+◌, ◌*◌, ℤ, pos, ◌-ℤ◌, ◌*ℤ◌, ◌+ℤ◌, ◌<ℤ◌, Bool, true, false}
 use Rattle.kit_words.proofs.Common.{refl, sym, ap, ap₂, ◌∙◌, subst, List, [], ◌∷◌, ◌++◌, map, length, unsigned_abs}
 use Rattle.kit_words.proofs.Common.{arith, All, AllByRecursion, list_all, IsStrictlySortedBy, int_cmp, MatchOrdering}
-use Rattle.kit_words.proofs.Common.{Less, int_ranked, ints, All-tail}
+use Rattle.kit_words.proofs.Common.{Less, int_ranked, ints, All-tail, and_parts, leb-true, all_front}
 use Rattle.grid_geometry.specs.Common.{Position, Segment, segment_eq, orientation, is_in_box}
-use Rattle.ring_machine.proofs.Common.{and_both, segment_eq-true}
+use Rattle.grid_geometry.proofs.Turns.{orientation-start}
+use Rattle.ring_machine.proofs.Common.{segment_eq-true}
 use Rattle.snap_geometry.specs.Common.{is_near, along}
 use Rattle.segment_paths.specs.Common.{Path, IsWay, inner_of}
-use Rattle.topo_reader.proofs.Common.{at_most}
 use Rattle.area_changes.specs.Common.{IsBeside}
 
 less : (x y : ℤ) → int_cmp x y ≡ Less → x <ℤ y
@@ -21,14 +21,6 @@ begin s =
     let y : s.lo.y -ℤ s.lo.y ≡ pos 0 = omega (arith, ints) in
     ap₂ (λ a b. a *ℤ (s.hi.x -ℤ s.lo.x) +ℤ b *ℤ (s.hi.y -ℤ s.lo.y)) x y ∙ omega (arith, ints)
 
--- and on its line
-flat : (a b : Position) → orientation a b a ≡ pos 0
-unfolding orientation
-flat a b =
-    let x : a.x -ℤ a.x ≡ pos 0 = omega (arith, ints) in
-    let y : a.y -ℤ a.y ≡ pos 0 = omega (arith, ints) in
-    ap₂ (λ u v. (b.x -ℤ a.x) *ℤ v -ℤ u *ℤ (b.y -ℤ a.y)) x y ∙ omega (arith, ints)
-
 -- a triangle with two equal corners is none
 pub no_triangle : (a b : Position) → unsigned_abs (orientation a b b) ≡ 0
 unfolding orientation
@@ -37,7 +29,7 @@ no_triangle a b = omega (arith, ints)
 near_line : (s : Segment) (q : Position) → is_near q s ≡ true
     → 2 * unsigned_abs (orientation s.lo s.hi q) ≤ unsigned_abs (s.hi.x -ℤ s.lo.x) + unsigned_abs (s.hi.y -ℤ s.lo.y)
 unfolding is_near
-near_line s q h = at_most _ _ (and_both (is_in_box q s.lo s.hi) _ h).1
+near_line s q h = leb-true _ _ (and_parts (is_in_box q s.lo s.hi) _ h).1
 
 -- ---- along a path
 
@@ -55,10 +47,6 @@ above_first : (y : ℤ) (zs : List ℤ) → AllByRecursion (λ z. int_cmp y z �
 above_first y [] h = tt
 above_first y (z ∷ zs) h = (less y z h.0, above_first y zs h.1)
 
-front : {X : Type 0} (P : X → Type 0) (xs ys : List X) → AllByRecursion P (xs ++ ys) → AllByRecursion P xs
-front P [] ys h = tt
-front P (x ∷ xs) ys h = (h.0, front P xs ys h.1)
-
 map_push : (f : Position → ℤ) (ps : List Position) (q : Position) → map f (ps ++ q ∷ []) ≡ map f ps ++ f q ∷ []
 map_push f [] q = refl
 map_push f (p ∷ ps) q = ap (λ z. f p ∷ z) (map_push f ps q)
@@ -68,7 +56,7 @@ module _ (s : Segment) where
       → AllByRecursion (λ z. pos 0 <ℤ z) (map (along s) inner) → AllByRecursion (λ z. z <ℤ along s s.hi) (map (along s) inner) → AllByRecursion (IsBeside s) inner
   inner_beside [] h k l = tt
   inner_beside (q ∷ inner) h k l =
-      let both = and_both (is_near q s) (list_all (λ p. is_near p s) inner) h in (
+      let both = and_parts (is_near q s) (list_all (λ p. is_near p s) inner) h in (
         record { near = near_line s q both.0; begins = omega (arith, ints, k.0); ends = omega (arith, ints, l.0) },
         inner_beside inner both.1 k.1 l.1,
       )
@@ -79,13 +67,13 @@ module _ (s : Segment) where
   way_beside inner w =
       let up : IsStrictlySortedBy int_cmp (map (along s) (s.lo ∷ inner) ++ along s s.hi ∷ []) = subst (IsStrictlySortedBy int_cmp) (map_push (along s) (s.lo ∷ inner) s.hi) w.onward in
       let ends = below_last (map (along s) (s.lo ∷ inner)) (along s s.hi) up in
-      let begins = front (λ z. along s s.lo <ℤ z) (map (along s) inner) (along s s.hi ∷ [])
+      let begins = all_front (λ z. along s s.lo <ℤ z) (map (along s) inner) (along s s.hi ∷ [])
       (above_first (along s s.lo) (map (along s) inner ++ along s s.hi ∷ []) up.0) in
       let zero = begin s in
       let long : pos 0 <ℤ along s s.hi = subst (λ z. z <ℤ along s s.hi) zero ends.0 in (
         long,
         (
-          record { near = omega (arith, ap unsigned_abs (flat s.lo s.hi)); begins = omega (arith, ints, zero); ends = omega (arith, ints, zero, long) },
+          record { near = omega (arith, ap unsigned_abs (orientation-start s.lo s.hi)); begins = omega (arith, ints, zero); ends = omega (arith, ints, zero, long) },
           inner_beside inner w.near (subst (λ y. AllByRecursion (λ z. y <ℤ z) (map (along s) inner)) zero begins) ends.1,
         ),
       )

@@ -1,10 +1,10 @@
 -- What is swept over, a position at a time.
 use Rattle.kit_words.proofs.Common.{Bool, true, false, cond, ◌≡◌, ◌≤◌, ◌<◌, ◌+◌, ℕ, refl, ap, ◌∙◌, subst, List, [], ◌∷◌}
 use Rattle.kit_words.proofs.Common.{◌++◌, length, drop, get_or, arith, All, AllByRecursion, drop_all, sum_by-cons}
+use Rattle.kit_words.proofs.Common.{next_drop}
 use Rattle.std.proofs.Common.{is_gt}
 use Rattle.std.specs.Prelude.{sum_by}
 use Rattle.grid_geometry.specs.Common.{Position, position_cmp, Segment, Edge, links}
-use Rattle.grid_geometry.proofs.Common.{drop_item}
 use Rattle.segment_paths.specs.Common.{Path, IsWay, inner_of}
 use Rattle.area_changes.specs.Common.{triangle, swept_along, swept_by, IsBeside}
 use Rattle.area_changes.proofs.Beside.{no_triangle, none_alone}
@@ -17,7 +17,7 @@ pub link_next : (f : Edge → ℕ) (from to end : Position) (xs : List Position)
     → (sum + here) + sum_by f (links (to ∷ drop (i + 1) xs ++ end ∷ [])) ≡ whole
 link_next f from to end xs i sum here whole l e is so_far =
     let rest = links (to ∷ drop (i + 1) xs ++ end ∷ []) in
-    let there = ap (λ z. sum_by f (links (from ∷ z ++ end ∷ []))) (drop_item xs i to l e) in
+    let there = ap (λ z. sum_by f (links (from ∷ z ++ end ∷ []))) (next_drop xs i to l e) in
     omega (arith, is, so_far, there, sum_by-cons f (from, to) rest)
 
 -- the last link
@@ -31,7 +31,7 @@ link_last f from end xs i sum whole l so_far =
 
 pub beside_next : (s : Segment) (from to : Position) (xs : List Position) (i : ℕ) → i < length xs → to ≡ get_or xs i to
     → AllByRecursion (IsBeside s) (from ∷ drop i xs) → IsBeside s from × AllByRecursion (IsBeside s) (to ∷ drop (i + 1) xs)
-beside_next s from to xs i l e h = (h.0, subst (AllByRecursion (IsBeside s)) (drop_item xs i to l e) h.1)
+beside_next s from to xs i l e h = (h.0, subst (AllByRecursion (IsBeside s)) (next_drop xs i to l e) h.1)
 
 -- the sum is whole before the last step, which goes straight to the end
 pub along_end : (s : Segment) (from : Position) (xs : List Position) (i sum whole : ℕ) → length xs ≤ i

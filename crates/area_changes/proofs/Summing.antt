@@ -1,19 +1,15 @@
 -- Sums over the front of a list, an element at a time.
-use Rattle.kit_words.proofs.Common.{◌≡◌, ℕ, zero, suc, ◌+◌, ◌-◌, ◌≤◌, ◌<◌, sym, ap, ap₂, ◌∙◌, List, [], ◌∷◌, ◌++◌, map}
-use Rattle.kit_words.proofs.Common.{take, drop, get_or, length, arith, fold, take_more, take_all, map-append}
-use Rattle.kit_words.proofs.Common.{sum_by-cons, sum_by_push, fold_push}
+use Rattle.kit_words.proofs.Common.{◌≡◌, ℕ, zero, suc, ◌+◌, ◌-◌, ◌≤◌, ◌<◌, ap, ◌∙◌, List, [], ◌∷◌, map, take, get_or}
+use Rattle.kit_words.proofs.Common.{length, arith, fold, sum_by-cons, sum_by_push, fold_push, mapped_more}
 use Rattle.std.specs.Prelude.{sum_by}
-
-one_more : {A B : Type 0} (of : A → B) (xs : List A) (i : ℕ) (x : A) → i < length xs → x ≡ get_or xs i x → map of (take (i + 1) xs) ≡ map of (take i xs) ++ of x ∷ []
-one_more of xs i x l e = ap (map of) (take_more xs i x l ∙ ap (λ z. take i xs ++ z ∷ []) (sym e)) ∙ map-append of (take i xs) (x ∷ [])
 
 pub sum_more : {A B : Type 0} (f : B → ℕ) (of : A → B) (xs : List A) (i : ℕ) (x : A) → i < length xs → x ≡ get_or xs i x
     → sum_by f (map of (take (i + 1) xs)) ≡ sum_by f (map of (take i xs)) + f (of x)
-sum_more f of xs i x l e = ap (sum_by f) (one_more of xs i x l e) ∙ sum_by_push f (map of (take i xs)) (of x)
+sum_more f of xs i x l e = ap (sum_by f) (mapped_more of xs i x l e) ∙ sum_by_push f (map of (take i xs)) (of x)
 
 pub fold_more : {A B C : Type 0} (f : C → B → C) (z : C) (of : A → B) (xs : List A) (i : ℕ) (x : A) → i < length xs → x ≡ get_or xs i x
     → fold f z (map of (take (i + 1) xs)) ≡ f (fold f z (map of (take i xs))) (of x)
-fold_more f z of xs i x l e = ap (fold f z) (one_more of xs i x l e) ∙ fold_push f z (map of (take i xs)) (of x)
+fold_more f z of xs i x l e = ap (fold f z) (mapped_more of xs i x l e) ∙ fold_push f z (map of (take i xs)) (of x)
 
 -- a part of a sum
 pub sum_front : {A B : Type 0} (f : B → ℕ) (of : A → B) (xs : List A) (i : ℕ) → sum_by f (map of (take i xs)) ≤ sum_by f (map of xs)
@@ -27,8 +23,3 @@ pub sum_at : {A B : Type 0} (f : B → ℕ) (of : A → B) (xs : List A) (i : �
 sum_at f of [] i x l e = absurd (omega arith)
 sum_at f of (y ∷ ys) zero x l e = simp sum_by-cons (omega (arith, ap (λ z. f (of z)) e))
 sum_at f of (y ∷ ys) (suc i) x l e = simp sum_by-cons (omega (arith, sum_at f of ys i x (omega arith) e))
-
--- a list is its first element and the others
-pub list_is : {A : Type 0} (xs : List A) (first : A) → 1 ≤ length xs → first ≡ get_or xs 0 first → first ∷ take (length xs - 1) (drop 1 xs) ≡ xs
-list_is [] first l e = absurd (omega arith)
-list_is (x ∷ xs) first l e = ap₂ (λ (y : _) (ys : List _). y ∷ ys) e (take_all (length (x ∷ xs) - 1) xs (omega arith))

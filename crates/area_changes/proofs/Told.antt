@@ -1,15 +1,10 @@
 -- What is told of features, one after another.
-use Rattle.kit_words.proofs.Common.{◌≡◌, ◌<◌, ◌+◌, ℕ, suc, sym, ap, ap₂, ◌∙◌, List, ◌∷◌, ◌++◌, map, drop, drop-cons}
-use Rattle.kit_words.proofs.Common.{get_or, length, arith, append_assoc, drop_all}
+use Rattle.kit_words.proofs.Common.{◌≡◌, ◌<◌, ◌+◌, ℕ, suc, sym, ap, ap₂, ◌∙◌, List, ◌++◌, map, drop, get_or, length}
+use Rattle.kit_words.proofs.Common.{arith, append_assoc, drop_all, next_drop}
 use Rattle.std.proofs.Common.{append-nil}
 use Rattle.segment_paths.specs.Common.{Path}
 use Rattle.topo_reader.specs.Common.{Polygons}
 use Rattle.area_changes.specs.Common.{AreaChange, told_if, change_of, changes_from}
-
-rest_is : {X : Type 0} (xs : List X) (i : ℕ) (x : X) → i < length xs → x ≡ get_or xs i x → drop i xs ≡ x ∷ drop (i + 1) xs
-rest_is xs i x l e =
-    let next : suc i ≡ i + 1 = omega arith in
-    drop-cons xs i x l ∙ ap₂ (λ (z : _) (n : ℕ). z ∷ drop n xs) (sym e) next
 
 module _ {X : Type 0} (paths : List Path) (seen : X → Polygons) (before after : List X) where
   -- one feature more
@@ -22,7 +17,7 @@ module _ {X : Type 0} (paths : List Path) (seen : X → Polygons) (before after 
       let rest = changes_from paths (i + 1) (map seen (drop (i + 1) before)) (map seen (drop (i + 1) after)) in
       ap (λ z. z ++ rest) (more ∙ ap (λ (c : AreaChange). old ++ told_if c) is) ∙ append_assoc old (told_if (change_of paths i (seen x) (seen y))) rest
       ∙ ap (λ (n : ℕ). old ++ (told_if (change_of paths i (seen x) (seen y)) ++ changes_from paths n (map seen (drop (i + 1) before)) (map seen (drop (i + 1) after)))) (sym next)
-      ∙ ap₂ (λ (xs ys : List X). old ++ changes_from paths i (map seen xs) (map seen ys)) (sym (rest_is before i x l e)) (sym (rest_is after i y m f))
+      ∙ ap₂ (λ (xs ys : List X). old ++ changes_from paths i (map seen xs) (map seen ys)) (sym (next_drop before i x l e)) (sym (next_drop after i y m f))
       ∙ so_far
 
   -- no feature is left

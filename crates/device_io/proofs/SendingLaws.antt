@@ -1,9 +1,9 @@
 -- What a sink took over several calls, one after another.
-use Rattle.kit_words.proofs.Common.{◌≡◌, Bool, false, List, [], ◌++◌, ℕ, Ok, Err, Result, Appends-nil}
+use Rattle.kit_words.proofs.Common.{◌≡◌, Bool, false, List, [], ◌++◌, ℕ, Ok, Err, Result, Appends-nil, Appends-trans}
 use Rattle.std.specs.Result.{IsErrAnd}
 use Rattle.device_io.specs.Common.{Took, TookFront, Sends}
 use Rattle.device_io.specs.declared.Sink as sink
-use Rattle.device_io.proofs.DeviceLemmas.{Appends-more, front_first, front_second, no_front}
+use Rattle.device_io.proofs.DeviceLemmas.{front_first, front_second, no_front}
 
 module _ {W : Type 0} {its : sink.Ghosts W} where
   -- nothing was sent
@@ -18,7 +18,7 @@ module _ {W : Type 0} {its : sink.Ghosts W} where
   pub took_both : {old mid new : W} {first text : List ℕ}
       → Took its old mid first → Took its mid new text → Took its old new (first ++ text)
   took_both {old = old} {mid = mid} {new = new} {first = first} {text = text} p q = record {
-    taken = Appends-more (its.taken old) (its.taken mid) (its.taken new) first text p.taken q.taken;
+    taken = Appends-trans (its.taken old) (its.taken mid) (its.taken new) first text p.taken q.taken;
     works = q.works;
   }
 

@@ -1,4 +1,5 @@
 -- The words of this crate that others cite most, passed on from one place. Declares nothing.
+pub use Rattle.edit_records.proofs.ExchangedSizes.{head_apart, place_in}
 pub use Rattle.edit_records.proofs.ExchangesBack.{deleted, merged, split}
 pub use Rattle.edit_records.proofs.ExchangesMade.{cut-made, exchanged-append, exchanged-feature, exchanged-fills}
 pub use Rattle.edit_records.proofs.ExchangesMade.{feature-own, fills-nowhere, join-made, take_out-made}

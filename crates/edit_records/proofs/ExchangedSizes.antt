@@ -2,10 +2,10 @@
 use Rattle.kit_words.proofs.Common.{◌≡◌, ◌≤◌, ◌+◌, ℕ, Bool, true, false, refl, sym, ap, ap₂, ◌∙◌, subst, cond, List, []}
 use Rattle.kit_words.proofs.Common.{◌∷◌, ◌++◌, map, length, inl, inr, Option, Some, None, arith, eqb-true, ◌==◌}
 use Rattle.kit_words.proofs.Common.{flat_map, filter_map, sum_by, AllByRecursion, false≢true, Decides-eqb}
-use Rattle.kit_words.proofs.Common.{flat_map-append, filter_map-append, sum_by-append, sum_by-cons}
+use Rattle.kit_words.proofs.Common.{flat_map-append, filter_map-append, sum_by-append, sum_by-cons, and_parts, not-true}
 use Rattle.std.proofs.Common.{append-nil}
 use Rattle.ring_machine.specs.Common.{Feature, Document, feature_of, feature, rings_of, size, are_distinct}
-use Rattle.ring_machine.proofs.Common.{In, of_layers, any_in, in_any, and_both, not_true}
+use Rattle.ring_machine.proofs.Common.{In, of_layers, any_in, in_any}
 use Rattle.edit_records.specs.Common.{Place, Begins, Ends, Text_of, Number, Tree, Alone, Places, LayerTree, number_of}
 use Rattle.edit_records.specs.Common.{numbers_of, numbers_placed, has_place, leaf, or_empty, item_at, items_of, weight}
 use Rattle.edit_records.specs.Common.{weights, filled, Fills, exchanged_features, exchanged, had_before}
@@ -60,9 +60,9 @@ module _ (k : ℕ → Option Feature) where
 
 -- ---- the features of some numbers are others
 
-head_apart : (k : ℕ) (ks : List ℕ) → are_distinct (k ∷ ks) ≡ true → In k ks → ⊥
+pub head_apart : (k : ℕ) (ks : List ℕ) → are_distinct (k ∷ ks) ≡ true → In k ks → ⊥
 head_apart k ks d i =
-    false≢true (sym (not_true _ (and_both _ (are_distinct ks) d).0)
+    false≢true (sym (not-true _ (and_parts _ (are_distinct ks) d).0)
     ∙ in_any (λ m. m == k) k ks i ((Decides-eqb k k).1 refl))
 
 module _ (n : ℕ) (o : Option Feature) (j : ℕ → Option Feature) where
@@ -93,7 +93,7 @@ module _ (n : ℕ) (o : Option Feature) (j : ℕ → Option Feature) where
   all_one (m ∷ ns) d (inr i) =
       let a = sum_by-cons (λ m. weight (with_one m)) m ns in
       let b = sum_by-cons (λ m. weight (j m)) m ns in
-      let rest = all_one ns (and_both _ (are_distinct ns) d).1 i in
+      let rest = all_one ns (and_parts _ (are_distinct ns) d).1 i in
       let same : weight (with_one m) ≡ weight (j m) = by (m == n) refl in
       omega (arith, a, b, rest, same)
     where
@@ -118,7 +118,7 @@ module _ (k : ℕ → Option Feature) where
   all_exchanged [] ns d e h = refl
   all_exchanged (c ∷ cs) ns d e h =
       let one = all_one c.0 c.1 (exchanged_features cs k) ns d h.0 in
-      let rest = all_exchanged cs ns d (and_both _ (are_distinct (map (λ c. c.0) cs)) e).1 h.1 in
+      let rest = all_exchanged cs ns d (and_parts _ (are_distinct (map (λ c. c.0) cs)) e).1 h.1 in
       let same : weight (exchanged_features cs k c.0) ≡ weight (k c.0) =
       ap weight (kept cs c.0 (head_apart c.0 (map (λ c. c.0) cs) e)) in
       let a = sum_by-cons (λ (c : ℕ × Option Feature). weight (k c.0)) c cs in
@@ -138,7 +138,7 @@ module _ (k : ℕ → Option Feature) where
       within [] j e h = omega arith
       within (m ∷ ms) j e h =
           let one = all_one m None j ns d h.0 in
-          let rest = within ms (with_one m None j) (and_both _ (are_distinct ms) e).1 h.1 in
+          let rest = within ms (with_one m None j) (and_parts _ (are_distinct ms) e).1 h.1 in
           let others = same m j ms (head_apart m ms e) in
           let first = sum_by-cons (λ m. weight (j m)) m ms in
           omega (arith, one, rest, others, first)
@@ -151,7 +151,7 @@ had_weights d (c ∷ cs) =
     ∙ ap (λ z. weight (feature d c.0) + z) (had_weights d cs)
     ∙ sym (sum_by-cons (λ (c : ℕ × Option Feature). weight c.1) (c.0, feature d c.0) (had_before d cs))
 
-place_in : (trees : List LayerTree) (m : ℕ) → has_place trees m ≡ true → In m (numbers_placed trees)
+pub place_in : (trees : List LayerTree) (m : ℕ) → has_place trees m ≡ true → In m (numbers_placed trees)
 place_in trees m h =
     let a = any_in (λ n. n == m) (numbers_placed trees) h in
     subst (λ z. In z (numbers_placed trees)) (eqb-true a.0 m a.2) a.1

@@ -1,15 +1,14 @@
 -- The edits of features, each as an exchange at the places of their numbers.
 use Rattle.kit_words.proofs.Common.{◌≡◌, ◌≢◌, ℕ, Bool, true, false, refl, sym, ap, ap₂, ◌∙◌, cond, List, [], ◌∷◌, ◌++◌}
-use Rattle.kit_words.proofs.Common.{◌||◌, map, Option, Some, None, option_map, is_some, inl, inr, eqb-true, eq-eqb}
+use Rattle.kit_words.proofs.Common.{◌||◌, map, Option, Some, None, option_map, inl, inr, eqb-true, eq-eqb}
 use Rattle.kit_words.proofs.Common.{◌==◌, not, flat_map, filter, list_all, find, false≢true, append-nil}
-use Rattle.kit_words.proofs.Common.{flat_map-append, filter-append}
+use Rattle.kit_words.proofs.Common.{flat_map-append, filter-append, and_parts, or_parts}
 use Rattle.ring_machine.specs.Common.{Path, is_cut_by, first_that, becomes, instead, stays, cut, Text, Member, Feature}
 use Rattle.ring_machine.specs.Common.{FeatureOf, ItemOf, DocumentOf, Document, Open, Close, Leaf, Kept, is_leaf}
 use Rattle.ring_machine.specs.Common.{empty_collection, take_out, join, joined_feature, joined_polygons, feature}
-use Rattle.ring_machine.specs.Common.{has_feature, in_feature, in_features, in_layer, in_rings, is_layer}
-use Rattle.ring_machine.proofs.Common.{new_part, parts, cut_is, join_is, In, in_left, in_right, of_layers, none_in}
-use Rattle.ring_machine.proofs.Common.{among, feature_in, feature-in_features, has_feature-found, and_both, none_parts}
-use Rattle.ring_machine.proofs.Common.{taken, take_out_is}
+use Rattle.ring_machine.specs.Common.{in_feature, in_features, in_layer, in_rings, is_layer}
+use Rattle.ring_machine.proofs.Common.{parts, cut_is, join_is, In, in_left, in_right, of_layers, none_in}
+use Rattle.ring_machine.proofs.Common.{among, feature_in, feature-in_features, taken, take_out_is, new_feature}
 use Rattle.grid_geometry.specs.Common.{Position}
 use Rattle.edit_records.specs.Common.{Place, Begins, Ends, Text_of, Number, Tree, Alone, Places, LayerTree, number_of}
 use Rattle.edit_records.specs.Common.{numbers_of, is_formed, AreFormed, numbers_placed, has_place, leaf, or_empty}
@@ -162,7 +161,7 @@ module _ {R : Type 0} (n : ℕ) (k : ℕ → Option (FeatureOf R)) (own : AreOwn
       → map (in_layer (taken n)) (filled k trees) ≡ filled left trees
   filled_out [] h = refl
   filled_out (l ∷ ls) h =
-      let h' = and_both (is_formed l.tree) (list_all (λ l. is_formed l.tree) ls) h in
+      let h' = and_parts (is_formed l.tree) (list_all (λ l. is_formed l.tree) ls) h in
       ap₂ (λ y z. record { name = l.name; items = y } ∷ z) (tree_out l.tree h'.0) (filled_out ls h'.1)
 
 pub take_out-made : {R : Type 0} (trees : List LayerTree) (d : DocumentOf R) (n : ℕ)
@@ -311,7 +310,7 @@ module _ {R : Type 0} (n : ℕ) (g : FeatureOf R → List (FeatureOf R)) (f : Fe
         alone e =
             let there : k m ≡ Some f = ap k (eqb-true m n e) ∙ at in
             let is : (f.number == n) ≡ false =
-            (none_parts (f.number == n) false (sym (ap (λ o. is_layer (record {
+            (or_parts (f.number == n) false (sym (ap (λ o. is_layer (record {
               transform = t;
               layers = record { name = name; items = or_empty (leaf o) } ∷ [];
               members = ms;
@@ -329,7 +328,7 @@ module _ {R : Type 0} (n : ℕ) (g : FeatureOf R → List (FeatureOf R)) (f : Fe
         → map (in_layer (flat_map (becomes n g))) (filled k trees) ≡ filled with_two (grown n new trees)
     filled_two t ms [] h collected = refl
     filled_two t ms (l ∷ ls) h collected =
-        let c = none_parts _ _ collected in
+        let c = or_parts _ _ collected in
         ap₂ (λ y z. record { name = l.name; items = y } ∷ z)
         (tree_two t ms l.name l.tree (λ m w. h m (in_left m (numbers_of l.tree) (numbers_placed ls) w)) (ap (λ b. b || false) c.0))
         (filled_two t ms ls (λ m w. h m (in_right m (numbers_of l.tree) (numbers_placed ls) w)) c.1)
@@ -371,17 +370,6 @@ module _ {R : Type 0} (trees : List LayerTree) (d : DocumentOf R) (fills : Fills
                 let none : None ≡ Some f = sym (fills-nowhere new free) ∙ ap (feature d) (eqb-true new n t) ∙ at in
                 absurd cc
 
--- the feature of n is another one
-pub changed-made : {R : Type 0} (trees : List LayerTree) (d : DocumentOf R) (n : ℕ) (j : FeatureOf R)
-    → Fills trees d → has_feature d n ≡ true
-    → exchanged trees ((n, Some j) ∷ []) d ≡ instead n (λ f. j ∷ []) d
-changed-made trees d n j fills there = by (feature d n) refl
-  where
-    by : (o : Option (FeatureOf _)) → feature d n ≡ o
-        → exchanged trees ((n, Some j) ∷ []) d ≡ instead n (λ f. j ∷ []) d
-    by (Some f) e = instead-made trees d fills n (λ f. j ∷ []) f e j refl
-    by None e = absurd (false≢true (sym (has_feature-found d n ∙ ap is_some e) ∙ there))
-
 -- ---- split and merged
 
 pub cut-made : (trees : List LayerTree) (d : Document) (n : ℕ) (id : Text) (path : Path) (new : ℕ)
@@ -389,11 +377,11 @@ pub cut-made : (trees : List LayerTree) (d : Document) (n : ℕ) (id : Text) (pa
     → first_that (is_cut_by path) f.polygons ≡ p ∷ [] → is_layer d n ≡ false
     → has_place trees new ≡ false
     → cut d n id path new
-    ≡ exchanged (grown n new trees) ((n, Some (stays path f)) ∷ (new, Some (new_part path new id f p)) ∷ []) d
+    ≡ exchanged (grown n new trees) ((n, Some (stays path f)) ∷ (new, Some (new_feature path new id f p)) ∷ []) d
 cut-made trees d n id path new f p fills at one collected free =
     cut_is d n id path new
-    ∙ sym (instead-grown trees d fills n (parts d n id path new) f at (stays path f) (new_part path new id f p) new
-    (ap (λ ps. stays path f ∷ map (new_part path new id f) ps) one) collected free)
+    ∙ sym (instead-grown trees d fills n (parts d n id path new) f at (stays path f) (new_feature path new id f p) new
+    (ap (λ ps. stays path f ∷ map (new_feature path new id f) ps) one) collected free)
 
 pub join-made : (trees : List LayerTree) (d : Document) (n : ℕ) (f g : Feature) → Fills trees d
     → AreFormed trees → feature d n ≡ Some f → n ≢ g.number

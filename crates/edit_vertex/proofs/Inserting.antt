@@ -1,18 +1,18 @@
 -- What an insertion is refused by, from how many rings have the segment and how large the map is.
 use Rattle.kit_words.proofs.Common.{◌≡◌, ◌+◌, ◌-◌, ◌<◌, ◌≤◌, Bool, true, false, refl, sym, ap, ap₂, ◌∙◌, subst, ℕ, List}
-use Rattle.kit_words.proofs.Common.{[], ◌∷◌, length, Option, Some, inl, inr, arith, not, nat_lt, false≢true}
+use Rattle.kit_words.proofs.Common.{[], ◌∷◌, length, Option, Some, inl, inr, arith, not, nat_lt, false≢true, and_parts}
+use Rattle.kit_words.proofs.Common.{or_parts, not-true, lt-ltb, le-leb, lt-leb, kept_any}
 use Rattle.grid_geometry.specs.Common.{Position, position_eq, Segment, segment, Edge, edges}
 use Rattle.ring_machine.specs.Common.{has, is_ring, is_distinct, segment_of, Document, rings, size, is_vertex}
 use Rattle.ring_machine.specs.Common.{is_segment, ins, Proper, first_pair, insert_sweeps, Refusal, NoSegment, Occupied}
 use Rattle.ring_machine.specs.Common.{TooLarge, Sweeps, ◌unless◌, first_of, planar, is_small, insert_refusals}
-use Rattle.ring_machine.proofs.Common.{is_of, edges_to, edges_is, In, all_in, and_both, position_eq-refl, none_parts}
-use Rattle.ring_machine.proofs.Common.{not_true, same_ends, segment_eq-true, ring_distinct, any_in}
+use Rattle.ring_machine.proofs.Common.{is_of, edges_to, edges_is, In, all_in, position_eq-refl}
+use Rattle.ring_machine.proofs.Common.{same_ends, segment_eq-true, ring_distinct, any_in}
 use Rattle.arc_store.specs.Common.{Refuses, users}
 use Rattle.arc_store.specs.declared.fault.EditFault.{EditFault}
 use Rattle.arc_store.proofs.Common.{has_segment, has_segment_by, is_segment_by, size_ins}
 use Rattle.edit_vertex.specs.Common.{is_early}
 use Rattle.edit_vertex.proofs.Late.{is_late, late_end, late_fault}
-use Rattle.edit_vertex.proofs.Lists.{kept_any, lt_holds, le_holds, le_fails}
 
 -- ---- the segment
 
@@ -29,7 +29,7 @@ pub used_border : (d : Document) (s : Segment) (n : ℕ) → n ≡ length (users
     → is_segment d s ≡ true
 used_border d s n h some =
     let more : 0 < length (users d s) = omega (arith, h, some) in
-    sym (segment_used d s) ∙ lt_holds 0 (length (users d s)) more
+    sym (segment_used d s) ∙ lt-ltb 0 (length (users d s)) more
 
 pub unused_border : (d : Document) (s : Segment) (n : ℕ) → n ≡ length (users d s) → n ≡ 0
     → is_segment d s ≡ false
@@ -43,13 +43,13 @@ apart_to : (q : Position) (ps : List Position) → is_distinct ps ≡ true → h
     → (e : Edge) → In e (edges_to q ps) → e.0 ≡ e.1 → ⊥
 apart_to q [] d h e i k = absurd i
 apart_to q (r ∷ []) d h e (inl i) k =
-    differ q r (none_parts (position_eq q r) (has [] q) h).0 (ap (λ (f : Edge). f.1) i ∙ sym k ∙ sym (ap (λ (f : Edge). f.0) i))
+    differ q r (or_parts (position_eq q r) (has [] q) h).0 (ap (λ (f : Edge). f.1) i ∙ sym k ∙ sym (ap (λ (f : Edge). f.0) i))
 apart_to q (r ∷ []) d h e (inr i) k = absurd i
 apart_to q (r ∷ s ∷ ps) d h e (inl i) k =
-    let lacks = not_true (has (s ∷ ps) r) (and_both (not (has (s ∷ ps) r)) (is_distinct (s ∷ ps)) d).0 in
-    differ r s (none_parts (position_eq r s) (has ps r) lacks).0 (ap (λ (f : Edge). f.0) i ∙ k ∙ sym (ap (λ (f : Edge). f.1) i))
+    let lacks = not-true (has (s ∷ ps) r) (and_parts (not (has (s ∷ ps) r)) (is_distinct (s ∷ ps)) d).0 in
+    differ r s (or_parts (position_eq r s) (has ps r) lacks).0 (ap (λ (f : Edge). f.0) i ∙ k ∙ sym (ap (λ (f : Edge). f.1) i))
 apart_to q (r ∷ s ∷ ps) d h e (inr i) k =
-    apart_to q (s ∷ ps) (and_both (not (has (s ∷ ps) r)) (is_distinct (s ∷ ps)) d).1 (none_parts (position_eq q r) (has (s ∷ ps) q) h).1 e i k
+    apart_to q (s ∷ ps) (and_parts (not (has (s ∷ ps) r)) (is_distinct (s ∷ ps)) d).1 (or_parts (position_eq q r) (has (s ∷ ps) q) h).1 e i k
 
 -- the ends of an edge of a ring differ
 ring_apart : (ring : List Position) → is_ring ring ≡ true → (e : Edge) → In e (edges ring)
@@ -62,11 +62,11 @@ ring_apart (x ∷ y ∷ ps) r e i k = by (subst (In e) (edges_is x (y ∷ ps)) i
     d = ring_distinct (x ∷ y ∷ ps) r
 
     lacks : has (y ∷ ps) x ≡ false
-    lacks = not_true (has (y ∷ ps) x) (and_both (not (has (y ∷ ps) x)) (is_distinct (y ∷ ps)) d).0
+    lacks = not-true (has (y ∷ ps) x) (and_parts (not (has (y ∷ ps) x)) (is_distinct (y ∷ ps)) d).0
 
     by : In e ((x, y) ∷ edges_to x (y ∷ ps)) → ⊥
-    by (inl j) = differ x y (none_parts (position_eq x y) (has ps x) lacks).0 (ap (λ (f : Edge). f.0) j ∙ k ∙ sym (ap (λ (f : Edge). f.1) j))
-    by (inr j) = apart_to x (y ∷ ps) (and_both (not (has (y ∷ ps) x)) (is_distinct (y ∷ ps)) d).1 lacks e j k
+    by (inl j) = differ x y (or_parts (position_eq x y) (has ps x) lacks).0 (ap (λ (f : Edge). f.0) j ∙ k ∙ sym (ap (λ (f : Edge). f.1) j))
+    by (inr j) = apart_to x (y ∷ ps) (and_parts (not (has (y ∷ ps) x)) (is_distinct (y ∷ ps)) d).1 lacks e j k
 
 -- no segment goes from a position to itself
 pub no_loop : (d : Document) (a : Position) → Proper d → is_segment d (segment a a) ≡ false
@@ -132,13 +132,13 @@ module _ (d : Document) (a b q : Position) where
   unfolding insert_refusals
   insert_too_large proper h k l =
       ap₂ (λ s v. by s v (is_small (ins d a b q))) h k
-      ∙ ap (λ z. by true false z) (le_fails (size (ins d a b q)) 4000000 (size_over d a b q proper l))
+      ∙ ap (λ z. by true false z) (lt-leb (size (ins d a b q)) 4000000 (size_over d a b q proper l))
 
   pub insert_late : is_segment d (segment a b) ≡ true → is_vertex d q ≡ false
       → size (ins d a b q) ≤ 4000000 → (fault : EditFault)
       → Refuses fault (first_of (insert_refusals d a b q)) → is_early fault ≡ false
   unfolding insert_refusals
   insert_late h k l fault r =
-      let small = le_holds (size (ins d a b q)) 4000000 l in
+      let small = le-leb (size (ins d a b q)) 4000000 l in
       late_fault fault (first_of (insert_refusals d a b q))
       (ap is_late (ap₂ (λ s v. by s v (is_small (ins d a b q))) h k ∙ ap (λ z. by true false z) small) ∙ late_end (first_pair (ins d a b q)) (not (insert_sweeps d a b q))) r

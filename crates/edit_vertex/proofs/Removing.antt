@@ -1,19 +1,19 @@
 -- What a removal is refused by, from what stands around the vertex.
 use Rattle.kit_words.proofs.Common.{◌≡◌, ◌<◌, ◌≤◌, ℕ, Bool, true, false, refl, sym, ap, ap₂, ◌∙◌, subst, cond, List, []}
 use Rattle.kit_words.proofs.Common.{◌∷◌, length, ◌||◌, Option, Some, arith, not, nat_lt, is_lt, is_gt, Ordering, Less}
-use Rattle.kit_words.proofs.Common.{Equal, Greater, false≢true}
+use Rattle.kit_words.proofs.Common.{Equal, Greater, false≢true, lt-ltb, le-ltb}
 use Rattle.grid_geometry.specs.Common.{Position, position_cmp, position_lt, Segment, segment, Edge, edges}
 use Rattle.ring_machine.specs.Common.{has, is_ring, spots, Document, rings, is_vertex, is_segment, del, around}
 use Rattle.ring_machine.specs.Common.{is_junction, Proper, first_pair, remove_sweeps, Refusal, NoVertex, Junction}
 use Rattle.ring_machine.specs.Common.{RingShort, SegmentExists, Sweeps, ◌unless◌, first_of, planar, are_long}
 use Rattle.ring_machine.specs.Common.{is_bridged, remove_refusals}
 use Rattle.ring_machine.proofs.Common.{In, all_in, has-in, begin_place, place_around, position_lt-irrefl, edges_start}
-use Rattle.ring_machine.proofs.Common.{any_in, in_contains, contains_in, in_mapped}
+use Rattle.ring_machine.proofs.Common.{any_in, in_contains, contains_in, in_mapped, pass_all}
 use Rattle.arc_store.specs.Common.{Refuses, IsShortest, IsBetween}
 use Rattle.arc_store.specs.declared.fault.EditFault.{EditFault}
 use Rattle.edit_vertex.specs.Common.{is_early}
 use Rattle.edit_vertex.proofs.Late.{is_late, late_end, late_fault}
-use Rattle.edit_vertex.proofs.Lists.{all_by, not_all, any_same, lt_holds, lt_fails}
+use Rattle.edit_vertex.proofs.Lists.{not_all, any_same}
 
 -- ---- the neighbours
 
@@ -66,19 +66,19 @@ is_long p ring = not (has ring p) || nat_lt 3 (length ring)
 
 pub rings_long : (d : Document) (p : Position) (n : ℕ) → IsShortest d p n → 3 < n
     → are_long d p ≡ true
-rings_long d p n s h = all_by (is_long p) (rings d) (λ ring i. each ring i (has ring p) refl)
+rings_long d p n s h = pass_all (is_long p) (rings d) (λ ring i. each ring i (has ring p) refl)
   where
     each : (ring : List Position) → In ring (rings d) → (t : Bool) → has ring p ≡ t
         → (not t || nat_lt 3 (length ring)) ≡ true
     each ring i false t = refl
-    each ring i true t = lt_holds 3 (length ring) (omega (arith, h, s.least ring (in_contains (rings d) ring i) t))
+    each ring i true t = lt-ltb 3 (length ring) (omega (arith, h, s.least ring (in_contains (rings d) ring i) t))
 
 pub ring_short : (d : Document) (p : Position) (n : ℕ) → IsShortest d p n → n ≤ 3
     → are_long d p ≡ false
 ring_short d p n s h =
     let short : length s.ring ≤ 3 = omega (arith, h, s.long) in
     not_all (is_long p) (rings d) s.ring (contains_in (rings d) s.ring s.there)
-    (ap (λ t. not t || nat_lt 3 (length s.ring)) s.through ∙ lt_fails 3 (length s.ring) short)
+    (ap (λ t. not t || nat_lt 3 (length s.ring)) s.through ∙ le-ltb 3 (length s.ring) short)
 
 -- ---- the refusal
 

@@ -1,14 +1,14 @@
 -- An accepted edit of a vertex leaves every position on its side of every ring, and so does any
 -- number of removals, one after the other.
-use Rattle.kit_words.proofs.Common.{◌≡◌, ℕ, ℤ, Bool, true, false, refl, sym, ap, ◌∙◌, subst, cond, List, [], ◌∷◌, ◌++◌}
-use Rattle.kit_words.proofs.Common.{take, Option, None, Some, not, ◌&&◌, fold, filter, option_and_then, false≢true}
-use Rattle.grid_geometry.specs.Common.{Position, position_eq, is_inside}
-use Rattle.ring_machine.specs.Common.{has, Document, rings, is_vertex, Proper, vertices, del, del_ring, is_junction}
-use Rattle.ring_machine.specs.Common.{ring_at, KeepsSides, Refusal, first_of, remove_refusals, Thinning, is_flat}
-use Rattle.ring_machine.specs.Common.{without, thin_at, thinned_over, IsThinnedPart}
-use Rattle.ring_machine.proofs.Common.{ThinnedFrom, removed, canonical_parts, In, any_in, in_any, in_filter, in_mapped}
-use Rattle.ring_machine.proofs.Common.{in_swap, has-in, in-has, rings-in_rings}
+use Rattle.kit_words.proofs.Common.{◌≡◌, ℤ, Bool, true, false, refl, sym, ap, ◌∙◌, subst, cond, List, [], ◌∷◌, take}
+use Rattle.kit_words.proofs.Common.{Option, None, Some, not, ◌&&◌, fold, option_and_then, false≢true}
+use Rattle.grid_geometry.specs.Common.{Position, is_inside}
+use Rattle.ring_machine.specs.Common.{has, Document, Proper, vertices, del, del_ring, is_junction, ring_at, KeepsSides}
+use Rattle.ring_machine.specs.Common.{Refusal, first_of, remove_refusals, Thinning, is_flat, without, thin_at}
+use Rattle.ring_machine.specs.Common.{thinned_over, IsThinnedPart}
+use Rattle.ring_machine.proofs.Common.{ThinnedFrom, removed}
 use Rattle.ring_machine.proofs.SidesKept.{ring_at-mapped}
+use Rattle.ring_machine.proofs.Accepted.{has-del, vertex-del}
 
 some_same : (s r : List Position) → Some s ≡ Some r → s ≡ r
 some_same s r e = cc
@@ -18,22 +18,6 @@ pub same_keeps : (d : Document) → KeepsSides d d
 same_keeps d n i j r s w e f v u o = ap (is_inside w) (some_same s r (sym f ∙ e))
 
 -- ---- one vertex left out
-
--- what stands in the rest of a ring stood in the ring
-still_has : (p : Position) (ring : List Position) (w : Position) → has (del_ring p ring) w ≡ true
-    → has ring w ≡ true
-still_has p ring w h =
-    let rest = filter (λ r. not (position_eq r p)) ring in
-    let turn = canonical_parts rest in
-    let turned : In w (turn.1 ++ turn.0) = subst (In w) turn.3 (has-in w (del_ring p ring) h) in
-    let in_rest : In w rest = subst (In w) (sym turn.2) (in_swap w turn.1 turn.0 turned) in
-    in-has w ring (in_filter (λ r. not (position_eq r p)) w ring in_rest).0
-
-still_vertex : (d : Document) (p w : Position) → is_vertex (del d p) w ≡ true → is_vertex d w ≡ true
-still_vertex d p w h =
-    let found = any_in (λ ring. has ring w) (rings (del d p)) h in
-    let was = in_mapped (del_ring p) found.0 (rings d) (subst (In found.0) (rings-in_rings (del_ring p) d) found.1) in
-    in_any (λ ring. has ring w) was.0 (rings d) was.1 (still_has p was.0 w (ap (λ ring. has ring w) was.2 ∙ found.2))
 
 left_ring : (p : Position) (o : Option (List Position)) (s : List Position)
     → option_and_then (λ r. Some (del_ring p r)) o ≡ Some s
@@ -47,10 +31,10 @@ one_left_out d p proper accepted =
     let both = removed d p proper accepted in
     record {
       proper = both.0;
-      old = λ w h. still_vertex d p w h;
+      old = λ w h. vertex-del d p w h;
       smaller = λ n i j s e.
           let k = left_ring p (ring_at d n i j) s (sym (ring_at-mapped (del_ring p) d n i j) ∙ e) in
-          (k.0, k.1, λ w h. still_has p k.0 w (ap (λ z. has z w) (sym k.2) ∙ h));
+          (k.0, k.1, λ w h. has-del p k.0 w (ap (λ z. has z w) (sym k.2) ∙ h));
       sides = both.1;
     }
 

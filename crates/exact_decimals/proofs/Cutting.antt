@@ -3,8 +3,9 @@ use Rattle.kit_words.proofs.Common.{◌≡◌, ℕ, zero, suc, ◌-◌, ◌*◌,
 use Rattle.kit_words.proofs.Common.{length, take, drop, min, arith, length-take, length-append, list_all-append, ◌&&◌}
 use Rattle.kit_words.proofs.Common.{list_all}
 use Rattle.json_spans.specs.Common.{value_from, is_zero}
+use Rattle.json_spans.proofs.Decimal.{grows}
 use Rattle.exact_decimals.specs.Common.{first_digits}
-use Rattle.exact_decimals.proofs.Values.{grows, value_from-append}
+use Rattle.exact_decimals.proofs.Values.{value_from-append}
 use Rattle.exact_decimals.proofs.Powers.{scaled_grows}
 
 pub take-append : (n : ℕ) (xs ys : List ℕ) → take n (xs ++ ys) ≡ take n xs ++ take (n - length xs) ys

@@ -5,7 +5,7 @@ use Rattle.kit_words.proofs.Common.{◌≡◌, ℕ, ◌+◌, ◌-◌, ◌*◌, �
 use Rattle.kit_words.proofs.Common.{negsuc, ◌+ℤ◌, ◌*ℤ◌, unsigned_abs, int_div_euclid, ints, div_below, pow-add}
 use Rattle.kit_words.proofs.Common.{le_of_mul-le-mul_right}
 use Rattle.exact_decimals.specs.Common.{rounded}
-use Rattle.exact_decimals.proofs.Powers.{power_pos, scaled_grows}
+use Rattle.exact_decimals.proofs.Powers.{power_pos, scaled_grows, power_mono}
 
 -- the two powers together are 10^24
 powers : (k : ℕ) → k ≤ 24 → 10 ^ k * 10 ^ (24 - k) ≡ 10 ^ 24
@@ -24,11 +24,11 @@ abbrev InRange : ℤ → ℕ → ℕ → Type 0
 InRange (pos a) b m = a < (m + 1) * b
 InRange (negsuc a) b m = a < m * b
 
-quotient_within : (w : ℤ) (b m : ℕ) → 0 < b → InRange w b m → unsigned_abs (int_div_euclid w (pos b)) ≤ m
+pub quotient_within : (w : ℤ) (b m : ℕ) → 0 < b → InRange w b m → unsigned_abs (int_div_euclid w (pos b)) ≤ m
 quotient_within (pos a) b m h r = omega (arith, div_below a b (m + 1) h r)
 quotient_within (negsuc a) b m h r = omega (arith, div_below a b m h r)
 
-in_range : (w z : ℤ) (u m : ℕ) → w ≡ pos 2 *ℤ z +ℤ pos u → 0 < u → unsigned_abs z ≤ m * u → InRange w (2 * u) m
+pub in_range : (w z : ℤ) (u m : ℕ) → w ≡ pos 2 *ℤ z +ℤ pos u → 0 < u → unsigned_abs z ≤ m * u → InRange w (2 * u) m
 in_range (pos a) (pos n) u m e p h = omega (arith, ints)
 in_range (pos a) (negsuc n) u m e p h = omega (arith, ints)
 in_range (negsuc a) (pos n) u m e p h = omega (arith, ints)
@@ -76,3 +76,10 @@ cast_fits (negsuc n) h = omega (arith, ints)
 pub cast_is : (q : ℤ) → unsigned_abs q ≤ 10 ^ 12 → to_z w64 (of_z w64 (to_z w128 (of_z w128 q))) ≡ q
 cast_is (pos n) h = omega (arith, ints)
 cast_is (negsuc n) h = omega (arith, ints)
+
+pub small_fits : (z : ℤ) → unsigned_abs z ≤ 10 ^ 12 → SFits w64 z
+small_fits (pos n) h = omega (arith, ints)
+small_fits (negsuc n) h = omega (arith, ints)
+
+pub scale_fits : (finer s : ℕ) → finer ≤ 12 → s ≡ 10 ^ finer → s ≤ 10 ^ 12
+scale_fits finer s f e = omega (arith, power_mono finer 12 f, e)

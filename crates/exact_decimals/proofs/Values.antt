@@ -5,11 +5,6 @@ use Rattle.kit_words.proofs.Common.{and_parts, cases_Bool, nat_tests, take_all, 
 use Rattle.json_spans.specs.Common.{is_digit, value_from, digits_len}
 use Rattle.exact_decimals.proofs.Powers.{power_mono}
 
-pub grows : (n : ℕ) (xs : List ℕ) → n ≤ value_from n xs
-unfolding value_from
-grows n [] = omega arith
-grows n (x ∷ xs) = omega (arith, grows (n * 10 + (x - 48)) xs)
-
 pub value_from-append : (n : ℕ) (xs ys : List ℕ) → value_from n (xs ++ ys) ≡ value_from (value_from n xs) ys
 unfolding value_from
 value_from-append n [] ys = refl

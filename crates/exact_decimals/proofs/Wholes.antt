@@ -3,14 +3,15 @@ use Rattle.kit_words.proofs.Common.{◌≡◌, ℕ, zero, suc, ◌+◌, ◌-◌,
 use Rattle.kit_words.proofs.Common.{◌∙◌, cond, inl, inr, List, [], ◌∷◌, ◌++◌, length, take, drop, Option, Some, None}
 use Rattle.kit_words.proofs.Common.{Ok, arith, pow-suc, take-append_seam, drop-append_seam, and_parts, and_from}
 use Rattle.kit_words.proofs.Common.{cases_Bool, cond-true, cond-false, lt-ltb, nat_tests, ints, length-take, take_all}
-use Rattle.kit_words.proofs.Common.{drop_all, take-append-drop, list_all-append, pow-add, ℤ, pos, ◌*ℤ◌, ◌==◌, nat_lt}
+use Rattle.kit_words.proofs.Common.{drop_all, take-append-drop, list_all-append, pow-add, ℤ, pos, ◌*ℤ◌, nat_lt}
 use Rattle.kit_words.proofs.Common.{list_all}
 use Rattle.std.proofs.lemmas.Bool.{eqb-true}
 use Rattle.json_spans.specs.Common.{is_digit, Digits, no_digit, digit, SomeDigits, digits, IsNumber, value_from}
 use Rattle.json_spans.specs.Common.{is_zero, digits_len, whole_of, NoFraction, no_point, point, IsWhole, plain}
 use Rattle.json_spans.specs.Common.{negative}
 use Rattle.json_spans.specs.Whole.{minus}
-use Rattle.json_spans.proofs.Common.{whole_meant}
+use Rattle.json_spans.proofs.Common.{whole_meant, digit_no_minus}
+use Rattle.json_spans.proofs.Meant.{all_digits, fraction_len}
 use Rattle.exact_decimals.specs.Common.{Parts, digits_of, behind_digits, exponent_of, with_exponent, behind_integer}
 use Rattle.exact_decimals.specs.Common.{unsigned, parts_of, behind_e, without_sign, exponent_digits, reach}
 use Rattle.exact_decimals.specs.Common.{first_digits, one_if_more, fine}
@@ -57,17 +58,8 @@ whole_has_parts bytes z n e =
 
 -- ---- digits, and zeros behind a point or none
 
-fraction_len : {f : List ℕ} → NoFraction f → digits_len f ≡ 0
-fraction_len no_point = refl
-fraction_len (point z) = refl
-
-joined_len : {ds : List ℕ} → Digits ds [] → (f : List ℕ) → digits_len f ≡ 0 → digits_len (ds ++ f) ≡ length ds
-joined_len no_digit f e = e
-joined_len (digit {x = x} {xs = xs} t d) f e =
-    omega (arith, cond-true (is_digit x) (1 + digits_len (xs ++ f)) 0 t, joined_len d f e)
-
 some_len : {ds f : List ℕ} → SomeDigits ds [] → NoFraction f → digits_len (ds ++ f) ≡ length ds
-some_len {f = f} (digits {x = x} t d) n = joined_len (digit {x = x} t d) f (fraction_len n)
+some_len {f = f} (digits {x = x} t d) n = all_digits (digit {x = x} t d) f (fraction_len n)
 
 some_more : {ds : List ℕ} → SomeDigits ds [] → 0 < length ds
 some_more (digits {x = x} {xs = xs} t d) = omega arith
@@ -76,9 +68,6 @@ unsigned_is : {ds f : List ℕ} (s : Bool) → SomeDigits ds [] → NoFraction f
 unsigned_is {ds} {f} s d n =
     let some : nat_lt 0 (length ds) ≡ true = lt-ltb 0 (length ds) (some_more d) in
     rw (some_len d n, some, take-append_seam ds f, drop-append_seam ds f) refl
-
-digit_no_minus : (x : ℕ) → is_digit x ≡ true → (x == 45) ≡ false
-digit_no_minus x h = grind (arith, nat_tests)
 
 plain_is : {ds f : List ℕ} → SomeDigits ds [] → NoFraction f → parts_of (ds ++ f) ≡ behind_integer false ds f
 plain_is (digits {x = x} t d) n = cond-false _ _ _ (digit_no_minus x t) ∙ unsigned_is false (digits {x = x} t d) n

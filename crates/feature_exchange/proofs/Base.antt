@@ -2,7 +2,7 @@
 -- vertex.
 use Rattle.kit_words.proofs.Common.{◌≡◌, ◌≢◌, ◌≤◌, ◌↔◌, ℕ, Bool, true, refl, sym, ap, ap₂, ◌∙◌, subst, List, [], ◌∷◌}
 use Rattle.kit_words.proofs.Common.{map, length, ◌||◌, ◌&&◌, ◌⊎◌, inl, inr, arith, Some, is_some, Contains, unwrap_or}
-use Rattle.kit_words.proofs.Common.{list_any, filter, flat_map, false≢true, length-map}
+use Rattle.kit_words.proofs.Common.{list_any, filter, flat_map, false≢true, length-map, and_parts, or_cases, or_right}
 use Rattle.std.specs.FinMap as table
 use Rattle.grid_geometry.specs.Common.{Position, position_eq, Segment, segment, segment_eq, is_end}
 use Rattle.grid_geometry.specs.Ring as geometry
@@ -10,19 +10,17 @@ use Rattle.grid_geometry.proofs.Common.{segment-comm}
 use Rattle.ring_machine.specs.Common.{canonical, has, is_distinct, is_ring, segment_of, segments, spots, rings}
 use Rattle.ring_machine.specs.Common.{is_vertex, is_segment, all_segments, around, are_distinct, holds_other}
 use Rattle.ring_machine.specs.Common.{crosses_on_way, edge_sweeps, move_sweeps}
-use Rattle.ring_machine.proofs.Common.{and_both, or_true, or_right, position_eq-true, segment_ordered, In, in-map}
-use Rattle.ring_machine.proofs.Common.{in-flat_map, has-in, in-has, end_place, begin_place, place_around, first_end}
-use Rattle.ring_machine.proofs.Common.{second_end, segment_eq-true, same_ends, rings-in_rings, canonical_is_ring}
-use Rattle.ring_machine.proofs.Common.{contains_in, in_contains, in_mapped, in_flat, in_filter, any_in, in_any}
-use Rattle.ring_machine.proofs.Common.{same_answer, there}
+use Rattle.ring_machine.proofs.Common.{position_eq-true, segment_ordered, In, in-map, in-flat_map, has-in, in-has}
+use Rattle.ring_machine.proofs.Common.{end_place, begin_place, place_around, first_end, second_end, segment_eq-true}
+use Rattle.ring_machine.proofs.Common.{same_ends, rings-in_rings, canonical_is_ring, contains_in, in_contains}
+use Rattle.ring_machine.proofs.Common.{in_mapped, in_flat, any_in, in_any, same_answer, there, in_canonical, in-filter}
 use Rattle.vertex_index.specs.Common.{Placement, AreDistinct, place}
 use Rattle.arc_tables.specs.Common.{Edge, begins}
 use Rattle.ring_store.specs.Common.{Joined, GoesRound}
 use Rattle.feature_exchange.specs.Common.{Stored, positions_along, ring_under, document_of, IsWhole}
 use Rattle.ring_store.proofs.Common.{IsKept, place_is, kept_place, place_kept, one_key, distinct_places}
-use Rattle.ring_store.proofs.Common.{edge_of_canonical, edge_in_canonical, in_canonical, of_canonical, laid}
-use Rattle.ring_store.proofs.Common.{begins_round, edges_round, edge_ends, edge_apart, times_edge, edge_times}
-use Rattle.ring_store.proofs.Common.{beside_edges}
+use Rattle.ring_store.proofs.Common.{edge_of_canonical, edge_in_canonical, of_canonical, laid, begins_round}
+use Rattle.ring_store.proofs.Common.{edges_round, edge_ends, edge_apart, times_edge, edge_times, beside_edges}
 use Rattle.feature_exchange.proofs.Ends.{segment_ends, end_of_two, two_ends}
 
 -- ---- what a ring of the document was made of
@@ -253,7 +251,7 @@ module _ (s : Stored) (w : IsWhole s) where
   around_place k h t i =
       let p = place s.places k in
       let u = in_mapped (λ (spot : Position × Segment). spot.1) t (filter (λ spot. position_eq p spot.0) (flat_map spots (rings (document_of s)))) i in
-      let f = in_filter (λ (spot : Position × Segment). position_eq p spot.0) u.0 (flat_map spots (rings (document_of s))) u.1 in
+      let f = in-filter (λ (spot : Position × Segment). position_eq p spot.0) u.0 (flat_map spots (rings (document_of s))) u.1 in
       let r = in_flat spots u.0 (rings (document_of s)) f.0 in
       at r.0 r.1 u.0 (position_eq-true p u.0.0 f.1) u.2 r.2
     where
@@ -315,7 +313,7 @@ module _ (s : Stored) (w : IsWhole s) where
       let in_b = contains_in xs b.b ((j b.b).1 b.joined_b) in
       let here : (x : ℕ) → In x xs → (a : Position) → a ≡ place s.places x → sweeps a ≡ true → list_any (λ x. sweeps (place s.places x)) xs ≡ true
       = λ x i a e v. in_any (λ x. sweeps (place s.places x)) x xs i (ap sweeps (sym e) ∙ v) in
-      elim (or_true (sweeps u.0.lo) (sweeps u.0.hi) u.2) [
+      elim (or_cases (sweeps u.0.lo) (sweeps u.0.hi) u.2) [
         | inl v ↦ elim (segment_ends (place s.places b.a) (place s.places b.b)) [
           | inl m ↦ here b.a in_a u.0.lo (ap (λ (t : Segment). t.lo) b.is ∙ m.0) v
           | inr m ↦ here b.b in_b u.0.lo (ap (λ (t : Segment). t.lo) b.is ∙ m.0) v
@@ -359,7 +357,7 @@ module _ (s : Stored) (w : IsWhole s) where
       → AreJoined s k xs → (t : Segment)
       → (is_segment (document_of s) t && is_end p t) ≡ list_any (segment_eq t) (segments_to s.places p xs)
   segments_at k p e xs j t = same_answer _ _ (λ h.
-      let k' = and_both (is_segment (document_of s) t) (is_end p t) h in
+      let k' = and_parts (is_segment (document_of s) t) (is_end p t) h in
       let b = segment_between t k'.0 in
       let kept = joined_kept b.a b.b b.joined in
       let here : (x : ℕ) → Joined s.rings k x → t ≡ segment (place s.places x) p → list_any (segment_eq t) (segments_to s.places p xs) ≡ true

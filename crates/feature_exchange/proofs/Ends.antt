@@ -1,9 +1,9 @@
 -- The ends of the segment of two positions.
 use Rattle.kit_words.proofs.Common.{◌≡◌, ◌≢◌, Bool, true, false, refl, sym, ap, ◌∙◌, cond, ◌||◌, ◌⊎◌, inl, inr, is_gt}
-use Rattle.kit_words.proofs.Common.{ordering_reverse, Ordering, Less, Equal, Greater}
+use Rattle.kit_words.proofs.Common.{ordering_reverse, Ordering, Less, Equal, Greater, or_cases, or_right}
 use Rattle.grid_geometry.specs.Common.{Position, position_eq, position_cmp, Segment, segment, is_end, IsSegment}
 use Rattle.grid_geometry.proofs.Common.{position_cmp-exact, position_cmp-back}
-use Rattle.ring_machine.proofs.Common.{or_true, or_right, position_eq-true, position_eq-refl}
+use Rattle.ring_machine.proofs.Common.{position_eq-true, position_eq-refl}
 
 pub segment_ends : (a b : Position)
     → (((segment a b).lo ≡ a) × ((segment a b).hi ≡ b)) ⊎ (((segment a b).lo ≡ b) × ((segment a b).hi ≡ a))
@@ -29,7 +29,7 @@ end_is p t (inl e) = ap (λ b. b || position_eq p t.hi) (ap (position_eq p) e �
 end_is p t (inr e) = or_right (position_eq p t.lo) (position_eq p t.hi) (ap (position_eq p) e ∙ position_eq-refl p)
 
 pub is_end_of : (p : Position) (t : Segment) → is_end p t ≡ true → (t.lo ≡ p) ⊎ (t.hi ≡ p)
-is_end_of p t h = elim (or_true (position_eq p t.lo) (position_eq p t.hi) h) [
+is_end_of p t h = elim (or_cases (position_eq p t.lo) (position_eq p t.hi) h) [
   | inl e ↦ inl (sym (position_eq-true p t.lo e))
   | inr e ↦ inr (sym (position_eq-true p t.hi e))
 ]

@@ -37,9 +37,6 @@ none_in x c = absurd (omega (arith, c.1))
 
 -- ---- tables that stand, in parts
 
-pub keyed_of : (p : Placement) (m : Rings) (h : SegmentSet) → Stands p m h → AreKeyed p m
-keyed_of p m h s = record { round = s.round; placed = s.placed; distinct = s.distinct }
-
 pub holds_of : (p : Placement) (m : Rings) (h : SegmentSet) → Stands p m h → HoldsWith p m h []
 holds_of p m h s t = (
   λ i. inl ((s.indexed t).0 i),
@@ -79,9 +76,6 @@ module _ (p : Placement) (m : Rings) (h : SegmentSet) (s : Stands p m h) (n : �
   ring_round = round_keys p ks (s.round n (edges ks) here) key_placed
 
   module _ (m' : Rings) (gone : m' ≡ table.remove m n) where
-    after : Rings
-    after = table.remove m n
-
     pub keyed_without : AreKeyed p m'
     keyed_without = subst (AreKeyed p) (sym gone) (record {
       round = λ r es e. s.round r es (left_there m n r es e);

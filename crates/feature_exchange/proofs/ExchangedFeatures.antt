@@ -7,9 +7,8 @@ use Rattle.ring_machine.specs.Common.{FeatureOf, features, in_feature, in_rings,
 use Rattle.ring_machine.specs.Common.{WellFormed}
 use Rattle.ring_machine.specs.Planar as proper
 use Rattle.ring_machine.proofs.Common.{formed-before_rings, In, in_flat, all_in, in-flat_map, in-map, none_in}
-use Rattle.ring_machine.proofs.Common.{in_feature-agrees, ring_is_canonical}
+use Rattle.ring_machine.proofs.Common.{in_feature-agrees, ring_is_canonical, map_there}
 use Rattle.map_frame.specs.Common.{feature_numbers, Framed}
-use Rattle.ring_store.proofs.Common.{same_map}
 use Rattle.edit_records.specs.Common.{exchanged, is_exchanged, IsMap}
 use Rattle.edit_records.proofs.ExchangesSeen.{exchanged-rings}
 use Rattle.segment_index.specs.Common.{SegmentSet}
@@ -55,9 +54,9 @@ module _ {A : Type 0} (old mid new : Stored) (h i j : SegmentSet) (frame : Frame
 
   for_new : AreFor (ring_under new) cs ls
   for_new =
-      same_map (λ l. map (map (ring_under new)) (feature_numbers l)) (λ l. map (map (ring_at mid.places mid.rings)) (feature_numbers l)) ls
-      (λ l k. same_map (map (ring_under new)) (map (ring_at mid.places mid.rings)) (feature_numbers l) (λ p m.
-      same_map (ring_under new) (ring_at mid.places mid.rings) p (λ r o.
+      map_there (λ l. map (map (ring_under new)) (feature_numbers l)) (λ l. map (map (ring_at mid.places mid.rings)) (feature_numbers l)) ls
+      (λ l k. map_there (map (ring_under new)) (map (ring_at mid.places mid.rings)) (feature_numbers l) (λ p m.
+      map_there (ring_under new) (ring_at mid.places mid.rings) p (λ r o.
       ring_laid r (subst (In r) (sym (for_coming (ring_at mid.places mid.rings) cs ls at))
       (in-flat_map (λ (l : Vec (Vec ℕ A) A). flat_map (λ p. p) (feature_numbers l)) l r ls k
       (in-flat_map (λ (p : List ℕ). p) p r (feature_numbers l) m o))))))

@@ -4,10 +4,9 @@ use Rattle.kit_words.proofs.Common.{Contains, IsTrue, false≢true}
 use Rattle.std.specs.FinMap as table
 use Rattle.grid_geometry.specs.Common.{Position}
 use Rattle.ring_machine.specs.Common.{rings, size, Proper, canonical, WellFormed}
-use Rattle.ring_machine.proofs.Common.{In, contains_in, in_contains}
+use Rattle.ring_machine.proofs.Common.{In, contains_in, in_contains, map_there}
 use Rattle.topo_outline.specs.Common.{KeepsTexts}
 use Rattle.segment_index.specs.Common.{SegmentSet}
-use Rattle.ring_store.proofs.Common.{same_map}
 use Rattle.feature_exchange.proofs.Staying.{ring_at-stays}
 use Rattle.feature_exchange.specs.Common.{AreAdded, AreGone, KeepsPlaces, Holds, Stored, ring_under, document_of}
 use Rattle.ring_store.specs.Common.{ring_at, Stands}
@@ -63,7 +62,7 @@ module _ (old mid new : Stored) (h i j : SegmentSet) (came gone : List ℕ)
     rings_came rs among laid at =
         mapped_twice (ring_at new.places new.rings) canonical rs
         ∙ ap (map canonical)
-        (same_map (ring_at new.places new.rings) (ring_at mid.places mid.rings) rs (λ r k.
+        (map_there (ring_at new.places new.rings) (ring_at mid.places mid.rings) rs (λ r k.
         ring_at-stays mid.places mid.places new.places mid.rings new.rings i j e.laid e.stands (λ x p q. q) e.left r (e.there r (among r k)) (came_held r (among r k)))
         ∙ at)
 

@@ -3,8 +3,7 @@ use Rattle.kit_words.proofs.Common.{◌≡◌, ◌<◌, ℕ, Bool, true, refl, s
 use Rattle.kit_words.proofs.Common.{length, get_or, append_assoc, flat_map, list_all, append-nil, map_push}
 use Rattle.kit_words.proofs.Common.{flat_map-append}
 use Rattle.grid_geometry.specs.Common.{Position}
-use Rattle.ring_machine.proofs.Common.{In, in_right, all_in, in-flat_map, in_at, pass_all}
-use Rattle.ring_store.proofs.Common.{same_map}
+use Rattle.ring_machine.proofs.Common.{In, in_right, all_in, in-flat_map, in_at, pass_all, map_there}
 use Rattle.feature_exchange.proofs.Series.{number_there}
 use Rattle.feature_exchange.specs.Common.{numbers_of, AreThere, LaysMore}
 use Rattle.ring_store.specs.Common.{AreStanding, ring_in}
@@ -58,7 +57,7 @@ module _ {I A X Y : Type 0} (nums : X → List ℕ) (see : (ℕ → List Positio
       at =
           ap (map (see (ring_in u))) e ∙ map_push (see (ring_in u)) xs x
           ∙ ap₂ (λ v w. v ++ w ∷ [])
-          (same_map (see (ring_in u)) (see (ring_in t)) xs (λ z i.
+          (map_there (see (ring_in u)) (see (ring_in t)) xs (λ z i.
           agree (ring_in u) (ring_in t) z (λ r k.
           b.laid.still r (number_there t.borders has a.there r
           (subst (In r) (sym a.more.numbers) (in_right r (numbers_of had) (flat_map nums xs) (in-flat_map nums z r xs i k))))))
@@ -69,11 +68,11 @@ module _ {I A X Y : Type 0} (nums : X → List ℕ) (see : (ℕ → List Positio
 
 -- the two kinds of lists
 pub polygon_agree : (g h : ℕ → List Position) (x : List ℕ) → ((r : ℕ) → In r x → g r ≡ h r) → map g x ≡ map h x
-polygon_agree g h x a = same_map g h x a
+polygon_agree g h x a = map_there g h x a
 
 pub feature_agree : (g h : ℕ → List Position) (x : List (List ℕ)) → ((r : ℕ) → In r (flat_map (λ p. p) x) → g r ≡ h r)
     → map (map g) x ≡ map (map h) x
-feature_agree g h x a = same_map (map g) (map h) x (λ p i. same_map g h p (λ r k. a r (in-flat_map (λ (p : List ℕ). p) p r x i k)))
+feature_agree g h x a = map_there (map g) (map h) x (λ p i. map_there g h p (λ r k. a r (in-flat_map (λ (p : List ℕ). p) p r x i k)))
 
 -- ---- what is left to lay
 

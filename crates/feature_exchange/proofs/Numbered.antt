@@ -1,14 +1,13 @@
 -- Lists of laid rings, and the rings that come or go with them.
-use Rattle.kit_words.proofs.Common.{◌≡◌, ◌<◌, ◌+◌, ℕ, Bool, true, false, refl, sym, ap, ap₂, ◌∙◌, subst, List, [], ◌∷◌}
-use Rattle.kit_words.proofs.Common.{◌++◌, map, ◌⊎◌, inl, inr, Some, None, take, get_or, length, arith, Contains, Option}
+use Rattle.kit_words.proofs.Common.{◌≡◌, ◌<◌, ◌+◌, ℕ, Bool, true, false, refl, sym, ap, ◌∙◌, subst, List, [], ◌∷◌}
+use Rattle.kit_words.proofs.Common.{◌++◌, map, ◌⊎◌, inl, inr, Some, None, take, get_or, length, arith, Contains}
 use Rattle.kit_words.proofs.Common.{◌==◌, list_any, same_map, nat_cmp-IsAntisymmetric, nat_cmp_total, length-map}
-use Rattle.kit_words.proofs.Common.{get_or-map, map_push, take-map, Contains-append_left, Contains-push}
-use Rattle.kit_words.proofs.Common.{Contains-push_cases, ℕ_discrete, false≢true, Decides-eqb}
+use Rattle.kit_words.proofs.Common.{get_or-map, take-map, Contains-append_left, Contains-push}
+use Rattle.kit_words.proofs.Common.{Contains-push_cases, ℕ_discrete, false≢true, Decides-eqb, mapped_more}
 use Rattle.std.specs.FinMap as table
 use Rattle.ring_machine.proofs.Common.{In, contains_in, in_contains, any_in, in_any}
 use Rattle.ring_machine.specs.Common.{are_distinct}
-use Rattle.arc_tables.specs.Common.{Edge, Rings, edges}
-use Rattle.ring_store.proofs.Common.{map_more}
+use Rattle.arc_tables.specs.Common.{Rings, edges}
 use Rattle.feature_exchange.specs.Common.{numbers_of, AreThere, AreGone, AreAdded, LaidRing}
 use Rattle.feature_exchange.proofs.Unvisited.{distinct_before}
 use Rattle.feature_exchange.proofs.Visited.{ring_gone, ring_stays}
@@ -30,9 +29,6 @@ contained_or r ns = by (list_any (λ m. m == r) ns) refl
     by false e = inr (λ c. false≢true (sym e ∙ in_any (λ m. m == r) r ns (contains_in ns r c) ((Decides-eqb r r).1 refl)))
 
 -- ---- rings that came
-
-pub added_none : (m : Rings) → AreAdded m m []
-added_none m = record { free = λ r c. absurd (omega (arith, c.1)); different = refl; kept = λ r es e. e; others = λ r f. refl }
 
 -- those that came and went
 pub came_and_went : (m now next : Rings) (numbers : List ℕ) → AreAdded m now numbers → AreGone now next numbers
@@ -76,7 +72,7 @@ module _ {A : Type 0} where
       → x ≡ get_or laid i x → AreGone m now (numbers_of (take i laid)) → next ≡ table.remove now x.number
       → AreGone m next (numbers_of (take (i + 1) laid))
   gone_more m now next laid i x l here g e =
-      subst (AreGone m next) (sym (map_more (λ (y : LaidRing A). y.number) laid i x l here)) (subst (λ z. AreGone m z (numbers_of (take i laid) ++ x.number ∷ [])) (sym e) (record {
+      subst (AreGone m next) (sym (mapped_more (λ (y : LaidRing A). y.number) laid i x l here)) (subst (λ z. AreGone m z (numbers_of (take i laid) ++ x.number ∷ [])) (sym e) (record {
         gone = λ r c. gone r (Contains-push_cases (numbers_of (take i laid)) x.number r c) (ℕ_discrete r x.number);
         others = λ r f.
             ring_stays now x.number r (λ s. f (subst (Contains (numbers_of (take i laid) ++ x.number ∷ [])) (sym s) (Contains-push (numbers_of (take i laid)) x.number)))
@@ -88,19 +84,3 @@ module _ {A : Type 0} where
       gone r o (yes s) = ap (table.get (table.remove now x.number)) s ∙ ring_gone now x.number
       gone r (inl c) (no f) = ring_stays now x.number r f ∙ g.gone r c
       gone r (inr s) (no f) = absurd (f (sym s))
-
-  -- ---- gathered rings
-
-  pub gathered_more : (m : Rings) (laid laid' : List (LaidRing A)) (x : LaidRing A) → laid' ≡ laid ++ x ∷ []
-      → map (λ (y : LaidRing A). table.get m y.number) laid ≡ map (λ (y : LaidRing A). Some (edges y.keys.items)) laid
-      → (r : ℕ) → x.number ≡ r → table.get m r ≡ Some (edges x.keys.items)
-      → map (λ (y : LaidRing A). table.get m y.number) laid' ≡ map (λ (y : LaidRing A). Some (edges y.keys.items)) laid'
-  gathered_more m laid laid' x e h r is there =
-      ap (map f) e ∙ map_push f laid x ∙ ap₂ (λ y z. y ++ z ∷ []) h (ap (table.get m) is ∙ there)
-      ∙ sym (ap (map g) e ∙ map_push g laid x)
-    where
-      f : LaidRing A → Option (List Edge)
-      f y = table.get m y.number
-
-      g : LaidRing A → Option (List Edge)
-      g y = Some (edges y.keys.items)

@@ -2,16 +2,16 @@
 use Rattle.kit_words.proofs.Common.{◌≡◌, ◌≤◌, ℕ, true, refl, sym, ap, ap₂, ◌∙◌, subst, cond, List, [], ◌∷◌, ◌++◌, map}
 use Rattle.kit_words.proofs.Common.{inl, inr, Option, Some, None, length, arith, eqb-true, eq-eqb, ◌==◌, flat_map}
 use Rattle.kit_words.proofs.Common.{filter_map, sum_by, append-nil, flat_map-append, filter_map-append, flat_map-map}
-use Rattle.kit_words.proofs.Common.{sum_by-cons, sum_by-append}
+use Rattle.kit_words.proofs.Common.{sum_by-cons, sum_by-append, false_from_ne_true}
 use Rattle.grid_geometry.specs.Common.{Position}
 use Rattle.ring_machine.specs.Common.{FeatureOf, DocumentOf, Document, feature_of, feature, features, rings, rings_of}
 use Rattle.ring_machine.specs.Common.{size, are_distinct}
-use Rattle.ring_machine.proofs.Common.{In, in-append, in_left, in_right, distinct_parts, feature_in, of_layers, any_in}
-use Rattle.ring_machine.proofs.Common.{in_mapped, in-map, refuted, in_split}
+use Rattle.ring_machine.proofs.Common.{In, in-append, in_left, in_right, distinct_parts, feature_in, of_layers}
+use Rattle.ring_machine.proofs.Common.{in_mapped, in-map, in_split}
 use Rattle.edit_records.specs.Common.{Place, Number, Tree, Alone, Places, LayerTree, number_of, numbers_of}
 use Rattle.edit_records.specs.Common.{numbers_placed, has_place, leaf, or_empty, item_at, items_of, filled, Fills}
 use Rattle.edit_records.specs.Common.{exchanged_features, exchanged, AreNumbered}
-use Rattle.edit_records.proofs.Common.{exchanged-feature}
+use Rattle.edit_records.proofs.Common.{exchanged-feature, place_in}
 use Rattle.feature_exchange.specs.Common.{rings_in, coming}
 
 -- ---- all rings, by the numbers that have places
@@ -85,11 +85,6 @@ spot n (m ∷ ns) d (inr i) =
       after = k.after;
     }
 
-pub place_in : (trees : List LayerTree) (n : ℕ) → has_place trees n ≡ true → In n (numbers_placed trees)
-place_in trees n h =
-    let w = any_in (λ m. m == n) (numbers_placed trees) h in
-    subst (λ z. In z (numbers_placed trees)) (eqb-true w.0 n w.2) w.1
-
 pub flat_same : {X Y : Type 0} (f g : X → List Y) (xs : List X) → ((x : X) → In x xs → f x ≡ g x)
     → flat_map f xs ≡ flat_map g xs
 flat_same f g [] a = refl
@@ -105,7 +100,7 @@ module _ {R : Type 0} where
       → (In m (numbers cs) → ⊥) → exchanged_features cs k m ≡ k m
   others_same [] k m f = refl
   others_same (c ∷ cs) k m f =
-      ap (λ b. cond b c.1 (exchanged_features cs k m)) (refuted (m == c.0) (λ t. f (inl (sym (eqb-true m c.0 t))))) ∙ others_same cs k m (λ i. f (inr i))
+      ap (λ b. cond b c.1 (exchanged_features cs k m)) (false_from_ne_true (m == c.0) (λ t. f (inl (sym (eqb-true m c.0 t))))) ∙ others_same cs k m (λ i. f (inr i))
 
   pub has_given : (cs : List (ℕ × Option (FeatureOf R))) (k : ℕ → Option (FeatureOf R)) (c : ℕ × Option (FeatureOf R))
       → are_distinct (numbers cs) ≡ true → In c cs → exchanged_features cs k c.0 ≡ c.1
@@ -114,7 +109,7 @@ module _ {R : Type 0} where
       ap (λ t. cond t b.1 (exchanged_features cs k c.0)) (eq-eqb c.0 b.0 (sym (ap (λ z. z.0) e))) ∙ ap (λ z. z.1) e
   has_given (b ∷ cs) k c d (inr i) =
       let parts = distinct_parts (b.0 ∷ []) (numbers cs) d in
-      ap (λ t. cond t b.1 (exchanged_features cs k c.0)) (refuted (c.0 == b.0) (λ t. parts.apart c.0 (inl (sym (eqb-true c.0 b.0 t))) (in-map (λ z. z.0) c cs i)))
+      ap (λ t. cond t b.1 (exchanged_features cs k c.0)) (false_from_ne_true (c.0 == b.0) (λ t. parts.apart c.0 (inl (sym (eqb-true c.0 b.0 t))) (in-map (λ z. z.0) c cs i)))
       ∙ has_given cs k c parts.right i
 
   -- these numbers have places
@@ -162,7 +157,7 @@ some_fewer g (n ∷ ns) all d among =
       sum_by-cons g n ns,
     )
 
-sum_flat : {X Y : Type 0} (g : Y → ℕ) (h : X → List Y) (xs : List X)
+pub sum_flat : {X Y : Type 0} (g : Y → ℕ) (h : X → List Y) (xs : List X)
     → sum_by g (flat_map h xs) ≡ sum_by (λ x. sum_by g (h x)) xs
 sum_flat g h [] = refl
 sum_flat g h (x ∷ xs) =

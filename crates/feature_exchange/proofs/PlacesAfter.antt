@@ -1,15 +1,14 @@
 -- Where a new number is to come after a feature in a collection, it and all others have a place.
 use Rattle.kit_words.proofs.Common.{◌≡◌, ◌<◌, ◌+◌, ◌||◌, ℕ, Bool, true, false, refl, sym, ap, ◌∙◌, subst, cond, List}
 use Rattle.kit_words.proofs.Common.{[], ◌∷◌, ◌++◌, ◌⊎◌, inl, inr, Option, Some, None, is_some, arith, eq-eqb, eqb-true}
-use Rattle.kit_words.proofs.Common.{◌==◌, IfSome, flat_map, false≢true, true_from_ne_false, flat_map-append}
+use Rattle.kit_words.proofs.Common.{◌==◌, IfSome, flat_map, false≢true, true_from_ne_false, flat_map-append, or_right}
 use Rattle.ring_machine.specs.Common.{FeatureOf, DocumentOf, feature, is_layer}
-use Rattle.ring_machine.proofs.Common.{In, in-append, in_left, in_right, among, feature_in, has_feature-found, or_right}
+use Rattle.ring_machine.proofs.Common.{In, in-append, in_left, in_right, among, feature_in, has_feature-found}
 use Rattle.edit_records.specs.Common.{Place, Number, Tree, Alone, Places, LayerTree, filled, items_of, number_of}
 use Rattle.edit_records.specs.Common.{numbers_of, numbers_placed, has_place, with_new, tree_with, grown, leaf, or_empty}
-use Rattle.edit_records.proofs.Common.{fills-nowhere}
+use Rattle.edit_records.proofs.Common.{fills-nowhere, place_in}
 use Rattle.feature_exchange.specs.Common.{places_after, next_after, MayGrow}
 use Rattle.map_frame.specs.Common.{Framed, ArePlaced}
-use Rattle.feature_exchange.proofs.Placed.{place_in}
 
 module _ (n new : ℕ) where
   -- the number in its new list

@@ -3,17 +3,17 @@ use Rattle.kit_words.proofs.Common.{◌≡◌, ◌<◌, ℕ, true, sym, ap, ◌�
 use Rattle.kit_words.proofs.Common.{Vec, slice_get, flat_map, AllByRecursion, false≢true}
 use Rattle.grid_geometry.specs.Common.{Position}
 use Rattle.ring_machine.specs.Common.{Feature, rings, are_distinct}
-use Rattle.ring_machine.proofs.Common.{In, contains_in, in_contains}
+use Rattle.ring_machine.proofs.Common.{In, contains_in, in_contains, slice-in}
 use Rattle.arc_tables.specs.Common.{Rings}
 use Rattle.map_frame.specs.Common.{IsOf, feature_numbers, Framed, ArePlaced}
 use Rattle.segment_index.specs.Common.{SegmentSet}
 use Rattle.feature_exchange.specs.Common.{AreAdded, seen, Holds, coming, IsReady, FitsForm, all_numbered, Stored}
 use Rattle.feature_exchange.specs.Common.{Change}
 use Rattle.feature_exchange.proofs.Asked.{AreFor, for_coming, for_numbers, for_own, for_below, for_fits}
-use Rattle.map_frame.proofs.Common.{of_in, in_get}
+use Rattle.map_frame.proofs.Common.{of_in}
 
 pub in_of : (xs : List ℕ) (r i : ℕ) → slice_get xs i ≡ Some r → In r xs
-in_of xs r i e = in_get xs i r e
+in_of xs r i e = slice-in xs i r e
 
 module _ {A : Type 0} (s : Stored) (held : SegmentSet) (h : Holds s held) (frame : Framed) (same : frame.doc ≡ s.frame)
     (placed : ArePlaced frame.places frame.next frame.doc) (cs : List (Change A)) (ls : List (Vec (Vec ℕ A) A))

@@ -1,17 +1,17 @@
 -- Features exchanged in a frame of ring numbers: which rings are named then, and what still can be
 -- exchanged.
 use Rattle.kit_words.proofs.Common.{◌≡◌, ◌<◌, ℕ, true, refl, sym, ap, ap₂, ◌∙◌, subst, cond, List, [], ◌∷◌, ◌++◌, inl}
-use Rattle.kit_words.proofs.Common.{inr, Option, Some, None, Contains, eq-eqb, flat_map, AllByRecursion, append-nil}
-use Rattle.kit_words.proofs.Common.{map-append, flat_map-append}
+use Rattle.kit_words.proofs.Common.{inr, Option, Some, None, Contains, eq-eqb, flat_map, append-nil, map-append}
+use Rattle.kit_words.proofs.Common.{flat_map-append, all_front, all_back}
 use Rattle.ring_machine.specs.Common.{FeatureOf, DocumentOf, feature, rings, are_distinct}
 use Rattle.ring_machine.proofs.Common.{In, in_left, in_right, DistinctParts, distinct_parts, contains_in, in_contains}
 use Rattle.edit_records.specs.Common.{LayerTree, Fills, numbers_placed, has_place, exchanged_features, exchanged}
 use Rattle.edit_records.specs.Common.{AreNumbered}
-use Rattle.edit_records.proofs.Common.{exchanged-feature, exchanged-fills, exchanged-append}
+use Rattle.edit_records.proofs.Common.{exchanged-feature, exchanged-fills, exchanged-append, place_in}
 use Rattle.feature_exchange.specs.Common.{rings_in, coming, IsReady, FitsForm, put_in, rings_under}
 use Rattle.map_frame.specs.Common.{Framed}
 use Rattle.feature_exchange.proofs.Changes.{Changes, none_changes, changes_at, changes_as, changes_twice, changes_swap}
-use Rattle.feature_exchange.proofs.Placed.{rings_at, filled_rings, rings_placed, spot, place_in, flat_same, numbers, others_same}
+use Rattle.feature_exchange.proofs.Placed.{rings_at, filled_rings, rings_placed, spot, flat_same, numbers, others_same}
 use Rattle.feature_exchange.proofs.Under.{under_found, under_none, under_in}
 
 -- the rings that these numbers have now
@@ -26,14 +26,6 @@ under_is {R} d n = by (feature d n) refl
     by (Some f) e = ap rings_in e ∙ sym (under_found d n f e)
 
 -- ---- parts of a list
-
-pub all_left : {X : Type 0} (P : X → Type 0) (xs ys : List X) → AllByRecursion P (xs ++ ys) → AllByRecursion P xs
-all_left P [] ys h = tt
-all_left P (x ∷ xs) ys h = (h.0, all_left P xs ys h.1)
-
-pub all_right : {X : Type 0} (P : X → Type 0) (xs ys : List X) → AllByRecursion P (xs ++ ys) → AllByRecursion P ys
-all_right P [] ys h = h
-all_right P (x ∷ xs) ys h = all_right P xs ys h.1
 
 own_left : {R : Type 0} (xs ys : List (ℕ × Option (FeatureOf R))) → AreNumbered (xs ++ ys) → AreNumbered xs
 own_left [] ys h = tt
@@ -62,10 +54,10 @@ module _ (frame : Framed) (xs ys : List (ℕ × Option (FeatureOf ℕ))) (r : Is
   pub ready_right : IsReady frame ys
   ready_right = record {
     placed = r.placed;
-    below = all_right (λ c. c.0 < frame.next) xs ys r.below;
+    below = all_back (λ c. c.0 < frame.next) xs ys r.below;
     apart = apart_parts.right;
     own = own_right xs ys r.own;
-    fits = all_right (λ c. FitsForm c.1) xs ys r.fits;
+    fits = all_back (λ c. FitsForm c.1) xs ys r.fits;
     once = r.once;
     different = coming_parts.right;
     new = λ n c. r.new n (from_right n (contains_in (coming ys) n c));
@@ -83,10 +75,10 @@ module _ (frame : Framed) (xs ys : List (ℕ × Option (FeatureOf ℕ))) (r : Is
       placed = r.placed.placed;
       known = r.placed.known;
     };
-    below = all_left (λ c. c.0 < frame.next) xs ys r.below;
+    below = all_front (λ c. c.0 < frame.next) xs ys r.below;
     apart = apart_parts.left;
     own = own_left xs ys r.own;
-    fits = all_left (λ c. FitsForm c.1) xs ys r.fits;
+    fits = all_front (λ c. FitsForm c.1) xs ys r.fits;
     once = changes.once;
     different = coming_parts.left;
     new = λ n c o.

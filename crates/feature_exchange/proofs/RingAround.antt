@@ -4,13 +4,12 @@ use Rattle.kit_words.proofs.Common.{ap₂, ◌∙◌, subst, Option, None, Some,
 use Rattle.kit_words.proofs.Common.{arith, ◌⊎◌, inl, inr, Contains, unwrap_or, ◌&&◌, Some-then, list_all, int_cmp}
 use Rattle.kit_words.proofs.Common.{is_lt, is_some_and, partial_ordering_then, drop-append_seam, take-append-add}
 use Rattle.kit_words.proofs.Common.{take-append_seam, false≢true, drop-drop, drop-map, length-append, length-map}
-use Rattle.kit_words.proofs.Common.{map-append, fold-append}
+use Rattle.kit_words.proofs.Common.{map-append, fold-append, and_parts}
 use Rattle.std.specs.FinMap as table
 use Rattle.std.specs.Iterator.{YieldsFirst}
 use Rattle.grid_geometry.specs.Common.{Position, position, position_lt}
 use Rattle.ring_machine.specs.Common.{before, from, least, canonical}
 use Rattle.ring_machine.proofs.Common.{Below, position_eq-refl, position_lt-apart, position_lt-total, position_lt-trans}
-use Rattle.ring_machine.proofs.Common.{and_both}
 use Rattle.vertex_index.specs.Common.{Placement, place}
 use Rattle.feature_exchange.specs.Common.{positions_left, IsAround}
 
@@ -63,10 +62,10 @@ below_least r p (q ∷ ps) h = by (position_lt q p) refl h (below_least r q ps) 
         → (position_lt r (least p ps) ≡ true → Below r (p ∷ ps))
         → Below r (p ∷ q ∷ ps)
     by true e h one two =
-        let both = and_both (position_lt r q) (list_all (position_lt r) ps) (one h) in
+        let both = and_parts (position_lt r q) (list_all (position_lt r) ps) (one h) in
         three (position_lt-trans r q p both.0 e) both.0 both.1
     by false e h one two =
-        let both = and_both (position_lt r p) (list_all (position_lt r) ps) (two h) in
+        let both = and_parts (position_lt r p) (list_all (position_lt r) ps) (two h) in
         three both.0 (not_over r p q both.0 e) both.1
 
 least_more : (p : Position) (ps : List Position) (r : Position)
@@ -76,7 +75,7 @@ least_more p ps r = fold-append (λ q s. cond (position_lt s q) s q) p ps (r ∷
 before_end : (r : Position) (qs : List Position) → Below r qs → before r (qs ++ r ∷ []) ≡ qs
 before_end r [] h = rw (position_eq-refl r)
 before_end r (q ∷ qs) h =
-    let both = and_both (position_lt r q) (list_all (position_lt r) qs) h in
+    let both = and_parts (position_lt r q) (list_all (position_lt r) qs) h in
     rw (position_lt-apart r q both.0) (ap (λ z. q ∷ z) (before_end r qs both.1))
 
 before_more : (m : Position) (qs rs : List Position) → length (before m qs) < length qs

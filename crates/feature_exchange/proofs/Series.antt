@@ -5,12 +5,11 @@ use Rattle.kit_words.proofs.Common.{unwrap_or, map_push, Contains-append_left, C
 use Rattle.std.specs.FinMap as table
 use Rattle.grid_geometry.specs.Common.{Position}
 use Rattle.ring_machine.specs.Common.{are_distinct}
-use Rattle.ring_machine.proofs.Common.{In, in_mapped}
+use Rattle.ring_machine.proofs.Common.{In, in_mapped, map_there}
 use Rattle.vertex_index.specs.Common.{Placement, place}
 use Rattle.segment_index.specs.Common.{SegmentSet}
 use Rattle.arc_tables.specs.Common.{Edge, Rings, edges, begins}
-use Rattle.ring_store.proofs.Common.{distinct_more, same_map, ring_here, ring_other, begins_edges, place_is}
-use Rattle.ring_store.proofs.Common.{kept_place, IsKept}
+use Rattle.ring_store.proofs.Common.{distinct_more, ring_here, ring_other, begins_edges, place_is, kept_place, IsKept}
 use Rattle.feature_exchange.specs.Common.{numbers_of, AreThere, AreAdded, AreGone, KeepsPlaces, LaidRing}
 use Rattle.ring_store.specs.Common.{ring_at, Stands}
 use Rattle.feature_exchange.proofs.Exchanged.{same_places, same_segments}
@@ -73,7 +72,7 @@ module _ {A : Type 0} where
     there_more = record {
       along =
           ap (map (under m')) pushed ∙ map_push (under m') laid x
-          ∙ ap₂ (λ y z. y ++ z ∷ []) (same_map (under m') along laid (λ y i. ap (λ z. table.get z y.number) put ∙ ring_kept m x.number (edges x.keys.items) free y.number (edges y.keys.items) (agree_in (under m) along laid t.along y i))) new_there
+          ∙ ap₂ (λ y z. y ++ z ∷ []) (map_there (under m') along laid (λ y i. ap (λ z. table.get z y.number) put ∙ ring_kept m x.number (edges x.keys.items) free y.number (edges y.keys.items) (agree_in (under m) along laid t.along y i))) new_there
           ∙ sym (ap (map along) pushed ∙ map_push along laid x);
       different = different_more;
     }
@@ -107,7 +106,7 @@ module _ {A : Type 0} where
   pub there_still : (m m' : Rings) (laid : List (LaidRing A)) → AreThere m laid
       → ((r : ℕ) (es : List Edge) → table.get m r ≡ Some es → table.get m' r ≡ Some es) → AreThere m' laid
   there_still m m' laid t kept = record {
-    along = same_map (under m') along laid (λ y i. kept y.number (edges y.keys.items) (agree_in (under m) along laid t.along y i));
+    along = map_there (under m') along laid (λ y i. kept y.number (edges y.keys.items) (agree_in (under m) along laid t.along y i));
     different = t.different;
   }
 
@@ -122,10 +121,10 @@ module _ {A : Type 0} where
       → positions p' x ≡ q → map (positions p') laid' ≡ ps'
   at_more p p' m h s kept laid laid' x pushed t ps ps' q more at here =
       ap (map (positions p')) pushed ∙ map_push (positions p') laid x
-      ∙ ap₂ (λ y z. y ++ z ∷ []) (same_map (positions p') (positions p) laid same ∙ at) here ∙ sym more
+      ∙ ap₂ (λ y z. y ++ z ∷ []) (map_there (positions p') (positions p) laid same ∙ at) here ∙ sym more
     where
       same : (y : LaidRing A) → In y laid → positions p' y ≡ positions p y
-      same y i = same_map (place p') (place p) y.keys.items (λ k j.
+      same y i = map_there (place p') (place p) y.keys.items (λ k j.
           let there = agree_in (under m) along laid t.along y i in
           let in_p : IsKept p k = s.placed k (visited_at m y.number (edges y.keys.items) there k (subst (In k) (sym (begins_edges y.keys.items)) j)) in
           place_is p' k (place p k) (kept k (place p k) (kept_place p k in_p)))

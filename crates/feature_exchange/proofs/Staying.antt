@@ -2,11 +2,11 @@
 use Rattle.kit_words.proofs.Common.{◌≡◌, ℕ, sym, ap, ◌∙◌, List, [], ◌++◌, map, inl, inr, Some, None, is_some, IsTrue}
 use Rattle.kit_words.proofs.Common.{unwrap_or, false≢true, Contains-append_left, Contains-append_right}
 use Rattle.std.specs.FinMap as table
-use Rattle.ring_machine.proofs.Common.{In, in-append, distinct-append, contains_in, in_contains, there}
+use Rattle.ring_machine.proofs.Common.{In, in-append, distinct-append, contains_in, in_contains, there, map_there}
 use Rattle.vertex_index.specs.Common.{Placement, place}
 use Rattle.segment_index.specs.Common.{SegmentSet}
 use Rattle.arc_tables.specs.Common.{Edge, Rings, begins}
-use Rattle.ring_store.proofs.Common.{same_map, place_is, kept_place}
+use Rattle.ring_store.proofs.Common.{place_is, kept_place}
 use Rattle.feature_exchange.specs.Common.{AreAdded, KeepsPlaces}
 use Rattle.ring_store.specs.Common.{ring_at, Stands}
 use Rattle.feature_exchange.proofs.Numbered.{contained_or}
@@ -49,7 +49,7 @@ module _ (p q p' : Placement) (m m' : Rings) (h h' : SegmentSet) (s : Stands p m
       let at : (k : ℕ) → In k (begins o.0) → place p' k ≡ place p k = λ k i.
       here k o.0 (same ∙ o.1) o.1 i in
       ap (λ e. map (place p') (begins (unwrap_or e []))) (same ∙ o.1)
-      ∙ same_map (place p') (place p) (begins o.0) at
+      ∙ map_there (place p') (place p) (begins o.0) at
       ∙ sym (ap (λ e. map (place p) (begins (unwrap_or e []))) o.1)
     where
       here : (k : ℕ) (es : List Edge) → table.get m' r ≡ Some es → table.get m r ≡ Some es → In k (begins es)

@@ -1,15 +1,14 @@
 -- A ring taken out whose segments other rings have: its vertices and segments stay.
-use Rattle.kit_words.proofs.Common.{◌≡◌, ◌≢◌, ◌<◌, ◌≤◌, ◌+◌, ℕ, refl, sym, ap, ◌∙◌, subst, List, [], ◌∷◌, ◌++◌, inl, inr}
-use Rattle.kit_words.proofs.Common.{take, get_or, length, map, Contains, Contains-push_cases, take_more}
+use Rattle.kit_words.proofs.Common.{◌≡◌, ◌≢◌, ◌<◌, ◌≤◌, ◌+◌, ℕ, refl, sym, ap, ◌∙◌, subst, List, [], ◌∷◌, ◌++◌, inl}
+use Rattle.kit_words.proofs.Common.{inr, take, get_or, length, Contains, Contains-push_cases, take_more}
 use Rattle.std.proofs.Common.{take_all}
 use Rattle.grid_geometry.specs.Common.{segment}
 use Rattle.ring_machine.proofs.Common.{In, contains_in, in_contains, in_mapped}
 use Rattle.vertex_index.specs.Common.{Placement, place}
 use Rattle.segment_index.specs.Common.{SegmentSet}
-use Rattle.arc_tables.specs.Common.{Edge, Rings, begins, edges, users_of}
+use Rattle.arc_tables.specs.Common.{Edge, Rings, edges, users_of}
 use Rattle.ring_store.specs.Common.{HoldsWith, IsSide, IsVisited, AllRound, sides}
-use Rattle.ring_store.proofs.Common.{begins_edges}
-use Rattle.ring_store.proofs.Used.{used_side}
+use Rattle.ring_store.proofs.Common.{begins_edges, used_side}
 use Rattle.feature_exchange.specs.Laid.{LeavesVisited}
 use Rattle.feature_exchange.proofs.Visited.{used_visited}
 

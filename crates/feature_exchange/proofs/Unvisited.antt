@@ -2,10 +2,10 @@
 use Rattle.kit_words.proofs.Common.{◌≡◌, ◌≢◌, ◌<◌, ◌+◌, ℕ, zero, suc, true, refl, sym, ap, ◌∙◌, subst, List, [], ◌∷◌}
 use Rattle.kit_words.proofs.Common.{◌++◌, ◌⊎◌, inl, inr, is_some, take, get_or, length, arith, Contains, IsTrue, not}
 use Rattle.kit_words.proofs.Common.{◌==◌, false≢true, Decides-eqb, take_more, Contains-append_left, Contains-push}
-use Rattle.kit_words.proofs.Common.{Contains-push_cases}
+use Rattle.kit_words.proofs.Common.{Contains-push_cases, and_parts, not-true}
 use Rattle.std.specs.FinMap as table
 use Rattle.ring_machine.specs.Common.{are_distinct}
-use Rattle.ring_machine.proofs.Common.{In, contains_in, in_any, and_both, not_true}
+use Rattle.ring_machine.proofs.Common.{In, contains_in, in_any}
 use Rattle.vertex_index.specs.Common.{Placement}
 use Rattle.arc_tables.specs.Common.{Rings}
 use Rattle.ring_store.proofs.Common.{has_key, remove_here, remove_other}
@@ -26,21 +26,13 @@ distinct_before ks i k d l e c = by ks i k d l e (contains_in (take i ks) k c)
     by (x ∷ ks) zero k d l e h = absurd h
     by (x ∷ ks) (suc i) k d l e (inl s) =
         let here : In x ks = subst (λ z. In z ks) (sym s) (contains_in ks k (i, omega (arith, l), sym e)) in
-        false≢true (sym (not_true (has_key x ks) (and_both (not (has_key x ks)) (are_distinct ks) d).0) ∙ in_any (λ m. m == x) x ks here ((Decides-eqb x x).1 refl))
+        false≢true (sym (not-true (has_key x ks) (and_parts (not (has_key x ks)) (are_distinct ks) d).0) ∙ in_any (λ m. m == x) x ks here ((Decides-eqb x x).1 refl))
     by (x ∷ ks) (suc i) k d l e (inr h) =
-        by ks i k (and_both (not (has_key x ks)) (are_distinct ks) d).1 (omega (arith, l)) e h
+        by ks i k (and_parts (not (has_key x ks)) (are_distinct ks) d).1 (omega (arith, l)) e h
 
 -- ---- the loop
 
 module _ (m : Rings) where
-  pub leaves_none : (p : Placement) → LeavesVisited m [] p p
-  leaves_none p = record {
-    kept = λ k q e. e;
-    stays = λ k v. refl;
-    others = λ k f. refl;
-    gone = λ k c. absurd (omega (arith, c.1));
-  }
-
   module _ (ks : List ℕ) (i k : ℕ) (l : i < length ks) (here : k ≡ get_or ks i k) (p q : Placement)
       (h : LeavesVisited m (take i ks) p q) where
     more : take (i + 1) ks ≡ take i ks ++ k ∷ []

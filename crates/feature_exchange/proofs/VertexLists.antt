@@ -5,11 +5,11 @@ use Rattle.std.specs.FinMap as table
 use Rattle.grid_geometry.specs.Common.{Position}
 use Rattle.ring_machine.specs.Common.{rings, positions, add_position, vertices}
 use Rattle.ring_machine.proofs.Common.{In, in_mapped, in_flat, contains_in, in_contains, in-map, in-flat_map}
-use Rattle.ring_machine.proofs.Common.{rings-in_rings, Rising, same_rising, all_rise, in_all}
+use Rattle.ring_machine.proofs.Common.{rings-in_rings, Rising, same_rising, all_rise, in_all, in_canonical}
 use Rattle.ring_machine.proofs.SortedOnce.{all_in}
 use Rattle.vertex_index.specs.Common.{Placement, place}
 use Rattle.arc_tables.specs.Common.{begins}
-use Rattle.ring_store.proofs.Common.{in_canonical, of_canonical}
+use Rattle.ring_store.proofs.Common.{of_canonical}
 use Rattle.feature_exchange.specs.Common.{AreAlong, IsWhole, Stored, edges_under, positions_along, ring_under}
 use Rattle.feature_exchange.specs.Common.{document_of}
 use Rattle.feature_exchange.proofs.Base.{framed, begin_kept}

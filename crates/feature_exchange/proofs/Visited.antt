@@ -7,10 +7,11 @@ use Rattle.grid_geometry.specs.Common.{Segment, segment}
 use Rattle.ring_machine.proofs.Common.{In, contains_in, in_contains, in_mapped, any_in}
 use Rattle.vertex_index.specs.Common.{Placement, place}
 use Rattle.arc_tables.specs.Common.{Edge, is_seg, Rings, begins, users_of}
+use Rattle.arc_tables.proofs.Common.{ends_of}
 use Rattle.ring_store.specs.Common.{Joined, AreNeighbours, IsVisited, IsSide, AllRound}
 use Rattle.ring_store.specs.declared.neighbours.Neighbours.{Neighbours}
 use Rattle.ring_store.specs.declared.neighbours.Neighbours.TheVariants as neighbours
-use Rattle.ring_store.proofs.Common.{ring_other, ring_here, times_edge, edge_times, edge_ends, is_seg_ends, place_alike}
+use Rattle.ring_store.proofs.Common.{ring_other, ring_here, times_edge, edge_times, edge_ends, place_alike}
 use Rattle.ring_store.proofs.Used.{some_user}
 
 -- ---- visited vertices are those that are joined to some other
@@ -51,7 +52,7 @@ used_visited m round a b h =
     let u = some_user m a b h in
     let e = any_in (is_seg a b) u.1 u.3 in
     let ends = edge_ends u.1 (round u.0 u.1 u.2) e.0 e.1 in
-    visited_at m u.0 u.1 u.2 a (elim (is_seg_ends a b e.0 e.2) [
+    visited_at m u.0 u.1 u.2 a (elim (ends_of a b e.0 e.2) [
       | inl i ↦ subst (λ z. In z (begins u.1)) i.0 ends.0
       | inr i ↦ subst (λ z. In z (begins u.1)) i.1 ends.1
     ])

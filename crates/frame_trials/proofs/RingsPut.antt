@@ -9,16 +9,17 @@ use Rattle.std.proofs.lemmas.List.Elements.{filter_map-append}
 use Rattle.ring_machine.specs.Document.{FeatureOf, ItemOf, DocumentOf}
 use Rattle.ring_machine.specs.Parts.{feature_of, feature, has_feature, rings, rings_of}
 use Rattle.ring_machine.specs.WellFormed.{are_distinct}
-use Rattle.ring_machine.proofs.First.{In, in-append, in_left, in_right}
 use Rattle.ring_machine.proofs.Found.{distinct-append, distinct_parts, has_feature-found}
 use Rattle.ring_machine.proofs.InItems.{of_layers}
+use Rattle.ring_machine.proofs.Common.{In, in-append, in_left, in_right}
 use Rattle.edit_records.specs.Places.{Place, Begins, Ends, Text_of, Number, Tree, Alone, Places, LayerTree}
 use Rattle.edit_records.specs.Places.{number_of, numbers_of, numbers_placed, leaf, or_empty, item_at, items_of}
 use Rattle.edit_records.specs.Places.{filled, Fills, exchanged_features, exchanged}
+use Rattle.edit_records.proofs.Common.{head_apart}
 use Rattle.map_frame.specs.declared.names.RingName.{RingName}
 use Rattle.map_frame.specs.Named.{number_at}
 use Rattle.map_frame.specs.Readers.{element}
-use Rattle.map_frame.proofs.EditedFeatures.{cons_distinct, head_apart, tail_distinct}
+use Rattle.map_frame.proofs.EditedFeatures.{cons_distinct, tail_distinct}
 
 -- nothing is there
 pub not_there : {X : Type 0} (o : Option X) → is_some o ≡ false → o ≡ None

@@ -4,5 +4,5 @@ pub use Rattle.grid_geometry.proofs.Boxes.{boxes_meet-comm, conflict-boxes_meet,
 pub use Rattle.grid_geometry.proofs.Conflicts.{conflict-comm, conflict-same, position_cmp-back, position_cmp-exact}
 pub use Rattle.grid_geometry.proofs.Conflicts.{position_eq-same, segment-comm}
 pub use Rattle.grid_geometry.proofs.HeldLaw.{even_count, side}
-pub use Rattle.grid_geometry.proofs.RingLemmas.{drop_item, ring_is}
+pub use Rattle.grid_geometry.proofs.RingLemmas.{ring_is}
 pub use Rattle.grid_geometry.proofs.Turns.{orientation-reverse}

@@ -1,14 +1,13 @@
 -- A topology of whole numbers is read on its grid as the editor reads it.
 use Rattle.kit_words.proofs.Common.{◌≡◌, ℕ, ◌+◌, ◌≤◌, arith, Bool, true, false, cond, ◌&&◌, List, [], ◌∷◌, ◌++◌, length}
 use Rattle.kit_words.proofs.Common.{map, refl, sym, ap, ap₂, subst, ◌∙◌, Option, Result, Ok, is_some, AllByRecursion}
-use Rattle.kit_words.proofs.Common.{AllZip, list_all, filter, flat_map}
+use Rattle.kit_words.proofs.Common.{AllZip, list_all, filter, flat_map, and_parts, all_joined}
 use Rattle.json_spans.specs.Common.{Node, items}
 use Rattle.json_spans.proofs.Common.{root_value, items_told}
-use Rattle.map_text.proofs.Common.{each-append}
 use Rattle.grid_geometry.specs.Common.{Position, InRange}
 use Rattle.ring_machine.specs.Common.{Text}
 use Rattle.topo_outline.specs.Common.{Fault, bad_position, ◌>>=◌, each, OutlineText, outline, is_list}
-use Rattle.topo_outline.proofs.Common.{is_a_list, outline_means, both_true}
+use Rattle.topo_outline.proofs.Common.{is_a_list, outline_means}
 use Rattle.topo_reader.specs.Common.{Arc, Polygons, Opened, walks_read, root_of, OpensIn, OpensWalks, IsSum, Sums}
 use Rattle.topo_reader.specs.Common.{ArePositions, IsArc, AreArcs}
 use Rattle.topo_reader.specs.Positions as editor
@@ -52,7 +51,7 @@ arcs_plain drop delta [] (a ∷ found) h = absurd h
 arcs_plain drop delta (n ∷ ns) [] h = absurd h
 arcs_plain drop delta (n ∷ ns) (a ∷ found) h =
     let here = subst (ArePlain drop) (items_told h.0.list) (positions_plain drop delta h.0.items a h.0.positions) in
-    each-append (IsPlain drop) (items n) (flat_map items ns) here (arcs_plain drop delta ns found h.1)
+    all_joined (IsPlain drop) (items n) (flat_map items ns) here (arcs_plain drop delta ns found h.1)
 
 -- ---- what is told of such positions, and of no others
 
@@ -79,10 +78,10 @@ plain_first n ns w h rest = by (has_further n) refl h
 plain_told : (drop : Bool) (ns : List Node) → list_all has_wholes ns ≡ true → dropped drop ns ≡ 0 → ArePlain drop ns
 plain_told drop [] w h = tt
 plain_told false (n ∷ ns) w h =
-    let both = both_true (has_wholes n) (list_all has_wholes ns) w in
+    let both = and_parts (has_wholes n) (list_all has_wholes ns) w in
     ((both.0, refl), plain_told false ns both.1 refl)
 plain_told true (n ∷ ns) w h =
-    let both = both_true (has_wholes n) (list_all has_wholes ns) w in
+    let both = and_parts (has_wholes n) (list_all has_wholes ns) w in
     plain_first n ns both.0 h (plain_told true ns both.1)
 
 parted : (drop : Bool) (ns ms : List Node) → ArePlain drop (ns ++ ms) → ArePlain drop ns × ArePlain drop ms

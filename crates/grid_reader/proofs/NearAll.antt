@@ -2,11 +2,11 @@
 use Rattle.kit_words.proofs.Common.{◌≡◌, ℕ, zero, suc, ◌-◌, ◌*◌, ◌≤◌, ◌^◌, Bool, true, false, cond, List, [], ◌∷◌, ◌++◌}
 use Rattle.kit_words.proofs.Common.{map, refl, sym, ap, ◌∙◌, subst, inl, inr, ◌⊎◌, arith, mul-le-mul_right, ◌&&◌, ◌+ℤ◌}
 use Rattle.kit_words.proofs.Common.{ℤ, Option, Some, None, Ok, unsigned_abs, nat_le, AllByRecursion, fold, flat_map}
-use Rattle.kit_words.proofs.Common.{map-append, fold-append}
+use Rattle.kit_words.proofs.Common.{map-append, fold-append, leb-true}
 use Rattle.json_spans.specs.Common.{Node, items, kind_of}
 use Rattle.topo_outline.specs.Common.{is_list, is_number, not_whole, out_of_range, bad_position, ◌>>=◌, each}
 use Rattle.topo_reader.specs.Common.{has_two}
-use Rattle.topo_reader.proofs.Common.{bind_ok, demand_ok, ok_same, at_most}
+use Rattle.topo_reader.proofs.Common.{bind_ok, demand_ok, ok_same}
 use Rattle.exact_decimals.specs.Common.{Parts, parts_of, fine}
 use Rattle.grid_reader.specs.Common.{Wants, FinePosition, origin, is_within, summed, coordinate, two_of, pair_of, pair}
 use Rattle.grid_reader.specs.Common.{fine_position, before_next, fine_positions, fine_arc, fine_arcs, xy, coordinates}
@@ -24,7 +24,7 @@ summed_within : (finer : ℕ) (before : ℤ) (place : ℕ) (o : Option Parts) (z
 summed_within finer before place None z h = absurd cc
 summed_within finer before place (Some p) z h =
     let is = demand_ok (is_within finer (before +ℤ fine p)) (out_of_range place) (Ok (before +ℤ fine p)) z h in
-    subst (λ (y : ℤ). unsigned_abs y ≤ 10 ^ (36 - finer)) (ok_same (before +ℤ fine p) z is.1) (at_most (unsigned_abs (before +ℤ fine p)) (10 ^ (36 - finer)) is.0)
+    subst (λ (y : ℤ). unsigned_abs y ≤ 10 ^ (36 - finer)) (ok_same (before +ℤ fine p) z is.1) (leb-true (unsigned_abs (before +ℤ fine p)) (10 ^ (36 - finer)) is.0)
 
 coordinate_within : (finer : ℕ) (before : ℤ) (n : Node) (z : ℤ) → coordinate finer before n ≡ Ok z → unsigned_abs z ≤ 10 ^ (36 - finer)
 coordinate_within finer before n z h =
@@ -81,7 +81,7 @@ both_below : (a b far : ℕ) → greater a b ≤ far → (a ≤ far) × (b ≤ f
 both_below a b far h = by (nat_le a b) refl h
   where
     by : (t : Bool) → nat_le a b ≡ t → cond t b a ≤ far → (a ≤ far) × (b ≤ far)
-    by true e k = (omega (arith, at_most a b e), k)
+    by true e k = (omega (arith, leb-true a b e), k)
     by false e k = (k, omega (arith, below e))
       where
         below : nat_le a b ≡ false → b ≤ a
@@ -117,7 +117,7 @@ fitting_fits finer far zero = inl refl
 fitting_fits finer far (suc k) = by (nat_le (far * 10 ^ (suc k)) (10 ^ (36 - finer))) refl (fitting_fits finer far k)
   where
     by : (t : Bool) → nat_le (far * 10 ^ (suc k)) (10 ^ (36 - finer)) ≡ t → Fits finer far (fitting finer far k) → Fits finer far (cond t (suc k) (fitting finer far k))
-    by true e h = inr (at_most (far * 10 ^ (suc k)) (10 ^ (36 - finer)) e)
+    by true e h = inr (leb-true (far * 10 ^ (suc k)) (10 ^ (36 - finer)) e)
     by false e h = h
 
 near_one : (finer far d n : ℕ) → Fits finer far d → n ≤ 10 ^ (36 - finer) → n ≤ far → n * 10 ^ d ≤ 10 ^ (36 - finer)

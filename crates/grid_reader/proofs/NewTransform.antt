@@ -1,13 +1,12 @@
 -- The transform of a finer grid is one that opening would keep.
 use Rattle.kit_words.proofs.Common.{◌≡◌, ◌≢◌, ℕ, zero, suc, Bool, true, false, cond, ◌&&◌, List, [], ◌∷◌, ◌++◌, map}
-use Rattle.kit_words.proofs.Common.{refl, sym, ap, ◌∙◌, subst, codes, append_assoc, Option, Some, None, option_map}
-use Rattle.kit_words.proofs.Common.{Result, Ok, IsTrue, nat_lt, ℤ, pos, ◌==◌, AllByRecursion, AllPairs, IsDistinct}
-use Rattle.kit_words.proofs.Common.{list_all, append-nil, AllPairs-from_IsDistinct, bytes_eq-Decides}
+use Rattle.kit_words.proofs.Common.{refl, sym, ap, ◌∙◌, subst, codes, append_assoc, Option, Some, None, Result, Ok}
+use Rattle.kit_words.proofs.Common.{IsTrue, nat_lt, ℤ, pos, ◌==◌, AllByRecursion, AllPairs, IsDistinct, list_all}
+use Rattle.kit_words.proofs.Common.{append-nil, AllPairs-from_IsDistinct, bytes_eq-Decides, same_Some}
 use Rattle.serde_json.proofs.OnLiterals.{serde_json_on_literals}
 use Rattle.json_spans.specs.Common.{is_digit, IsValue, IsNumber, IsText, IsListOf, kind_of, Node, decoded, items}
 use Rattle.json_spans.specs.Common.{members, digits_len}
 use Rattle.json_spans.specs.Grammar.{number as a_number, plain_number, zero_first, no_fraction, no_exponent}
-use Rattle.json_spans.specs.declared.kinds.Kind.{Kind}
 use Rattle.json_spans.specs.declared.kinds.Kind.TheVariants as kind
 use Rattle.json_spans.proofs.Common.{number_told, object_told, object_kind, member_values}
 use Rattle.ring_machine.specs.Common.{Text, Member}
@@ -16,18 +15,19 @@ use Rattle.topo_outline.specs.Common.{Fault, ◌>>=◌, value_at, AreTwoNumbers,
 use Rattle.topo_outline.specs.Common.{transform, NestsAtMost, IsJson, IsName, IfThere, IsKeptTransform, is_list}
 use Rattle.topo_outline.specs.Common.{is_number, word_of}
 use Rattle.topo_outline.proofs.Common.{list_here, list_nests}
+use Rattle.topo_outline.proofs.Shaped.{number_means}
 use Rattle.map_text.specs.Common.{list_text, object_text, member}
 use Rattle.map_text.proofs.GrammarLists.{bytes_of, list_is_json, has_texts}
 use Rattle.map_text.proofs.GrammarObjects.{IsMember, object_is_json}
 use Rattle.map_text.proofs.MembersKnown.{plain_name}
 use Rattle.map_text.proofs.MembersSeen.{seen_value, value_seen, all_seen, object_seen}
-use Rattle.grid_reader.specs.Common.{two_of}
+use Rattle.map_text.proofs.ReadingPlaces.{node_there}
+use Rattle.grid_reader.specs.Common.{two_of, says, value_named, both_numbers, two_numbers, two_in, there, number}
 use Rattle.topo_reader.proofs.Common.{bind_ok, ok_same}
 use Rattle.exact_decimals.specs.Common.{Parts, parts_of, unsigned, behind_integer, with_exponent, exponent_of}
 use Rattle.exact_decimals.specs.Common.{digits_of, behind_digits, shifted_text}
 use Rattle.exact_decimals.proofs.Values.{front_passes}
 use Rattle.exact_decimals.proofs.Written.{shifted_number}
-use Rattle.grid_reader.specs.Common.{says, value_named, both_numbers, two_numbers, two_in, there, number}
 use Rattle.grid_reader.specs.Common.{transform_text, one_shifted, divided, transform_on}
 
 -- ---- the text, of four numbers
@@ -74,10 +74,6 @@ pair_has v a b e x y =
     let found = has_texts v (a ∷ b ∷ []) e (number_is_json x, (number_is_json y, tt)) in
     two_nodes v a b found.nodes found.are found.list x y
 
-valued : (o : Option Node) (t : Text) → option_map bytes_of o ≡ Some t → (v : Node) × (o ≡ Some v) × (v.bytes ≡ t)
-valued None t e = absurd cc
-valued (Some v) t e = (v, refl, cc)
-
 abbrev names : List (List ℕ)
 names = codes "scale" ∷ codes "translate" ∷ []
 
@@ -99,8 +95,8 @@ made_kept a b c d w x y z =
     let node : Node = record { at_byte = 0; bytes = transform_text a b c d } in
     let are : AllByRecursion IsMember ms = (record { string = scale_named.string; json = pair_is_json a b w x }, (record { string = translate_named.string; json = pair_is_json c d y z }, tt)) in
     let seen = object_seen node ms names (text_is a b c d) are (scale_named.says, (translate_named.says, tt)) names_differ in
-    let scale = valued (value_at word.Scale seen.entries) (pair_of a b) (value_seen word.Scale seen.entries ∙ ap (seen_value 8) seen.are ∙ scale_seen (pair_of a b) (pair_of c d)) in
-    let translate = valued (value_at word.Translate seen.entries) (pair_of c d) (value_seen word.Translate seen.entries ∙ ap (seen_value 9) seen.are ∙ translate_seen (pair_of a b) (pair_of c d)) in
+    let scale = node_there (value_at word.Scale seen.entries) (pair_of a b) (value_seen word.Scale seen.entries ∙ ap (seen_value 8) seen.are ∙ scale_seen (pair_of a b) (pair_of c d)) in
+    let translate = node_there (value_at word.Translate seen.entries) (pair_of c d) (value_seen word.Translate seen.entries ∙ ap (seen_value 9) seen.are ∙ translate_seen (pair_of a b) (pair_of c d)) in
     record {
       value = subst IsJson (sym (text_is a b c d)) (object_is_json ms are);
       place = 0;
@@ -171,14 +167,6 @@ record AreNumbers (p : Node × Node) : Type 0 where
   first : IsNumber p.0.bytes
   second : IsNumber p.1.bytes
 
-is_number_kind : (k : Kind) → is_number k ≡ true → k ≡ kind.Number
-is_number_kind kind.Number h = refl
-is_number_kind kind.Text h = absurd cc
-is_number_kind kind.List h = absurd cc
-is_number_kind kind.Object h = absurd cc
-is_number_kind kind.Null h = absurd cc
-is_number_kind kind.Bool h = absurd cc
-
 pair_numbers : (n : ℕ) (o : Option (Node × Node)) (p : Node × Node) → (o ≡ Some p → NestsAtMost n p.0 × NestsAtMost n p.1) → both_numbers o ≡ Some p → AreNumbers p
 pair_numbers n None p nests h = absurd cc
 pair_numbers n (Some q) p nests h = by (is_number (kind_of q.0.bytes)) refl (is_number (kind_of q.1.bytes)) refl h
@@ -187,8 +175,8 @@ pair_numbers n (Some q) p nests h = by (is_number (kind_of q.0.bytes)) refl (is_
     by true e true f k =
         let same : q ≡ p = cc in
         let inside = nests (ap (λ (r : Node × Node). Some r) same) in
-        let first : kind_of p.0.bytes ≡ kind.Number = subst (λ (r : Node × Node). kind_of r.0.bytes ≡ kind.Number) same (is_number_kind (kind_of q.0.bytes) e) in
-        let second : kind_of p.1.bytes ≡ kind.Number = subst (λ (r : Node × Node). kind_of r.1.bytes ≡ kind.Number) same (is_number_kind (kind_of q.1.bytes) f) in
+        let first : kind_of p.0.bytes ≡ kind.Number = subst (λ (r : Node × Node). kind_of r.0.bytes ≡ kind.Number) same (number_means (kind_of q.0.bytes) e) in
+        let second : kind_of p.1.bytes ≡ kind.Number = subst (λ (r : Node × Node). kind_of r.1.bytes ≡ kind.Number) same (number_means (kind_of q.1.bytes) f) in
         record { first = number_told inside.0 first; second = number_told inside.1 second }
     by true e false f k = absurd cc
     by false e b f k = absurd cc
@@ -218,13 +206,10 @@ two_in_numbers n name ms p all h = by (value_named name ms) refl h
 
 -- ---- what was kept is an object
 
-some_same : {A : Type 0} (a b : A) → Some a ≡ Some b → a ≡ b
-some_same a b h = cc
-
 object_of : {v : Option Node} {o : Option Text} → IsTransform v o → (n : Node) (t : Text) → v ≡ Some n → o ≡ Some t → kind_of n.bytes ≡ kind.Object
 object_of no_transform n t e f = absurd cc
 object_of (null_transform is) n t e f = absurd cc
-object_of (transform {n = m} has a s b r) n t e f = subst (λ (k : Node). kind_of k.bytes ≡ kind.Object) (some_same m n e) (object_kind has.object)
+object_of (transform {n = m} has a s b r) n t e f = subst (λ (k : Node). kind_of k.bytes ≡ kind.Object) (same_Some m n e) (object_kind has.object)
 
 abbrev object_at : Text → Node
 object_at t = record { at_byte = 0; bytes = t }

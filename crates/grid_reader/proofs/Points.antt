@@ -1,7 +1,7 @@
 -- Looking for one that passes a test, as the loops do.
 use Rattle.kit_words.proofs.Common.{◌≡◌, ℕ, ◌+◌, ◌<◌, ◌≤◌, Bool, true, false, ◌||◌, List, length, get_or, drop, map, ap}
 use Rattle.kit_words.proofs.Common.{list_any, drop_all}
-use Rattle.topo_reader.proofs.Common.{tail_at}
+use Rattle.topo_outline.proofs.Common.{tail_at}
 
 module _ {X Y : Type 0} (p : Y → Bool) (v : X → Y) (xs : List X) (i : ℕ) (whole : Bool) where
   any_from : (x : X) → i < length xs → x ≡ get_or xs i x → list_any p (map v (drop i xs)) ≡ (p (v x) || list_any p (map v (drop (i + 1) xs)))

@@ -1,14 +1,13 @@
 -- Coordinates on a grid: by which powers of ten they are multiplied, and that they stay in range.
 use mir.Syntax.{w64}
-use mir.Val.{SFits, of_z, to_z}
+use mir.Val.{of_z, to_z}
 use Rattle.kit_words.proofs.Common.{◌≡◌, ℕ, zero, suc, ◌+◌, ◌-◌, ◌*◌, ◌<◌, ◌≤◌, ◌^◌, refl, ap, ap₂, sym, ◌∙◌, arith, ℤ}
-use Rattle.kit_words.proofs.Common.{pos, negsuc, ◌+ℤ◌, ◌*ℤ◌, unsigned_abs, int_div_euclid, ints, to_z-of_z, div_below}
-use Rattle.kit_words.proofs.Common.{pow-add, le_of_mul-le-mul_right, mul-le-mul_right, mul_assoc}
-use Rattle.topo_reader.proofs.Common.{at_least}
+use Rattle.kit_words.proofs.Common.{pos, negsuc, ◌+ℤ◌, ◌*ℤ◌, unsigned_abs, ints, to_z-of_z, pow-add}
+use Rattle.kit_words.proofs.Common.{le_of_mul-le-mul_right, mul-le-mul_right, mul_assoc, le-leb, lt-leb}
 use Rattle.exact_decimals.specs.Common.{rounded}
-use Rattle.exact_decimals.proofs.Common.{power_pos, power_mono}
+use Rattle.exact_decimals.proofs.Common.{power_pos, small_fits}
+use Rattle.exact_decimals.proofs.Rounding.{in_range, quotient_within}
 use Rattle.grid_reader.specs.Common.{fitting}
-use Rattle.grid_reader.proofs.Reach.{not_at_least}
 
 -- two powers of ten together are one
 pub power_split : (m k : ℕ) → k ≤ m → 10 ^ (m - k) * 10 ^ k ≡ 10 ^ m
@@ -29,35 +28,20 @@ exceeds_scaled m k far h lt =
 pub keeps : (finer far kept : ℕ) → finer ≤ 12 → kept ≤ 24 → far ≤ 10 ^ (36 - finer - kept) → fitting finer far kept ≡ kept
 unfolding fitting
 keeps finer far zero h few le = refl
-keeps finer far (suc k) h few le = rw (at_least (far * 10 ^ suc k) (10 ^ (36 - finer)) (fits_scaled (36 - finer) (suc k) far (omega arith) le)) refl
+keeps finer far (suc k) h few le = rw (le-leb (far * 10 ^ suc k) (10 ^ (36 - finer)) (fits_scaled (36 - finer) (suc k) far (omega arith) le)) refl
 
 pub drops : (finer far kept : ℕ) → finer ≤ 12 → kept ≤ 24 → 0 < kept → 10 ^ (36 - finer - kept) < far → fitting finer far (kept - 1) ≡ fitting finer far kept
 unfolding fitting
 drops finer far zero h few some lt = absurd (omega (arith, some))
 drops finer far (suc k) h few some lt =
     let less : suc k - 1 ≡ k = omega arith in
-    ap (λ j. fitting finer far j) less ∙ sym (rw (not_at_least (far * 10 ^ suc k) (10 ^ (36 - finer)) (exceeds_scaled (36 - finer) (suc k) far (omega arith) lt)) refl)
+    ap (λ j. fitting finer far j) less ∙ sym (rw (lt-leb (far * 10 ^ suc k) (10 ^ (36 - finer)) (exceeds_scaled (36 - finer) (suc k) far (omega arith) lt)) refl)
 
 pub none : (finer far kept : ℕ) → kept ≡ 0 → fitting finer far kept ≡ kept
 unfolding fitting
 none finer far kept e = ap (λ j. fitting finer far j) e ∙ sym e
 
 -- ---- a rounded number, multiplied again
-
--- a number whose quotient is within m
-abbrev IsUnder : ℤ → ℕ → ℕ → Type 0
-IsUnder (pos a) b m = a < (m + 1) * b
-IsUnder (negsuc a) b m = a < m * b
-
-quotient_within : (w : ℤ) (b m : ℕ) → 0 < b → IsUnder w b m → unsigned_abs (int_div_euclid w (pos b)) ≤ m
-quotient_within (pos a) b m h r = omega (arith, div_below a b (m + 1) h r)
-quotient_within (negsuc a) b m h r = omega (arith, div_below a b m h r)
-
-is_under : (w z : ℤ) (u m : ℕ) → w ≡ pos 2 *ℤ z +ℤ pos u → 0 < u → unsigned_abs z ≤ m * u → IsUnder w (2 * u) m
-is_under (pos a) (pos n) u m e p h = omega (arith, ints)
-is_under (pos a) (negsuc n) u m e p h = omega (arith, ints)
-is_under (negsuc a) (pos n) u m e p h = omega (arith, ints)
-is_under (negsuc a) (negsuc n) u m e p h = omega (arith, ints)
 
 -- units whose rounded number is small enough
 few_units : (digits finer n : ℕ) → digits ≤ 24 → finer ≤ 12 → n * 10 ^ digits ≤ 10 ^ (36 - finer) → n ≤ 10 ^ (12 - finer) * 10 ^ (24 - digits)
@@ -76,7 +60,7 @@ rounded_near digits finer z h f near =
     let p : 0 < 10 ^ (24 - digits) = power_pos (24 - digits) in
     let q : 0 < 2 * 10 ^ (24 - digits) = omega arith in
     quotient_within (pos 2 *ℤ z +ℤ pos u) (2 * u) (10 ^ (12 - finer)) q
-    (is_under (pos 2 *ℤ z +ℤ pos u) z u (10 ^ (12 - finer)) refl p (few_units digits finer (unsigned_abs z) h f near))
+    (in_range (pos 2 *ℤ z +ℤ pos u) z u (10 ^ (12 - finer)) refl p (few_units digits finer (unsigned_abs z) h f near))
 
 product_within : (r : ℤ) (s m : ℕ) → unsigned_abs r ≤ m → m * s ≡ 10 ^ 12 → unsigned_abs (r *ℤ pos s) ≤ 10 ^ 12
 product_within (pos n) s m h e = omega (arith, ints, mul-le-mul_right s h)
@@ -87,13 +71,6 @@ axis_within digits finer s z r h f near is e =
     product_within r s (10 ^ (12 - finer)) (rw is (rounded_near digits finer z h f near)) (ap (λ q. 10 ^ (12 - finer) * q) e ∙ power_split 12 finer f)
 
 -- ---- what the code computes: no width cuts it off
-
-pub small_fits : (z : ℤ) → unsigned_abs z ≤ 10 ^ 12 → SFits w64 z
-small_fits (pos n) h = omega (arith, ints)
-small_fits (negsuc n) h = omega (arith, ints)
-
-pub scale_fits : (finer s : ℕ) → finer ≤ 12 → s ≡ 10 ^ finer → s ≤ 10 ^ 12
-scale_fits finer s f e = omega (arith, power_mono finer 12 f, e)
 
 factor_is : (s : ℕ) → s ≤ 10 ^ 12 → to_z w64 s ≡ pos s
 factor_is s h = omega (arith, ints)

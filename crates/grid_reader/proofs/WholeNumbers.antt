@@ -3,7 +3,7 @@ use Rattle.kit_words.proofs.Common.{◌≡◌, ℕ, suc, ◌+◌, ◌-◌, ◌*�
 use Rattle.kit_words.proofs.Common.{List, [], ◌∷◌, length, map, take, refl, sym, ap, ap₂, ◌∙◌, ℤ, pos, negsuc, ◌+ℤ◌}
 use Rattle.kit_words.proofs.Common.{◌*ℤ◌, unsigned_abs, Option, Some, None, Result, Ok, Err, is_ok, nat_le}
 use Rattle.kit_words.proofs.Common.{int_div_euclid, list_all, fold, flat_map, nat_tests, ints, unsigned_abs-mul}
-use Rattle.kit_words.proofs.Common.{map-append, fold-append}
+use Rattle.kit_words.proofs.Common.{map-append, fold-append, and_parts, le-leb, lt-leb, leb-true, and_none}
 use Rattle.json_spans.specs.Common.{is_digit, digits, IsValue, IsNumber, kind_from, kind_of, Node, items, IsWhole}
 use Rattle.json_spans.specs.Common.{plain, negative, whole_of}
 use Rattle.json_spans.specs.declared.kinds.Kind.TheVariants as kind
@@ -11,10 +11,11 @@ use Rattle.json_spans.specs.declared.number.NotWhole.{NotWhole}
 use Rattle.json_spans.proofs.Common.{number_kind, whole_read, items_told, item_values, number_told}
 use Rattle.grid_geometry.specs.Position.{Position, position as placed, InRange}
 use Rattle.topo_outline.specs.Common.{not_whole, out_of_range, bad_position, ◌>>=◌, is_list, is_number}
-use Rattle.topo_outline.proofs.Common.{is_a_list, both_true}
+use Rattle.topo_outline.proofs.Common.{is_a_list}
 use Rattle.topo_reader.specs.Common.{Arc, IsSum}
 use Rattle.topo_reader.specs.Positions as editor
-use Rattle.topo_reader.proofs.Common.{bind_ok, demand_ok, ok_same, at_least, at_most}
+use Rattle.topo_reader.proofs.Common.{bind_ok, demand_ok, ok_same}
+use Rattle.topo_reader.proofs.MeaningOfArcs.{small_step}
 use Rattle.exact_decimals.specs.Common.{Parts, parts_of, fine, decimals, rounded}
 use Rattle.exact_decimals.proofs.Wholes.{whole_has_parts, whole_is_fine}
 use Rattle.exact_decimals.proofs.Zeros.{zeros_all}
@@ -22,7 +23,6 @@ use Rattle.grid_reader.specs.Common.{Wants, FinePosition, is_within, summed, coo
 use Rattle.grid_reader.specs.Common.{fine_position, xy, coordinates, greater, greatest_from, most_decimals, lesser}
 use Rattle.grid_reader.specs.Common.{fitting, furthest, digits_of, on_grid, arcs_on, finer_by, has_further, is_whole}
 use Rattle.grid_reader.specs.Common.{has_wholes}
-use Rattle.grid_reader.proofs.Reach.{not_at_least}
 
 -- ---- whole numbers in units
 
@@ -48,8 +48,8 @@ same_bound n = by (nat_le n 1000000000000) refl
     above f = grind arith
 
     by : (b : Bool) → nat_le n 1000000000000 ≡ b → nat_le (n * 10 ^ 24) (10 ^ 36) ≡ b
-    by true e = at_least (n * 10 ^ 24) (10 ^ 36) (omega (arith, at_most n 1000000000000 e))
-    by false e = not_at_least (n * 10 ^ 24) (10 ^ 36) (omega (arith, above e))
+    by true e = le-leb (n * 10 ^ 24) (10 ^ 36) (omega (arith, leb-true n 1000000000000 e))
+    by false e = lt-leb (n * 10 ^ 24) (10 ^ 36) (omega (arith, above e))
 
 units_within : (z : ℤ) → is_within 0 (in_units z) ≡ editor.is_within z
 units_within z = ap (λ (n : ℕ). nat_le n (10 ^ 36)) (unsigned_abs-mul z (pos (10 ^ 24))) ∙ same_bound (unsigned_abs z)
@@ -70,11 +70,6 @@ pub record IsStep (before : ℤ) (n : Node) (sum : ℤ) : Type 0 where
   pub whole : whole_of n.bytes ≡ Ok added
   pub is : sum ≡ before +ℤ added
   pub near : unsigned_abs sum ≤ 1000000000000
-
--- a difference of two coordinates is small
-small_step : (before z sum : ℤ) → unsigned_abs before ≤ 1000000000000 → sum ≡ before +ℤ z → unsigned_abs sum ≤ 1000000000000 →
-    unsigned_abs z < 2 ^ 63
-small_step before z sum low is near = omega (arith, ints, low, is, near)
 
 step_of : (k : ℕ) (before z sum : ℤ) (n : Node) → unsigned_abs before ≤ 1000000000000 → IsValue k n.bytes → IsWhole n.bytes z →
     sum ≡ before +ℤ z → unsigned_abs sum ≤ 1000000000000 → IsStep before n sum
@@ -113,12 +108,8 @@ steps_of before p n low s =
 abbrev pub IsPlain : Bool → Node → Type 0
 IsPlain drop n = (has_wholes n ≡ true) × ((drop && has_further n) ≡ false)
 
-none_left : (drop : Bool) → (drop && false) ≡ false
-none_left true = refl
-none_left false = refl
-
 pub steps_plain : (drop : Bool) (before p : Position) (n : Node) → AreSteps before n p → IsPlain drop n
-steps_plain drop before p n s = (rw (s.two, s.across.whole, s.upward.whole) refl, rw s.two (none_left drop))
+steps_plain drop before p n s = (rw (s.two, s.across.whole, s.upward.whole) refl, rw s.two (and_none drop))
 
 -- ---- what the editor reads is read in units
 
@@ -131,7 +122,7 @@ step_in_units before sum n s =
     let found = whole_has_parts n.bytes s.added s.number s.whole in
     let same : in_units before +ℤ fine found.0 ≡ in_units sum =
     units_added before s.added n.bytes found.0 found.1 s.whole ∙ ap in_units (sym s.is) in
-    let near : is_within 0 (in_units sum) ≡ true = units_within sum ∙ at_least (unsigned_abs sum) 1000000000000 s.near in
+    let near : is_within 0 (in_units sum) ≡ true = units_within sum ∙ le-leb (unsigned_abs sum) 1000000000000 s.near in
     rw (number_kind s.number, found.1, same, near) refl
 
 pub position_in_units : (wants : Wants) → wants.finer ≡ 0 → (before p : Position) (n : Node) → AreSteps before n p →
@@ -187,8 +178,8 @@ pair_back false before place [] q w l h = absurd cc
 pair_back true before place (a ∷ []) q w l h = absurd cc
 pair_back false before place (a ∷ []) q w l h = absurd cc
 pair_back drop before place (a ∷ b ∷ []) q w l h =
-    let (first, rest) = both_true (is_whole a) (is_whole b && true) w in
-    pair_of_back before a b q first (both_true (is_whole b) true rest).0 h
+    let (first, rest) = and_parts (is_whole a) (is_whole b && true) w in
+    pair_of_back before a b q first (and_parts (is_whole b) true rest).0 h
 pair_back true before place (a ∷ b ∷ c ∷ ns) q w l h = absurd (no_third (length ns) l)
 pair_back false before place (a ∷ b ∷ c ∷ ns) q w l h = absurd cc
 

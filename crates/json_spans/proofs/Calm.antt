@@ -76,8 +76,3 @@ moved_on sep s t level i k xs whole e h =
     let h' : part_len sep s level (drop i xs) ≡ k + part_len sep t level (drop k (drop i xs)) = rw (from_place i xs) at h in
     let same : part_len sep s level (drop i xs) ≡ k + part_len sep t level (drop (i + k) xs) = h' ∙ ap (λ ys. k + part_len sep t level ys) (drop-drop k i xs) in
     omega (arith, e, same)
-
-pub moved_within : (i k : ℕ) (xs : List ℕ) → i ≤ length xs → k ≤ length (take (length xs - i) (drop i xs)) → i + k ≤ length xs
-moved_within i k xs le h =
-    let h' : k ≤ length (drop i xs) = rw (from_place i xs) at h in
-    omega (arith, h', length-drop i xs)

@@ -1,6 +1,6 @@
 -- What is in the grammar the machine accepts.
-use Rattle.kit_words.proofs.Common.{◌≡◌, ℕ, suc, ◌+◌, ◌<◌, List, [], ◌∷◌, length, Bool, true, false, refl, arith, inl}
-use Rattle.kit_words.proofs.Common.{inr, ◌⊎◌, ◌==◌, nat_lt, Option, Some, lt-ltb}
+use Rattle.kit_words.proofs.Common.{◌≡◌, ℕ, suc, ◌+◌, ◌<◌, List, [], ◌∷◌, length, true, false, refl, arith, inl, inr}
+use Rattle.kit_words.proofs.Common.{◌⊎◌, ◌==◌, nat_lt, Option, Some, lt-ltb, by_bool}
 use Rattle.json_spans.specs.Common.{is_space, is_digit, is_nonzero, is_e, Frame, Within, Escape, Hex4, Hex3, Hex2, Hex1}
 use Rattle.json_spans.specs.Common.{Tail1, Tail2, Tail3, AfterE0, AfterEd, AfterF0, AfterF4, Mode, Goes, Opens, Closes}
 use Rattle.json_spans.specs.Common.{Fails, follows, word_step, string_step, closes_text, step, run, may_end, top_of}
@@ -64,32 +64,28 @@ number_ends m fs (x ∷ xs) d k place =
       | inr e ↦ absurd (bad_follows fs x xs e k)
     ]
 
-if_true : {G : Type 0} (b : Bool) → (b ≡ true → G) → (b ≡ false → G) → G
-if_true true f g = f refl
-if_true false f g = g refl
-
 zero_ends : Ending mode.Zero
 zero_ends = record {
   may = refl;
-  ends = λ top x. if_true (x == 46) (λ e. inr (point_ends top x e)) (λ e. if_true (is_e x) (λ e. inr (e_ends top x e)) (λ f. inl (rw (e, f) refl)));
+  ends = λ top x. by_bool (x == 46) (λ e. inr (point_ends top x e)) (λ e. by_bool (is_e x) (λ e. inr (e_ends top x e)) (λ f. inl (rw (e, f) refl)));
 }
 
 whole_ends : Ending mode.Whole
 whole_ends = record {
   may = refl;
-  ends = λ top x. if_true (is_digit x) (λ e. inr (digit_ends top x e)) (λ d. if_true (x == 46) (λ e. inr (point_ends top x e)) (λ e. if_true (is_e x) (λ e. inr (e_ends top x e)) (λ f. inl (rw (d, e, f) refl))));
+  ends = λ top x. by_bool (is_digit x) (λ e. inr (digit_ends top x e)) (λ d. by_bool (x == 46) (λ e. inr (point_ends top x e)) (λ e. by_bool (is_e x) (λ e. inr (e_ends top x e)) (λ f. inl (rw (d, e, f) refl))));
 }
 
 fraction_ends : Ending mode.Fraction
 fraction_ends = record {
   may = refl;
-  ends = λ top x. if_true (is_digit x) (λ e. inr (digit_ends top x e)) (λ d. if_true (is_e x) (λ e. inr (e_ends top x e)) (λ f. inl (rw (d, f) refl)));
+  ends = λ top x. by_bool (is_digit x) (λ e. inr (digit_ends top x e)) (λ d. by_bool (is_e x) (λ e. inr (e_ends top x e)) (λ f. inl (rw (d, f) refl)));
 }
 
 power_ends : Ending mode.Power
 power_ends = record {
   may = refl;
-  ends = λ top x. if_true (is_digit x) (λ e. inr (digit_ends top x e)) (λ d. inl (rw d refl));
+  ends = λ top x. by_bool (is_digit x) (λ e. inr (digit_ends top x e)) (λ d. inl (rw d refl));
 }
 
 digits_on : {xs ys : List ℕ} → Digits xs ys → (m : Mode) (fs : List Frame) → ((x : ℕ) → is_digit x ≡ true → step m (top_of fs) x ≡ Goes m) → Good m fs ys → Good m fs xs

@@ -3,7 +3,7 @@ use Rattle.kit_words.proofs.Common.{◌≡◌, ℕ, zero, suc, ◌+◌, ◌<◌,
 use Rattle.kit_words.proofs.Common.{false, refl, sym, subst, ◌∙◌, cond, arith, inl, inr, ◌⊎◌, ◌==◌, ◌&&◌, ◌^◌, nat_lt}
 use Rattle.kit_words.proofs.Common.{nat_le, ℤ, pos, negsuc, unsigned_abs, Option, Some, None, Ok, Err, list_all, lt-ltb}
 use Rattle.kit_words.proofs.Common.{ltb-true, nat_tests, take-append-drop, length-prefix_len, drop-append_seam}
-use Rattle.kit_words.proofs.Common.{take-append_seam}
+use Rattle.kit_words.proofs.Common.{take-append_seam, and_parts, by_bool}
 use Rattle.std.proofs.lemmas.Bool.{eqb-true}
 use Rattle.json_spans.specs.Common.{is_digit, Digits, no_digit, digit, SomeDigits, digits, value_from, is_zero}
 use Rattle.json_spans.specs.Common.{is_whole_rest, digits_len, whole_digits, signed, whole_of, NoFraction, no_point}
@@ -12,11 +12,11 @@ use Rattle.json_spans.specs.Whole.{minus}
 
 -- ---- a whole number is read
 
-all_digits : {ds : List ℕ} → Digits ds [] → (f : List ℕ) → digits_len f ≡ 0 → digits_len (ds ++ f) ≡ length ds
+pub all_digits : {ds : List ℕ} → Digits ds [] → (f : List ℕ) → digits_len f ≡ 0 → digits_len (ds ++ f) ≡ length ds
 all_digits no_digit f e = e
 all_digits (digit t d) f e = let k = all_digits d f e in rw t (omega (arith, k))
 
-fraction_len : {f : List ℕ} → NoFraction f → digits_len f ≡ 0
+pub fraction_len : {f : List ℕ} → NoFraction f → digits_len f ≡ 0
 fraction_len no_point = refl
 fraction_len (point z) = refl
 
@@ -31,7 +31,7 @@ digits_read {f = f} (digits {x = x} {xs = xs} t d) n =
     let some : nat_lt 0 (length ds) ≡ true = lt-ltb _ _ (omega arith) in
     rw (len, drop-append_seam ds f, take-append_seam ds f, some, fraction_rest n) refl
 
-digit_no_minus : (x : ℕ) → is_digit x ≡ true → (x == 45) ≡ false
+pub digit_no_minus : (x : ℕ) → is_digit x ≡ true → (x == 45) ≡ false
 digit_no_minus x e = grind (arith, nat_tests)
 
 held_minus : (v : ℕ) → signed true v ≡ held (minus v)
@@ -73,14 +73,10 @@ some_digits : {ds : List ℕ} → Digits ds [] → 0 < length ds → SomeDigits 
 some_digits no_digit lt = absurd (omega arith)
 some_digits (digit t d) lt = digits t d
 
-both : (a b : Bool) → (a && b) ≡ true → (a ≡ true) × (b ≡ true)
-both true b e = (refl, e)
-both false b e = absurd cc
-
 no_fraction : (f : List ℕ) → is_whole_rest f ≡ true → NoFraction f
 no_fraction [] e = no_point
 no_fraction (x ∷ xs) e =
-    let h = both (x == 46) (list_all is_zero xs) e in
+    let h = and_parts (x == 46) (list_all is_zero xs) e in
     subst (λ x. NoFraction (x ∷ xs)) (sym (eqb-true x 46 h.0)) (point h.1)
 
 -- the digits of a whole number and its fraction
@@ -94,7 +90,7 @@ cut : (xs ds : List ℕ) → whole_digits xs ≡ Some ds → Cut xs ds
 cut xs ds e = by_test (nat_lt 0 (digits_len xs) && is_whole_rest (drop (digits_len xs) xs)) refl e where
   by_test : (b : Bool) → (nat_lt 0 (digits_len xs) && is_whole_rest (drop (digits_len xs) xs)) ≡ b → cond b (Some (take (digits_len xs) xs)) None ≡ Some ds → Cut xs ds
   by_test true t e =
-      let h = both (nat_lt 0 (digits_len xs)) (is_whole_rest (drop (digits_len xs) xs)) t in
+      let h = and_parts (nat_lt 0 (digits_len xs)) (is_whole_rest (drop (digits_len xs) xs)) t in
       let some : 0 < length (take (digits_len xs) xs) = omega (arith, ltb-true _ _ h.0, length-prefix_len is_digit xs) in
       let same : take (digits_len xs) xs ≡ ds = cc in
       subst (Cut xs) same (record {
@@ -134,17 +130,13 @@ decide (x ∷ xs) = by_test (x == 45) refl where
 
 -- ---- the answer
 
-by_size : {G : Type 0} (b : Bool) → (b ≡ true → G) → (b ≡ false → G) → G
-by_size true f g = f refl
-by_size false f g = g refl
-
 held_no_form : (z : ℤ) → held z ≡ Err Form → ⊥
-held_no_form (pos n) e = by_size (nat_lt n (2 ^ 63)) (λ t. let h = rw t at e in absurd cc) (λ t. let h = rw t at e in absurd cc)
-held_no_form (negsuc n) e = by_size (nat_le (suc n) (2 ^ 63)) (λ t. let h = rw t at e in absurd cc) (λ t. let h = rw t at e in absurd cc)
+held_no_form (pos n) e = by_bool (nat_lt n (2 ^ 63)) (λ t. let h = rw t at e in absurd cc) (λ t. let h = rw t at e in absurd cc)
+held_no_form (negsuc n) e = by_bool (nat_le (suc n) (2 ^ 63)) (λ t. let h = rw t at e in absurd cc) (λ t. let h = rw t at e in absurd cc)
 
 held_means : (bytes : List ℕ) (z : ℤ) → IsWhole bytes z → Means (held z) bytes
-held_means bytes (pos n) d = by_size (nat_lt n (2 ^ 63)) (λ t. rw t d) (λ t. rw t (pos n, d, rw t refl))
-held_means bytes (negsuc n) d = by_size (nat_le (suc n) (2 ^ 63)) (λ t. rw t d) (λ t. rw t (negsuc n, d, rw t refl))
+held_means bytes (pos n) d = by_bool (nat_lt n (2 ^ 63)) (λ t. rw t d) (λ t. rw t (pos n, d, rw t refl))
+held_means bytes (negsuc n) d = by_bool (nat_le (suc n) (2 ^ 63)) (λ t. rw t d) (λ t. rw t (negsuc n, d, rw t refl))
 
 pub means : (bytes : List ℕ) → Means (whole_of bytes) bytes
 means bytes = elim (decide bytes) [

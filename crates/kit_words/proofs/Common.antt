@@ -1,4 +1,9 @@
 -- The words of the kit that proofs cite most, passed on from one place. Declares nothing.
+pub use Rattle.kit_words.proofs.Appending.{appended_five, appended_four, appended_six, appended_three, appended_two}
+pub use Rattle.kit_words.proofs.Lists.{all_back, all_front, all_joined, flat_mapped_more, list_is, mapped_more}
+pub use Rattle.kit_words.proofs.Lists.{all_weaker, kept_any, next_drop, nothing_left, zip_joined}
+pub use Rattle.kit_words.proofs.Tests.{and_none, by_bool, le_itself, less_is, min_left, on_err, or_comm, suc_positive}
+pub use Rattle.kit_words.proofs.Tests.{max_left}
 pub use Rattle.std.proofs.Common.{Bool, Contains, Err, Fits, FitsSigned, IfErr, IfNone, IfOk, IfSome, IsErr, IsErrAnd}
 pub use Rattle.std.proofs.Common.{IsNone, IsSome, IsSomeAnd, IsTrue, IsUtf8, List, MatchBool, MatchOption, MatchResult}
 pub use Rattle.std.proofs.Common.{None, Ok, OnErr, OnOk, Option, Result, Some, T, Vec, [], add-one, ap, append_assoc}
@@ -11,7 +16,8 @@ pub use Rattle.std.proofs.Common.{slice_range, slice_set, string_bytes, sub-one,
 pub use Rattle.std.proofs.Common.{true≢false, unsigned_abs, vec_capacity, vec_len, w64, w8, zero, ℕ, ℤ, ⊎_elim, ◌%◌}
 pub use Rattle.std.proofs.Common.{◌&&◌, ◌*ℤ◌, ◌*◌, ◌++◌, ◌+ℤ◌, ◌+◌, ◌-ℤ◌, ◌-◌, ◌/◌, ◌<ℤ◌, ◌<◌, ◌==◌, ◌^◌, ◌||◌, ◌↔◌}
 pub use Rattle.std.proofs.Common.{◌∙◌, ◌∷◌, ◌≡◌, ◌≢◌, ◌≤ℤ◌, ◌≤◌, ◌⊎◌}
-pub use Rattle.std.proofs.KnownBytes.{Appends-nil, Consumes-nil}
+pub use Rattle.std.proofs.KnownBytes.{Appends-nil, Appends-trans, Consumes-kept, Consumes-nil, Consumes-trans}
+pub use Rattle.std.proofs.KnownBytes.{Appends-kept}
 pub use Rattle.std.proofs.Math.Arith.{mod-mul}
 pub use Rattle.std.proofs.Math.Nat.{div-mul-le_self, le_of_mul-le-mul_left, le_of_mul-le-mul_right, min-eq_left}
 pub use Rattle.std.proofs.Math.Nat.{min-eq_right, min-le_left, mul-le-mul, mul-le-mul_left, mul-le-mul_right, mul_assoc}
@@ -19,10 +25,11 @@ pub use Rattle.std.proofs.Math.Nat.{one-le-pow, pow-le-pow_right, pow-suc, pow-s
 pub use Rattle.std.proofs.Math.Numerals.{one-add}
 pub use Rattle.std.proofs.Math.Seq.{drop-append_seam, drop-length, get_or-append_seam, map-set_same, set-append_seam}
 pub use Rattle.std.proofs.Math.Seq.{take-add, take-append-add, take-append_seam, take-length, take-suc}
-pub use Rattle.std.proofs.lemmas.Bool.{agree_below, agree_below_at, and_from, and_parts, both_ways, cases_Bool}
-pub use Rattle.std.proofs.lemmas.Bool.{cases_eq, cases_lt, cond-false, cond-true, cond_both, eqb-false}
+pub use Rattle.std.proofs.lemmas.Bool.{agree_below, agree_below_at, and_from, and_parts, both_ways, cases_Bool, lt-leb}
+pub use Rattle.std.proofs.lemmas.Bool.{cases_eq, cases_lt, cond-false, cond-true, cond_both, eqb-false, not-true}
 pub use Rattle.std.proofs.lemmas.Bool.{false_from_ne_true, false≢true, leb-true, lt-ltb, ltb-true, ne_eqb, not-false}
-pub use Rattle.std.proofs.lemmas.Bool.{or_cases, or_from, or_left, or_parts, or_right, true_from_ne_false}
+pub use Rattle.std.proofs.lemmas.Bool.{and_left, or_cases, or_from, or_left, or_parts, or_right, true_from_ne_false}
+pub use Rattle.std.proofs.lemmas.Bool.{leb-false}
 pub use Rattle.std.proofs.lemmas.Bool.Decides.{Decides-eqb, Decides-int_eq, eqb_tells, nat_tests, same_from_decides}
 pub use Rattle.std.proofs.lemmas.Cmp.{by_ranked, int_ranked, nat_cmp_total, nat_list_eq_equiv}
 pub use Rattle.std.proofs.lemmas.Fmt.{IsAscii-decimal_wide, IsAscii-signed, decimal-digits_value, decimal_by_steps}
@@ -32,6 +39,7 @@ pub use Rattle.std.proofs.lemmas.Grind.{common_steps, pow_more}
 pub use Rattle.std.proofs.lemmas.Int.{by_lt_z, clamps, fits_signed_mul, ints, quot_fits, quot_is, to_z-of_z, to_z_pos}
 pub use Rattle.std.proofs.lemmas.Int.{unsigned_abs-mul}
 pub use Rattle.std.proofs.lemmas.Int.Digits.{digits_more, digits_value_more}
+pub use Rattle.std.proofs.lemmas.Iterator.Adapters.{option_map_id}
 pub use Rattle.std.proofs.lemmas.List.{append-nil, at_drop_all, at_drop_more, drop-drop, drop-map, drop-set-lt}
 pub use Rattle.std.proofs.lemmas.List.{drop_all, drop_more, get_or-append-add, get_or-drop, get_or-map, get_or-reverse}
 pub use Rattle.std.proofs.lemmas.List.{get_or-set_other, get_or-set_same, get_or-take, get_or_append_left, get_or_at}
@@ -64,7 +72,7 @@ pub use Rattle.std.proofs.lemmas.Map.Made.{AllPairs-from_IsDistinct, IsDistinct-
 pub use Rattle.std.proofs.lemmas.Nat.{div_below, le-div, pow-add, pow_pos}
 pub use Rattle.std.proofs.lemmas.Option.{get_or_from_slice_get, none-some, same_Some, slice_get-get_or, slice_get-map}
 pub use Rattle.std.proofs.lemmas.Option.{slice_get_past, slice_get_read, slice_get_within, unwrap_or-slice_get}
-pub use Rattle.std.proofs.lemmas.Result.{IfErr-weaker, IfOk-weaker, err_from_is_err_and, on_ok_weaker}
+pub use Rattle.std.proofs.lemmas.Result.{IfErr-weaker, IfOk-weaker, err_from_is_err_and, on_err_weaker, on_ok_weaker}
 pub use Rattle.std.proofs.lemmas.Simd.{bitmask_splat, chunk-drop, leading_from_mask_l, length-chunk, map-map}
 pub use Rattle.std.proofs.lemmas.Simd.{mask_l-mod, ones-mask_l, trailing_mask_l, zip2_splat}
 pub use Rattle.std.proofs.lemmas.Slice.Eq.{bytes_eq-Decides, slice_eq-Decides}

@@ -1,1 +1,4 @@
+pub mod Appending
+pub mod Tests
+pub mod Lists
 pub mod Common

@@ -2,7 +2,7 @@
 use Rattle.kit_words.proofs.Common.{◌≡◌, ℕ, zero, suc, ◌+◌, ◌<◌, ◌≤◌, ◌-◌, ◌≢◌, List, [], ◌∷◌, ◌++◌, length, map, drop}
 use Rattle.kit_words.proofs.Common.{get_or, Bool, true, false, refl, sym, ◌∙◌, sub-one, add-one, drop-cons, append-nil}
 use Rattle.kit_words.proofs.Common.{map-append, drop_all, flat_map, fold}
-use Rattle.json_spans.specs.Common.{Node, node, items, members}
+use Rattle.json_spans.specs.Common.{Node, node, items}
 use Rattle.json_spans.specs.declared.span.Span.{Span}
 use Rattle.line_dropping.specs.Common.{says, value_named, is_of, parts_of, geometries_in, without_line}
 use Rattle.line_dropping.specs.declared.geometries.Shape.{Shape}
@@ -45,11 +45,6 @@ of_none k d n old b z is wrong e = rw (of_parts k d n [] z (sym is ∙ wrong) e,
 
 pub of_items : (k : Shape) (d : ℕ) (n list : Node) (old left : List Node) (b : Bool) → d ≢ 0 → b ≡ is_of k n → b ≡ false → list ∷ [] ≡ parts_of n → left ≡ items list → old ++ flat_map (geometries_in k (d - 1)) left ≡ old ++ geometries_in k d n
 of_items k d n list old left b z is wrong e l = rw (of_parts k d n (list ∷ []) z (sym is ∙ wrong) e, l, append-nil (items list)) refl
-
--- ---- the layers
-
-pub no_layer : (k : Shape) (layers : List Node) → [] ≡ layers → [] ≡ flat_map (λ m. geometries_in k 100 m.1) (flat_map members layers)
-no_layer k layers e = rw (← e) refl
 
 -- ---- line after line
 

@@ -5,7 +5,7 @@ use Rattle.grid_geometry.specs.Common.{Segment, Box}
 use Rattle.segment_index.specs.Common.{AreSingle, has, segment_is}
 use Rattle.segment_index.proofs.Common.{same_segment, is-itself, times-some}
 use Rattle.local_planarity.specs.Common.{most_given, most_tests, pairs}
-use Rattle.local_planarity.proofs.Nearby.{has-filter, pairs-mono}
+use Rattle.local_planarity.proofs.Nearby.{has-filter, pairs-mono, ones}
 
 -- a segment and those that are another
 pub one_out : (f : Segment → ℕ) (x : Segment) (ys : List Segment) → has ys x ≡ true
@@ -28,10 +28,10 @@ one_out f x (y ∷ ys) h = by (segment_is x y) refl h (one_out f x ys)
     by true e k l = omega (arith, ap f (same_segment x y e), fewer ys, sum_by-cons f y ys)
     by false e k l = omega (arith, l k, sum_by-cons f y (filter (λ z. not (segment_is x z)) ys), sum_by-cons f y ys)
 
-single_rest : (x : Segment) (xs : List Segment) → AreSingle (x ∷ xs) → AreSingle xs
+pub single_rest : (x : Segment) (xs : List Segment) → AreSingle (x ∷ xs) → AreSingle xs
 single_rest x xs h t = omega (arith, h t)
 
-single_first : (x : Segment) (xs : List Segment) → AreSingle (x ∷ xs) → has xs x ≡ false
+pub single_first : (x : Segment) (xs : List Segment) → AreSingle (x ∷ xs) → has xs x ≡ false
 single_first x xs h = by (has xs x) refl
   where
     by : (b : Bool) → has xs x ≡ b → has xs x ≡ false
@@ -66,10 +66,6 @@ sum_among f (x ∷ xs) ys single into =
         has-filter (λ y. not (segment_is x y)) ys t
         ∙ (λ i. into t (or_right (segment_is t x) h) i && other t h (segment_is x t) refl i)
 
-sum_of_ones : (xs : List Segment) → sum_by (λ _. 1) xs ≡ length xs
-sum_of_ones [] = omega arith
-sum_of_ones (x ∷ xs) = omega (arith, sum_by-cons (λ (_ : Segment). 1) x xs, sum_of_ones xs)
-
 pairs-most : (k n : ℕ) → k ≤ n → pairs k ≤ pairs n
 pairs-most k n l =
     let e : n ≡ (n - k) + k = omega (arith, l) in
@@ -80,5 +76,5 @@ pub tests_among : (times : Segment → Box → ℕ) (ss xs ys : List Segment) �
     → ((t : Segment) → has xs t ≡ true → has ys t ≡ true)
     → most_tests times ss xs ≤ most_tests times ss ys
 tests_among times ss xs ys single into =
-    let fewer : length xs ≤ length ys = omega (arith, sum_among (λ _. 1) xs ys single into, sum_of_ones xs, sum_of_ones ys) in
+    let fewer : length xs ≤ length ys = omega (arith, sum_among (λ _. 1) xs ys single into, ones xs, ones ys) in
     omega (arith, sum_among (most_given times ss) xs ys single into, pairs-most (length xs) (length ys) fewer)

@@ -1,8 +1,8 @@
 -- How many tests are counted.
 use Rattle.kit_words.proofs.Common.{◌≡◌, ◌<◌, ◌≤◌, ◌+◌, min, ℕ, suc, Bool, true, false, refl, sym, ap, ◌∙◌, cond, List}
 use Rattle.kit_words.proofs.Common.{[], ◌∷◌, ◌++◌, length, take, drop, get_or, drop-cons, Option, ◌||◌, arith, filter}
-use Rattle.kit_words.proofs.Common.{list_any, sum_by, false≢true, length-take-le, take-append-drop, take_all}
-use Rattle.kit_words.proofs.Common.{filter-append, list_any-append, sum_by_more}
+use Rattle.kit_words.proofs.Common.{list_any, sum_by, length-take-le, take-append-drop, take_all, filter-append}
+use Rattle.kit_words.proofs.Common.{list_any-append, sum_by_more, or_parts}
 use Rattle.grid_geometry.specs.Common.{Segment, conflict}
 use Rattle.local_planarity.specs.Common.{first_against, tests_to_conflict, count_near, fewest_tests, pairs}
 use Rattle.local_planarity.proofs.Nearby.{pairs-one}
@@ -18,10 +18,6 @@ pub record IsFound (s : Segment) (ts : List Segment) (before : Option (Segment �
   pub few : n ≤ l + length ts
   pub counted : min (l + length ts) greatest ≤ n
 
-neither : (a b : Bool) → (a || b) ≡ false → (a ≡ false) × (b ≡ false)
-neither true b h = absurd (false≢true (sym h))
-neither false b h = (refl, h)
-
 pub tests_to_conflict-le : (s : Segment) (ts : List Segment) → tests_to_conflict s ts ≤ length ts
 tests_to_conflict-le s [] = omega arith
 tests_to_conflict-le s (t ∷ ts) = by (conflict s t) (tests_to_conflict-le s ts)
@@ -34,7 +30,7 @@ tests_to_conflict-le s (t ∷ ts) = by (conflict s t) (tests_to_conflict-le s ts
 pub all_tested : (s : Segment) (ts : List Segment) → list_any (conflict s) ts ≡ false → tests_to_conflict s ts ≡ length ts
 all_tested s [] none = refl
 all_tested s (t ∷ ts) none =
-    let both = neither (conflict s t) (list_any (conflict s) ts) none in
+    let both = or_parts (conflict s t) (list_any (conflict s) ts) none in
     ap (λ b. cond b 1 (suc (tests_to_conflict s ts))) both.0 ∙ ap suc (all_tested s ts both.1)
 
 -- the first in conflict of those that pass a test is the last that is tested
@@ -56,7 +52,7 @@ module _ (q : Segment → Bool) (s : Segment) (ts : List Segment) (k : ℕ) (t :
       last : (us : List Segment) → list_any (conflict s) us ≡ false → tests_to_conflict s (us ++ t ∷ filter q (drop (suc k) ts)) ≡ length us + 1
       last [] e = ap (λ b. cond b 1 (suc (tests_to_conflict s (filter q (drop (suc k) ts))))) hit
       last (u ∷ us) e =
-          let both = neither (conflict s u) (list_any (conflict s) us) e in
+          let both = or_parts (conflict s u) (list_any (conflict s) us) e in
           ap (λ b. cond b 1 (suc (tests_to_conflict s (us ++ t ∷ filter q (drop (suc k) ts))))) both.0 ∙ omega (arith, last us both.1)
 
 -- ---- the tests of an edit

@@ -1,9 +1,9 @@
 -- An index that is filled segment by segment: one segment more, be it new or held before.
 use Rattle.kit_words.proofs.Common.{◌≡◌, ℕ, ℤ, int_le, Bool, true, false, refl, sym, ap, ◌∙◌, List, [], ◌∷◌, ◌++◌, ◌||◌}
-use Rattle.kit_words.proofs.Common.{◌&&◌, Option, None, arith, Result, Ok, Err, OnOk, int_min, int_max, list_any}
-use Rattle.kit_words.proofs.Common.{list_any-append, ints, clamps}
+use Rattle.kit_words.proofs.Common.{Option, None, arith, int_min, int_max, list_any, list_any-append, ints, clamps}
 use Rattle.std.specs.FinSet as set
 use Rattle.grid_geometry.specs.Common.{Segment, Box, box_of, boxes_meet, segment_eq}
+use Rattle.grid_geometry.proofs.Boxes.{and4}
 use Rattle.ring_machine.specs.Common.{least_conflict}
 use Rattle.ring_machine.proofs.Common.{same_answer}
 use Rattle.segment_index.specs.Common.{SegmentSet, has, segment_is}
@@ -12,21 +12,12 @@ use Rattle.local_planarity.specs.Common.{Nothing, IsFilled, IsHeld, AreApart, Is
 use Rattle.local_planarity.proofs.Least.{same_least_conflict, apart_if_none}
 use Rattle.local_planarity.proofs.Nearby.{stays_all}
 
--- what holds where there is a value holds there in another form
-pub on_ok : {X E P Q : Type 0} (r : Result X E) → (P → Q) → OnOk r P → OnOk r Q
-on_ok (Ok x) f p = f p
-on_ok (Err e) f p = p
-
 -- whether a list has a segment, as `contains` tells
 pub contained : (ss : List Segment) (s : Segment) → list_any (λ t. segment_eq t s) ss ≡ has ss s
 contained ss s = λ i. list_any (λ t. segment_eq-is s t i) ss
 
-all_four : (a b c d : Bool) → a ≡ true → b ≡ true → c ≡ true → d ≡ true
-    → ((a && b) && (c && d)) ≡ true
-all_four a b c d p q r s = rw (p, q, r, s) refl
-
 meets_itself : (s : Segment) → boxes_meet (box_of s) (box_of s) ≡ true
-meets_itself s = all_four _ _ _ _ (side s.lo.x s.hi.x) (side s.lo.x s.hi.x) (side s.lo.y s.hi.y) (side s.lo.y s.hi.y)
+meets_itself s = and4 _ _ _ _ (side s.lo.x s.hi.x) (side s.lo.x s.hi.x) (side s.lo.y s.hi.y) (side s.lo.y s.hi.y)
   where
     side : (a b : ℤ) → int_le (int_min a b) (int_max a b) ≡ true
     side a b = grind (arith, ints, clamps)

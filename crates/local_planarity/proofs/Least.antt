@@ -1,12 +1,12 @@
 -- The least pair in conflict of a set of segments, found by one segment after another.
 use Rattle.kit_words.proofs.Common.{◌≡◌, ℕ, ◌+◌, ◌<◌, Bool, true, false, refl, sym, ap, ◌∙◌, subst, cond, List, [], ◌∷◌}
 use Rattle.kit_words.proofs.Common.{length, take, get_or, ◌||◌, ◌⊎◌, inl, inr, Option, None, Some, ◌≤◌, false≢true}
-use Rattle.kit_words.proofs.Common.{take_all, list_any_more}
+use Rattle.kit_words.proofs.Common.{take_all, list_any_more, and_parts, or_cases, or_right, same_Some, by_bool}
 use Rattle.std.specs.FinSet as set
 use Rattle.grid_geometry.specs.Common.{Segment, Box, segment_lt, conflict}
 use Rattle.grid_geometry.proofs.Common.{conflict-boxes_meet, conflict-comm, conflict-same}
 use Rattle.ring_machine.specs.Common.{pair_lt, least_conflict}
-use Rattle.ring_machine.proofs.Common.{and_both, or_true, or_right, segment_ordered, pair_ordered, Bad, IsLeast}
+use Rattle.ring_machine.proofs.Common.{segment_ordered, pair_ordered, Bad, IsLeast}
 use Rattle.ring_machine.proofs.Common.{same_least, In, least_conflict_is, least_conflict_unique}
 use Rattle.segment_index.specs.Common.{SegmentSet, has, segment_is}
 use Rattle.segment_index.proofs.Common.{same_segment, is-itself}
@@ -34,13 +34,6 @@ pub record PairWith (s : Segment) (there : Segment → Bool) (u : Pair) : Type 0
 
 -- ---- the least of more pairs
 
-some_same : {A : Type 0} (a b : A) → Some a ≡ Some b → a ≡ b
-some_same a b e = cc
-
-by_bool : {X : Type 0} (p : Bool) → (p ≡ true → X) → (p ≡ false → X) → X
-by_bool true f g = f refl
-by_bool false f g = g refl
-
 not_below-trans : (u w v : Pair) → pair_lt u w ≡ false → pair_lt w v ≡ false → pair_lt u v ≡ false
 not_below-trans u w v h k =
     by_bool (pair_lt u v)
@@ -62,7 +55,7 @@ least_more P Q None (Some v) h k = (
 )
 least_more P Q (Some w) None h k = absurd (k w (inl refl))
 least_more P Q (Some w) (Some v) h k = (
-  elim k.0 [ inl e ↦ inl (subst P (some_same w v e) h.0) | inr q ↦ inr q ],
+  elim k.0 [ inl e ↦ inl (subst P (same_Some w v e) h.0) | inr q ↦ inr q ],
   λ u m. elim m [ inl p ↦ not_below-trans u w v (h.1 u p) (k.1 w (inl refl)) | inr q ↦ k.1 u (inr q) ],
 )
 
@@ -71,7 +64,7 @@ nothing_more Q none None = λ u m. elim m [ inl e ↦ absurd (cc) | inr q ↦ no
 nothing_more Q none (Some v) = (
   inl refl,
   λ u m. elim m [
-    | inl e ↦ subst (λ z. pair_lt z v ≡ false) (some_same v u e) (pair_ordered.irrefl v)
+    | inl e ↦ subst (λ z. pair_lt z v ≡ false) (same_Some v u e) (pair_ordered.irrefl v)
     | inr q ↦ absurd (none u q)
   ],
 )
@@ -90,14 +83,14 @@ lesser_is (Some w) v = by (pair_lt v w) refl
     by true h = (
       inr refl,
       λ u m. elim m [
-        | inl e ↦ subst (λ z. pair_lt z v ≡ false) (some_same w u e) (not_below-back v w h)
+        | inl e ↦ subst (λ z. pair_lt z v ≡ false) (same_Some w u e) (not_below-back v w h)
         | inr e ↦ subst (λ z. pair_lt z v ≡ false) e (pair_ordered.irrefl v)
       ],
     )
     by false h = (
       inl refl,
       λ u m. elim m [
-        | inl e ↦ subst (λ z. pair_lt z w ≡ false) (some_same w u e) (pair_ordered.irrefl w)
+        | inl e ↦ subst (λ z. pair_lt z w ≡ false) (same_Some w u e) (pair_ordered.irrefl w)
         | inr e ↦ subst (λ z. pair_lt z w ≡ false) e h
       ],
     )
@@ -135,7 +128,7 @@ first_against_is s (t ∷ ts) f =
     ])
     (λ u m. elim m [
       | inl e ↦ inl (inl e)
-      | inr q ↦ elim (or_true (segment_is q.other t) (has ts q.other) q.is_there) [
+      | inr q ↦ elim (or_cases (segment_is q.other t) (has ts q.other) q.is_there) [
         | inl i ↦ inl (inr (record { other = q.other; is_there = i; meets = q.meets; pair = q.pair }))
         | inr i ↦ inr (record { other = q.other; is_there = i; meets = q.meets; pair = q.pair })
       ]
@@ -170,7 +163,7 @@ both_others s A B f g r h k = same_least pair_lt (λ u. ((f ≡ Some u) ⊎ Pair
     ])
     (λ u m. elim m [
       | inl e ↦ inl (inl e)
-      | inr q ↦ elim (or_true (A q.other) (B q.other) q.is_there) [
+      | inr q ↦ elim (or_cases (A q.other) (B q.other) q.is_there) [
         | inl i ↦ inl (inr (record { other = q.other; is_there = i; meets = q.meets; pair = q.pair }))
         | inr i ↦ inr (record { other = q.other; is_there = i; meets = q.meets; pair = q.pair })
       ]
@@ -209,7 +202,7 @@ one_more D E s f r e h k = same_least pair_lt (λ u. BadIn D u ⊎ PairWith s D 
     into u (inr q) = subst (BadIn E) (sym q.pair) (ordered_bad E s q.other itself (still q.other q.is_there) q.meets)
 
     which : (t : Segment) → E t ≡ true → (D t ≡ true) ⊎ (t ≡ s)
-    which t i = elim (or_true (D t) (segment_is t s) (sym (e t) ∙ i)) [ inl d ↦ inl d | inr j ↦ inr (same_segment t s j) ]
+    which t i = elim (or_cases (D t) (segment_is t s) (sym (e t) ∙ i)) [ inl d ↦ inl d | inr j ↦ inr (same_segment t s j) ]
 
     back : (u : Pair) → BadIn E u → BadIn D u ⊎ PairWith s D u
     back u b = elim (which u.0 b.left) [
@@ -269,10 +262,6 @@ apart_if_none held ss e none s t i j = by_bool (conflict s t) (λ m. absurd (cla
         let first : IsFirst (BadIn (set.contains held)) None = subst (IsFirst (BadIn (set.contains held))) none (list_first (set.contains held) ss e) in
         first (ordered s t) (ordered_bad (set.contains held) s t i j m)
 
--- and the other way round
-pub none_if_apart : (held : SegmentSet) (ss : List Segment) → IsHeld held ss → AreApart held → least_conflict ss ≡ None
-none_if_apart held ss e apart = first_of_list (set.contains held) ss None e (none_first (set.contains held) apart)
-
 -- ---- the search of an edit
 
 -- before the first added segment
@@ -280,8 +269,8 @@ pub stay_apart : (held : SegmentSet) (leaving : Leaving) (added : List Segment) 
 stay_apart held leaving added apart = none_first _ (λ s t h k. apart s t (is_held s h) (is_held t k))
   where
     is_held : (t : Segment) → (stays held leaving t || has (take 0 added) t) ≡ true → set.contains held t ≡ true
-    is_held t h = elim (or_true (stays held leaving t) (has (take 0 added) t) h) [
-      | inl k ↦ (and_both (set.contains held t) _ k).0
+    is_held t h = elim (or_cases (stays held leaving t) (has (take 0 added) t) h) [
+      | inl k ↦ (and_parts (set.contains held t) _ k).0
       | inr k ↦ absurd (false≢true k)
     ]
 

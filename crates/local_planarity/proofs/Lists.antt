@@ -1,13 +1,14 @@
 -- The segments of a list.
 use Rattle.kit_words.proofs.Common.{◌≡◌, Bool, true, sym, ap, ◌∙◌, List, [], ◌∷◌, ◌||◌, inl, inr, list_any, false≢true}
+use Rattle.kit_words.proofs.Common.{or_cases, or_right}
 use Rattle.grid_geometry.specs.Common.{Segment}
-use Rattle.ring_machine.proofs.Common.{In, any_in, in_any, same_answer, or_true, or_right}
+use Rattle.ring_machine.proofs.Common.{In, any_in, in_any, same_answer}
 use Rattle.segment_index.specs.Common.{has, segment_is}
 use Rattle.segment_index.proofs.Common.{same_segment, is-itself}
 
 pub in-has : (ss : List Segment) (t : Segment) → has ss t ≡ true → In t ss
 in-has [] t h = absurd (false≢true h)
-in-has (s ∷ ss) t h = elim (or_true (segment_is t s) (has ss t) h) [
+in-has (s ∷ ss) t h = elim (or_cases (segment_is t s) (has ss t) h) [
   | inl e ↦ inl (sym (same_segment t s e))
   | inr k ↦ inr (in-has ss t k)
 ]

@@ -2,14 +2,15 @@
 use Rattle.kit_words.proofs.Common.{◌≡◌, ◌≤◌, ◌<◌, ◌+◌, ℕ, ℤ, Bool, true, false, not, refl, sym, ap, ◌∙◌, subst, List}
 use Rattle.kit_words.proofs.Common.{[], ◌∷◌, ◌++◌, length, map, take, get_or, cond, ◌&&◌, ◌||◌, int_le, inl, inr}
 use Rattle.kit_words.proofs.Common.{Option, None, arith, int_min, int_max, filter, list_any, sum_by, false≢true}
-use Rattle.kit_words.proofs.Common.{take_more, sum_by-filter_both, sum_by-cons, ints, clamps, is_gt}
+use Rattle.kit_words.proofs.Common.{take_more, sum_by-filter_both, sum_by-cons, ints, clamps, is_gt, and_parts}
+use Rattle.kit_words.proofs.Common.{or_cases, or_right}
 use Rattle.std.specs.FinSet as set
 use Rattle.grid_geometry.specs.Common.{Position, position_cmp, Segment, Box, box_of, boxes_meet, is_end, segment}
 use Rattle.grid_geometry.specs.Common.{conflict, is_held}
 use Rattle.grid_geometry.proofs.Common.{conflict-boxes_meet, conflict-comm}
 use Rattle.ring_machine.specs.Common.{Document, positions, least_conflict, pair_lt, edge_sweeps}
 use Rattle.ring_machine.specs.Ring as machine
-use Rattle.ring_machine.proofs.Common.{In, same_least, in-map, and_both, or_true, or_right, in_at}
+use Rattle.ring_machine.proofs.Common.{In, same_least, in-map, in_at}
 use Rattle.segment_index.specs.Common.{box_around, is_within, SegmentSet, has, segment_is, set_of, times_in, times_by}
 use Rattle.segment_index.specs.Common.{LieIn}
 use Rattle.segment_index.proofs.Common.{gains-right, lie-more, contains-set_of, is-itself, times-push, times-some}
@@ -39,8 +40,8 @@ stretch_wider r0 r1 q0 q1 k0 k1 w m = grind (arith, ints)
 -- what meets a box meets one around it
 meets_wider : (r q k : Box) → is_within q k ≡ true → boxes_meet r q ≡ true → boxes_meet r k ≡ true
 meets_wider r q k w m =
-    let inner = and_both (int_le k.x0 q.x0 && int_le q.x1 k.x1) (int_le k.y0 q.y0 && int_le q.y1 k.y1) w in
-    let both = and_both (int_le r.x0 q.x1 && int_le q.x0 r.x1) (int_le r.y0 q.y1 && int_le q.y0 r.y1) m in
+    let inner = and_parts (int_le k.x0 q.x0 && int_le q.x1 k.x1) (int_le k.y0 q.y0 && int_le q.y1 k.y1) w in
+    let both = and_parts (int_le r.x0 q.x1 && int_le q.x0 r.x1) (int_le r.y0 q.y1 && int_le q.y0 r.y1) m in
     λ i. stretch_wider r.x0 r.x1 q.x0 q.x1 k.x0 k.x1 inner.0 both.0 i && stretch_wider r.y0 r.y1 q.y0 q.y1 k.y0 k.y1 inner.1 both.1 i
 
 -- the box of the segment between two positions
@@ -57,9 +58,9 @@ segment_stretches a b r w = by (is_gt (position_cmp a b)) w
         → ((int_le r.x0 (int_min a.x b.x) && int_le (int_max a.x b.x) r.x1) ≡ true)
         × ((int_le r.y0 (int_min a.y b.y) && int_le (int_max a.y b.y) r.y1) ≡ true)
     by true v =
-        let both = and_both (int_le r.x0 (int_min b.x a.x) && int_le (int_max b.x a.x) r.x1) (int_le r.y0 (int_min b.y a.y) && int_le (int_max b.y a.y) r.y1) v in
+        let both = and_parts (int_le r.x0 (int_min b.x a.x) && int_le (int_max b.x a.x) r.x1) (int_le r.y0 (int_min b.y a.y) && int_le (int_max b.y a.y) r.y1) v in
         (stretch_turned r.x0 r.x1 a.x b.x both.0, stretch_turned r.y0 r.y1 a.y b.y both.1)
-    by false v = and_both (int_le r.x0 (int_min a.x b.x) && int_le (int_max a.x b.x) r.x1) (int_le r.y0 (int_min a.y b.y) && int_le (int_max a.y b.y) r.y1) v
+    by false v = and_parts (int_le r.x0 (int_min a.x b.x) && int_le (int_max a.x b.x) r.x1) (int_le r.y0 (int_min a.y b.y) && int_le (int_max a.y b.y) r.y1) v
 
 stretch_of_three : (k0 k1 a b c : ℤ) → (int_le k0 (int_min a c) && int_le (int_max a c) k1) ≡ true
     → (int_le k0 (int_min b c) && int_le (int_max b c) k1) ≡ true
@@ -119,9 +120,9 @@ module _ (held near : SegmentSet) (p q : Position) (after : List Segment) (m : H
   near_after t = stays near (EndingAt p) t || has after t
 
   after_held : (t : Segment) → near_after t ≡ true → all_after t ≡ true
-  after_held t e = elim (or_true (stays near (EndingAt p) t) (has after t) e) [
+  after_held t e = elim (or_cases (stays near (EndingAt p) t) (has after t) e) [
     | inl k ↦
-        let both = and_both (set.contains near t) (not (leaves (EndingAt p) t)) k in
+        let both = and_parts (set.contains near t) (not (leaves (EndingAt p) t)) k in
         ap (λ b. b || has after t) (λ i. m.has_near.among t both.0 i && both.1 i)
     | inr k ↦ or_right (stays held (EndingAt p) t) (has after t) k
   ]
@@ -129,12 +130,12 @@ module _ (held near : SegmentSet) (p q : Position) (after : List Segment) (m : H
   -- of two that conflict after the move, each is near or comes
   near_side : AreApart held → (s t : Segment) → all_after s ≡ true → all_after t ≡ true → conflict s t ≡ true
       → near_after t ≡ true
-  near_side apart s t i j k = elim (or_true (stays held (EndingAt p) t) (has after t) j) [
+  near_side apart s t i j k = elim (or_cases (stays held (EndingAt p) t) (has after t) j) [
     | inl h ↦
-        let there = and_both (set.contains held t) (not (leaves (EndingAt p) t)) h in
-        elim (or_true (stays held (EndingAt p) s) (has after s) i) [
+        let there = and_parts (set.contains held t) (not (leaves (EndingAt p) t)) h in
+        elim (or_cases (stays held (EndingAt p) s) (has after s) i) [
           | inl l ↦
-              let here = and_both (set.contains held s) (not (leaves (EndingAt p) s)) l in
+              let here = and_parts (set.contains held s) (not (leaves (EndingAt p) s)) l in
               absurd (false≢true (sym (apart s t here.0 there.0) ∙ k))
           | inr l ↦
               let close = near_conflict s t (or_right (segment_is s (segment p q)) (has after s) l) k there.0 in
@@ -173,7 +174,7 @@ module _ (held near : SegmentSet) (p q : Position) (after : List Segment) (m : H
       ∙ same_any test test (filter (set.contains near) ss) ss
       (λ t i k. (e t ∙ m.has_near.among t (sym (part t) ∙ i), k))
       (λ t i k. (
-        part t ∙ near_conflict (segment p q) t (ap (λ b. b || has after (segment p q)) (is-itself (segment p q))) (and_both (not (is_end p t)) (conflict (segment p q) t) k).1 (sym (e t) ∙ i),
+        part t ∙ near_conflict (segment p q) t (ap (λ b. b || has after (segment p q)) (is-itself (segment p q))) (and_parts (not (is_end p t)) (conflict (segment p q) t) k).1 (sym (e t) ∙ i),
         k,
       ))
 

@@ -2,10 +2,9 @@
 use Rattle.kit_words.proofs.Common.{◌≡◌, ◌≤◌, ◌<◌, ◌+◌, ◌-◌, inl, inr, ℕ, zero, suc, Bool, true, false, not, refl, sym}
 use Rattle.kit_words.proofs.Common.{ap, ◌∙◌, cond, subst, None, List, [], ◌∷◌, ◌++◌, length, take, get_or, ◌&&◌, ◌||◌}
 use Rattle.kit_words.proofs.Common.{arith, filter, sum_by, false≢true, sum_by-cons, sum_by_more, sum_by-take-le}
-use Rattle.kit_words.proofs.Common.{length-filter}
+use Rattle.kit_words.proofs.Common.{length-filter, and_parts, or_cases}
 use Rattle.std.specs.FinSet as set
 use Rattle.grid_geometry.specs.Common.{Segment, Box, box_of, boxes_meet}
-use Rattle.ring_machine.proofs.Common.{and_both, or_true}
 use Rattle.segment_index.specs.Common.{SegmentSet, AreAmong, AreSingle, AtMostTimes, Covers, Gives, has, segment_is}
 use Rattle.segment_index.specs.Common.{set_of, times_in, times_by}
 use Rattle.segment_index.proofs.Common.{same_segment, contains-set_of, is-itself, times-filter, times-none}
@@ -36,12 +35,12 @@ module _ (held : SegmentSet) (times : Segment → Box → ℕ) (leaving : Leavin
       → IsNear held times leaving s (tried leaving s items)
   near_tried items among few covers = record {
     among = λ t h.
-        let both = and_both (has items t) (is_tried leaving s t) (sym (has-filter (is_tried leaving s) items t) ∙ h) in
-        let kept = and_both (boxes_meet (box_of t) (box_of s)) (not (leaves leaving t)) both.1 in
+        let both = and_parts (has items t) (is_tried leaving s t) (sym (has-filter (is_tried leaving s) items t) ∙ h) in
+        let kept = and_parts (boxes_meet (box_of t) (box_of s)) (not (leaves leaving t)) both.1 in
         (λ i. among t both.0 i && kept.1 i);
     few = few;
     covers = λ t h m.
-        let both = and_both (set.contains held t) (not (leaves leaving t)) h in
+        let both = and_parts (set.contains held t) (not (leaves leaving t)) h in
         has-filter (is_tried leaving s) items t ∙ (λ i. covers t both.0 m i && (m i && both.1 i));
   }
 
@@ -110,8 +109,8 @@ length_at_most f (s ∷ ss) xs few into =
     let rest = length_at_most f ss (filter (λ x. not (segment_is s x)) xs)
     (λ t. omega (arith, few t, times-filter (λ x. not (segment_is s x)) xs t))
     (λ t h.
-    let both = and_both (has xs t) (not (segment_is s t)) (sym (has-filter (λ x. not (segment_is s x)) xs t) ∙ h) in
-    elim (or_true (segment_is t s) (has ss t) (into t both.0)) [
+    let both = and_parts (has xs t) (not (segment_is s t)) (sym (has-filter (λ x. not (segment_is s x)) xs t) ∙ h) in
+    elim (or_cases (segment_is t s) (has ss t) (into t both.0)) [
       | inl e ↦ absurd (false≢true (sym (ap not (ap (segment_is s) (same_segment t s e) ∙ is-itself s)) ∙ both.1))
       | inr k ↦ k
     ]) in
@@ -121,7 +120,7 @@ pub near_few : (held : SegmentSet) (times : Segment → Box → ℕ) (leaving : 
     → ((t : Segment) → stays held leaving t ≡ true → has ss t ≡ true) → length near ≤ most_given times ss s
 near_few held times leaving s near ss n into = length_at_most (λ t. times t (box_of s)) ss near n.few (λ t h. into t (n.among t h))
 
-ones : (ss : List Segment) → sum_by (λ s. 1) ss ≡ length ss
+pub ones : (ss : List Segment) → sum_by (λ s. 1) ss ≡ length ss
 ones [] = refl
 ones (s ∷ ss) = omega (arith, sum_by-cons (λ t. 1) s ss, ones ss)
 
@@ -133,7 +132,7 @@ near_many held times leaving s near ts n staying =
     let found = length_at_most (λ t. 1) near (filter meets ts)
     (λ t. omega (arith, times-filter meets ts t, staying.once t))
     (λ t h.
-    let both = and_both (has ts t) (meets t) (sym (has-filter meets ts t) ∙ h) in
+    let both = and_parts (has ts t) (meets t) (sym (has-filter meets ts t) ∙ h) in
     n.covers t (staying.each t both.0) both.1) in
     omega (arith, found, length-filter meets ts, ones near)
 
@@ -143,7 +142,7 @@ after_has held leaving added ss e t h = e t ∙ ap (λ b. b || has added t) h
 
 -- what stays is held
 pub held_has : (held : SegmentSet) (leaving : Leaving) (ss : List Segment) → IsHeld held ss → (t : Segment) → stays held leaving t ≡ true → has ss t ≡ true
-held_has held leaving ss e t h = e t ∙ (and_both (set.contains held t) (not (leaves leaving t)) h).0
+held_has held leaving ss e t h = e t ∙ (and_parts (set.contains held t) (not (leaves leaving t)) h).0
 
 -- ---- the tests of an edit
 

@@ -1,11 +1,11 @@
 -- The box of three positions meets the box of a segment with an end in it.
 use Rattle.kit_words.proofs.Common.{◌≡◌, ℤ, ◌≤ℤ◌, Bool, true, false, not, ◌&&◌, int_le, refl, ap, ◌∙◌, sym, arith}
-use Rattle.kit_words.proofs.Common.{inl, inr, List, int_min, int_max, false≢true, ints, clamps}
+use Rattle.kit_words.proofs.Common.{inl, inr, List, int_min, int_max, false≢true, ints, clamps, and_parts, or_cases}
 use Rattle.std.proofs.Math.Bool.{and-false}
 use Rattle.grid_geometry.specs.Common.{Position, InRange, position_eq, Segment, IsBox, box_of, boxes_meet, is_end}
 use Rattle.grid_geometry.specs.Common.{is_held, is_spanned, is_in_box_of_three}
 use Rattle.ring_machine.specs.Common.{has}
-use Rattle.ring_machine.proofs.Common.{and_both, or_true, position_eq-true}
+use Rattle.ring_machine.proofs.Common.{position_eq-true}
 use Rattle.local_planarity.specs.Spans.{least_of, most_of, box_of_three, lies_in}
 
 pub least_most : (a b c : ℤ) → least_of a b c ≤ℤ most_of a b c
@@ -21,12 +21,12 @@ hi_meets a b c z w h = grind (arith, ints, clamps)
 -- what a triangle holds lies between its least and greatest coordinates
 spanned : (a b c v : Position) → is_held v a b c ≡ true → (is_spanned a.x b.x c.x v.x ≡ true) × (is_spanned a.y b.y c.y v.y ≡ true)
 spanned a b c v k =
-    let box = and_both (is_in_box_of_three v a b c) _ k in
-    and_both (is_spanned a.x b.x c.x v.x) (is_spanned a.y b.y c.y v.y) box.0
+    let box = and_parts (is_in_box_of_three v a b c) _ k in
+    and_parts (is_spanned a.x b.x c.x v.x) (is_spanned a.y b.y c.y v.y) box.0
 
 -- a triangle that holds an end of a segment has a box that meets that of the segment
 pub held_end_meets : (t : Segment) (w a b c : Position) → is_end w t ≡ true → is_held w a b c ≡ true → boxes_meet (box_of t) (box_of_three a b c) ≡ true
-held_end_meets t w a b c e h = elim (or_true (position_eq w t.lo) (position_eq w t.hi) e) [
+held_end_meets t w a b c e h = elim (or_cases (position_eq w t.lo) (position_eq w t.hi) e) [
   | inl l ↦
       let same = position_eq-true w t.lo l in
       let k = spanned a b c t.lo (ap (λ z. is_held z a b c) (sym same) ∙ h) in

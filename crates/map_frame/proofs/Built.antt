@@ -13,10 +13,6 @@ use Rattle.map_frame.specs.Common.{Feature, Stand, Slot, Geometry, Layer, Progre
 use Rattle.map_frame.specs.Common.{lone, alone_or, of_slots, is_lone, IsGeometry, AreLayers, numbers_at, numbers_in, all_numbers}
 use Rattle.map_frame.specs.declared.tables.Geometry.TheVariants as geometry
 
-pub nothing_left : {X : Type 0} (xs : List X) (n : ℕ) → n ≡ length xs → n ≡ 0 → xs ≡ []
-nothing_left [] n e z = refl
-nothing_left (x ∷ xs) n e z = absurd (omega arith)
-
 -- ---- numbers in order
 
 -- the numbers go from n on, and m is the next one

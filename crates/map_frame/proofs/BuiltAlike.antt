@@ -1,7 +1,7 @@
 -- What was read can stand as a frame: the document is well formed whatever its rings are.
-use Rattle.kit_words.proofs.Common.{◌≡◌, ◌∙◌, ℕ, zero, suc, ◌+◌, ◌<◌, refl, sym, ap, ap₂, arith, List, [], ◌∷◌, ◌++◌}
-use Rattle.kit_words.proofs.Common.{length, map, option_map, get_or, take, drop, ◌&&◌, ◌==◌, Vec, flat_map, filter_map}
-use Rattle.kit_words.proofs.Common.{list_all, length-map, list_all-append, map-append, take_more}
+use Rattle.kit_words.proofs.Common.{◌≡◌, ◌∙◌, ℕ, zero, suc, ◌+◌, refl, sym, ap, ap₂, arith, List, [], ◌∷◌}
+use Rattle.kit_words.proofs.Common.{length, map, option_map, get_or, drop, ◌&&◌, ◌==◌, Vec, flat_map, filter_map}
+use Rattle.kit_words.proofs.Common.{list_all, length-map, list_all-append}
 use Rattle.ring_machine.specs.Common.{Polygon, MultiPolygon, Null, feature_of, features, is_inner, is_geometry}
 use Rattle.ring_machine.specs.Common.{fits_form}
 use Rattle.map_frame.specs.Common.{polygon_numbers, feature_numbers, opened, CanStand}
@@ -13,14 +13,6 @@ use Rattle.topo_reader.specs.Common.{polygons_at, items_from, layers_from, IsOfR
 use Rattle.topo_reader.specs.Common.{feature_positions}
 use Rattle.ring_machine.proofs.Common.{numbered_distinct}
 use Rattle.map_frame.proofs.BuiltNumbers.{layers_numbered}
-
--- one more element with a number of elements that is known
-pub lengths_more : {X Y : Type 0} (f : X → ℕ) (g : Y → ℕ) (ys : List Y) (i : ℕ) (y : Y) (ns new : List X) (n : X) → i < length ys
-    → y ≡ get_or ys i y → map f ns ≡ map g (take i ys) → f n ≡ g y → new ≡ ns ++ n ∷ []
-    → map f new ≡ map g (take (i + 1) ys)
-lengths_more f g ys i y ns new n l here k e come =
-    ap (map f) come ∙ map-append f ns (n ∷ []) ∙ ap₂ (λ (as' : List ℕ) (b : ℕ). as' ++ b ∷ []) k e
-    ∙ sym (ap (map g) (take_more ys i y l ∙ ap (λ z. take i ys ++ z ∷ []) (sym here)) ∙ map-append g (take i ys) (y ∷ []))
 
 module _ {R S : Type 0} where
   at_length : (all : List (List (List R))) (other : List (List (List S))) → map length all ≡ map length other → (n : ℕ)

@@ -2,9 +2,9 @@
 use Rattle.kit_words.proofs.Common.{◌≡◌, ◌≢◌, ◌∙◌, ℕ, zero, suc, ◌+◌, ◌<◌, ◌≤◌, refl, sym, ap, ap₂, subst, arith, List}
 use Rattle.kit_words.proofs.Common.{[], ◌∷◌, ◌++◌, length, map, drop, Option, Some, option_map, true, ◌&&◌, inl}
 use Rattle.kit_words.proofs.Common.{Contains, Vec, not, IsTrue, slice_get, unwrap_or, flat_map, list_all, slice_get-map}
-use Rattle.kit_words.proofs.Common.{ℕ_discrete, dec_lt, false≢true}
+use Rattle.kit_words.proofs.Common.{ℕ_discrete, dec_lt, false≢true, and_parts}
 use Rattle.ring_machine.specs.Common.{Text, ItemOf, LayerOf, Leaf, is_inner, is_geometry}
-use Rattle.ring_machine.proofs.Common.{In, in_contains, and_both}
+use Rattle.ring_machine.proofs.Common.{In, in_contains}
 use Rattle.map_frame.specs.Common.{feature_numbers, Feature, Stand, Slot, Geometry, Layer, Progress, IsNext, IsLeaf}
 use Rattle.map_frame.specs.Common.{IsSlot, AreSlots, is_lone, IsGeometry, AreLayers, numbers_at, numbers_under}
 use Rattle.map_frame.specs.Common.{is_closing, is_whole, is_enclosed, leaf_of, items_at, items_of, view_layer}
@@ -262,7 +262,7 @@ module _ {A : Type 0} where
   layers_enclosed at n all [] [] old new h e = refl
   layers_enclosed at n all (r ∷ raws) (l ∷ layers) old new h e =
       let m = n + leaves_of r.items.items in
-      let both = and_both (is_geometry (items_from n all (map view_item r.items.items)))
+      let both = and_parts (is_geometry (items_from n all (map view_item r.items.items)))
       (list_all (λ l. is_geometry l.items) (layers_from m all (map read.view_layer raws))) e in
       ap₂ (λ y z. y && z) (geometry_enclosed at n all r.items.items l.geometry old h.0 h.2 both.0)
       (layers_enclosed (at + 1) m all raws layers h.0 new h.3 both.1)

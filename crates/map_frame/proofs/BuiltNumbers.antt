@@ -1,8 +1,8 @@
 -- The numbers of features that were built: 0, 1, 2 and so on in the order of the text.
-use Rattle.kit_words.proofs.Common.{◌≡◌, ◌≢◌, ◌∙◌, ℕ, ◌+◌, ◌<◌, ◌≤◌, refl, sym, ap, ap₂, arith, List, [], ◌∷◌, ◌++◌}
-use Rattle.kit_words.proofs.Common.{length, Some, option_map, Bool, true, false, cond, ◌&&◌, ◌||◌, ◌==◌, not, slice_get}
+use Rattle.kit_words.proofs.Common.{◌≡◌, ◌≢◌, ◌∙◌, ℕ, ◌+◌, ◌<◌, ◌≤◌, refl, sym, ap, ap₂, arith, List, [], ◌∷◌, length}
+use Rattle.kit_words.proofs.Common.{Some, option_map, Bool, true, false, cond, ◌&&◌, ◌||◌, ◌==◌, not, slice_get}
 use Rattle.kit_words.proofs.Common.{flat_map, filter_map, list_any, find, AllByRecursion, nat_tests, length-append}
-use Rattle.kit_words.proofs.Common.{slice_get_past, slice_get-get_or, unwrap_or-slice_get}
+use Rattle.kit_words.proofs.Common.{slice_get_past, slice_get-get_or, unwrap_or-slice_get, all_joined}
 use Rattle.ring_machine.specs.Common.{FeatureOf, ItemOf, LayerOf, feature_of, are_distinct}
 use Rattle.ring_machine.proofs.Common.{AreNumbered, numbered-append}
 use Rattle.topo_outline.specs.Outline.{leaves_in, leaves}
@@ -34,10 +34,6 @@ from_distinct n m (x ∷ xs) h =
     ap₂ (λ y z. not y && z) (lacks x (n + 1) m xs h.1 (omega (arith, h.0))) (from_distinct (n + 1) m xs h.1)
 
 -- ---- the features of what was read
-
-all-append : {X : Type 0} (P : X → Type 0) (xs ys : List X) → AllByRecursion P xs → AllByRecursion P ys → AllByRecursion P (xs ++ ys)
-all-append P [] ys h k = k
-all-append P (x ∷ xs) ys h k = (h.0, all-append P xs ys h.1 k)
 
 module _ {R : Type 0} where
   abbrev within_items : List (ItemOf R) → List (FeatureOf R)
@@ -90,7 +86,7 @@ module _ {R : Type 0} where
       → AllByRecursion (HasOwn all) (within_layers (layers_from n all ls))
   layers_own n all [] = tt
   layers_own n all (l ∷ ls) =
-      all-append (HasOwn all) (within_items (items_from n all l.pieces)) (within_layers (layers_from (n + length (leaves_in l.pieces)) all ls))
+      all_joined (HasOwn all) (within_items (items_from n all l.pieces)) (within_layers (layers_from (n + length (leaves_in l.pieces)) all ls))
       (items_own n all l.pieces) (layers_own (n + length (leaves_in l.pieces)) all ls)
 
   there : (all : List (List (List R))) (m : ℕ) → m < length all → Some (polygons_at all m) ≡ slice_get all m

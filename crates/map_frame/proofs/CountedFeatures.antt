@@ -4,7 +4,8 @@ use Rattle.kit_words.proofs.Common.{length, Option, Some, None, is_some, inl, in
 use Rattle.kit_words.proofs.Common.{false≢true}
 use Rattle.ring_machine.specs.Common.{are_distinct}
 use Rattle.ring_machine.proofs.Common.{In}
-use Rattle.map_frame.proofs.EditedFeatures.{cons_length, cons_less, head_apart, tail_distinct}
+use Rattle.edit_records.proofs.Common.{head_apart}
+use Rattle.map_frame.proofs.EditedFeatures.{cons_length, cons_less, tail_distinct}
 
 module _ {Y : Type 0} (h k : ℕ → Option Y) (n : ℕ) (there : is_some (h n) ≡ true) (gone : is_some (k n) ≡ false)
     (others : (m : ℕ) → m ≢ n → is_some (k m) ≡ is_some (h m)) where

@@ -5,9 +5,10 @@ use Rattle.kit_words.proofs.Common.{IsDistinct, Decides-eqb}
 use Rattle.std.proofs.Common.{ne_eqb}
 use Rattle.std.proofs.lemmas.Map.Steps.{length-le_from_distinct_below}
 use Rattle.ring_machine.specs.Common.{are_distinct}
-use Rattle.ring_machine.proofs.Common.{In, any_in}
+use Rattle.ring_machine.proofs.Common.{In, any_in, in_recursion}
+use Rattle.edit_records.proofs.Common.{head_apart}
 use Rattle.map_frame.specs.Common.{Tables, IsFramed, all_numbers}
-use Rattle.map_frame.proofs.EditedFeatures.{head_apart, tail_distinct}
+use Rattle.map_frame.proofs.EditedFeatures.{tail_distinct}
 use Rattle.map_frame.proofs.PlacesSeen.{entry, features_of}
 
 distinct_is : (ns : List ℕ) → are_distinct ns ≡ true → IsDistinct eqb ns
@@ -18,11 +19,6 @@ distinct_is (n ∷ ns) d = (apart ns (head_apart n ns d), distinct_is ns (tail_d
     apart : (ms : List ℕ) → (In n ms → ⊥) → AllByRecursion (λ m. eqb n m ≡ false) ms
     apart [] off = tt
     apart (m ∷ ms) off = (ne_eqb n m (λ e. off (inl (sym e))), apart ms (λ i. off (inr i)))
-
-pub all_recursion_at : {X : Type 0} (P : X → Type 0) (xs : List X) (x : X) → AllByRecursion P xs → In x xs → P x
-all_recursion_at P [] x h i = absurd i
-all_recursion_at P (y ∷ xs) x h (inl e) = subst P e h.0
-all_recursion_at P (y ∷ xs) x h (inr i) = all_recursion_at P xs x h.1 i
 
 some_among : {X Y : Type 0} (h : X → Option Y) (xs : List X) → length (filter_map h xs) ≤ length xs
 some_among h [] = omega arith
@@ -42,5 +38,5 @@ counted_within t k =
     length-le_from_distinct_below ns (length t.features.items) (distinct_is ns k.once)
     (λ q h. let a = any_in (eqb q) ns h in
     subst (λ z. z < length t.features.items) (sym ((Decides-eqb q a.0).0 a.2))
-    (all_recursion_at (λ m. m < length t.features.items) ns a.0 k.below a.1)) in
+    (in_recursion (λ m. m < length t.features.items) ns a.0 k.below a.1)) in
     omega (arith, is, among, within)

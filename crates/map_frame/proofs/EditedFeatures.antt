@@ -32,17 +32,7 @@ module _ {Y Z : Type 0} where
   cons_less (Some x) (Some y) xs ys e f = let k : suc (length xs) ≡ suc (length ys) + 1 = omega (arith, f) in k
   cons_less _ _ xs ys e f = absurd cc
 
-pub length_alike : {X Y Z : Type 0} (h : X → Option Y) (k : X → Option Z) → ((n : X) → is_some (h n) ≡ is_some (k n))
-    → (ns : List X) → length (filter_map h ns) ≡ length (filter_map k ns)
-length_alike h k same [] = refl
-length_alike h k same (n ∷ ns) =
-    cons_length (h n) (k n) (filter_map h ns) (filter_map k ns) (same n) (length_alike h k same ns)
-
 -- ---- numbers that are distinct
-
--- the first number is none of the others
-pub head_apart : (k : ℕ) (ks : List ℕ) → are_distinct (k ∷ ks) ≡ true → In k ks → ⊥
-head_apart k ks d = (distinct_parts (k ∷ []) ks d).apart k (inl refl)
 
 pub tail_distinct : (k : ℕ) (ks : List ℕ) → are_distinct (k ∷ ks) ≡ true → are_distinct ks ≡ true
 tail_distinct k ks d = (distinct_parts (k ∷ []) ks d).right

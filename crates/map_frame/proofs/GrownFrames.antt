@@ -2,7 +2,7 @@
 use Rattle.kit_words.proofs.Common.{◌≡◌, ◌+◌, ◌<◌, ℕ, true, false, refl, sym, ap, ◌∙◌, subst, [], ◌∷◌, ◌++◌, length}
 use Rattle.kit_words.proofs.Common.{get_or, slice_set, Option, Some, None, slice_get, Vec, with_item, slice_get_within}
 use Rattle.ring_machine.specs.Common.{has_feature, is_layer}
-use Rattle.ring_machine.proofs.Members.{there as there_is}
+use Rattle.ring_machine.proofs.Common.{there as there_is}
 use Rattle.edit_records.specs.Common.{grown}
 use Rattle.map_frame.specs.Common.{Feature, Stand, Layer, Tables, with_new, with_slot, IsFramed, numbers_under, live}
 use Rattle.map_frame.specs.Common.{doc_of, framed, places_of}

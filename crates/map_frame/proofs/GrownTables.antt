@@ -3,11 +3,11 @@ use Rattle.kit_words.proofs.Common.{◌≡◌, ◌≢◌, ◌+◌, ◌<◌, ℕ,
 use Rattle.kit_words.proofs.Common.{List, [], ◌∷◌, ◌++◌, ◌&&◌, map, length, slice_set, cond, inl, inr, Option, Some}
 use Rattle.kit_words.proofs.Common.{None, option_map, arith, Contains, slice_get, Vec, ◌==◌, flat_map, list_all}
 use Rattle.kit_words.proofs.Common.{AllByRecursion, length_push, map-append, slice_get_within, flat_map-append}
-use Rattle.kit_words.proofs.Common.{flat_map_single, ℕ_discrete}
+use Rattle.kit_words.proofs.Common.{flat_map_single, ℕ_discrete, and_parts}
 use Rattle.std.proofs.Common.{ne_eqb}
 use Rattle.ring_machine.specs.Common.{DocumentOf, WellFormed, are_distinct}
 use Rattle.ring_machine.specs.Parts.{features as feature_list}
-use Rattle.ring_machine.proofs.Common.{In, contains_in, in_contains, all_in, and_both}
+use Rattle.ring_machine.proofs.Common.{In, contains_in, in_contains, all_in, in_recursion, slice-in}
 use Rattle.edit_records.specs.Common.{Place, Number, LayerTree, number_of, filled, grown, tree_with}
 use Rattle.edit_records.specs.Places as tree
 use Rattle.edit_records.proofs.Common.{filled-agree, filled-grown}
@@ -17,10 +17,8 @@ use Rattle.map_frame.specs.Common.{all_numbers, live, AreNamed, doc_of, framed, 
 use Rattle.map_frame.specs.Common.{layer_tree, places_of}
 use Rattle.map_frame.specs.declared.tables.Slot.TheVariants as slot
 use Rattle.map_frame.specs.declared.tables.Geometry.TheVariants as geometry
-use Rattle.map_frame.proofs.CountedWithin.{all_recursion_at}
 use Rattle.map_frame.proofs.EditedFeatures.{first_distinct}
 use Rattle.map_frame.proofs.NamedOnce.{in_part, one_part, same_some, rest_distinct}
-use Rattle.map_frame.proofs.ReadFeatures.{in_get}
 use Rattle.map_frame.proofs.ReadLists.{got_behind}
 use Rattle.map_frame.proofs.PlacesSeen.{entry, layers_filled, slot_placed, geometry_placed}
 use Rattle.map_frame.proofs.SlotsFresh.{grown_distinct, grown_below, grown_keeps, grown_has}
@@ -36,7 +34,7 @@ module _ {X : Type 0} where
   get_front (x ∷ xs) ys (suc i) l = get_front xs ys i (omega arith)
 
 -- a part of distinct numbers
-part_distinct : {X : Type 0} (g : X → List ℕ) (xs : List X) (i : ℕ) (x : X) → are_distinct (flat_map g xs) ≡ true
+pub part_distinct : {X : Type 0} (g : X → List ℕ) (xs : List X) (i : ℕ) (x : X) → are_distinct (flat_map g xs) ≡ true
     → slice_get xs i ≡ Some x → are_distinct (g x) ≡ true
 part_distinct g [] i x d e = absurd cc
 part_distinct g (y ∷ xs) zero x d e =
@@ -57,9 +55,9 @@ map_set g h xs i x y e here others =
 all_set : {X : Type 0} (p : X → Bool) (xs : List X) (i : ℕ) (y : X) → list_all p xs ≡ true → p y ≡ true
     → list_all p (slice_set xs i y) ≡ true
 all_set p [] i y h here = refl
-all_set p (x ∷ xs) zero y h here = ap₂ (λ a b. a && b) here (and_both (p x) (list_all p xs) h).1
+all_set p (x ∷ xs) zero y h here = ap₂ (λ a b. a && b) here (and_parts (p x) (list_all p xs) h).1
 all_set p (x ∷ xs) (suc i) y h here =
-    let b = and_both (p x) (list_all p xs) h in ap₂ (λ a c. a && c) b.0 (all_set p xs i y b.1 here)
+    let b = and_parts (p x) (list_all p xs) h in ap₂ (λ a c. a && c) b.0 (all_set p xs i y b.1 here)
 
 -- other features in a slot leave the collections as they are
 module _ {A : Type 0} (ns ns' : Vec ℕ A) where
@@ -129,7 +127,7 @@ module _ {A : Type 0} (t : Tables A) (k : IsFramed t) (n : ℕ) (s : Stand) (l :
   -- ---- the numbers
 
   below : (m : ℕ) → In m (all_numbers t.layers.items) → m < length t.features.items
-  below m i = all_recursion_at (λ m. m < length t.features.items) (all_numbers t.layers.items) m k.below i
+  below m i = in_recursion (λ m. m < length t.features.items) (all_numbers t.layers.items) m k.below i
 
   among : In n ns.items
   among =
@@ -139,9 +137,6 @@ module _ {A : Type 0} (t : Tables A) (k : IsFramed t) (n : ℕ) (s : Stand) (l :
 
   in_slot : (j : ℕ) (x : Slot A) (m : ℕ) → slice_get ss.items j ≡ Some x → In m (numbers_at x) → In m (numbers_in l.geometry)
   in_slot j x m e i = subst (λ z. In m (numbers_in z)) (sym in_items) (in_part numbers_at ss.items j x m e i)
-
-  in_ours : (m : ℕ) → In m (numbers_in l.geometry) → In m (all_numbers t.layers.items)
-  in_ours m i = in_part (λ z. numbers_in z.geometry) t.layers.items s.layer l m layer i
 
   ours : In n (numbers_in l.geometry)
   ours = in_slot s.slot (slot.Leaves ns) n place among
@@ -308,7 +303,7 @@ module _ {A : Type 0} (t : Tables A) (k : IsFramed t) (n : ℕ) (s : Stand) (l :
       ap (list_all (λ z. is_enclosed z.geometry)) layers
       ∙ all_set (λ z. is_enclosed z.geometry) t.layers.items s.layer (record l { geometry = geometry.Items ss' }) k.enclosed
       (ap is_whole slots ∙ whole_set ns ns' ss.items s.slot place
-      ∙ ap is_enclosed (sym in_items) ∙ all_in (λ z. is_enclosed z.geometry) t.layers.items l k.enclosed (in_get t.layers.items s.layer l layer))
+      ∙ ap is_enclosed (sym in_items) ∙ all_in (λ z. is_enclosed z.geometry) t.layers.items l k.enclosed (slice-in t.layers.items s.layer l layer))
 
   kept_after : new < 200000 → IsFramed after
   kept_after few = record {

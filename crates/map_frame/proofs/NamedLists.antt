@@ -79,7 +79,7 @@ gain_end at Is n within a b g = record {
   each = λ r o i. g.each r o (i, within o r i);
 }
 
-name_same : (a b : RingName) → a.feature ≡ b.feature → a.polygon ≡ b.polygon → a.ring ≡ b.ring → a ≡ b
+pub name_same : (a b : RingName) → a.feature ≡ b.feature → a.polygon ≡ b.polygon → a.ring ≡ b.ring → a ≡ b
 name_same a b e f h =
     ap (λ x. at x a.polygon a.ring) e ∙ ap (λ x. at b.feature x a.ring) f ∙ ap (λ x. at b.feature b.polygon x) h
   where

@@ -3,10 +3,9 @@ use Rattle.kit_words.proofs.Common.{◌≡◌, ℕ, zero, suc, Bool, true, false
 use Rattle.kit_words.proofs.Common.{◌∷◌, ◌++◌, Option, Some, None, option_map, ◌==◌, slice_get, unwrap_or, flat_map}
 use Rattle.kit_words.proofs.Common.{find, Decides-eqb}
 use Rattle.ring_machine.specs.Common.{FeatureOf, DocumentOf, features, feature, rings, rings_of, are_distinct}
-use Rattle.ring_machine.proofs.Common.{In, in_left, in_right, distinct_parts}
+use Rattle.ring_machine.proofs.Common.{In, in_left, in_right, distinct_parts, slice-in}
 use Rattle.map_frame.specs.Common.{RingName, element}
 use Rattle.map_frame.proofs.NamedForgotten.{element_is}
-use Rattle.map_frame.proofs.ReadFeatures.{in_get}
 
 pub same_some : {X : Type 0} (x y : X) → Some x ≡ Some y → x ≡ y
 same_some x y e = ap (λ o. unwrap_or o x) e
@@ -56,7 +55,7 @@ pub ring_in : (f : Option (FeatureOf ℕ)) (o : RingName) (r : ℕ) → ring_of 
 ring_in None o r e = absurd cc
 ring_in (Some x) o r e =
     let a = element_is (slice_get x.polygons o.polygon) o.ring r e in
-    (x, refl, in_part (λ (polygon : List ℕ). polygon) x.polygons o.polygon a.0 r a.1 (in_get a.0 o.ring r a.2))
+    (x, refl, in_part (λ (polygon : List ℕ). polygon) x.polygons o.polygon a.0 r a.1 (slice-in a.0 o.ring r a.2))
 
 -- a ring stands in one feature
 pub one_owner : (d : DocumentOf ℕ) → are_distinct (rings d) ≡ true → (m n : ℕ) (f g : FeatureOf ℕ) (r : ℕ)

@@ -3,12 +3,11 @@ use Rattle.kit_words.proofs.Common.{◌≡◌, ◌<◌, ◌≤◌, ℕ, refl, sy
 use Rattle.kit_words.proofs.Common.{None, option_map, slice_get, Vec, ◌==◌, list_any, AllByRecursion, Decides-eqb}
 use Rattle.kit_words.proofs.Common.{set-get_or, get_or_from_slice_get}
 use Rattle.ring_machine.specs.Common.{Text, FeatureOf, features, feature, WellFormed, are_distinct}
-use Rattle.ring_machine.proofs.Common.{any_in, in_any}
+use Rattle.ring_machine.proofs.Common.{any_in, in_any, in_recursion}
 use Rattle.edit_records.specs.Common.{LayerTree, numbers_placed}
 use Rattle.edit_records.proofs.Common.{filled-agree}
 use Rattle.map_frame.specs.Common.{Feature, Stand, Tables, IsFramed, all_numbers, live, AreNamed, ArePlaced, id_or}
 use Rattle.map_frame.specs.Common.{framed, doc_of, places_of, view_feature}
-use Rattle.map_frame.proofs.CountedWithin.{all_recursion_at}
 use Rattle.map_frame.proofs.EditedStands.{entry_is}
 use Rattle.map_frame.proofs.PlacesSeen.{entry, layers_filled, layers_formed, layers_placed}
 use Rattle.map_frame.proofs.ReadFeatures.{number_stands}
@@ -26,7 +25,7 @@ all_placed t k = record {
   known = λ n h.
       let a = any_in (λ m. m == n) (all_numbers t.layers.items) (sym (ap (list_any (λ m. m == n)) placed) ∙ h) in
       subst (λ z. z < length t.features.items) ((Decides-eqb a.0 n).0 a.2)
-      (all_recursion_at (λ m. m < length t.features.items) (all_numbers t.layers.items) a.0 k.below a.1);
+      (in_recursion (λ m. m < length t.features.items) (all_numbers t.layers.items) a.0 k.below a.1);
 }
   where
     trees : List LayerTree

@@ -2,9 +2,9 @@
 use Rattle.kit_words.proofs.Common.{◌≡◌, ℕ, zero, suc, Bool, true, false, refl, sym, ap, ap₂, ◌∙◌, List, [], ◌∷◌, ◌++◌}
 use Rattle.kit_words.proofs.Common.{◌&&◌, map, Option, Some, None, option_map, cond, slice_get, ◌==◌, flat_map}
 use Rattle.kit_words.proofs.Common.{filter_map, list_all, list_any, find, cons_option, false≢true, flat_map-append}
-use Rattle.kit_words.proofs.Common.{filter_map-append}
+use Rattle.kit_words.proofs.Common.{filter_map-append, and_parts}
 use Rattle.ring_machine.specs.Common.{FeatureOf, ItemOf, feature_of, features, feature, is_inner, is_geometry}
-use Rattle.ring_machine.proofs.Common.{In, among, of_layers, mapped_there, and_both}
+use Rattle.ring_machine.proofs.Common.{In, among, of_layers, mapped_there}
 use Rattle.edit_records.specs.Common.{Place, Number, Tree, LayerTree, AreFormed, is_formed, number_of, numbers_of}
 use Rattle.edit_records.specs.Common.{numbers_placed, leaf, or_empty, item_at, filled, has_place}
 use Rattle.edit_records.specs.Places as tree
@@ -100,7 +100,7 @@ module _ {A : Type 0} (fs : List (Option (Feature A))) where
       → list_all (λ l. is_geometry l.items) (map (view_layer fs) ls) ≡ true
   layers_geometries [] h = refl
   layers_geometries (l ∷ ls) h =
-      let b = and_both (is_enclosed l.geometry) (list_all (λ l. is_enclosed l.geometry) ls) h in
+      let b = and_parts (is_enclosed l.geometry) (list_all (λ l. is_enclosed l.geometry) ls) h in
       ap₂ (λ y z. y && z) (enclosed_geometry l.geometry b.0) (layers_geometries ls b.1)
 
 -- ---- the numbers that have a place
@@ -145,7 +145,7 @@ module _ {A : Type 0} where
   pub layers_formed : (ls : List (Layer A)) → list_all (λ l. is_enclosed l.geometry) ls ≡ true → AreFormed (places_of ls)
   layers_formed [] h = refl
   layers_formed (l ∷ ls) h =
-      let b = and_both (is_enclosed l.geometry) (list_all (λ l. is_enclosed l.geometry) ls) h in
+      let b = and_parts (is_enclosed l.geometry) (list_all (λ l. is_enclosed l.geometry) ls) h in
       ap₂ (λ y z. y && z) (geometry_formed l.geometry b.0) (layers_formed ls b.1)
 
 -- ---- the features in the order of their places

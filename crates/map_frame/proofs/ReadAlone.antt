@@ -4,7 +4,7 @@ use Rattle.kit_words.proofs.Common.{Option, Some, None, option_map, Vec, false�
 use Rattle.kit_words.proofs.Common.{slice_get-map}
 use Rattle.std.specs.List.{slice_get}
 use Rattle.ring_machine.specs.Common.{is_layer}
-use Rattle.ring_machine.proofs.Common.{In, any_in, in_mapped, all_in, alone, is_layer_is, layer_is}
+use Rattle.ring_machine.proofs.Common.{In, any_in, in_mapped, all_in, alone, is_layer_is, layer_is, slice-in}
 use Rattle.edit_records.specs.Common.{or_empty}
 use Rattle.map_frame.specs.Common.{Feature, Stand, Slot, Geometry, Layer, Tables, IsFramed, is_enclosed, numbers_in}
 use Rattle.map_frame.specs.Common.{live, doc_of, items_of, leaf_of, view_feature, view_layer}
@@ -12,7 +12,7 @@ use Rattle.map_frame.specs.declared.tables.Slot.TheVariants as slot
 use Rattle.map_frame.specs.declared.tables.Geometry.TheVariants as geometry
 use Rattle.map_frame.proofs.NamedOnce.{one_part}
 use Rattle.map_frame.proofs.NamedRoom.{of_in}
-use Rattle.map_frame.proofs.ReadFeatures.{in_get, live_there, stands_in}
+use Rattle.map_frame.proofs.ReadFeatures.{live_there, stands_in}
 
 -- ---- layers that are one feature
 
@@ -78,7 +78,7 @@ module _ {A : Type 0} (t : Tables A) (k : IsFramed t) (n : ℕ) where
           let own : m ≡ n = only (subst (λ z. In n (numbers_in z)) g stands_there) in
           let i = slice_get-map (view_layer fs) t.layers.items s.layer ∙ ap (option_map (view_layer fs)) in_layer in
           sym (layer_is n (doc_of t) (view_layer fs l) (view_feature n f)
-          (in_get (doc_of t).layers s.layer (view_layer fs l) i)
+          (slice-in (doc_of t).layers s.layer (view_layer fs l) i)
           (ap (items_of fs) g ∙ ap (λ i. or_empty (leaf_of fs i)) own ∙ rw (live_there fs n f there) refl) refl)
         where
           only : In n (m ∷ []) → m ≡ n

@@ -1,9 +1,8 @@
 -- The features of a frame's document by their numbers.
 use Rattle.kit_words.proofs.Common.{◌≡◌, ◌<◌, ◌≤◌, subst, length, ℕ, zero, suc, refl, sym, ap, ◌∙◌, List, [], ◌∷◌}
-use Rattle.kit_words.proofs.Common.{arith, inl, inr, Contains, Option, Some, None, Vec, flat_map, none-some, same_Some}
-use Rattle.kit_words.proofs.Common.{slice_get_past}
+use Rattle.kit_words.proofs.Common.{arith, Contains, Option, Some, None, Vec, flat_map, none-some, slice_get_past}
 use Rattle.std.specs.List.{slice_get}
-use Rattle.ring_machine.proofs.Common.{In, contains_in, in-flat_map}
+use Rattle.ring_machine.proofs.Common.{In, contains_in, in-flat_map, slice-in}
 use Rattle.map_frame.specs.Common.{Stand, Slot, Geometry, Layer, Tables, IsFramed, StandsAt, all_numbers, numbers_at}
 use Rattle.map_frame.specs.Common.{numbers_in, numbers_under, live}
 use Rattle.map_frame.specs.declared.tables.Geometry.TheVariants as geometry
@@ -29,12 +28,6 @@ got_within [] i l = absurd (omega (arith, l))
 got_within (x ∷ xs) zero l = (x, refl)
 got_within (x ∷ xs) (suc i) l = got_within xs i (omega (arith, l))
 
--- an element that is read is one of the list
-pub in_get : {X : Type 0} (xs : List X) (i : ℕ) (x : X) → slice_get xs i ≡ Some x → In x xs
-in_get [] i x e = absurd (none-some x e)
-in_get (y ∷ xs) zero x e = inl (same_Some y x e)
-in_get (y ∷ xs) (suc i) x e = inr (in_get xs i x e)
-
 module _ {A : Type 0} where
   -- the number stands in the layer
   pub under_in : (l : Layer A) (at n : ℕ) → Contains (numbers_under (Some l) at) n → In n (numbers_in l.geometry)
@@ -44,7 +37,7 @@ module _ {A : Type 0} where
           → Contains (numbers_under (Some (record { name = l.name; geometry = geometry.Items ss })) at) n
           → In n (flat_map numbers_at ss.items)
       slots ss None e h = absurd (contains_in [] n (rw e at h))
-      slots ss (Some s) e h = in-flat_map numbers_at s n ss.items (in_get ss.items at s e) (contains_in (numbers_at s) n (rw e at h))
+      slots ss (Some s) e h = in-flat_map numbers_at s n ss.items (slice-in ss.items at s e) (contains_in (numbers_at s) n (rw e at h))
 
       by : (g : Geometry A) → l.geometry ≡ g → Contains (numbers_under (Some l) at) n → In n (numbers_in l.geometry)
       by (geometry.Alone m) e h = rw e (contains_in (m ∷ []) n (rw e at h))
@@ -70,4 +63,4 @@ module _ {A : Type 0} (t : Tables A) (k : IsFramed t) where
   number_stands n l =
       let at = stand_there n l in
       let s = stands_in t.layers.items n at.0 (k.standing n at.0 at.1) in
-      in-flat_map (λ l. numbers_in l.geometry) s.0 n t.layers.items (in_get t.layers.items at.0.layer s.0 s.1) s.2
+      in-flat_map (λ l. numbers_in l.geometry) s.0 n t.layers.items (slice-in t.layers.items at.0.layer s.0 s.1) s.2

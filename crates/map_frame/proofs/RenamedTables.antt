@@ -1,7 +1,7 @@
 -- Tables in which a feature got another id.
 use Rattle.kit_words.proofs.Common.{◌≡◌, ◌<◌, ℕ, Bool, true, false, refl, sym, ap, ◌∙◌, List, [], ◌∷◌, length, map}
 use Rattle.kit_words.proofs.Common.{slice_set, Option, Some, None, option_map, cond, eqb-true, slice_get, Vec, ◌==◌}
-use Rattle.kit_words.proofs.Common.{length-map}
+use Rattle.kit_words.proofs.Common.{length-map, option_map_id}
 use Rattle.ring_machine.specs.Common.{Text, FeatureOf, DocumentOf, features, feature, in_item, in_layer, fits_form}
 use Rattle.ring_machine.proofs.Common.{features-in_features, feature-in_features}
 use Rattle.edit_records.specs.Common.{exchanged, exchanged_features, with_id}
@@ -13,10 +13,6 @@ use Rattle.map_frame.proofs.EditedStands.{entry_is, entry_fits}
 use Rattle.map_frame.proofs.NamedOnce.{ring_of}
 use Rattle.map_frame.proofs.PlacesSeen.{entry, entry_number, features_of, layers_filled}
 use Rattle.map_frame.proofs.TakenTables.{taken_none, set_framed, set_kept}
-
-unchanged : {X : Type 0} (o : Option X) → option_map (λ x. x) o ≡ o
-unchanged None = refl
-unchanged (Some x) = refl
 
 -- the feature with another id, or none
 abbrev set_id : Option Text → FeatureOf ℕ → FeatureOf ℕ
@@ -47,7 +43,7 @@ module _ {A : Type 0} (t : Tables A) (k : IsFramed t) (n : ℕ) (id : Option Tex
       by : (b : Bool) → (m == n) ≡ b → option_map (λ f. cond b (set_id id f) f) (entry fs m)
           ≡ cond b (option_map (set_id id) (entry fs n)) (feature (doc_of t) m)
       by true q = ap (λ i. option_map (set_id id) (entry fs i)) (eqb-true m n q)
-      by false q = unchanged (entry fs m) ∙ sym (entry_is t k m)
+      by false q = option_map_id (entry fs m) ∙ sym (entry_is t k m)
 
   abbrev framed_as : DocumentOf ℕ → Framed
   framed_as d = record (framed t) { doc = d }

@@ -3,8 +3,9 @@ use Rattle.kit_words.proofs.Common.{◌≡◌, ◌<◌, ◌+◌, ℕ, refl, sym,
 use Rattle.kit_words.proofs.Common.{inl, inr, arith, AllByRecursion, ℕ_discrete}
 use Rattle.ring_machine.specs.Common.{are_distinct}
 use Rattle.ring_machine.proofs.Common.{In, in_left, in_right, in-append}
+use Rattle.edit_records.proofs.Common.{head_apart}
 use Rattle.map_frame.specs.Common.{with_new, new_after}
-use Rattle.map_frame.proofs.EditedFeatures.{head_apart, tail_distinct, cons_distinct}
+use Rattle.map_frame.proofs.EditedFeatures.{tail_distinct, cons_distinct}
 use Rattle.map_frame.proofs.SlotsGrown.{new_after_here, new_after_other, grown_off}
 
 module _ (n new : ℕ) where

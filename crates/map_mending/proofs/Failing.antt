@@ -1,7 +1,7 @@
 -- Why a map is not mended, step by step.
-use Rattle.kit_words.proofs.Common.{◌≡◌, ◌<◌, ℕ, zero, suc, List, [], ◌∷◌, map, length, get_or, false, refl, sym, ap, ◌∙◌}
-use Rattle.kit_words.proofs.Common.{subst, Result, Ok, Err, arith, IfErr, IsErrAnd, IsTrue, Option, Some, None, MatchOption}
-use Rattle.kit_words.proofs.Common.{nat_le, nat_tests}
+use Rattle.kit_words.proofs.Common.{◌≡◌, ◌<◌, ℕ, zero, suc, List, [], ◌∷◌, map, length, get_or, false, refl, sym, ap}
+use Rattle.kit_words.proofs.Common.{◌∙◌, subst, Result, Ok, Err, arith, IfErr, IsErrAnd, IsTrue, Option, Some, None}
+use Rattle.kit_words.proofs.Common.{MatchOption, nat_le, leb-false}
 use Rattle.std.specs.Prelude.{sum_by}
 use Rattle.topo_outline.specs.Common.{leaves}
 use Rattle.topo_reader.specs.Common.{Polygons, Opened, document_of}
@@ -73,11 +73,8 @@ mended_by o given found paths counted lists same are needed = record {
   needed = λ e. ap (λ ps. paths_seen ps) (needed (ap (λ (ss : List Segment). least_conflict ss) same ∙ e));
 }
 
-too_many : (n most : ℕ) → nat_le n most ≡ false → most < n
-too_many n most h = grind (arith, nat_tests)
-
 pub does_not_fit : (paths : List Path) (o : Opened) (made : List Polygons) (told : List Parted) → MendedBy (document_of o) paths → TellsParted paths o.polygons made told
     → length o.polygons ≡ length (leaves o.layers) → nat_le (sum_by (sum_by (sum_by length)) made) 4000000 ≡ false → IsTooLarge (document_of o)
 does_not_fit paths o made told by tells counted over =
     mended {e = document_of (with_mended o made)} by (document_mended paths o made told tells)
-    (subst (λ n. 4000000 < n) (sym (mended_size paths o made told tells counted)) (too_many (sum_by (sum_by (sum_by length)) made) 4000000 over))
+    (subst (λ n. 4000000 < n) (sym (mended_size paths o made told tells counted)) (leb-false (sum_by (sum_by (sum_by length)) made) 4000000 over))

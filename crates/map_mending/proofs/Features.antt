@@ -1,18 +1,17 @@
 -- A mended document is well formed, keeps its texts, and has rings.
-use Rattle.kit_words.proofs.Common.{◌≡◌, ℕ, zero, suc, Bool, true, false, List, [], ◌∷◌, ◌++◌, map, length, refl, sym}
-use Rattle.kit_words.proofs.Common.{ap, ap₂, ◌∙◌, subst, ◌&&◌, arith, ◌==◌, nat_le, if◌then◌else◌, AllZip}
-use Rattle.kit_words.proofs.Common.{AllByRecursion, flat_map, filter_map, list_all, nat_tests, list_all-append}
-use Rattle.kit_words.proofs.Common.{flat_map-append}
+use Rattle.kit_words.proofs.Common.{◌≡◌, ℕ, zero, suc, Bool, true, false, List, [], ◌∷◌, map, length, refl, sym, ap}
+use Rattle.kit_words.proofs.Common.{ap₂, ◌∙◌, subst, ◌&&◌, arith, ◌==◌, nat_le, if◌then◌else◌, AllZip, AllByRecursion}
+use Rattle.kit_words.proofs.Common.{flat_map, filter_map, list_all, nat_tests, list_all-append, flat_map-append}
+use Rattle.kit_words.proofs.Common.{and_parts, leb-true, zip_joined}
 use Rattle.grid_geometry.specs.Common.{Position}
 use Rattle.ring_machine.specs.Common.{is_ring, is_distinct, canonical, Form, Polygon, MultiPolygon, Null, Feature, Item}
 use Rattle.ring_machine.specs.Common.{Layer, Document, Open, Close, Leaf, Kept, feature_of, features, rings_of, rings}
 use Rattle.ring_machine.specs.Common.{is_inner, is_geometry, fits_form, are_distinct, WellFormed}
-use Rattle.ring_machine.proofs.Common.{and_both, canonical_is_ring}
+use Rattle.ring_machine.proofs.Common.{canonical_is_ring}
 use Rattle.topo_outline.specs.declared.members.Owner.TheVariants as owner
 use Rattle.topo_outline.specs.Common.{IsName, IfThere, IsKeptTransform, AreKeptMembers, IsKeptHead, owner_of, head_of}
 use Rattle.topo_outline.specs.Common.{KeepsItem, KeepsTexts}
 use Rattle.topo_reader.specs.Common.{Polygons, is_simple}
-use Rattle.topo_reader.proofs.Common.{at_most}
 use Rattle.segment_paths.specs.Common.{Path}
 use Rattle.walk_mending.specs.Common.{IsMended, stays, parted}
 use Rattle.map_mending.specs.Common.{MendsPolygon, MendsPolygons, MendsFeature, MendsItem, MendsLayer, Mended, joined}
@@ -22,13 +21,6 @@ some_left : (n : ℕ) → (suc n == 0) ≡ true → ⊥
 some_left n e = grind (arith, nat_tests)
 
 -- ---- the features
-
-zip_joined : {A B : Type 0} (R : A → B → Type 0) (xs xs' : List A) (ys ys' : List B)
-    → AllZip R xs ys → AllZip R xs' ys' → AllZip R (xs ++ xs') (ys ++ ys')
-zip_joined R [] xs' [] ys' h k = k
-zip_joined R [] xs' (y ∷ ys) ys' h k = absurd h
-zip_joined R (x ∷ xs) xs' [] ys' h k = absurd h
-zip_joined R (x ∷ xs) xs' (y ∷ ys) ys' h k = (h.0, zip_joined R xs xs' ys ys' h.1 k)
 
 module _ (paths : List Path) where
   items_features : (is js : List Item) → AllZip (MendsItem paths) is js
@@ -107,7 +99,7 @@ module _ (paths : List Path) where
   all_fit [] (g ∷ gs) h e = absurd h
   all_fit (f ∷ fs) [] h e = absurd h
   all_fit (f ∷ fs) (g ∷ gs) h e =
-      let two = and_both (fits_form f) (list_all fits_form fs) e in
+      let two = and_parts (fits_form f) (list_all fits_form fs) e in
       let m = h.0 in
       ap₂ (λ a b. a && b) (ap (λ (z : Feature). fits_form z) m.result ∙ form_fits f.form f f.polygons m.polygons two.0 m.mended)
       (all_fit fs gs h.1 two.1)
@@ -186,13 +178,13 @@ module _ (paths : List Path) where
 
   simple_ring : (w : List Position) → is_simple w ≡ true → is_ring (canonical w) ≡ true
   simple_ring w h =
-      let two = and_both (nat_le 3 (length w)) (is_distinct w) h in
-      canonical_is_ring w (at_most 3 (length w) two.0) two.1
+      let two = and_parts (nat_le 3 (length w)) (is_distinct w) h in
+      canonical_is_ring w (leb-true 3 (length w) two.0) two.1
 
   simple_rings : (ws : List (List Position)) → list_all is_simple ws ≡ true → list_all is_ring (map canonical ws) ≡ true
   simple_rings [] h = refl
   simple_rings (w ∷ ws) h =
-      let two = and_both (is_simple w) (list_all is_simple ws) h in
+      let two = and_parts (is_simple w) (list_all is_simple ws) h in
       ap₂ (λ a b. a && b) (simple_ring w two.0) (simple_rings ws two.1)
 
   polygon_rings : {ws : List (List Position)} {parts : Polygons} → IsMended ws parts

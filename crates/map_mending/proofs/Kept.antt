@@ -1,13 +1,13 @@
 -- What a mended document keeps: its vertices, and that nothing is far from where it was.
 use Rattle.kit_words.proofs.Common.{◌≡◌, ℕ, Bool, true, false, cond, List, [], ◌∷◌, map, refl, sym, ap, ◌∙◌, subst, inl}
 use Rattle.kit_words.proofs.Common.{inr, ◌⊎◌, reverse, arith, nat_lt, nat_le, length, All, AllZip, flat_map, list_all}
-use Rattle.kit_words.proofs.Common.{false≢true, All-tail, IsPermutation-reverse}
+use Rattle.kit_words.proofs.Common.{false≢true, All-tail, IsPermutation-reverse, and_parts}
 use Rattle.grid_geometry.specs.Common.{Position, position_lt, Segment, segment_eq, Edge, edges}
 use Rattle.ring_machine.specs.Common.{Feature, Document, features, rings_of, canonical, has, is_ring, is_distinct}
 use Rattle.ring_machine.specs.Common.{begins_least, segment_of}
-use Rattle.ring_machine.proofs.Common.{canonical_parts, edges_to, edges_is, In, any_in, in_any, in_contains}
-use Rattle.ring_machine.proofs.Common.{contains_in, in_flat, in_mapped, in_swap, all_in, has-in, in-flat_map, and_both}
-use Rattle.ring_machine.proofs.Common.{segment_eq-true, in_permuted}
+use Rattle.ring_machine.proofs.Common.{canonical_parts, In, any_in, in_any, in_contains, contains_in, in_flat}
+use Rattle.ring_machine.proofs.Common.{in_mapped, in_swap, all_in, has-in, in-flat_map, segment_eq-true, in_permuted}
+use Rattle.ring_machine.proofs.JoinedRing.{start_in}
 use Rattle.snap_geometry.specs.Common.{is_near}
 use Rattle.topo_reader.specs.Common.{Polygons, is_simple}
 use Rattle.walk_faults.specs.Common.{walk_segments, is_closed_ring}
@@ -110,15 +110,6 @@ inner_in (q ∷ qs) s p ways i = by (segment_eq s q.0) refl i (inner_in qs s p (
         (inl (sym same), subst (λ t. is_near p t ≡ true) (sym same) (all_in (λ r. is_near r q.0) q.1 p way.near j))
     by false e j later = let k = later j in (inr k.0, k.1)
 
-begins : (q : Position) (ps : List Position) (e : Edge) → In e (edges_to q ps) → In e.0 ps
-begins q [] e i = absurd i
-begins q (p ∷ ps) e (inl f) = inl (ap (λ z. z.0) f)
-begins q (p ∷ ps) e (inr i) = inr (begins q ps e i)
-
-begin_in : (walk : List Position) (e : Edge) → In e (edges walk) → In e.0 walk
-begin_in [] e i = absurd i
-begin_in (p ∷ ps) e i = begins p (p ∷ ps) e (subst (In e) (edges_is p ps) i)
-
 module _ (paths : List Path) (ways : All (λ q. IsWay q.0 q.1) paths) where
   on_edge : (e : Edge) (p : Position) → In p (edge_along paths e) → (e.0 ≡ p) ⊎ In p (inner_of paths (segment_of e))
   on_edge e p (inl f) = inl f
@@ -133,7 +124,7 @@ module _ (paths : List Path) (ways : All (λ q. IsWay q.0 q.1) paths) where
   laid_from walks walk p i j =
       let k = in_flat (edge_along paths) p (edges walk) j in
       elim (on_edge k.0 p k.2) [
-        | inl e ↦ stood (in_contains walks walk i) (in_contains walk p (subst (λ z. In z walk) e (begin_in walk k.0 k.1)))
+        | inl e ↦ stood (in_contains walks walk i) (in_contains walk p (subst (λ z. In z walk) e (start_in walk k.0 k.1)))
         | inr m ↦
             let n = inner_in paths (segment_of k.0) p ways m in
             put (in_contains walks walk i) (in_contains (edges walk) k.0 k.1) (in_contains (segments_of paths) (segment_of k.0) n.0) n.1
@@ -153,8 +144,8 @@ module _ (paths : List Path) (ways : All (λ q. IsWay q.0 q.1) paths) where
     where
       closed : (r : List Position) → is_ring r ≡ true → is_closed_ring r ≡ true
       closed r h =
-          let outer = and_both (nat_le 3 (length r)) _ h in
-          let inner = and_both (is_distinct r) (begins_least r) outer.1 in
+          let outer = and_parts (nat_le 3 (length r)) _ h in
+          let inner = and_parts (is_distinct r) (begins_least r) outer.1 in
           rw (outer.0, inner.0) refl
 
       is_odd : (b : Bool) → nat_lt 0 (cond {A = ℕ} b 1 0) ≡ true → b ≡ true

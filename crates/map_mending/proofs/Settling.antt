@@ -3,8 +3,8 @@ use Rattle.kit_words.proofs.Common.{◌≡◌, ℕ, ◌+◌, ◌<◌, List, [], 
 use Rattle.kit_words.proofs.Common.{ap, ap₂, ◌∙◌, arith, append_assoc, drop-drop, drop-map, drop-set-lt, get_or-drop}
 use Rattle.kit_words.proofs.Common.{length-append, map-append, take_more_set}
 use Rattle.topo_outline.specs.Common.{Piece, leaves_in}
+use Rattle.topo_outline.proofs.Common.{tail_at}
 use Rattle.topo_reader.specs.Common.{Polygons}
-use Rattle.topo_reader.proofs.Common.{tail_at}
 use Rattle.map_mending.specs.Common.{features_at}
 
 -- ---- where the list has changed before the place alone

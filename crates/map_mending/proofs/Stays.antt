@@ -1,6 +1,6 @@
 -- A document of rings that do not conflict stays as it is, but for where its rings begin.
 use Rattle.kit_words.proofs.Common.{◌≡◌, ℕ, Bool, true, false, cond, List, [], ◌∷◌, ◌++◌, map, length, refl, sym, ap}
-use Rattle.kit_words.proofs.Common.{ap₂, ◌∙◌, subst, inl, inr, None, ◌&&◌, arith, nat_lt, AllZip, flat_map, filter_map}
+use Rattle.kit_words.proofs.Common.{ap₂, ◌∙◌, subst, inl, inr, None, arith, nat_lt, AllZip, flat_map, filter_map}
 use Rattle.kit_words.proofs.Common.{list_all, list_any, count_by, false≢true, length-map, sum_by-cons}
 use Rattle.grid_geometry.specs.Common.{Position, position_lt, Segment, segment_lt, segment_eq, conflict, Edge, links}
 use Rattle.grid_geometry.proofs.Common.{conflict-comm}
@@ -8,7 +8,7 @@ use Rattle.ring_machine.specs.Common.{pair_lt, canonical, segments, Form, Polygo
 use Rattle.ring_machine.specs.Common.{Layer, Document, Open, Close, Leaf, Kept, feature_of, features, rings_of, rings}
 use Rattle.ring_machine.specs.Common.{all_segments, in_feature, in_item, in_layer, in_rings, fits_form, WellFormed}
 use Rattle.ring_machine.proofs.Common.{In, in_left, in_right, least_conflict_is, least_conflict_unique, Bad, IsLeast}
-use Rattle.ring_machine.proofs.Common.{in_contains, any_in, in_flat, in-flat_map, all_in, segment_eq-true}
+use Rattle.ring_machine.proofs.Common.{in_contains, any_in, in_flat, in-flat_map, all_in, segment_eq-true, pass_all}
 use Rattle.topo_reader.specs.Common.{Polygons, is_simple}
 use Rattle.walk_faults.specs.Common.{walk_segments}
 use Rattle.walk_faults.proofs.Common.{ring_segments}
@@ -18,10 +18,6 @@ use Rattle.map_mending.specs.Common.{MendsPolygon, MendsFeature, MendsItem, Mend
 use Rattle.map_mending.specs.Common.{MendedBy, NeedsNoMending, bounds_in}
 
 -- ---- lists
-
-all_if : {A : Type 0} (t : A → Bool) (xs : List A) → ((x : A) → In x xs → t x ≡ true) → list_all t xs ≡ true
-all_if t [] h = refl
-all_if t (x ∷ xs) h = ap₂ (λ a b. a && b) (h x (inl refl)) (all_if t xs (λ y i. h y (inr i)))
 
 counted_in : {A : Type 0} (p : A → Bool) (xs : List A) → nat_lt 0 (count_by p xs) ≡ true → (a : A) × In a xs × (p a ≡ true)
 counted_in p [] h = absurd (false≢true h)
@@ -40,7 +36,7 @@ counted_in {A} p (x ∷ xs) h = by (p x) refl (counted_in p xs)
 module _ (d : Document) (n : NeedsNoMending d) where
   pub polygon_simple : (f : Feature) → In f (features d) → (walks : List (List Position)) → In walks f.polygons
       → list_all is_simple walks ≡ true
-  polygon_simple f i walks j = all_if is_simple walks (λ w k.
+  polygon_simple f i walks j = pass_all is_simple walks (λ w k.
       all_in is_simple (rings d) w n.are_rings
       (in-flat_map rings_of f w (features d) i (in-flat_map (λ p. p) walks w f.polygons j k)))
 

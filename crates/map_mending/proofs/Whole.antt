@@ -2,14 +2,14 @@
 use Rattle.kit_words.proofs.Common.{◌≡◌, ℕ, suc, ◌+◌, ◌<◌, ◌≤◌, Bool, true, ◌||◌, List, [], ◌∷◌, ◌++◌, map, length}
 use Rattle.kit_words.proofs.Common.{take, drop, refl, sym, ap, ap₂, ◌∙◌, arith, add-one, drop-cons, nat_le, IsTrue}
 use Rattle.kit_words.proofs.Common.{AllZip, flat_map, filter_map, list_any, take-add, drop-drop, length-append}
-use Rattle.kit_words.proofs.Common.{length-map, map-append, take_all, unwrap_or-slice_get, AllZip-long}
+use Rattle.kit_words.proofs.Common.{length-map, map-append, take_all, unwrap_or-slice_get, AllZip-long, leb-true}
 use Rattle.std.specs.Prelude.{sum_by}
 use Rattle.grid_geometry.specs.Common.{Position, Segment, segment_cmp}
 use Rattle.ring_machine.specs.Common.{Feature, feature_of, features, size}
 use Rattle.topo_outline.specs.Common.{LayerText, Piece, starts, ends, leaf, text, leaves_in, leaves}
 use Rattle.topo_reader.specs.Common.{Polygons, Opened, polygons_at, items_from, layers_from, document_of, IsOfRings}
 use Rattle.topo_reader.specs.Common.{IsOfWalks}
-use Rattle.topo_reader.proofs.Common.{rings_within, rings_document, sum_within, at_most}
+use Rattle.topo_reader.proofs.Common.{rings_within, rings_document, sum_within}
 use Rattle.walk_faults.specs.Common.{ListsAll}
 use Rattle.segment_paths.specs.Common.{Path}
 use Rattle.walk_mending.specs.Common.{is_bounding, is_bounding_in}
@@ -94,7 +94,7 @@ module _ (paths : List Path) (o : Opened) (mended : List Polygons) (told : List 
         keeps = mended_keeps paths d e m w.keeps;
         few = omega (arith, w.few, layers_count mended o.layers);
         are_rings = mended_rings paths d e m;
-        small = omega (arith, mended_size w.counted, at_most (sum_by (sum_by (sum_by length)) mended) 4000000 fits);
+        small = omega (arith, mended_size w.counted, leb-true (sum_by (sum_by (sum_by length)) mended) 4000000 fits);
       }
 
   -- the list tells what was taken apart in the document

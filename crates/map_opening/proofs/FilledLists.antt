@@ -1,7 +1,7 @@
 -- The segments of a ring in an index, edge by edge.
 use Rattle.kit_words.proofs.Common.{◌≡◌, ℕ, true, sym, ap, ◌∙◌, subst, ◌||◌, arith, List, [], ◌∷◌, ◌++◌, map, length}
 use Rattle.kit_words.proofs.Common.{take, get_or, ◌<◌, ◌≤◌, ◌+◌, Option, append_assoc, take_all, list_any-append}
-use Rattle.kit_words.proofs.Common.{map-map}
+use Rattle.kit_words.proofs.Common.{map-map, mapped_more}
 use Rattle.std.specs.FinSet as set
 use Rattle.std.proofs.Common.{append-nil}
 use Rattle.grid_geometry.specs.Common.{Segment, segment}
@@ -12,7 +12,7 @@ use Rattle.arc_tables.specs.Common.{Edge, edges}
 use Rattle.local_planarity.specs.Common.{IsFilled}
 use Rattle.local_planarity.proofs.Common.{filled_same}
 use Rattle.ring_store.specs.Common.{IsRound, sides}
-use Rattle.ring_store.proofs.Common.{length-edges, laid_edges, laid, map_more}
+use Rattle.ring_store.proofs.Common.{length-edges, laid_edges, laid}
 
 -- the segments of its edges are those of its positions
 pub sides_round : (places : Placement) (ks : List ℕ) → IsRound places ks
@@ -41,7 +41,7 @@ module _ (places : Placement) (ks : List ℕ) (r : IsRound places ks) (at : ℕ)
       let within : at < length (edges ks) = omega (arith, l, length-edges ks (omega (arith, l))) in
       subst (IsFilled held first)
       (append_assoc ss (sides places (take at (edges ks))) (segment (place places e.0) (place places e.1) ∷ [])
-      ∙ ap (λ z. ss ++ z) (sym (map_more (λ (x : Edge). segment (place places x.0) (place places x.1)) (edges ks) at e within here))) f
+      ∙ ap (λ z. ss ++ z) (sym (mapped_more (λ (x : Edge). segment (place places x.0) (place places x.1)) (edges ks) at e within here))) f
 
   -- one more, whose segment is held
   pub sides_there : at < length ks → (e : Edge) → e ≡ get_or (edges ks) at e

@@ -13,11 +13,6 @@ pub moved : {B : Type 0} (now was part left before all : List B) → now ≡ was
 moved now was part left before all e f h =
     ap (λ z. z ++ left) e ∙ append_assoc was part left ∙ ap (λ z. was ++ z) (sym f) ∙ h
 
--- nothing is left
-pub nothing_left : {B : Type 0} (xs : List B) (n : ℕ) → n ≡ length xs → n ≡ 0 → xs ≡ []
-nothing_left [] n e z = refl
-nothing_left (x ∷ xs) n e z = absurd (omega arith)
-
 pub all_moved : {B : Type 0} (now left all : List B) → left ≡ [] → now ++ left ≡ all → now ≡ all
 all_moved now left all e h = sym (append-nil now) ∙ ap (λ z. now ++ z) (sym e) ∙ h
 

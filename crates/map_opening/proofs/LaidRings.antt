@@ -5,10 +5,10 @@ use Rattle.kit_words.proofs.Common.{map-append, flat_map-append}
 use Rattle.std.proofs.Common.{append-nil}
 use Rattle.std.specs.FinMap as table
 use Rattle.ring_machine.specs.Common.{segments}
-use Rattle.ring_machine.proofs.Common.{In, in_left, in_right, contains_in, in_contains, in_mapped, in-map}
+use Rattle.ring_machine.proofs.Common.{In, in_left, in_right, contains_in, in_contains, in_mapped, in-map, map_there}
 use Rattle.vertex_index.specs.Common.{Placement, place}
 use Rattle.arc_tables.specs.Common.{Rings, edges}
-use Rattle.ring_store.proofs.Common.{distinct_more, same_map, ring_here, ring_other}
+use Rattle.ring_store.proofs.Common.{distinct_more, ring_here, ring_other}
 use Rattle.map_opening.specs.Common.{IsLaid, segments_along}
 
 -- ---- none yet
@@ -38,7 +38,7 @@ laid_more rings rings' numbers keyed r keys vacant put laid =
     subst (λ m. IsLaid m (numbers ++ r ∷ []) (keyed ++ keys ∷ [])) (sym put) (record {
       along =
           map-append (table.get more) numbers (r ∷ [])
-          ∙ ap₂ (λ y z. y ++ z ∷ []) (same_map (table.get more) (table.get rings) numbers (λ n i. ring_other rings r (edges keys) n (others n i)) ∙ laid.along) (ring_here rings r (edges keys))
+          ∙ ap₂ (λ y z. y ++ z ∷ []) (map_there (table.get more) (table.get rings) numbers (λ n i. ring_other rings r (edges keys) n (others n i)) ∙ laid.along) (ring_here rings r (edges keys))
           ∙ sym (map-append (λ ks. Some (edges ks)) keyed (keys ∷ []));
       only = λ q h. in_contains (numbers ++ r ∷ []) q (by q (q == r) refl h);
       once = distinct_more numbers r others laid.once;

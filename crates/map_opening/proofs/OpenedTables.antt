@@ -4,13 +4,13 @@ use Rattle.kit_words.proofs.Common.{list_all, map-map}
 use Rattle.std.specs.FinMap as table
 use Rattle.grid_geometry.specs.Common.{Position}
 use Rattle.ring_machine.specs.Common.{is_ring}
-use Rattle.ring_machine.proofs.Common.{In, contains_in, in_contains, in_flat}
+use Rattle.ring_machine.proofs.Common.{In, contains_in, in_contains, in_flat, map_there}
 use Rattle.vertex_index.specs.Common.{Placement, AreDistinct, place}
 use Rattle.segment_index.specs.Common.{SegmentSet}
 use Rattle.arc_tables.specs.Common.{Edge, Rings, begins, edges}
 use Rattle.local_planarity.specs.Common.{IsHeld}
 use Rattle.ring_store.specs.Common.{ring_at, GoesRound, IsRound, Stands}
-use Rattle.ring_store.proofs.Common.{same_map, begins_edges, goes_round}
+use Rattle.ring_store.proofs.Common.{begins_edges, goes_round}
 use Rattle.map_opening.specs.Common.{all_keys, IsKeyed, IsLaid, segments_along}
 use Rattle.map_opening.proofs.LaidSides.{along_laid, laid_along, held_side, side_held}
 use Rattle.map_opening.proofs.KeyedRings.{round_keyed}
@@ -22,7 +22,7 @@ module _ (places : Placement) (rings : List (List Position)) (keyed : List (List
   rings_at =
       let shown = λ (o : Option (List Edge)). map (place places) (begins (unwrap_or o [])) in
       sym (map-map shown (table.get m) numbers) ∙ ap (map shown) l.along ∙ map-map shown (λ ks. Some (edges ks)) keyed
-      ∙ same_map (λ ks. shown (Some (edges ks))) (map (place places)) keyed (λ ks i. ap (map (place places)) (begins_edges ks))
+      ∙ map_there (λ ks. shown (Some (edges ks))) (map (place places)) keyed (λ ks i. ap (map (place places)) (begins_edges ks))
       ∙ k.at
 
   module _ (are : list_all is_ring rings ≡ true) (held : SegmentSet) (h : IsHeld held (segments_along places keyed)) where

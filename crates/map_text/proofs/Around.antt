@@ -1,13 +1,13 @@
 -- What stands round a position in the rings: where no junction is, every ring goes on alike.
 use Rattle.kit_words.proofs.Common.{◌≡◌, ◌≤◌, Bool, true, false, refl, sym, ap, ap₂, ◌∙◌, subst, cond, List, [], ◌∷◌}
-use Rattle.kit_words.proofs.Common.{◌++◌, inl, inr, arith, length, append_assoc, pos, not, is_gt, list_all}
-use Rattle.kit_words.proofs.Common.{length-append}
+use Rattle.kit_words.proofs.Common.{◌++◌, inl, inr, arith, length, append_assoc, pos, is_gt, list_all, length-append}
+use Rattle.kit_words.proofs.Common.{and_parts, not-false, ◌+◌, codes, append-nil, flat_map-append}
 use Rattle.grid_geometry.specs.Common.{Position, position, position_eq, position_cmp, Segment, segment_eq}
-use Rattle.ring_machine.specs.Common.{segment_of, Document, rings, around, all_equal, is_junction}
-use Rattle.ring_machine.proofs.Common.{and_both, position_eq-refl, position_eq-sym, segment_eq-true, In, Rotated}
-use Rattle.ring_machine.proofs.Common.{rotated-trans, spot_of, with_last, place_around}
+use Rattle.ring_machine.specs.Common.{segment_of, Document, rings, around, all_equal, is_junction, Text}
+use Rattle.ring_machine.proofs.Common.{position_eq-refl, position_eq-sym, segment_eq-true, In, Rotated}
+use Rattle.ring_machine.proofs.Common.{rotated-trans, spot_of, with_last, place_around, in_split}
 use Rattle.map_text.proofs.Cuts.{AllTriples}
-use Rattle.map_text.proofs.Lists.{in_split}
+use Rattle.map_text.specs.Text.{further}
 
 snoc_inj : (xs ys : List Position) (a b : Position) → xs ++ a ∷ [] ≡ ys ++ b ∷ [] → (xs ≡ ys) × (a ≡ b)
 snoc_inj [] [] a b e = (refl, cc)
@@ -104,14 +104,14 @@ first_of_equal (t ∷ ts) s h (inr i) = go ts h i
   where
     go : (us : List Segment) → list_all (segment_eq t) us ≡ true → In s us → s ≡ t
     go [] k i = absurd i
-    go (u ∷ us) k (inl e) = sym (segment_eq-true t u (and_both (segment_eq t u) _ k).0 ∙ e)
-    go (u ∷ us) k (inr i) = go us (and_both (segment_eq t u) _ k).1 i
-
-not_false : (b : Bool) → not b ≡ false → b ≡ true
-not_false b h = grind arith
+    go (u ∷ us) k (inl e) = sym (segment_eq-true t u (and_parts (segment_eq t u) _ k).0 ∙ e)
+    go (u ∷ us) k (inr i) = go us (and_parts (segment_eq t u) _ k).1 i
 
 -- at a position that is no junction each ring has the same two neighbours
 pub neighbours : (d : Document) (ring : List Position) → In ring (rings d) → (u v x : Position) (rest : List Position)
     → Rotated ring (u ∷ v ∷ x ∷ rest) → is_junction d v ≡ false → segment_of (u, x) ≡ first_of (around d v)
 neighbours d ring i u v x rest r h =
-    first_of_equal (around d v) (segment_of (u, x)) (not_false _ h) (place_around d ring v (segment_of (u, x)) i (spot_of ring u v x rest r))
+    first_of_equal (around d v) (segment_of (u, x)) (not-false _ h) (place_around d ring v (segment_of (u, x)) i (spot_of ring u v x rest r))
+
+pub further_push : (ts : List Text) (t : Text) → further (ts ++ t ∷ []) ≡ further ts ++ (codes "," ++ t)
+further_push ts t = flat_map-append (λ u. codes "," ++ u) ts (t ∷ []) ∙ ap (λ z. further ts ++ z) (append-nil (codes "," ++ t))

@@ -1,11 +1,11 @@
 -- The arcs of a document: each of its segments stands in exactly one and there once.
 use Rattle.kit_words.proofs.Common.{◌≡◌, ℕ, ◌≤◌, ◌+◌, Bool, true, false, refl, sym, ap, ap₂, ◌∙◌, subst, cond, List, []}
 use Rattle.kit_words.proofs.Common.{◌∷◌, ◌++◌, ◌||◌, arith, map, flat_map, AllByRecursion, list_any, count_by}
-use Rattle.kit_words.proofs.Common.{false≢true, append-nil, flat_map-append, sum_by-cons, sum_by-append}
+use Rattle.kit_words.proofs.Common.{false≢true, append-nil, flat_map-append, sum_by-cons, sum_by-append, or_parts}
 use Rattle.grid_geometry.specs.Common.{Position, Segment, segment_eq, Edge, links, edges}
 use Rattle.ring_machine.specs.Common.{segment_of, is_ring, Document, rings, all_segments, is_segment, around}
 use Rattle.ring_machine.specs.Common.{is_junction, arc_segments}
-use Rattle.ring_machine.proofs.Common.{edges_to, edges_is, edges_to-append, none_parts, is_of, AtMostOne, ring_once}
+use Rattle.ring_machine.proofs.Common.{edges_to, edges_is, edges_to-append, is_of, AtMostOne, ring_once}
 use Rattle.ring_machine.proofs.Common.{segment_eq-sym, In, times, one, times-append, IsPiece}
 use Rattle.map_text.specs.Common.{begun, cut_round, pieces, arcs_of}
 use Rattle.map_text.proofs.Lists.{each-flat_map}
@@ -47,7 +47,7 @@ all_times j s (r ∷ rs) =
 
 none_times : (s : Segment) (es : List Edge) → list_any (is_of s) es ≡ false → times s es ≡ 0
 none_times s [] h = refl
-none_times s (e ∷ es) h = let n = none_parts (is_of s e) (list_any (is_of s) es) h in ap₂ (λ b m. one b + m) n.0 (none_times s es n.1)
+none_times s (e ∷ es) h = let n = or_parts (is_of s e) (list_any (is_of s) es) h in ap₂ (λ b m. one b + m) n.0 (none_times s es n.1)
 
 at_most : (s : Segment) (q : Position) (es : List Edge) → AtMostOne (is_of s) q es → times s es ≤ 1
 at_most s q [] h = omega arith

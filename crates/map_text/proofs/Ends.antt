@@ -1,12 +1,13 @@
 -- The arcs of a document are cut at its junctions and nowhere else.
 use Rattle.kit_words.proofs.Common.{◌≡◌, Bool, true, false, refl, sym, ap, ap₂, ◌∙◌, subst, cond, List, [], ◌∷◌, ◌++◌}
 use Rattle.kit_words.proofs.Common.{◌||◌, ◌≤◌, length, arith, flat_map, AllByRecursion, list_any, length-append}
+use Rattle.kit_words.proofs.Common.{or_parts, all_joined, all_weaker}
 use Rattle.grid_geometry.specs.Common.{Position}
 use Rattle.ring_machine.specs.Common.{Document, rings, is_junction}
-use Rattle.ring_machine.proofs.Common.{none_parts, In, all_of}
+use Rattle.ring_machine.proofs.Common.{In, all_of, in_recursion}
 use Rattle.map_text.specs.Common.{begun, led_from, cut_way, cut_round, pieces, is_arc, with_piece, with_pieces, arcs_of}
 use Rattle.map_text.specs.Common.{IsCut, between, closed}
-use Rattle.map_text.proofs.Lists.{each_in, each-append, each-flat_map, in_rotated}
+use Rattle.map_text.proofs.Lists.{each-flat_map, in_rotated}
 use Rattle.map_text.proofs.Junctions.{begun_rotated, begun_found, begun_none}
 
 -- ---- what holds of each piece holds of each arc
@@ -18,7 +19,7 @@ with_pieces-each P arcs (ps ∷ pss) h k = with_pieces-each P (with_piece arcs p
   where
     by : (b : Bool) → AllByRecursion P (cond b arcs (arcs ++ ps ∷ []))
     by true = h
-    by false = each-append P arcs (ps ∷ []) h (k.0, tt)
+    by false = all_joined P arcs (ps ∷ []) h (k.0, tt)
 
 pub each_arc : (P : List Position → Type 0) (d : Document)
     → ((ring : List Position) → In ring (rings d) → AllByRecursion P (pieces (is_junction d) ring))
@@ -58,16 +59,16 @@ cut_leads j p (v ∷ ws) z h = tail ws (cut_leads j v ws z h)
 cut_none : (j : Position → Bool) (p : Position) (ws : List Position) (z : Position) → list_any j ws ≡ false
     → cut_way j p (ws ++ z ∷ []) ≡ (p ∷ ws ++ z ∷ []) ∷ []
 cut_none j p [] z h = refl
-cut_none j p (v ∷ []) z h = ap (λ b. cond b ((p ∷ v ∷ []) ∷ (v ∷ z ∷ []) ∷ []) ((p ∷ v ∷ z ∷ []) ∷ [])) (none_parts (j v) false h).0
+cut_none j p (v ∷ []) z h = ap (λ b. cond b ((p ∷ v ∷ []) ∷ (v ∷ z ∷ []) ∷ []) ((p ∷ v ∷ z ∷ []) ∷ [])) (or_parts (j v) false h).0
 cut_none j p (v ∷ w ∷ ws) z h =
-    let n = none_parts (j v) (list_any j (w ∷ ws)) h in
+    let n = or_parts (j v) (list_any j (w ∷ ws)) h in
     ap (λ b. cond b ((p ∷ v ∷ []) ∷ cut_way j v (w ∷ ws ++ z ∷ [])) (led_from p (cut_way j v (w ∷ ws ++ z ∷ [])))) n.0
     ∙ ap (led_from p) (cut_none j v (w ∷ ws) z n.1)
 
 round_none : (j : Position → Bool) (ps : List Position) → list_any j ps ≡ false → AllByRecursion (IsCut j) (cut_round j ps)
 round_none j [] k = tt
 round_none j (q ∷ qs) k =
-    let n = none_parts (j q) (list_any j qs) k in
+    let n = or_parts (j q) (list_any j qs) k in
     subst (AllByRecursion (IsCut j)) (sym (cut_none j q qs q n.1)) (closed q qs refl k, tt)
 
 pub ring_cut : (j : Position → Bool) (ring : List Position) → AllByRecursion (IsCut j) (pieces j ring)
@@ -90,13 +91,9 @@ pub long_cut : (j : Position → Bool) (arc : List Position) → IsCut j arc →
 long_cut j arc (between p q inner is at_p at_q free) = omega (arith, ap length is, length-append inner (q ∷ []))
 long_cut j arc (closed p inner is free) = omega (arith, ap length is, length-append inner (p ∷ []))
 
-each_of : {A : Type 0} (P Q : A → Type 0) → ((x : A) → P x → Q x) → (xs : List A) → AllByRecursion P xs → AllByRecursion Q xs
-each_of P Q f [] h = tt
-each_of P Q f (x ∷ xs) h = (f x h.0, each_of P Q f xs h.1)
-
 -- each arc has two positions or more
 pub arcs_long : (d : Document) → AllByRecursion (λ a. 2 ≤ length a) (arcs_of d)
-arcs_long d = each_of (IsCut (is_junction d)) (λ a. 2 ≤ length a) (long_cut (is_junction d)) (arcs_of d) (arcs_cut d)
+arcs_long d = all_weaker (IsCut (is_junction d)) (λ a. 2 ≤ length a) (long_cut (is_junction d)) (arcs_of d) (arcs_cut d)
 
 module _ (P : Position → Type 0) (j : Position → Bool) where
   led_each : (p : Position) (pss : List (List Position)) → P p → AllByRecursion (AllByRecursion P) pss
@@ -115,16 +112,16 @@ module _ (P : Position → Type 0) (j : Position → Bool) where
       by false m = led_each p (cut_way j q (r ∷ rs)) h m
 
   pub pieces_each : (ring : List Position) → AllByRecursion P ring → AllByRecursion (AllByRecursion P) (pieces j ring)
-  pieces_each ring h = by (begun j ring) (all_of P (begun j ring) (λ p i. each_in P ring p h (back p i)))
+  pieces_each ring h = by (begun j ring) (all_of P (begun j ring) (λ p i. in_recursion P ring p h (back p i)))
     where
       back : (p : Position) → In p (begun j ring) → In p ring
       back p i = let r = begun_rotated j ring in in_rotated p (begun j ring) ring (record { us = r.vs; vs = r.us; from = r.to; to = r.from }) i
 
       by : (ps : List Position) → AllByRecursion P ps → AllByRecursion (AllByRecursion P) (cut_round j ps)
       by [] k = tt
-      by (q ∷ qs) k = cut_each q (qs ++ q ∷ []) k.0 (each-append P qs (q ∷ []) k.1 (k.0, tt))
+      by (q ∷ qs) k = cut_each q (qs ++ q ∷ []) k.0 (all_joined P qs (q ∷ []) k.1 (k.0, tt))
 
 -- what holds of each position of each ring holds of each position of each arc
 pub arcs_each : (P : Position → Type 0) (d : Document) → AllByRecursion (AllByRecursion P) (rings d)
     → AllByRecursion (AllByRecursion P) (arcs_of d)
-arcs_each P d h = each_arc (AllByRecursion P) d (λ ring i. pieces_each P (is_junction d) ring (each_in (AllByRecursion P) (rings d) ring h i))
+arcs_each P d h = each_arc (AllByRecursion P) d (λ ring i. pieces_each P (is_junction d) ring (in_recursion (AllByRecursion P) (rings d) ring h i))

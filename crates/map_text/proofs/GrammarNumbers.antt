@@ -1,12 +1,13 @@
 -- A written whole number is a JSON number, and is read as it was.
-use Rattle.kit_words.proofs.Common.{◌≡◌, ℕ, zero, suc, ◌+◌, ◌-◌, ◌*◌, ◌<◌, ◌≤◌, ◌/◌, ◌%◌, ◌^◌, true, refl, subst, List}
-use Rattle.kit_words.proofs.Common.{[], ◌∷◌, ◌++◌, arith, ℤ, pos, negsuc, unsigned_abs, signed_decimal}
-use Rattle.kit_words.proofs.Common.{decimal_by_steps, nat_tests, append-nil}
+use Rattle.kit_words.proofs.Common.{◌≡◌, ℕ, zero, suc, ◌+◌, ◌-◌, ◌<◌, ◌≤◌, ◌/◌, ◌%◌, ◌^◌, true, refl, subst, List, []}
+use Rattle.kit_words.proofs.Common.{◌∷◌, ◌++◌, arith, ℤ, pos, negsuc, unsigned_abs, signed_decimal, decimal_by_steps}
+use Rattle.kit_words.proofs.Common.{nat_tests, append-nil}
 use Rattle.std.specs.Fmt.{decimal}
 use Rattle.json_spans.specs.Common.{is_digit, is_nonzero, Digits, no_digit, digit, SomeDigits, digits, no_exponent}
 use Rattle.json_spans.specs.Common.{no_fraction, Unsigned, zero_first, digit_first, minus, plain_number, number}
 use Rattle.json_spans.specs.Whole.{value_from, no_point, IsWhole, plain, negative, minus as minus_of}
 use Rattle.topo_outline.specs.Common.{IsJson}
+use Rattle.topo_reader.proofs.PlainNumbers.{one_more}
 
 -- ---- digits
 
@@ -22,11 +23,6 @@ digits_push y e (digit {x = x} f d) = digit {x = x} f (digits_push y e d)
 
 some_push : {xs : List ℕ} (y : ℕ) → is_digit y ≡ true → SomeDigits xs [] → SomeDigits (xs ++ y ∷ []) []
 some_push y e (digits {x = x} f d) = digits {x = x} f (digits_push y e d)
-
-value_push : (m : ℕ) (xs : List ℕ) (y : ℕ) → value_from m (xs ++ y ∷ []) ≡ value_from m xs * 10 + (y - 48)
-unfolding value_from
-value_push m [] y = refl
-value_push m (x ∷ xs) y = value_push (m * 10 + (x - 48)) xs y
 
 -- ---- a decimal number
 
@@ -60,7 +56,7 @@ more_digits n ds h d =
     record {
       is_numeral = numeral_push (n / 10) (48 + n % 10) ok d.value (omega arith) d.is_numeral;
       some = some_push (48 + n % 10) ok d.some;
-      value = omega (arith, value_push 0 ds (48 + n % 10), d.value);
+      value = omega (arith, one_more 0 ds (48 + n % 10), d.value);
     }
 
 decimal_is : (n : ℕ) → n < 2 ^ 64 → IsDecimal n (decimal n)

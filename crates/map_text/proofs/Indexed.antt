@@ -2,15 +2,14 @@
 use Rattle.kit_words.proofs.Common.{◌≡◌, ◌+◌, Bool, true, false, refl, sym, ap, ap₂, ◌∙◌, cond, List, [], ◌∷◌, ◌++◌}
 use Rattle.kit_words.proofs.Common.{◌||◌, length, map, append_assoc, reverse, ℤ, pos, negsuc, subst, Option, Some, None}
 use Rattle.kit_words.proofs.Common.{slice_get, option_map, unwrap_or, flat_map, AllByRecursion, AllZip, false≢true}
-use Rattle.kit_words.proofs.Common.{or_left, length-append, list_any-append}
+use Rattle.kit_words.proofs.Common.{or_left, length-append, list_any-append, or_right}
 use Rattle.json_spans.specs.Common.{Node, IsWhole}
 use Rattle.grid_geometry.specs.Common.{Position}
 use Rattle.ring_machine.specs.Common.{Document, rings, is_junction}
-use Rattle.ring_machine.proofs.Common.{or_right, In, all_of, in-flat_map}
+use Rattle.ring_machine.proofs.Common.{In, all_of, in-flat_map, in_recursion}
 use Rattle.topo_reader.specs.Common.{Arc, arc_named, IsUse, forward, backward}
 use Rattle.map_text.specs.Common.{pieces, are_equal, index_from, index_of, indexes, is_arc, with_piece, with_pieces}
 use Rattle.map_text.specs.Common.{arcs_of}
-use Rattle.map_text.proofs.Lists.{each_in}
 use Rattle.map_text.proofs.OnceEach.{are_equal-true, are_equal-refl, is_same}
 
 -- ---- an index names its piece
@@ -83,7 +82,7 @@ pub indexes_name : (d : Document) (ring : List Position) → In ring (rings d)
     → AllZip (Names (arcs_of d)) (indexes (is_junction d) (arcs_of d) ring) (pieces (is_junction d) ring)
 indexes_name d ring i =
     each_named (arcs_of d) (pieces (is_junction d) ring)
-    (all_of (λ ps. is_arc (arcs_of d) ps ≡ true) (pieces (is_junction d) ring) (λ ps k. each_in (λ qs. is_arc (arcs_of d) qs ≡ true) all ps (all_arcs [] all)
+    (all_of (λ ps. is_arc (arcs_of d) ps ≡ true) (pieces (is_junction d) ring) (λ ps k. in_recursion (λ qs. is_arc (arcs_of d) qs ≡ true) all ps (all_arcs [] all)
     (in-flat_map (pieces (is_junction d)) ring ps (rings d) i k)))
   where
     all : List Arc

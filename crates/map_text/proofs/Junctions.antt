@@ -1,15 +1,16 @@
 -- Rings that are cut at junctions: what they are cut into are pieces, where a ring without junction
 -- counts as cut at its first position.
-use Rattle.kit_words.proofs.Common.{◌≡◌, ℕ, ◌≤◌, Bool, true, false, refl, sym, ap, ap₂, ◌∙◌, subst, cond, List, [], ◌∷◌}
+use Rattle.kit_words.proofs.Common.{◌≡◌, ◌≤◌, Bool, true, false, refl, sym, ap, ap₂, ◌∙◌, subst, cond, List, [], ◌∷◌}
 use Rattle.kit_words.proofs.Common.{◌++◌, ◌||◌, inl, inr, arith, length, not, nat_le, AllByRecursion, list_any}
-use Rattle.kit_words.proofs.Common.{false≢true, length-append}
+use Rattle.kit_words.proofs.Common.{false≢true, length-append, and_parts, or_right, or_parts, not-true}
 use Rattle.grid_geometry.specs.Common.{Position, position_eq, position_lt, Segment}
 use Rattle.ring_machine.specs.Common.{segment_of, has, is_distinct, is_ring, begins_least}
-use Rattle.ring_machine.proofs.Common.{and_both, or_right, position_lt-asym, position_lt-irrefl, none_parts, not_true}
-use Rattle.ring_machine.proofs.Common.{same_ends, In, in_left, in_right, Rotated, rotated-trans, rotated_distinct}
-use Rattle.ring_machine.proofs.Common.{none_in, all_in, has-in, in-has, IsPiece}
+use Rattle.ring_machine.proofs.Common.{position_lt-asym, position_lt-irrefl, same_ends, In, in_left, in_right, Rotated}
+use Rattle.ring_machine.proofs.Common.{rotated-trans, rotated_distinct, none_in, all_in, has-in, in-has, IsPiece}
+use Rattle.ring_machine.proofs.Common.{in_recursion}
+use Rattle.ring_machine.proofs.StaysProper.{at_least}
 use Rattle.map_text.specs.Common.{before_first, from_first, begun, cut_round, pieces}
-use Rattle.map_text.proofs.Lists.{each_in, rotated-sym, in_rotated}
+use Rattle.map_text.proofs.Lists.{rotated-sym, in_rotated}
 use Rattle.map_text.proofs.Cuts.{AllTriples, GoesOn, Marked, cut_pieces}
 use Rattle.map_text.proofs.Around.{placed, all_triples, other_end, ends_other}
 
@@ -20,13 +21,10 @@ pub record Ring (ps : List Position) : Type 0 where
   pub distinct : is_distinct ps ≡ true
   pub least : begins_least ps ≡ true
 
-at_least : (n : ℕ) → nat_le 3 n ≡ true → 3 ≤ n
-at_least n h = grind arith
-
 pub ring_parts : (ps : List Position) → is_ring ps ≡ true → Ring ps
 ring_parts ps h =
-    let a = and_both (nat_le 3 (length ps)) _ h in
-    let b = and_both (is_distinct ps) (begins_least ps) a.1 in
+    let a = and_parts (nat_le 3 (length ps)) _ h in
+    let b = and_parts (is_distinct ps) (begins_least ps) a.1 in
     record { long = at_least (length ps) a.0; distinct = b.0; least = b.1 }
 
 -- ---- where a ring is begun
@@ -61,7 +59,7 @@ begun_none j ps h = let r = go ps h in ap₂ (λ y z. y ++ z) r.0 r.1
     go : (qs : List Position) → list_any j qs ≡ false → (from_first j qs ≡ []) × (before_first j qs ≡ qs)
     go [] k = (refl, refl)
     go (q ∷ qs) k =
-        let n = none_parts (j q) (list_any j qs) k in
+        let n = or_parts (j q) (list_any j qs) k in
         let r = go qs n.1 in
         (ap (λ b. cond b (q ∷ qs) (from_first j qs)) n.0 ∙ r.0, ap (λ b. cond b [] (q ∷ before_first j qs)) n.0 ∙ ap (λ z. q ∷ z) r.1)
 
@@ -132,9 +130,9 @@ module _ (j : Position → Bool) (nb : Position → Segment) (rs : List (List Po
         trans r s = rotated-trans _ _ _ r s
 
         here : (u x : Position) (rest : List Position) → AllByRecursion (λ z. In z other) (x ∷ rest ++ u ∷ []) → In w (u ∷ v ∷ x ∷ rest) → In w other
-        here u x rest all (inl e) = subst (λ z. In z other) e (each_in (λ z. In z other) (x ∷ rest ++ u ∷ []) u all (in_right u (x ∷ rest) (u ∷ []) (inl refl)))
+        here u x rest all (inl e) = subst (λ z. In z other) e (in_recursion (λ z. In z other) (x ∷ rest ++ u ∷ []) u all (in_right u (x ∷ rest) (u ∷ []) (inl refl)))
         here u x rest all (inr (inl e)) = subst (λ z. In z other) e h
-        here u x rest all (inr (inr k)) = each_in (λ z. In z other) (x ∷ rest ++ u ∷ []) w all (in_left w (x ∷ rest) (u ∷ []) k)
+        here u x rest all (inr (inr k)) = in_recursion (λ z. In z other) (x ∷ rest ++ u ∷ []) w all (in_left w (x ∷ rest) (u ∷ []) k)
 
   -- where pieces end
   abbrev pub k : Position → Bool
@@ -179,11 +177,11 @@ module _ (j : Position → Bool) (nb : Position → Segment) (rs : List (List Po
   marked q (v ∷ w ∷ ws) h e = (h v (inl refl), marked q (w ∷ ws) (λ x i. h x (inr i)) e)
 
   distinct_ends : (u v x : Position) (rest : List Position) → is_distinct (u ∷ v ∷ x ∷ rest) ≡ true → position_eq u x ≡ false
-  distinct_ends u v x rest d = (none_parts (position_eq u x) _ (none_parts (position_eq u v) _ (not_true _ (and_both (not (has (v ∷ x ∷ rest) u)) _ d).0)).1).0
+  distinct_ends u v x rest d = (or_parts (position_eq u x) _ (or_parts (position_eq u v) _ (not-true _ (and_parts (not (has (v ∷ x ∷ rest) u)) _ d).0)).1).0
 
   goes_on : (ring : List Position) → In ring rs → (u v x : Position) (rest : List Position) → Rotated ring (u ∷ v ∷ x ∷ rest) → GoesOn j k next u v x
   goes_on ring i u v x rest r h =
-      let o = ends_other u x (nb v) (distinct_ends u v x rest (rotated_distinct ring (u ∷ v ∷ x ∷ rest) r (are ring i).distinct)) (fact ring i u v x rest r (none_parts (j v) _ h).0) in
+      let o = ends_other u x (nb v) (distinct_ends u v x rest (rotated_distinct ring (u ∷ v ∷ x ∷ rest) r (are ring i).distinct)) (fact ring i u v x rest r (or_parts (j v) _ h).0) in
       record { free = h; on = o.0; back = o.1 }
 
   pub ring_pieces : (ring : List Position) → In ring rs → AllByRecursion (IsPiece k next) (pieces j ring)

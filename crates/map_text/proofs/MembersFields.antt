@@ -2,7 +2,7 @@
 use Rattle.kit_words.proofs.Common.{◌≡◌, not, ◌&&◌, ℕ, List, [], ◌∷◌, ◌++◌, map, Bool, true, false, refl, sym, ap, ap₂}
 use Rattle.kit_words.proofs.Common.{◌∙◌, subst, cond, true≢false, Option, Some, None, option_map, ◌==◌, if◌then◌else◌}
 use Rattle.kit_words.proofs.Common.{AllByRecursion, AllZip, IsDistinct, false_from_ne_true, bytes_eq-Decides}
-use Rattle.kit_words.proofs.Common.{AllPairs-from_IsDistinct, IsDistinct-from_AllPairs}
+use Rattle.kit_words.proofs.Common.{AllPairs-from_IsDistinct, IsDistinct-from_AllPairs, and_parts, not-true}
 use Rattle.std.proofs.Common.{bytes_eq}
 use Rattle.std.proofs.lemmas.Bool.{eqb-true, eq-eqb}
 use Rattle.ring_machine.specs.Common.{Text, Member}
@@ -12,7 +12,6 @@ use Rattle.topo_outline.specs.declared.words.Word.TheVariants as word
 use Rattle.topo_outline.specs.declared.members.Owner.{Owner}
 use Rattle.topo_outline.specs.Common.{word_of, EntryNode, code, kept, text_of, is_known, HasEntries, value_at, IsJson}
 use Rattle.topo_outline.specs.Common.{IsName, IfThere, IsKeptMember, AreKeptMembers}
-use Rattle.ring_machine.proofs.Common.{and_both, not_true}
 use Rattle.map_text.specs.Common.{member_if, object_text}
 use Rattle.map_text.proofs.GrammarLists.{bytes_of}
 use Rattle.map_text.proofs.GrammarObjects.{IsMember, object_is_json}
@@ -119,19 +118,19 @@ kept_has_no o w (m ∷ ms) (t ∷ ts) known h = rw (codes_differ o (word_of t) w
 
 passes_fields : (c : ℕ) (fs : List Field) (ss : List Seen) → has_no c fs ≡ true → seen_value c (fields_seen fs ++ ss) ≡ seen_value c ss
 passes_fields c [] ss h = refl
-passes_fields c (f ∷ fs) ss h = by f.value (passes_fields c fs ss (and_both (not (code f.word == c)) (has_no c fs) h).1)
+passes_fields c (f ∷ fs) ss h = by f.value (passes_fields c fs ss (and_parts (not (code f.word == c)) (has_no c fs) h).1)
   where
     by : (v : Option Text) → seen_value c (fields_seen fs ++ ss) ≡ seen_value c ss → seen_value c ((seen_if f.word f.token v ++ fields_seen fs) ++ ss) ≡ seen_value c ss
     by None e = e
-    by (Some t) e = rw (not_true (code f.word == c) (and_both (not (code f.word == c)) (has_no c fs) h).0) e
+    by (Some t) e = rw (not-true (code f.word == c) (and_parts (not (code f.word == c)) (has_no c fs) h).0) e
 
 finds_field : (c : ℕ) (fs : List Field) (ss : List Seen) → are_apart fs ≡ true → seen_value c ss ≡ None → seen_value c (fields_seen fs ++ ss) ≡ field_value c fs
 finds_field c [] ss h none = none
-finds_field c (f ∷ fs) ss h none = by (code f.word == c) refl f.value (finds_field c fs ss (and_both (has_no (code f.word) fs) (are_apart fs) h).1 none)
+finds_field c (f ∷ fs) ss h none = by (code f.word == c) refl f.value (finds_field c fs ss (and_parts (has_no (code f.word) fs) (are_apart fs) h).1 none)
   where
     by : (b : Bool) → (code f.word == c) ≡ b → (v : Option Text) → seen_value c (fields_seen fs ++ ss) ≡ field_value c fs → seen_value c ((seen_if f.word f.token v ++ fields_seen fs) ++ ss) ≡ cond (code f.word == c) v (field_value c fs)
     by true t None e =
-        let here : has_no c fs ≡ true = subst (λ z. has_no z fs ≡ true) (eqb-true (code f.word) c t) (and_both (has_no (code f.word) fs) (are_apart fs) h).0 in
+        let here : has_no c fs ≡ true = subst (λ z. has_no z fs ≡ true) (eqb-true (code f.word) c t) (and_parts (has_no (code f.word) fs) (are_apart fs) h).0 in
         rw t (passes_fields c fs ss here ∙ none)
     by true t (Some v) e = rw t refl
     by false t None e = rw t e
@@ -190,10 +189,10 @@ unlike_kept o s (m ∷ ms) (t ∷ ts) known k = (
 
 unlike_fields : (o : Owner) (s : List ℕ) (fs : List Field) (ts : List (List ℕ)) → has_no (code (word_of s)) fs ≡ true → AllByRecursion (IsField o) fs → Unlike s ts → Unlike s (names_of fs ++ ts)
 unlike_fields o s [] ts h k u = u
-unlike_fields o s (f ∷ fs) ts h k u = by f.value (unlike_fields o s fs ts (and_both (not (code f.word == code (word_of s))) (has_no (code (word_of s)) fs) h).1 k.1 u)
+unlike_fields o s (f ∷ fs) ts h k u = by f.value (unlike_fields o s fs ts (and_parts (not (code f.word == code (word_of s))) (has_no (code (word_of s)) fs) h).1 k.1 u)
   where
     apart : (code f.word == code (word_of s)) ≡ false
-    apart = not_true (code f.word == code (word_of s)) (and_both (not (code f.word == code (word_of s))) (has_no (code (word_of s)) fs) h).0
+    apart = not-true (code f.word == code (word_of s)) (and_parts (not (code f.word == code (word_of s))) (has_no (code (word_of s)) fs) h).0
 
     other : bytes_eq s f.says ≡ false
     other = false_from_ne_true (bytes_eq s f.says) (λ e.
@@ -207,13 +206,13 @@ unlike_fields o s (f ∷ fs) ts h k u = by f.value (unlike_fields o s fs ts (and
 all_distinct : (o : Owner) (fs : List Field) (ms : List Member) (ts : List (List ℕ)) → are_apart fs ≡ true → AllByRecursion (IsField o) fs → AllZip (IsKeptMember o) ms ts → IsDistinct bytes_eq ts → IsDistinct bytes_eq (names_of fs ++ ts)
 unfolding IsDistinct
 all_distinct o [] ms ts a h k d = d
-all_distinct o (f ∷ fs) ms ts a h k d = by f.value (all_distinct o fs ms ts (and_both (has_no (code f.word) fs) (are_apart fs) a).1 h.1 k d)
+all_distinct o (f ∷ fs) ms ts a h k d = by f.value (all_distinct o fs ms ts (and_parts (has_no (code f.word) fs) (are_apart fs) a).1 h.1 k d)
   where
     kept_unlike : Unlike f.says ts
     kept_unlike = unlike_kept o f.says ms ts (ap (is_known o) h.0.word_is ∙ h.0.known) k
 
     here : has_no (code (word_of f.says)) fs ≡ true
-    here = subst (λ w. has_no (code w) fs ≡ true) (sym h.0.word_is) (and_both (has_no (code f.word) fs) (are_apart fs) a).0
+    here = subst (λ w. has_no (code w) fs ≡ true) (sym h.0.word_is) (and_parts (has_no (code f.word) fs) (are_apart fs) a).0
 
     by : (v : Option Text) → IsDistinct bytes_eq (names_of fs ++ ts) → IsDistinct bytes_eq ((name_if f.says v ++ names_of fs) ++ ts)
     by None e = e

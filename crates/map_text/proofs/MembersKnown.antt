@@ -1,11 +1,10 @@
 -- The names and the types that the writer makes are JSON strings, and decode to themselves.
-use Rattle.kit_words.proofs.Common.{◌≡◌, ℕ, true, List, [], ◌∷◌, ◌++◌, refl, codes, Some, IsUtf8, list_all}
+use Rattle.kit_words.proofs.Common.{◌≡◌, ℕ, true, List, [], ◌∷◌, ◌++◌, refl, codes, Some, IsUtf8, list_all, and_parts}
 use Rattle.serde_json.specs.Read.{read}
 use Rattle.serde_json.specs.Data.{string}
 use Rattle.serde_json.proofs.OnLiterals.{serde_json_on_literals}
 use Rattle.json_spans.specs.Common.{is_ascii, Chars, quote, ascii, quoted}
 use Rattle.json_spans.proofs.Decoding.{decoded_as}
-use Rattle.ring_machine.proofs.Common.{and_both}
 use Rattle.topo_outline.specs.Common.{IsName}
 
 -- the name between quotation marks
@@ -14,7 +13,7 @@ token_of name = 34 ∷ (name ++ (34 ∷ []))
 
 plain_chars : (name : List ℕ) → list_all is_ascii name ≡ true → Chars (name ++ (34 ∷ [])) []
 plain_chars [] e = quote
-plain_chars (c ∷ cs) e = ascii {a = c} (and_both (is_ascii c) (list_all is_ascii cs) e).0 (plain_chars cs (and_both (is_ascii c) (list_all is_ascii cs) e).1)
+plain_chars (c ∷ cs) e = ascii {a = c} (and_parts (is_ascii c) (list_all is_ascii cs) e).0 (plain_chars cs (and_parts (is_ascii c) (list_all is_ascii cs) e).1)
 
 pub plain_name : (name : List ℕ) → list_all is_ascii name ≡ true → IsUtf8 (token_of name) → read (token_of name) ≡ Some (string name) → IsName (token_of name) name
 plain_name name e u r = record { string = quoted (plain_chars name e); says = decoded_as (token_of name) (string name) u r }

@@ -1,15 +1,15 @@
 -- Pieces, each taken once: every segment of a piece stands in exactly one arc and there once.
 use Rattle.kit_words.proofs.Common.{◌≡◌, ℕ, zero, suc, ◌+◌, ◌≤◌, Bool, true, false, refl, sym, ap, ap₂, ◌∙◌, subst}
-use Rattle.kit_words.proofs.Common.{cond, List, [], ◌∷◌, ◌++◌, ◌||◌, inl, inr, arith, reverse, map, flat_map}
-use Rattle.kit_words.proofs.Common.{AllByRecursion, false≢true, or_left, append-nil, reverse-append, flat_map-append}
-use Rattle.grid_geometry.specs.Common.{Position, position_eq, Segment, segment_eq, Edge, links}
+use Rattle.kit_words.proofs.Common.{cond, List, [], ◌∷◌, ◌++◌, ◌||◌, inl, inr, arith, reverse, flat_map, and_parts}
+use Rattle.kit_words.proofs.Common.{AllByRecursion, false≢true, or_left, append-nil, flat_map-append, or_cases}
+use Rattle.kit_words.proofs.Common.{or_right, all_joined}
+use Rattle.grid_geometry.specs.Common.{Position, position_eq, Segment, Edge, links}
 use Rattle.ring_machine.specs.Common.{segment_of}
-use Rattle.ring_machine.proofs.Common.{and_both, or_true, or_right, position_eq-true, position_eq-refl, is_of}
-use Rattle.ring_machine.proofs.Common.{links-reverse, flip, flipped, times, one, times-append, same_ends}
-use Rattle.ring_machine.proofs.Common.{segment_eq-true, In, IsPiece, same_piece, reversed_piece}
-use Rattle.grid_geometry.proofs.Common.{segment-comm}
+use Rattle.ring_machine.proofs.Common.{position_eq-true, position_eq-refl, is_of, links-reverse, times, one}
+use Rattle.ring_machine.proofs.Common.{times-append, same_ends, segment_eq-true, In, IsPiece, same_piece}
+use Rattle.ring_machine.proofs.Common.{reversed_piece}
+use Rattle.ring_machine.proofs.Cycles.{times-flipped}
 use Rattle.map_text.specs.Common.{are_equal, is_arc, with_piece, with_pieces}
-use Rattle.map_text.proofs.Lists.{each-append}
 
 -- ---- lists compared
 
@@ -18,7 +18,7 @@ are_equal-true [] [] h = refl
 are_equal-true [] (q ∷ qs) h = absurd (false≢true h)
 are_equal-true (p ∷ ps) [] h = absurd (false≢true h)
 are_equal-true (p ∷ ps) (q ∷ qs) h =
-    let k = and_both (position_eq p q) (are_equal ps qs) h in
+    let k = and_parts (position_eq p q) (are_equal ps qs) h in
     ap₂ (λ y z. y ∷ z) (position_eq-true p q k.0) (are_equal-true ps qs k.1)
 
 pub are_equal-refl : (ps : List Position) → are_equal ps ps ≡ true
@@ -29,14 +29,6 @@ abbrev pub is_same : List Position → List Position → Bool
 is_same a ps = are_equal a ps || are_equal (reverse a) ps
 
 -- ---- counts
-
-is_of-flip : (s : Segment) (e : Edge) → one (is_of s (flip e)) ≡ one (is_of s e)
-is_of-flip s e = ap (λ t. one (segment_eq t s)) (segment-comm e.1 e.0)
-
-pub times-flipped : (s : Segment) (es : List Edge) → times s (flipped es) ≡ times s es
-times-flipped s [] = refl
-times-flipped s (e ∷ es) =
-    ap (times s) (reverse-append (flip e ∷ []) (map flip es)) ∙ times-append s (flipped es) (flip e ∷ []) ∙ omega (arith, times-flipped s es, is_of-flip s e)
 
 -- an edge of the segment
 find_edge : (s : Segment) (es : List Edge) → 1 ≤ times s es → (e : Edge) × In e es × (is_of s e ≡ true)
@@ -85,9 +77,9 @@ module _ (k : Position → Bool) (next : Position → Position → Position) whe
   -- a piece that is an arc has the segments of one
   same_times : (s : Segment) (arcs : List (List Position)) (ps : List Position) → is_arc arcs ps ≡ true → times s (links ps) ≤ times s (flat_map links arcs)
   same_times s [] ps h = absurd (false≢true h)
-  same_times s (a ∷ arcs) ps h = elim (or_true (is_same a ps) (is_arc arcs ps) h) [
+  same_times s (a ∷ arcs) ps h = elim (or_cases (is_same a ps) (is_arc arcs ps) h) [
     | inr k ↦ omega (arith, same_times s arcs ps k, times-append s (links a) (flat_map links arcs))
-    | inl k ↦ elim (or_true (are_equal a ps) (are_equal (reverse a) ps) k) [
+    | inl k ↦ elim (or_cases (are_equal a ps) (are_equal (reverse a) ps) k) [
       | inl l ↦ omega (arith, ap (λ z. times s (links z)) (are_equal-true a ps l), times-append s (links a) (flat_map links arcs))
       | inr l ↦ omega (arith, sym (ap (times s) (links-reverse a) ∙ times-flipped s (links a)) ∙ ap (λ z. times s (links z)) (are_equal-true (reverse a) ps l), times-append s (links a) (flat_map links arcs))
     ]
@@ -110,7 +102,7 @@ module _ (k : Position → Bool) (next : Position → Position → Position) whe
     where
       by : (b : Bool) → is_arc arcs ps ≡ b → Arcs (cond b arcs (arcs ++ ps ∷ []))
       by true e = a
-      by false e = record { pieces = each-append (IsPiece k next) arcs (ps ∷ []) a.pieces (p.piece, tt); once = λ s. new s (times s (flat_map links arcs)) (times s (links ps)) refl refl }
+      by false e = record { pieces = all_joined (IsPiece k next) arcs (ps ∷ []) a.pieces (p.piece, tt); once = λ s. new s (times s (flat_map links arcs)) (times s (links ps)) refl refl }
         where
           new : (s : Segment) (m n : ℕ) → times s (flat_map links arcs) ≡ m → times s (links ps) ≡ n → times s (flat_map links (arcs ++ ps ∷ [])) ≤ 1
           new s zero n f g = omega (arith, times-push s arcs ps, p.once s)

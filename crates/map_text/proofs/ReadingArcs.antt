@@ -5,6 +5,7 @@ use Rattle.grid_geometry.specs.Common.{Position, position, InRange}
 use Rattle.json_spans.specs.Common.{Node, IsListOf, IsWhole}
 use Rattle.topo_outline.specs.Common.{IsJson}
 use Rattle.topo_reader.specs.Common.{origin, IsSum, Sums, no_pair, pair, ArePositions, IsArc, AreArcs}
+use Rattle.topo_reader.proofs.MeaningOfArcs.{origin_in_range}
 use Rattle.map_text.specs.Common.{pair_text, differences, pairs, arc_text, arcs_text}
 use Rattle.map_text.proofs.GrammarLists.{bytes_of, has_texts, list_is_json}
 use Rattle.map_text.proofs.GrammarNumbers.{whole_is_json, whole_written}
@@ -83,9 +84,6 @@ are_sums before (n ∷ ns) (p ∷ ps) b h e =
     let d = differs before p b h.0 in
     pair (is_sum before q p n d.small h.0 d.sum (first_same n.bytes (pair_text q) (map bytes_of ns) (map pair_text (differences p ps)) e))
     (are_sums p ns ps h.0 h.1 (rest_same n.bytes (pair_text q) (map bytes_of ns) (map pair_text (differences p ps)) e))
-
-origin_in_range : InRange origin
-origin_in_range = record { across = omega arith; upward = omega arith }
 
 -- ---- arcs
 

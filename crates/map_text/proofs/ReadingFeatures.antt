@@ -180,7 +180,7 @@ feature_made arcs f us fits k s = made_by arcs (head_of f) us fits k s
 abbrev collection_fields : Head → Text → List Field
 collection_fields h value = type_field (codes "\"GeometryCollection\"") ∷ id_field h.id ∷ properties_field h.properties ∷ geometries_field value ∷ []
 
-further_joined : (xs ys : List Member) → further (map member_text (xs ++ ys)) ≡ further (map member_text xs) ++ further (map member_text ys)
+pub further_joined : (xs ys : List Member) → further (map member_text (xs ++ ys)) ≡ further (map member_text xs) ++ further (map member_text ys)
 further_joined [] ys = refl
 further_joined (x ∷ xs) ys =
     ap (λ (z : Text). (44 ∷ member_text x) ++ z) (further_joined xs ys) ∙ sym (append_assoc (44 ∷ member_text x) (further (map member_text xs)) (further (map member_text ys)))

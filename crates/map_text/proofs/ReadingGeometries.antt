@@ -1,5 +1,6 @@
 -- The written text of a tree of items is read as a geometry with the same items.
-use Rattle.kit_words.proofs.Common.{◌≡◌, List, [], ◌∷◌, ◌++◌, map, ℤ, AllByRecursion, AllZip}
+use Rattle.kit_words.proofs.Common.{◌≡◌, List, [], ◌∷◌, ◌++◌, map, ℤ, AllByRecursion, AllZip, all_front, all_back}
+use Rattle.kit_words.proofs.Common.{zip_joined}
 use Rattle.ring_machine.specs.Common.{Text, Head, FeatureOf, Open, Close, Leaf, Kept}
 use Rattle.json_spans.specs.Common.{Node}
 use Rattle.topo_outline.specs.declared.members.Owner.TheVariants as owner
@@ -33,20 +34,6 @@ pub data IsPieceOf : Entry → Piece → Type 0 where
   closes : IsPieceOf Close ends
   feature : {f : FeatureOf (List ℤ)} {a : Node} → IsShape f.form f.polygons a → IsPieceOf (Leaf f) (leaf f.form (head_of f) a)
   kept : {t : Text} → IsPieceOf (Kept t) (text t)
-
-pub all_front : {A : Type 0} (P : A → Type 0) (xs ys : List A) → AllByRecursion P (xs ++ ys) → AllByRecursion P xs
-all_front P [] ys h = tt
-all_front P (x ∷ xs) ys h = (h.0, all_front P xs ys h.1)
-
-pub all_back : {A : Type 0} (P : A → Type 0) (xs ys : List A) → AllByRecursion P (xs ++ ys) → AllByRecursion P ys
-all_back P [] ys h = h
-all_back P (x ∷ xs) ys h = all_back P xs ys h.1
-
-pub zip_joined : {A B : Type 0} (R : A → B → Type 0) (xs zs : List A) (ys us : List B) → AllZip R xs ys → AllZip R zs us → AllZip R (xs ++ zs) (ys ++ us)
-zip_joined R [] zs [] us h k = k
-zip_joined R [] zs (y ∷ ys) us h k = absurd h
-zip_joined R (x ∷ xs) zs [] us h k = absurd h
-zip_joined R (x ∷ xs) zs (y ∷ ys) us h k = (h.0, zip_joined R xs zs ys us h.1 k)
 
 -- ---- the texts are JSON
 

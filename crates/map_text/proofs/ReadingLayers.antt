@@ -1,7 +1,7 @@
 -- The written layers are read with the same items, and their features with the same rings.
 use Rattle.kit_words.proofs.Common.{◌≡◌, ℕ, ◌+◌, List, [], ◌∷◌, ◌++◌, map, length, true, false, refl, sym, ap, ap₂, ◌∙◌}
 use Rattle.kit_words.proofs.Common.{subst, append_assoc, arith, ℤ, Some, slice_get, AllByRecursion, AllZip, flat_map}
-use Rattle.kit_words.proofs.Common.{filter_map, length-append, length-map, AllZip-long}
+use Rattle.kit_words.proofs.Common.{filter_map, length-append, length-map, AllZip-long, zip_joined}
 use Rattle.grid_geometry.specs.Common.{Position}
 use Rattle.ring_machine.specs.Common.{Text, Head, Member, Feature, FeatureOf, Item, Layer, Open, Close, Leaf, Kept}
 use Rattle.ring_machine.specs.Common.{feature_of, in_feature, in_item, in_layer, is_geometry}
@@ -16,7 +16,7 @@ use Rattle.map_text.proofs.MembersSeen.{Seen, seen, seen_as, all_seen}
 use Rattle.map_text.proofs.ReadingLists.{first_same, rest_same}
 use Rattle.map_text.proofs.ReadingUses.{IsShape, geometry_uses}
 use Rattle.map_text.proofs.ReadingTrees.{IsTree, tree, geometry_mapped, layer_written}
-use Rattle.map_text.proofs.ReadingGeometries.{IsWritten, IsPieceOf, opens, closes, feature, kept, zip_joined, tree_json, IsRead, tree_read}
+use Rattle.map_text.proofs.ReadingGeometries.{IsWritten, IsPieceOf, opens, closes, feature, kept, tree_json, IsRead, tree_read}
 use Rattle.map_text.proofs.ReadingRings.{IsDrawn, IsPlain, named_polygons, plain_fits}
 
 -- ---- the pieces of items

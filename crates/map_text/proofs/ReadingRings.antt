@@ -2,11 +2,11 @@
 use Rattle.kit_words.proofs.Common.{◌≡◌, ℕ, suc, ◌+◌, ◌<◌, ◌≤◌, ◌^◌, List, [], ◌∷◌, ◌++◌, map, length, Bool, true}
 use Rattle.kit_words.proofs.Common.{false, refl, ap, arith, cond, ℤ, pos, negsuc, unsigned_abs, Option, Some, None}
 use Rattle.kit_words.proofs.Common.{option_map, reverse, slice_get, IsTrue, AllByRecursion, AllZip, list_all, flat_map}
-use Rattle.kit_words.proofs.Common.{filter_map, length-append, sum_by-cons, slice_get_within}
+use Rattle.kit_words.proofs.Common.{filter_map, length-append, sum_by-cons, slice_get_within, all_front, all_back}
 use Rattle.std.specs.Prelude.{sum_by}
 use Rattle.std.proofs.lemmas.Bool.{eqb-true}
 use Rattle.grid_geometry.specs.Common.{Position}
-use Rattle.ring_machine.specs.Common.{is_ring, Form, Document, Feature, FeatureOf, Item, Layer, Open, Close, Leaf, Kept}
+use Rattle.ring_machine.specs.Common.{is_ring, Form, Document, Feature, Item, Layer, Open, Close, Leaf, Kept}
 use Rattle.ring_machine.specs.Common.{feature_of, features, rings_of, rings, size, in_feature, in_item, fits_form}
 use Rattle.ring_machine.specs.Common.{is_junction}
 use Rattle.ring_machine.specs.Document as form
@@ -20,7 +20,7 @@ use Rattle.map_text.proofs.Indexed.{Names, indexes_name}
 use Rattle.map_text.proofs.RingsBack.{pieces_lead}
 use Rattle.map_text.proofs.ReadingLists.{all_made}
 use Rattle.map_text.proofs.ReadingUses.{RingIndexes, PolygonIndexes, ShapeIndexes, Fits, one, several, nothing}
-use Rattle.map_text.proofs.ReadingGeometries.{IsWritten, IsWrittenFeature, all_front, all_back}
+use Rattle.map_text.proofs.ReadingGeometries.{IsWritten, IsWrittenFeature}
 
 -- ---- a document has no more arcs than positions
 
@@ -39,7 +39,7 @@ led_length : (p : Position) (all : List Arc) → length (led_from p all) ≡ len
 led_length p [] = refl
 led_length p (piece ∷ all) = refl
 
-cut_length : (j : Position → Bool) (p : Position) (ps : List Position) → length (cut_way j p ps) ≤ length ps
+pub cut_length : (j : Position → Bool) (p : Position) (ps : List Position) → length (cut_way j p ps) ≤ length ps
 cut_length j p [] = omega arith
 cut_length j p (q ∷ []) = omega arith
 cut_length j p (q ∷ r ∷ rs) = by (j q) (cut_length j q (r ∷ rs))
@@ -52,7 +52,7 @@ round_length : (j : Position → Bool) (ps : List Position) → length (cut_roun
 round_length j [] = omega arith
 round_length j (p ∷ ps) = omega (arith, cut_length j p (ps ++ p ∷ []), length-append ps (p ∷ []))
 
-pieces_length : (j : Position → Bool) (ring : List Position) → length (pieces j ring) ≤ length ring
+pub pieces_length : (j : Position → Bool) (ring : List Position) → length (pieces j ring) ≤ length ring
 pieces_length j ring =
     let t = begun_rotated j ring in
     omega (arith, round_length j (begun j ring), ap length t.from, ap length t.to, length-append t.us t.vs, length-append t.vs t.us)

@@ -1,11 +1,10 @@
 -- The pieces of a ring, joined again, are the ring.
 use Rattle.kit_words.proofs.Common.{◌≡◌, ◌≢◌, ◌≤◌, Bool, true, false, refl, sym, ap, ◌∙◌, subst, cond, List, [], ◌∷◌}
 use Rattle.kit_words.proofs.Common.{◌++◌, arith, length, not, flat_map, AllByRecursion, false≢true, append-nil}
-use Rattle.kit_words.proofs.Common.{length-append}
+use Rattle.kit_words.proofs.Common.{length-append, and_parts, or_parts, not-true}
 use Rattle.grid_geometry.specs.Common.{Position, position_eq}
 use Rattle.ring_machine.specs.Common.{has, is_distinct, is_ring, canonical}
-use Rattle.ring_machine.proofs.Common.{and_both, position_eq-refl, none_parts, not_true, Pivot, canonical_at}
-use Rattle.ring_machine.proofs.Common.{canonical_swap, rotated_distinct}
+use Rattle.ring_machine.proofs.Common.{position_eq-refl, Pivot, canonical_at, canonical_swap, rotated_distinct}
 use Rattle.topo_reader.specs.Common.{Arc, Chain, there, along, Once, last, same, next, IsRing}
 use Rattle.topo_reader.proofs.Repeats.{differ}
 use Rattle.map_text.specs.Common.{led_from, cut_way, cut_round, begun, pieces}
@@ -66,15 +65,15 @@ differs p q h e = false≢true (sym h ∙ ap (position_eq p) (sym e) ∙ positio
 
 -- the way round from q: no other position is q, and they are distinct
 apart_to : (q v : Position) (vs : List Position) → is_distinct (v ∷ vs) ≡ true → has (v ∷ vs) q ≡ false → Apart (v ∷ vs ++ q ∷ [])
-apart_to q v [] d h = ((λ e. differs q v (none_parts (position_eq q v) false h).0 (sym e)), tt)
+apart_to q v [] d h = ((λ e. differs q v (or_parts (position_eq q v) false h).0 (sym e)), tt)
 apart_to q v (w ∷ ws) d h =
-    let d' = and_both (not (has (w ∷ ws) v)) _ d in
-    (differs v w (none_parts (position_eq v w) _ (not_true _ d'.0)).0, apart_to q w ws d'.1 (none_parts (position_eq q v) _ h).1)
+    let d' = and_parts (not (has (w ∷ ws) v)) _ d in
+    (differs v w (or_parts (position_eq v w) _ (not-true _ d'.0)).0, apart_to q w ws d'.1 (or_parts (position_eq q v) _ h).1)
 
 apart_round : (q v : Position) (vs : List Position) → is_distinct (q ∷ v ∷ vs) ≡ true → Apart (q ∷ v ∷ vs ++ q ∷ [])
 apart_round q v vs d =
-    let d' = and_both (not (has (v ∷ vs) q)) _ d in
-    (differs q v (none_parts (position_eq q v) _ (not_true _ d'.0)).0, apart_to q v vs d'.1 (not_true _ d'.0))
+    let d' = and_parts (not (has (v ∷ vs) q)) _ d in
+    (differs q v (or_parts (position_eq q v) _ (not-true _ d'.0)).0, apart_to q v vs d'.1 (not-true _ d'.0))
 
 -- ---- neighbours in a piece
 

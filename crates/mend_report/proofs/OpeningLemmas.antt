@@ -1,7 +1,7 @@
 -- The status is 0 exactly where the map opens.
 use Rattle.kit_words.proofs.Common.{◌≡◌, ◌↔◌, ℕ, suc, ◌==◌, ◌&&◌, Bool, true, false, refl, sym, ap, ap₂, ◌∙◌, subst}
 use Rattle.kit_words.proofs.Common.{List, [], ◌∷◌, length, arith, Result, Ok, Err, IfOk, if◌then◌else◌}
-use Rattle.kit_words.proofs.Common.{false≢true}
+use Rattle.kit_words.proofs.Common.{false≢true, and_parts}
 use Rattle.std.proofs.lemmas.Bool.{eqb-true}
 use Rattle.topo_reader.specs.Common.{Opened}
 use Rattle.topo_outline.specs.Common.{OutlineText}
@@ -53,11 +53,6 @@ zero_if : (b : Bool) → ◌≡◌ {A = ℕ} (if b then 0 else 1) 0 → b ≡ tr
 zero_if true e = refl
 zero_if false e = absurd (omega arith)
 
-pub both_if : (a b : Bool) → (a && b) ≡ true → (a ≡ true) × (b ≡ true)
-both_if true true e = (refl, refl)
-both_if false b e = absurd (false≢true e)
-both_if true false e = absurd (false≢true e)
-
 -- the bytes are one topology on a grid
 pub one : (wants : Wants) (bytes : List ℕ) (o p : Opened) → OpensOn wants bytes o → OpensOn wants bytes p → o ≡ p
 one wants bytes o p reads again = ok_same o p (sym reads.opens ∙ again.opens)
@@ -75,8 +70,8 @@ pub status_opens : {A : Type 0} (asked : Asked) (bytes : List ℕ) (r : Report A
     → r.dropped ≡ asked.dropped → status_of (Ok r) ≡ 0 ↔ MapOpens asked bytes
 status_opens {A = A} asked bytes r looked told dropped = (
   λ e.
-      let both = both_if (is_plain r.grid && (r.dropped == 0)) clear (zero_if ((is_plain r.grid && (r.dropped == 0)) && clear) e) in
-      let grid = both_if (is_plain r.grid) (r.dropped == 0) both.0 in
+      let both = and_parts (is_plain r.grid && (r.dropped == 0)) clear (zero_if ((is_plain r.grid && (r.dropped == 0)) && clear) e) in
+      let grid = and_parts (is_plain r.grid) (r.dropped == 0) both.0 in
       (o, r.grid, looked.1, told, grid.0, sym dropped ∙ eqb-true r.dropped 0 grid.1, law.0 (nothing_if f both.1)),
   λ opens.
       let opened = subst (λ p. Opens p.polygons) (one asked.grid bytes opens.0 o opens.2 looked.1) opens.6 in

@@ -1,5 +1,6 @@
 -- A map of whole numbers is looked at, and mended, as the editor reads it.
 use Rattle.kit_words.proofs.Common.{◌≡◌, ◌↔◌, ℕ, ◌==◌, true, sym, ap, ◌∙◌, subst, List, Result, Ok, Err, IfOk, ◌&&◌}
+use Rattle.kit_words.proofs.Common.{and_parts}
 use Rattle.std.proofs.lemmas.Bool.{eqb-true}
 use Rattle.topo_reader.specs.Common.{Opened, document_of}
 use Rattle.topo_reader.proofs.Common.{is_read_by}
@@ -11,7 +12,7 @@ use Rattle.mend_report.specs.Common.{OpensOn, MapOpens, EditorOpens, HasWalks, I
 use Rattle.mend_report.specs.Common.{status_of, Asked, Report, LookFault, Remade}
 use Rattle.mend_report.specs.declared.report.RepairFault.{RepairFault}
 use Rattle.mend_report.proofs.EditorOpens.{walks_open, rings_open}
-use Rattle.mend_report.proofs.OpeningLemmas.{both_if, one}
+use Rattle.mend_report.proofs.OpeningLemmas.{one}
 
 -- ---- the status
 
@@ -20,7 +21,7 @@ OpensAsIs asked bytes = (asked.dropped ≡ 0) × EditorOpens bytes
 
 in_editor : (asked : Asked) (bytes : List ℕ) → asked.grid.finer ≡ 0 → MapOpens asked bytes → OpensAsIs asked bytes
 in_editor asked bytes same opens =
-    let plain = both_if opens.1.whole (opens.1.heights == 0) opens.4 in
+    let plain = and_parts opens.1.whole (opens.1.heights == 0) opens.4 in
     let walks = grid_is_whole asked.grid bytes opens.0 opens.1 same opens.2 opens.3 plain.0 (eqb-true opens.1.heights 0 plain.1) in
     (opens.5, walks_open bytes opens.0 walks opens.6)
 

@@ -2,12 +2,12 @@
 use Rattle.kit_words.proofs.Common.{◌≡◌, ◌<◌, ◌+◌, ◌||◌, ℕ, zero, suc, Bool, true, false, cond, refl, sym, ap, ◌∙◌}
 use Rattle.kit_words.proofs.Common.{subst, List, [], ◌∷◌, ◌++◌, length, map, take, get_or, arith, Option, Some, None}
 use Rattle.kit_words.proofs.Common.{option_map, unwrap_or, Vec, is_eq, IsTotalOrder, tied_itself, Ordering, map-append}
-use Rattle.kit_words.proofs.Common.{take_more, list_any-append}
+use Rattle.kit_words.proofs.Common.{take_more, list_any-append, or_right}
 use Rattle.std.proofs.Common.{All}
 use Rattle.std.specs.BTreeMap.{BTreeMap, IsEmpty}
 use Rattle.std.specs.Map.{lookup}
 use Rattle.grid_geometry.specs.Common.{Position, position_cmp, Segment, segment_cmp}
-use Rattle.ring_machine.proofs.Common.{or_right, position_total}
+use Rattle.ring_machine.proofs.Common.{position_total}
 use Rattle.segment_index.proofs.Common.{segment_total}
 use Rattle.segment_paths.specs.Common.{Path}
 use Rattle.walk_faults.specs.declared.findings.Crossing.{Crossing}

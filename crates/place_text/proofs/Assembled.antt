@@ -1,13 +1,12 @@
 -- Pieces of a topology of places, put together.
 use Rattle.kit_words.proofs.Common.{◌≡◌, ℕ, Bool, true, false, refl, sym, ap, ap₂, ◌∙◌, List, ◌++◌, ◌∷◌, []}
 use Rattle.kit_words.proofs.Common.{append_assoc, arith, pos, Bor, ◌-ℤ◌, Option, None, Some, codes, is_some, option_map}
-use Rattle.kit_words.proofs.Common.{ints}
+use Rattle.kit_words.proofs.Common.{ints, appended_five, appended_six}
 use Rattle.std.proofs.Common.{append-nil}
 use Rattle.ring_machine.specs.Common.{Text}
 use Rattle.grid_geometry.specs.Common.{Position, position, Segment}
 use Rattle.map_text.specs.Common.{arc_text, list_text, pair_text}
 use Rattle.place_text.specs.Common.{ends, pair_behind}
-use Rattle.place_text.proofs.Appending.{five, six}
 
 list_two : (a b : Text) → codes "[" ++ (a ++ (codes "," ++ (b ++ codes "]"))) ≡ list_text (a ∷ b ∷ [])
 list_two a b =
@@ -38,5 +37,5 @@ pub ten : (old a b c d e f g h k m t1 t2 t3 t4 t5 t6 t7 t8 t9 new : Text)
     → t1 ≡ old ++ a → t2 ≡ t1 ++ b → t3 ≡ t2 ++ c → t4 ≡ t3 ++ d → t5 ≡ t4 ++ e → t6 ≡ t5 ++ f → t7 ≡ t6 ++ g → t8 ≡ t7 ++ h → t9 ≡ t8 ++ k → new ≡ t9 ++ m
     → new ≡ old ++ (a ++ (b ++ (c ++ (d ++ (e ++ (f ++ (g ++ (h ++ (k ++ m)))))))))
 ten old a b c d e f g h k m t1 t2 t3 t4 t5 t6 t7 t8 t9 new p1 p2 p3 p4 p5 p6 p7 p8 p9 p10 =
-    five old a b c d (e ++ (f ++ (g ++ (h ++ (k ++ m))))) t1 t2 t3 t4 new p1 p2 p3 p4
-    (six t4 e f g h k m t5 t6 t7 t8 t9 new p5 p6 p7 p8 p9 p10)
+    appended_five old a b c d (e ++ (f ++ (g ++ (h ++ (k ++ m))))) t1 t2 t3 t4 new p1 p2 p3 p4
+    (appended_six t4 e f g h k m t5 t6 t7 t8 t9 new p5 p6 p7 p8 p9 p10)

@@ -1,16 +1,12 @@
 -- Texts with commas between them, one after another.
-use Rattle.kit_words.proofs.Common.{◌≡◌, ℕ, suc, ◌+◌, ◌<◌, ◌≤◌, length, take, take_all, ap₂, List, [], ◌∷◌, ◌++◌, map, true, refl, sym, ap}
-use Rattle.kit_words.proofs.Common.{◌∙◌, arith, append_assoc, get_or, codes, nat_lt, map-append, take_more}
-use Rattle.kit_words.proofs.Common.{flat_map-append}
+use Rattle.kit_words.proofs.Common.{◌≡◌, ℕ, suc, ◌+◌, ◌<◌, ◌≤◌, length, take, take_all, ap₂, List, [], ◌∷◌, ◌++◌, map}
+use Rattle.kit_words.proofs.Common.{refl, sym, ap, ◌∙◌, arith, append_assoc, get_or, codes, nat_lt, map-append}
+use Rattle.kit_words.proofs.Common.{take_more, flat_map-append, appended_three, suc_positive}
 use Rattle.std.proofs.Common.{append-nil}
 use Rattle.ring_machine.specs.Common.{Text}
 use Rattle.map_text.specs.Common.{further, commas, comma_if}
 use Rattle.walk_faults.specs.Common.{each_at}
-use Rattle.place_text.proofs.Appending.{three}
 use Rattle.place_text.proofs.Numbered.{each_next, so_many}
-
-positive : (i : ℕ) → nat_lt 0 (suc i) ≡ true
-positive i = grind arith
 
 -- one text more, after a comma where something stands before
 pub commas_next : (ts : List Text) (t : Text) → commas (ts ++ t ∷ []) ≡ commas ts ++ (comma_if (nat_lt 0 (length ts)) ++ t)
@@ -18,7 +14,7 @@ commas_next [] t = append-nil t
 commas_next (u ∷ us) t =
     ap (λ z. u ++ z) (flat_map-append (λ v. codes "," ++ v) us (t ∷ []) ∙ ap (λ z. further us ++ z) (append-nil (codes "," ++ t)))
     ∙ sym (append_assoc u (further us) (codes "," ++ t))
-    ∙ ap (λ b. (u ++ further us) ++ (comma_if b ++ t)) (sym (positive (length us)))
+    ∙ ap (λ b. (u ++ further us) ++ (comma_if b ++ t)) (sym (suc_positive (length us)))
 
 -- the text before, with one more behind those so far
 next_text : (ts next : List Text) (t : Text) (i : ℕ) → next ≡ ts ++ t ∷ [] → length ts ≡ i
@@ -83,6 +79,6 @@ pub collected : {A : Type 0} (f : ℕ → A → Text) (xs : List A) (i : ℕ) �
     → new ≡ old ++ (head ++ ((commas (each_at (λ n x. f n x ∷ []) 0 xs) ++ codes "]") ++ codes "}"))
 collected f xs i l old head now new p q =
     let texts : Text = commas (each_at (λ n x. f n x ∷ []) 0 xs) in
-    three old head texts (codes "]}") (old ++ head) now new refl
+    appended_three old head texts (codes "]}") (old ++ head) now new refl
     (p ∙ ap (λ z. (old ++ head) ++ commas (each_at (λ n x. f n x ∷ []) 0 z)) (take_all i xs l)) q
     ∙ ap (λ z. old ++ (head ++ z)) (sym (append_assoc texts (codes "]") (codes "}")))

@@ -3,13 +3,7 @@ use Rattle.kit_words.proofs.Common.{◌≡◌, ◌<◌, ◌+◌, ℕ, zero, suc,
 use Rattle.kit_words.proofs.Common.{get_or, arith, append_assoc, take_more}
 use Rattle.std.proofs.Common.{append-nil}
 use Rattle.walk_faults.specs.Common.{each_at}
-
-each_at-append : {X Y : Type 0} (f : ℕ → X → List Y) (k : ℕ) (xs ys : List X) → each_at f k (xs ++ ys) ≡ each_at f k xs ++ each_at f (k + length xs) ys
-each_at-append f k [] ys = let e : k ≡ k + 0 = omega arith in ap (λ n. each_at f n ys) e
-each_at-append f k (x ∷ xs) ys =
-    let e : suc k + length xs ≡ k + suc (length xs) = omega arith in
-    ap (λ z. f k x ++ z) (each_at-append f (suc k) xs ys ∙ ap (λ n. each_at f (suc k) xs ++ each_at f n ys) e)
-    ∙ sym (append_assoc (f k x) (each_at f (suc k) xs) (each_at f (k + suc (length xs)) ys))
+use Rattle.walk_faults.proofs.Walking.{each_at-append}
 
 pub so_many : {X : Type 0} (xs : List X) (i : ℕ) → i < length xs → length (take i xs) ≡ i
 so_many xs zero l = refl

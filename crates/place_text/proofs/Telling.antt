@@ -1,9 +1,8 @@
 -- What tables hold, while features are told one after another.
 use Rattle.kit_words.proofs.Common.{◌≡◌, ◌<◌, ◌≤◌, ◌+◌, ℕ, zero, suc, Bool, true, false, cond, refl, sym, ap, ap₂, ◌∙◌}
 use Rattle.kit_words.proofs.Common.{subst, List, [], ◌∷◌, ◌++◌, length, map, take, drop, get_or, drop-cons, arith}
-use Rattle.kit_words.proofs.Common.{Option, Some, None, option_map, flat_map, list_any, is_eq, map-append, take_more}
-use Rattle.kit_words.proofs.Common.{take-map, length-map, flat_map-append}
-use Rattle.std.proofs.Common.{append-nil}
+use Rattle.kit_words.proofs.Common.{Option, Some, None, option_map, flat_map, list_any, is_eq, take-map, length-map}
+use Rattle.kit_words.proofs.Common.{flat_mapped_more}
 use Rattle.grid_geometry.specs.Common.{Position, position_cmp, position_eq, Segment, segment, segment_cmp, segment_eq}
 use Rattle.grid_geometry.specs.Common.{links}
 use Rattle.ring_machine.proofs.Common.{position_eq-true, position_eq-sym, ties}
@@ -24,13 +23,6 @@ segment_there a b s e apart = by (position_eq a b) refl
     by false h = ap (λ t. t ∷ []) e
 
 -- ---- what each gives, one after another
-
-flat_next : {X Y Z : Type 0} (f : Y → List Z) (v : X → Y) (xs : List X) (i : ℕ) (x : X) → i < length xs → x ≡ get_or xs i x
-    → flat_map f (map v (take (i + 1) xs)) ≡ flat_map f (map v (take i xs)) ++ f (v x)
-flat_next f v xs i x l e =
-    ap (λ z. flat_map f (map v z)) (take_more xs i x l ∙ ap (λ z. take i xs ++ z ∷ []) (sym e))
-    ∙ ap (flat_map f) (map-append v (take i xs) (x ∷ [])) ∙ flat_map-append f (map v (take i xs)) (v x ∷ [])
-    ∙ ap (λ z. flat_map f (map v (take i xs)) ++ z) (append-nil (f (v x)))
 
 vertex_among : (p : Position) (feature : List (List (List Position))) → is_among position_cmp (feature_positions feature) p ≡ has_vertex p feature
 vertex_among p feature =
@@ -84,8 +76,8 @@ module _ {A : Type 0} where
       → Tells n (flat_map f (map v (take i xs))) (flat_map g (map v (take i xs))) a b → Tells n (f (v x)) (g (v x)) b c
       → Tells n (flat_map f (map v (take (i + 1) xs))) (flat_map g (map v (take (i + 1) xs))) a c
   level_step n f g v xs i x a b c l e h k =
-      subst (λ ps. Tells n ps (flat_map g (map v (take (i + 1) xs))) a c) (sym (flat_next f v xs i x l e))
-      (subst (λ ss. Tells n (flat_map f (map v (take i xs)) ++ f (v x)) ss a c) (sym (flat_next g v xs i x l e))
+      subst (λ ps. Tells n ps (flat_map g (map v (take (i + 1) xs))) a c) (sym (flat_mapped_more f v xs i x l e))
+      (subst (λ ss. Tells n (flat_map f (map v (take i xs)) ++ f (v x)) ss a c) (sym (flat_mapped_more g v xs i x l e))
       (tells_both n (flat_map f (map v (take i xs))) (f (v x)) (flat_map g (map v (take i xs))) (g (v x)) a b c h k))
 
   -- ---- features, one after another

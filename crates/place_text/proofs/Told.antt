@@ -24,9 +24,6 @@ one_longer n (m ∷ ns) = let e : length (ns ++ n ∷ []) - 1 ≡ length ns = on
     longer [] = omega arith
     longer (k ∷ ms) = omega arith
 
-ends : ℕ → List ℕ → Bool
-ends n ns = is_last n (slice_get ns (length ns - 1))
-
 ends_so : (n : ℕ) (ns : List ℕ) → is_last n (slice_get (ns ++ n ∷ []) (length (ns ++ n ∷ []) - 1)) ≡ true
 ends_so n ns = ap (λ k. is_last n (slice_get (ns ++ n ∷ []) k)) (one_longer n ns) ∙ ap (is_last n) (last_of n ns) ∙ same n
 

@@ -3,14 +3,15 @@ use Rattle.kit_words.proofs.Common.{◌≡◌, ◌<◌, ◌+◌, ℕ, suc, Bool,
 use Rattle.kit_words.proofs.Common.{List, [], ◌∷◌, ◌++◌, map, length, take, drop, get_or, drop-cons, arith, pos}
 use Rattle.kit_words.proofs.Common.{append_assoc, ◌-ℤ◌, codes, nat_lt, nat_tests, ints, map-append, length-map}
 use Rattle.kit_words.proofs.Common.{take_more, flat_map-append, Bor, Option, None, Some, option_map, unwrap_or}
+use Rattle.kit_words.proofs.Common.{appended_four}
 use Rattle.std.proofs.Common.{append-nil}
 use Rattle.ring_machine.specs.Common.{Text}
 use Rattle.grid_geometry.specs.Common.{Position, position}
 use Rattle.map_text.specs.Common.{further, commas, comma_if, pair_text, pairs, differences, arc_text, list_text}
+use Rattle.map_text.proofs.Common.{further_push}
 use Rattle.segment_paths.specs.Common.{path_seen, paths_seen}
 use Rattle.segment_paths.specs.declared.path.SegmentPath.{SegmentPath}
 use Rattle.place_text.specs.Common.{pair_behind, way, ways, behind_if}
-use Rattle.place_text.proofs.Appending.{four}
 use Rattle.place_text.proofs.Listed.{commas_next}
 use Rattle.place_text.proofs.Numbered.{so_many}
 
@@ -58,12 +59,9 @@ rest_next delta from to ps =
 
 -- ---- arcs of two kinds, one after another
 
-further_next : (ts : List Text) (t : Text) → further (ts ++ t ∷ []) ≡ further ts ++ (codes "," ++ t)
-further_next ts t = flat_map-append (λ v. codes "," ++ v) ts (t ∷ []) ∙ ap (λ z. further ts ++ z) (append-nil (codes "," ++ t))
-
 -- one more
 pub behind_next : (more : Bool) (ts : List Text) (t : Text) → behind_if more (ts ++ t ∷ []) ≡ behind_if more ts ++ (comma_if (more || nat_lt 0 (length ts)) ++ t)
-behind_next true ts t = further_next ts t
+behind_next true ts t = further_push ts t
 behind_next false ts t = commas_next ts t
 
 -- all of them
@@ -155,6 +153,6 @@ arcs_both arc xs ys zs more old t1 t2 t3 new is_more same p q r s =
     let second = behind_if (not (length (map arc xs) == 0)) (map arc ys) in
     let r' : t3 ≡ t2 ++ second =
     r ∙ ap₂ (λ (b : Bool) (z : List _). t2 ++ behind_if b (map arc z)) (is_more ∙ ap (λ n. not (n == 0)) (sym (length-map xs arc))) same in
-    four old (codes "[") first second (codes "]") t1 t2 t3 new p q r' s
+    appended_four old (codes "[") first second (codes "]") t1 t2 t3 new p q r' s
     ∙ ap (λ z. old ++ (codes "[" ++ z)) (sym (append_assoc first second (codes "]")))
     ∙ ap (λ z. old ++ (codes "[" ++ (z ++ codes "]"))) (sym (commas_both (map arc xs) (map arc ys)) ∙ ap commas (sym (map-append arc xs ys)))

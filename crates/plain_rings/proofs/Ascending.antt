@@ -3,10 +3,10 @@ use Rattle.kit_words.proofs.Common.{◌≡◌, ℕ, suc, ◌+◌, ◌≤◌, ◌
 use Rattle.kit_words.proofs.Common.{◌∷◌, length, drop, get_or, arith, ℤ, ◌≤ℤ◌, ◌<ℤ◌, int_le, int_lt, None, Some}
 use Rattle.kit_words.proofs.Common.{IsStrictWeakOrder, All, find, AllByRecursion, IsSorted, int_min, int_max, Ordering}
 use Rattle.kit_words.proofs.Common.{Less, Equal, Greater, int_cmp, ordering_then, is_lt, false≢true, ints, clamps}
-use Rattle.kit_words.proofs.Common.{at_drop_more, get_or-drop, get_or_default, length-drop, sorted_far}
+use Rattle.kit_words.proofs.Common.{at_drop_more, get_or-drop, get_or_default, length-drop, sorted_far, and_parts}
 use Rattle.grid_geometry.specs.Common.{Segment, IsSegment, segment_cmp, segment_lt, box_of, boxes_meet, conflict}
 use Rattle.grid_geometry.proofs.Common.{conflict-boxes_meet}
-use Rattle.ring_machine.proofs.Common.{segment_ordered, and_both}
+use Rattle.ring_machine.proofs.Common.{segment_ordered}
 
 -- ---- from an index to each element
 
@@ -58,7 +58,7 @@ in_order a b c d h = grind (arith, ints)
 
 out_of_reach : (s t : Segment) (x : ℤ) → IsSegment s → IsSegment t → s.hi.x <ℤ x → x ≤ℤ t.lo.x → boxes_meet (box_of s) (box_of t) ≡ true → ⊥
 out_of_reach s t x hs ht h k m =
-    let reach = and_both (int_le (box_of s).x0 (box_of t).x1) (int_le (box_of t).x0 (box_of s).x1) (and_both _ _ m).0 in
+    let reach = and_parts (int_le (box_of s).x0 (box_of t).x1) (int_le (box_of t).x0 (box_of s).x1) (and_parts _ _ m).0 in
     far s.lo.x s.hi.x t.lo.x t.hi.x x (in_order s.lo.x s.lo.y s.hi.x s.hi.y hs) (in_order t.lo.x t.lo.y t.hi.x t.hi.y ht) h k reach.1
   where
     far : (a b c d x : ℤ) → a ≤ℤ b → c ≤ℤ d → b <ℤ x → x ≤ℤ c → int_le (int_min c d) (int_max a b) ≡ true → ⊥

@@ -1,13 +1,12 @@
 -- Rings after an edit that gives them more or fewer positions.
 use Rattle.kit_words.proofs.Common.{◌≡◌, ◌+◌, ◌≤◌, Bool, true, false, refl, sym, ap, ap₂, ◌∙◌, cond, List, [], ◌∷◌, map}
 use Rattle.kit_words.proofs.Common.{length, arith, ◌&&◌, ◌||◌, inl, inr, not, nat_lt, list_all, flat_map, filter}
-use Rattle.kit_words.proofs.Common.{sum_by, length-map, length-append, sum_by-cons}
+use Rattle.kit_words.proofs.Common.{sum_by, length-map, length-append, sum_by-cons, and_parts, or_cases, or_parts}
 use Rattle.grid_geometry.specs.Common.{Position, position_eq, segment, segment_eq, edges}
 use Rattle.grid_geometry.proofs.Common.{segment-comm}
 use Rattle.ring_machine.specs.Common.{has, is_ring, segment_of, segments, ins_ring, del_ring}
-use Rattle.ring_machine.proofs.Common.{and_both, or_true, position_eq-true, position_eq-refl, segment_ordered}
-use Rattle.ring_machine.proofs.Common.{none_parts, others, segment_eq-true, same_ends, ins_is_ring, del_is_ring}
-use Rattle.ring_machine.proofs.Common.{edges_start}
+use Rattle.ring_machine.proofs.Common.{position_eq-true, position_eq-refl, segment_ordered, others, segment_eq-true}
+use Rattle.ring_machine.proofs.Common.{same_ends, ins_is_ring, del_is_ring, edges_start}
 use Rattle.plain_rings.specs.Common.{are_long, has_vertex}
 use Rattle.plain_rings.proofs.StaysPlain.{canonical_length}
 
@@ -23,9 +22,9 @@ pub ends_are : (x y a b : Position) → ((position_eq x a && position_eq y b) ||
 ends_are x y a b = both_ways _ _ there back
   where
     there : ((position_eq x a && position_eq y b) || (position_eq x b && position_eq y a)) ≡ true → segment_eq (segment x y) (segment a b) ≡ true
-    there h = elim (or_true (position_eq x a && position_eq y b) (position_eq x b && position_eq y a) h) [
-      | inl k ↦ let e = and_both (position_eq x a) (position_eq y b) k in ap₂ (λ u v. segment_eq (segment u v) (segment a b)) (position_eq-true x a e.0) (position_eq-true y b e.1) ∙ segment_ordered.eq-refl (segment a b)
-      | inr k ↦ let e = and_both (position_eq x b) (position_eq y a) k in ap₂ (λ u v. segment_eq (segment u v) (segment a b)) (position_eq-true x b e.0) (position_eq-true y a e.1) ∙ ap (λ s. segment_eq s (segment a b)) (segment-comm b a) ∙ segment_ordered.eq-refl (segment a b)
+    there h = elim (or_cases (position_eq x a && position_eq y b) (position_eq x b && position_eq y a) h) [
+      | inl k ↦ let e = and_parts (position_eq x a) (position_eq y b) k in ap₂ (λ u v. segment_eq (segment u v) (segment a b)) (position_eq-true x a e.0) (position_eq-true y b e.1) ∙ segment_ordered.eq-refl (segment a b)
+      | inr k ↦ let e = and_parts (position_eq x b) (position_eq y a) k in ap₂ (λ u v. segment_eq (segment u v) (segment a b)) (position_eq-true x b e.0) (position_eq-true y a e.1) ∙ ap (λ s. segment_eq s (segment a b)) (segment-comm b a) ∙ segment_ordered.eq-refl (segment a b)
     ]
 
     is_end : (u v : Position) → v ≡ u → position_eq u v ≡ true
@@ -46,15 +45,15 @@ ends_are x y a b = both_ways _ _ there back
 pub ins_are_rings : (a b q : Position) (rings : List (List Position)) → list_all is_ring rings ≡ true → has_vertex rings q ≡ false → list_all is_ring (map (ins_ring a b q) rings) ≡ true
 ins_are_rings a b q [] h k = refl
 ins_are_rings a b q (r ∷ rings) h k =
-    let h' = and_both (is_ring r) (list_all is_ring rings) h in
-    let k' = none_parts (has r q) (has_vertex rings q) k in
+    let h' = and_parts (is_ring r) (list_all is_ring rings) h in
+    let k' = or_parts (has r q) (has_vertex rings q) k in
     ap₂ (λ s t. s && t) (ins_is_ring a b q r h'.0 k'.0) (ins_are_rings a b q rings h'.1 k'.1)
 
 pub del_are_rings : (p : Position) (rings : List (List Position)) → list_all is_ring rings ≡ true → are_long rings p ≡ true → list_all is_ring (map (del_ring p) rings) ≡ true
 del_are_rings p [] h k = refl
 del_are_rings p (r ∷ rings) h k =
-    let h' = and_both (is_ring r) (list_all is_ring rings) h in
-    let k' = and_both (not (has r p) || nat_lt 3 (length r)) (are_long rings p) k in
+    let h' = and_parts (is_ring r) (list_all is_ring rings) h in
+    let k' = and_parts (not (has r p) || nat_lt 3 (length r)) (are_long rings p) k in
     ap₂ (λ s t. s && t) (del_is_ring p r h'.0 k'.0) (del_are_rings p rings h'.1 k'.1)
 
 -- ---- how many positions

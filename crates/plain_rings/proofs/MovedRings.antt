@@ -2,12 +2,12 @@
 use Rattle.kit_words.proofs.Common.{◌≡◌, ℕ, ◌<◌, ◌≤◌, Bool, true, false, refl, sym, ap, ap₂, ◌∙◌, subst, cond, List, []}
 use Rattle.kit_words.proofs.Common.{◌∷◌, ◌++◌, map, length, get_or, arith, ◌&&◌, Vec, Option, None, Some, list_all}
 use Rattle.kit_words.proofs.Common.{flat_map, false≢true, slice_get, option_map, Result, Err, with_items, length-map}
-use Rattle.kit_words.proofs.Common.{with_items_is, slice_get-map, slice_get_past}
+use Rattle.kit_words.proofs.Common.{with_items_is, slice_get-map, slice_get_past, and_parts, or_parts}
 use Rattle.grid_geometry.specs.Common.{Position, position_eq, Segment}
 use Rattle.plain_rings.specs.declared.fault.BuildFault.{BuildFault}
 use Rattle.plain_rings.specs.declared.fault.BuildFault.TheVariants.{Conflict}
 use Rattle.ring_machine.specs.Common.{has, is_ring, segments, rings, first_pair, least_conflict, put_ring}
-use Rattle.ring_machine.proofs.Common.{canonical_is_ring, put-distinct, ring_long, ring_distinct, and_both, none_parts}
+use Rattle.ring_machine.proofs.Common.{canonical_is_ring, put-distinct, ring_long, ring_distinct}
 use Rattle.plain_rings.specs.Common.{Names, has_vertex, held_polygon, held_feature, held, rings_in, all_rings}
 use Rattle.topo_reader.specs.declared.document.RawDoc.{RawDoc}
 use Rattle.topo_reader.specs.Common.{document_of, IsOfRings, view_raw}
@@ -35,8 +35,8 @@ moved_is_ring of rings i ring p q l e h k = put_is_ring p q (of ring) (ring_at o
 pub moved_are_rings : (p q : Position) (rings : List (List Position)) → list_all is_ring rings ≡ true → has_vertex rings q ≡ false → list_all is_ring (map (put_ring p q) rings) ≡ true
 moved_are_rings p q [] h k = refl
 moved_are_rings p q (r ∷ rings) h k =
-    let h' = and_both (is_ring r) (list_all is_ring rings) h in
-    let k' = none_parts (has r q) (has_vertex rings q) k in
+    let h' = and_parts (is_ring r) (list_all is_ring rings) h in
+    let k' = or_parts (has r q) (has_vertex rings q) k in
     ap₂ (λ a b. a && b) (put_is_ring p q r h'.0 k'.0) (moved_are_rings p q rings h'.1 k'.1)
 
 -- ---- rings as they are held

@@ -2,12 +2,11 @@
 use Rattle.kit_words.proofs.Common.{◌≡◌, ℕ, zero, suc, ◌+◌, ◌<◌, ◌≤◌, Bool, true, false, refl, sym, ap, ap₂, ◌∙◌, List}
 use Rattle.kit_words.proofs.Common.{[], ◌∷◌, ◌++◌, map, length, take, drop, get_or, ◌-◌, arith, ◌&&◌, Some, slice_get}
 use Rattle.kit_words.proofs.Common.{list_all, list_any, fold, sum_by-cons, false≢true, take_all, length-map}
-use Rattle.kit_words.proofs.Common.{list_all-map, list_all_at}
+use Rattle.kit_words.proofs.Common.{list_all-map, list_all_at, mapped_more}
 use Rattle.std.specs.Prelude.{sum_by}
 use Rattle.grid_geometry.specs.Common.{Position, position_eq}
 use Rattle.ring_machine.specs.Common.{has, is_ring}
 use Rattle.ring_machine.proofs.Common.{position_eq-sym}
-use Rattle.ring_parts.proofs.Common.{one_more}
 
 -- what passes for all passes for one
 pub passes_at : {A : Type 0} (test : A → Bool) (xs : List A) (i : ℕ) (x : A) → i < length xs → x ≡ get_or xs i x → list_all test xs ≡ true → test x ≡ true
@@ -30,7 +29,7 @@ fold-append f z [] ys = refl
 fold-append f z (x ∷ xs) ys = fold-append f (f z x) xs ys
 
 pub fold_more : {A B C : Type 0} (f : C → B → C) (z : C) (of : A → B) (xs : List A) (i : ℕ) (x : A) → i < length xs → x ≡ get_or xs i x → fold f z (map of (take (i + 1) xs)) ≡ f (fold f z (map of (take i xs))) (of x)
-fold_more f z of xs i x l e = ap (fold f z) (one_more of xs i x l e) ∙ fold-append f z (map of (take i xs)) (of x ∷ [])
+fold_more f z of xs i x l e = ap (fold f z) (mapped_more of xs i x l e) ∙ fold-append f z (map of (take i xs)) (of x ∷ [])
 
 -- one of a sum
 pub sum_at : {A B : Type 0} (f : B → ℕ) (of : A → B) (xs : List A) (i : ℕ) (x : A) → i < length xs → x ≡ get_or xs i x → f (of x) ≤ sum_by f (map of xs)

@@ -3,11 +3,11 @@ use Rattle.kit_words.proofs.Common.{◌≡◌, ◌≢◌, ℕ, zero, suc, ◌+�
 use Rattle.kit_words.proofs.Common.{List, [], ◌∷◌, ◌++◌, map, length, drop, get_or, arith, ℤ, append_assoc}
 use Rattle.kit_words.proofs.Common.{drop_of_length-le, not, is_gt, int_cmp, ordering_then, Ordering, Less, Equal}
 use Rattle.kit_words.proofs.Common.{Greater, All, AllByRecursion, list_all, flat_map, false≢true, ints, at_drop_more}
-use Rattle.kit_words.proofs.Common.{drop_more}
+use Rattle.kit_words.proofs.Common.{drop_more, and_parts, or_parts, not-true}
 use Rattle.grid_geometry.specs.Common.{Position, position_eq, position_cmp, Segment, segment, IsSegment, Edge, links}
 use Rattle.grid_geometry.specs.Common.{edges}
 use Rattle.ring_machine.specs.Common.{has, is_distinct, is_ring, segment_of, segments}
-use Rattle.ring_machine.proofs.Common.{and_both, position_eq-refl, same_position, none_parts, not_true, ring_distinct}
+use Rattle.ring_machine.proofs.Common.{position_eq-refl, same_position, ring_distinct}
 
 -- the edges of the way from a over the positions to z
 abbrev pub walk : Position → List Position → Position → List Edge
@@ -21,20 +21,20 @@ pub apart : (p q : Position) → position_eq p q ≡ false → p ≢ q
 apart p q h e = false≢true (sym h ∙ ap (position_eq p) (sym e) ∙ position_eq-refl p)
 
 walk_differs : (a : Position) (rest : List Position) (z : Position) → is_distinct (a ∷ rest) ≡ true → has (a ∷ rest) z ≡ false → AllByRecursion Differ (walk a rest z)
-walk_differs a [] z d h = (λ e. apart z a (none_parts (position_eq z a) false h).0 (sym e), tt)
+walk_differs a [] z d h = (λ e. apart z a (or_parts (position_eq z a) false h).0 (sym e), tt)
 walk_differs a (b ∷ rest) z d h =
-    let d' = and_both (not (has (b ∷ rest) a)) (is_distinct (b ∷ rest)) d in
-    let away = none_parts (position_eq a b) (has rest a) (not_true _ d'.0) in
-    (apart a b away.0, walk_differs b rest z d'.1 (none_parts (position_eq z a) (has (b ∷ rest) z) h).1)
+    let d' = and_parts (not (has (b ∷ rest) a)) (is_distinct (b ∷ rest)) d in
+    let away = or_parts (position_eq a b) (has rest a) (not-true _ d'.0) in
+    (apart a b away.0, walk_differs b rest z d'.1 (or_parts (position_eq z a) (has (b ∷ rest) z) h).1)
 
 -- no step round a ring stays on the spot
 pub ring_differs : (ring : List Position) → is_ring ring ≡ true → AllByRecursion Differ (edges ring)
 ring_differs [] h = tt
 ring_differs (a ∷ []) h = absurd (false≢true h)
 ring_differs (a ∷ b ∷ rest) h =
-    let d = and_both (not (has (b ∷ rest) a)) (is_distinct (b ∷ rest)) (ring_distinct (a ∷ b ∷ rest) h) in
-    let away = none_parts (position_eq a b) (has rest a) (not_true _ d.0) in
-    (apart a b away.0, walk_differs b rest a d.1 (not_true _ d.0))
+    let d = and_parts (not (has (b ∷ rest) a)) (is_distinct (b ∷ rest)) (ring_distinct (a ∷ b ∷ rest) h) in
+    let away = or_parts (position_eq a b) (has rest a) (not-true _ d.0) in
+    (apart a b away.0, walk_differs b rest a d.1 (not-true _ d.0))
 
 -- ---- one step on
 
@@ -98,7 +98,7 @@ at_each P (x ∷ xs) h (suc k) d l = at_each P xs h.1 k d (omega arith)
 all_of : (rings : List (List Position)) → list_all is_ring rings ≡ true → AllByRecursion IsSegment (flat_map segments rings)
 all_of [] h = tt
 all_of (r ∷ rings) h =
-    let k = and_both (is_ring r) (list_all is_ring rings) h in
+    let k = and_parts (is_ring r) (list_all is_ring rings) h in
     join_each IsSegment (segments r) (flat_map segments rings) (each_is (edges r) (ring_differs r k.0)) (all_of rings k.1)
 
 pub all_are_segments : (rings : List (List Position)) → list_all is_ring rings ≡ true → All IsSegment (flat_map segments rings)

@@ -1,16 +1,16 @@
 -- Numbers of positions, a ring at a time.
 use Rattle.kit_words.proofs.Common.{◌≡◌, ℕ, zero, suc, ◌+◌, ◌≤◌, ◌<◌, refl, sym, ap, ap₂, ◌∙◌, List, [], ◌∷◌, map}
 use Rattle.kit_words.proofs.Common.{length, take, get_or, arith, Some, slice_get, flat_map, sum_by-cons, sum_by-append}
+use Rattle.kit_words.proofs.Common.{mapped_more}
 use Rattle.std.specs.Prelude.{sum_by}
 use Rattle.ring_machine.specs.Common.{size}
 use Rattle.topo_reader.specs.Common.{Opened, document_of, IsOfRings}
 use Rattle.plain_rings.specs.Common.{positions_in}
-use Rattle.ring_parts.proofs.Common.{one_more}
 use Rattle.plain_rings.proofs.Documents.{Polygons, rings_are}
 
 pub sum_more : {A B : Type 0} (f : B → ℕ) (of : A → B) (xs : List A) (i : ℕ) (x : A) → i < length xs → x ≡ get_or xs i x → sum_by f (map of (take (i + 1) xs)) ≡ sum_by f (map of (take i xs)) + f (of x)
 sum_more f of xs i x l e =
-    ap (sum_by f) (one_more of xs i x l e) ∙ sum_by-append f (map of (take i xs)) (of x ∷ [])
+    ap (sum_by f) (mapped_more of xs i x l e) ∙ sum_by-append f (map of (take i xs)) (of x ∷ [])
     ∙ ap (λ n. sum_by f (map of (take i xs)) + n) (sum_by-cons f (of x) [] ∙ omega arith)
 
 -- a part of a sum

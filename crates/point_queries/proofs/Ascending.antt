@@ -5,10 +5,10 @@ use Rattle.kit_words.proofs.Common.{is_ok, MatchResult, nat_le, nat_eq, not, ◌
 use Rattle.kit_words.proofs.Common.{list_any, IsPermutation, IsStrictlySortedBy, IsBinarySearchResult, IsFiltered}
 use Rattle.kit_words.proofs.Common.{DiffersFromLast, nat_cmp, eq_by_cmp, Less, false≢true, cases_lt, Decides-eqb}
 use Rattle.kit_words.proofs.Common.{nat_tests, nat_cmp_total, dedup_is, IsStrictlySortedBy-dedup, IsPermutation-sym}
-use Rattle.kit_words.proofs.Common.{searched}
+use Rattle.kit_words.proofs.Common.{searched, and_parts, not-true}
 use Rattle.std.specs.List.Sorted as sorting
 use Rattle.ring_machine.specs.Common.{Feature, add_number, numbers, are_distinct}
-use Rattle.ring_machine.proofs.Common.{In, filter-in, in-map, and_both, not_true, contains_in, in_contains, in_filter}
+use Rattle.ring_machine.proofs.Common.{In, filter-in, in-map, contains_in, in_contains, in-filter}
 use Rattle.ring_machine.proofs.Common.{in_any, any_in, in_mapped, in_at, in_recursion, in_permuted, none_new, none_lost}
 use Rattle.point_queries.specs.Common.{Rises, IsSorted}
 
@@ -127,15 +127,15 @@ Apart (f ∷ fs) = ((g : Feature) → In g fs → g.number ≢ f.number) × Apar
 apart : (fs : List Feature) → are_distinct (map (λ f. f.number) fs) ≡ true → Apart fs
 apart [] d = tt
 apart (f ∷ fs) d =
-    let b = and_both (not (list_any (λ m. m == f.number) (map (λ f. f.number) fs))) (are_distinct (map (λ f. f.number) fs)) d in
-    (λ g i e. false≢true (sym (not_true _ b.0) ∙ in_any (λ m. m == f.number) g.number (map (λ f. f.number) fs) (in-map (λ f. f.number) g fs i) ((Decides-eqb g.number f.number).1 e)), apart fs b.1)
+    let b = and_parts (not (list_any (λ m. m == f.number) (map (λ f. f.number) fs))) (are_distinct (map (λ f. f.number) fs)) d in
+    (λ g i e. false≢true (sym (not-true _ b.0) ∙ in_any (λ m. m == f.number) g.number (map (λ f. f.number) fs) (in-map (λ f. f.number) g fs i) ((Decides-eqb g.number f.number).1 e)), apart fs b.1)
 
 apart_among : (test : Feature → Bool) (fs : List Feature) → Apart fs → Apart (filter test fs)
 apart_among test [] h = tt
 apart_among test (f ∷ fs) h = by (test f) (apart_among test fs h.1)
   where
     by : (b : Bool) → Apart (filter test fs) → Apart (cond b (f ∷ filter test fs) (filter test fs))
-    by true rest = (λ g i. h.0 g (in_filter test g fs i).0, rest)
+    by true rest = (λ g i. h.0 g (in-filter test g fs i).0, rest)
     by false rest = rest
 
 rises_fold : (fs : List Feature) (ns : List ℕ) → Apart fs → ((g : Feature) → In g fs → In g.number ns → ⊥)
@@ -163,7 +163,7 @@ numbers_are test fs ns d h from to =
     subst (λ z. In z (numbers (filter test fs))) g.3 (each_in (filter test fs) [] g.0 (filter-in test g.0 fs g.1 g.2)))
     (λ m i. elim (in_fold (filter test fs) [] m i) [
       | inl j ↦ absurd j
-      | inr g ↦ let k = in_filter test g.0 fs g.1 in subst (λ z. In z ns) g.2 (to g.0 k.0 k.1)
+      | inr g ↦ let k = in-filter test g.0 fs g.1 in subst (λ z. In z ns) g.2 (to g.0 k.0 k.1)
     ])
 
 -- the same of numbers that were found, sorted, where each is that of a feature that passes

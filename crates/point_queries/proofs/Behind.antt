@@ -5,13 +5,14 @@ use Rattle.kit_words.proofs.Common.{is_gt, false≢true, take_more, Contains}
 use Rattle.grid_geometry.specs.Common.{orientation, Position, position_cmp, Edge, edges, links, is_counted}
 use Rattle.grid_geometry.specs.Common.{is_odd_count, is_inside, xor, Segment, segment}
 use Rattle.ring_machine.specs.Common.{Document}
-use Rattle.ring_machine.proofs.Common.{In, in-append, in_left, in_right, contains_in, in_contains}
+use Rattle.ring_machine.proofs.Common.{In, in-append, in_left, in_right, contains_in, in_contains, xor-comm, xor-same}
+use Rattle.ring_machine.proofs.Common.{xor-none}
 use Rattle.map_frame.specs.declared.names.RingName.{RingName}
 use Rattle.arc_store.specs.Common.{ListsRings}
 use Rattle.point_queries.specs.Common.{is_behind, AreBehind, SeesMore, odd, ring_has}
 use Rattle.point_queries.proofs.Holding.{passes_level, behind_edge, xor_through}
 use Rattle.point_queries.proofs.OddRings.{has_of, of_has}
-use Rattle.point_queries.proofs.Odds.{odd-some, odd-xor, xor-comm, xor-false, xor-same}
+use Rattle.point_queries.proofs.Odds.{odd-some, odd-xor}
 use Rattle.point_queries.proofs.Passing.{passed_edge}
 
 -- ---- an edge and its segment
@@ -42,7 +43,7 @@ counted_passes p a b h = by (int_lt p.y a.y) (int_lt p.y b.y) (orientation a b p
 
 level_links : (p a z : Position) (rest : List Position)
     → odd (λ (e : Edge). passes_level p e.0 e.1) (links (a ∷ rest ++ z ∷ [])) ≡ passes_level p a z
-level_links p a z [] = xor-false (passes_level p a z)
+level_links p a z [] = xor-none (passes_level p a z)
 level_links p a z (b ∷ rest) =
     ap (xor (passes_level p a b)) (level_links p b z rest) ∙ xor_through (int_lt p.y a.y) (int_lt p.y b.y) (int_lt p.y z.y)
 

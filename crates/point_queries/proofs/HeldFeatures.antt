@@ -1,27 +1,23 @@
 -- The features that hold a position, by rings that stand an odd number of times where they hold it.
 use Rattle.kit_words.proofs.Common.{◌≡◌, ℕ, zero, suc, Bool, true, false, refl, sym, ap, ap₂, ◌∙◌, subst, ◌&&◌, arith}
 use Rattle.kit_words.proofs.Common.{List, [], ◌∷◌, map, Some, not, ◌==◌, is_some, slice_get, option_map, list_any}
-use Rattle.kit_words.proofs.Common.{filter, fold, find, BTreeSet, contains, false≢true, Decides-eqb}
+use Rattle.kit_words.proofs.Common.{filter, fold, find, BTreeSet, contains, false≢true, Decides-eqb, and_parts}
+use Rattle.kit_words.proofs.Common.{and_from, false_from_ne_true, not-true}
 use Rattle.std.proofs.Common.{unwrap_or}
 use Rattle.grid_geometry.specs.Common.{Position, xor, is_inside}
 use Rattle.ring_machine.specs.Common.{Document, Feature, features, feature, is_on_border, is_in_polygon, is_in_feature}
 use Rattle.ring_machine.specs.Common.{border_at, inside_at, are_distinct}
-use Rattle.ring_machine.proofs.Common.{In, filter-in, found, in_contains, in_filter, any_in, in_any, there}
-use Rattle.ring_machine.proofs.Common.{mapped_there, and_both, not_true}
+use Rattle.ring_machine.proofs.Common.{In, filter-in, found, in_contains, any_in, in_any, there}
+use Rattle.ring_machine.proofs.Common.{mapped_there, xor-assoc, xor-none, in-filter, slice-in}
 use Rattle.map_frame.specs.declared.names.RingName.{RingName}
 use Rattle.map_frame.specs.Common.{element, ring_at}
-use Rattle.arc_store.proofs.Common.{place_of}
-use Rattle.map_frame.proofs.Common.{element_is, in_get}
+use Rattle.map_frame.proofs.Common.{element_is, of_in}
 use Rattle.point_queries.specs.declared.odd.PolygonName.{PolygonName}
 use Rattle.point_queries.specs.Common.{odd, AreOdd, TellsInside, is_name, is_polygon, is_held, polygon_of, polygon_cmp}
 use Rattle.point_queries.specs.Common.{ring_of, IsSorted}
 use Rattle.point_queries.proofs.Ascending.{numbers_found, in_numbers, numbers_have}
-use Rattle.point_queries.proofs.Odds.{both, odd-alike, odd-exchange, odd-some, xor-assoc, xor-false}
+use Rattle.point_queries.proofs.Odds.{odd-alike, odd-exchange, odd-some}
 use Rattle.point_queries.proofs.SharedBorders.{found_in}
-
-refuted : (b : Bool) → (b ≡ true → ⊥) → b ≡ false
-refuted false h = refl
-refuted true h = absurd (h refl)
 
 -- ---- the names of a polygon's rings
 
@@ -46,7 +42,7 @@ one_at test name (y ∷ ys) (suc r) x e h k =
 fold_at : (p : Position) (test : RingName → Bool) (name : ℕ → RingName) (polygon : List (List Position)) (b : Bool)
     → ((r : ℕ) (ring : List Position) → slice_get polygon r ≡ Some ring → test (name r) ≡ is_inside p ring)
     → fold (λ so_far ring. xor so_far (is_inside p ring)) b polygon ≡ xor b (odd test (names_at name polygon))
-fold_at p test name [] b h = sym (xor-false b)
+fold_at p test name [] b h = sym (xor-none b)
 fold_at p test name (ring ∷ polygon) b h =
     fold_at p test (λ i. name (suc i)) polygon (xor b (is_inside p ring)) (λ r s e. h (suc r) s e)
     ∙ xor-assoc b (is_inside p ring) (odd test (names_at (λ i. name (suc i)) polygon))
@@ -81,14 +77,14 @@ module _ (d : Document) (distinct : are_distinct (map (λ f. f.number) (features
         by : (b : Bool) → is_polygon here (polygon_of name) ≡ b → b ≡ odd (λ m. is_name m name) (names_at name_of polygon)
         by false f = sym (none_at (λ m. is_name m name) name_of polygon (λ r. apart_and (g.number == name.feature) (k == name.polygon) (r == name.ring) f))
         by true f =
-            let same = and_both (g.number == name.feature) (k == name.polygon) f in
+            let same = and_parts (g.number == name.feature) (k == name.polygon) f in
             let number : g.number ≡ name.feature = (Decides-eqb g.number name.feature).0 same.0 in
             let place : k ≡ name.polygon = (Decides-eqb k name.polygon).0 same.1 in
             let ring = there (ring_of d name) (tells.rings name (in_contains names name j)) in
             sym (one_at (λ m. is_name m name) name_of polygon name.ring ring.0
             (sym (ring_here name.ring) ∙ ap₂ (λ n q. ring_at d n q name.ring) number place ∙ ring.1)
-            (both (g.number == name.feature) (k == name.polygon && name.ring == name.ring) same.0 (both (k == name.polygon) (name.ring == name.ring) same.1 ((Decides-eqb name.ring name.ring).1 refl)))
-            (λ r differ. refuted (is_name (name_of r) name) (λ t. differ ((Decides-eqb r name.ring).0 (and_both (k == name.polygon) (r == name.ring) (and_both (g.number == name.feature) (k == name.polygon && r == name.ring) t).1).1))))
+            (and_from (g.number == name.feature) (k == name.polygon && name.ring == name.ring) same.0 (and_from (k == name.polygon) (name.ring == name.ring) same.1 ((Decides-eqb name.ring name.ring).1 refl)))
+            (λ r differ. false_from_ne_true (is_name (name_of r) name) (λ t. differ ((Decides-eqb r name.ring).0 (and_parts (k == name.polygon) (r == name.ring) (and_parts (g.number == name.feature) (k == name.polygon && r == name.ring) t).1).1))))
 
     -- an odd number of the rings are the polygon's where it holds the position
     odd_polygon : odd (λ name. is_polygon here (polygon_of name)) names ≡ is_in_polygon p polygon
@@ -129,14 +125,14 @@ module _ (d : Document) (distinct : are_distinct (map (λ f. f.number) (features
     of_border g i h =
         let m = any_in (λ m. m == g.number) border h in
         let f = in_numbers (filter (is_on_border p) (features d)) m.0 (subst (In m.0) on m.1) in
-        let k = in_filter (is_on_border p) f.0 (features d) f.1 in
+        let k = in-filter (is_on_border p) f.0 (features d) f.1 in
         subst (λ z. is_on_border p z ≡ true) (same_feature f.0 g k.0 i (f.2 ∙ (Decides-eqb m.0 g.number).0 m.2)) k.1
 
     module _ (polygons : BTreeSet PolygonName) (o : AreOdd names polygons) where
       held_in : (name : RingName) → In name names → is_held polygons border name ≡ true
           → (g : Feature) × In g (features d) × (is_in_feature p g ≡ true) × (g.number ≡ name.feature)
       held_in name j h =
-          let k = and_both (contains polygon_cmp polygons (polygon_of name)) (not (is_there name.feature)) h in
+          let k = and_parts (contains polygon_cmp polygons (polygon_of name)) (not (is_there name.feature)) h in
           let t = polygon_named name j in
           let g = t.0 in
           let polygon = t.3 in
@@ -145,30 +141,30 @@ module _ (d : Document) (distinct : are_distinct (map (λ f. f.number) (features
           sym (odd_polygon g t.1 name.polygon polygon.0 polygon.1) ∙ sym (o here)
           ∙ ap (λ n. contains polygon_cmp polygons (record { feature = n; polygon = name.polygon })) t.2 ∙ k.0 in
           let off : is_on_border p g ≡ false =
-          refuted (is_on_border p g) (λ u. false≢true (sym (not_true (is_there name.feature) k.1) ∙ ap is_there (sym t.2) ∙ on_border g t.1 u)) in (
+          false_from_ne_true (is_on_border p g) (λ u. false≢true (sym (not-true (is_there name.feature) k.1) ∙ ap is_there (sym t.2) ∙ on_border g t.1 u)) in (
             g,
             t.1,
-            both (not (is_on_border p g)) (list_any (is_in_polygon p) g.polygons) (ap not off) (in_any (is_in_polygon p) polygon.0 g.polygons (in_get g.polygons name.polygon polygon.0 polygon.1) inside),
+            and_from (not (is_on_border p g)) (list_any (is_in_polygon p) g.polygons) (ap not off) (in_any (is_in_polygon p) polygon.0 g.polygons (slice-in g.polygons name.polygon polygon.0 polygon.1) inside),
             t.2,
           )
 
       in_held : (g : Feature) → In g (features d) → is_in_feature p g ≡ true
           → (name : RingName) × In name names × (is_held polygons border name ≡ true) × (name.feature ≡ g.number)
       in_held g i h =
-          let k = and_both (not (is_on_border p g)) (list_any (is_in_polygon p) g.polygons) h in
+          let k = and_parts (not (is_on_border p g)) (list_any (is_in_polygon p) g.polygons) h in
           let polygon = any_in (is_in_polygon p) g.polygons k.1 in
-          let place = place_of g.polygons polygon.0 polygon.1 in
+          let place = of_in g.polygons polygon.0 polygon.1 in
           let here : PolygonName = record { feature = g.number; polygon = place.0 } in
           let many : odd (λ name. is_polygon here (polygon_of name)) names ≡ true = odd_polygon g i place.0 polygon.0 place.1 ∙ polygon.2 in
           let name = odd-some (λ name. is_polygon here (polygon_of name)) names many in
-          let same = and_both (g.number == (name.0).feature) (place.0 == (name.0).polygon) name.2 in
+          let same = and_parts (g.number == (name.0).feature) (place.0 == (name.0).polygon) name.2 in
           let number : g.number ≡ (name.0).feature = (Decides-eqb g.number (name.0).feature).0 same.0 in
           let at : place.0 ≡ (name.0).polygon = (Decides-eqb place.0 (name.0).polygon).0 same.1 in (
             name.0,
             name.1,
-            both (contains polygon_cmp polygons (polygon_of name.0)) (not (is_there (name.0).feature))
+            and_from (contains polygon_cmp polygons (polygon_of name.0)) (not (is_there (name.0).feature))
                 (ap₂ (λ n q. contains polygon_cmp polygons (record { feature = n; polygon = q })) (sym number) (sym at) ∙ o here ∙ many)
-                (ap not (refuted (is_there (name.0).feature) (λ u. false≢true (sym (not_true (is_on_border p g) k.0) ∙ of_border g i (ap is_there number ∙ u))))),
+                (ap not (false_from_ne_true (is_there (name.0).feature) (λ u. false≢true (sym (not-true (is_on_border p g) k.0) ∙ of_border g i (ap is_there number ∙ u))))),
             sym number,
           )
 
@@ -178,7 +174,7 @@ module _ (d : Document) (distinct : are_distinct (map (λ f. f.number) (features
           → sorted ≡ inside_at d p
       inside_are within w found sorted e s =
           numbers_found (λ name. name.feature) within (is_in_feature p) (features d) found sorted distinct e s
-          (λ name j. let k = in_filter (is_held polygons border) name names (subst (In name) w j) in held_in name k.0 k.1)
+          (λ name j. let k = in-filter (is_held polygons border) name names (subst (In name) w j) in held_in name k.0 k.1)
           (λ g j h.
           let name = in_held g j h in
           (name.0, subst (In name.0) (sym w) (filter-in (is_held polygons border) name.0 names name.1 name.2), name.3))

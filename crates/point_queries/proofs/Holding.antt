@@ -1,15 +1,15 @@
 -- A ring that holds a position has it in its bounding box.
 use Rattle.kit_words.proofs.Common.{ℤ, pos, ◌≡◌, ◌-ℤ◌, ◌≤ℤ◌, ◌<ℤ◌, arith, Bool, true, false, cond, List, [], ◌∷◌, ◌++◌}
 use Rattle.kit_words.proofs.Common.{refl, sym, ap, ap₂, ◌∙◌, ◌&&◌, Contains, subst, int_lt, int_le, not, int_min}
-use Rattle.kit_words.proofs.Common.{int_max, AllByRecursion, is_gt, false≢true, ints, clamps}
+use Rattle.kit_words.proofs.Common.{int_max, AllByRecursion, is_gt, false≢true, ints, clamps, and_parts}
 use Rattle.grid_geometry.specs.Common.{Position, position_cmp, orientation, links, xor, is_counted, is_odd_count}
 use Rattle.grid_geometry.specs.Common.{is_inside, Segment, Box, segment, box_of, boxes_meet}
-use Rattle.grid_geometry.proofs.Common.{expand, up_down, down_up, down_down, above_above, weak, side}
+use Rattle.grid_geometry.proofs.Common.{up_down, down_up, down_down, above_above, weak, side}
 use Rattle.grid_geometry.proofs.Balances.{turn}
-use Rattle.ring_machine.proofs.Common.{in_contains, all_of, and_both}
+use Rattle.grid_geometry.proofs.HeldLaw.{moved_turn, moved_below}
+use Rattle.ring_machine.proofs.Common.{in_contains, all_of, xor-same, xor-none}
 use Rattle.ring_boxes.specs.Common.{box_at}
 use Rattle.point_queries.specs.Common.{ray_to, ray_back}
-use Rattle.point_queries.proofs.Odds.{xor-false, xor-same}
 
 -- ---- whether an edge counts, by how far its ends are above
 -- an end alone above, with the position to the side on which such an edge counts
@@ -21,16 +21,9 @@ counts_not : (a b s : ℤ) → (pos 0 <ℤ a → b ≤ℤ pos 0 → pos 0 ≤ℤ
     → side a b s ≡ false
 counts_not a b s h k = grind (arith, ints)
 
-seen_turn : (a b w : Position) → orientation a b w ≡ turn (a.x -ℤ w.x) (a.y -ℤ w.y) (b.x -ℤ w.x) (b.y -ℤ w.y)
-unfolding orientation
-seen_turn a b w = simp expand (omega (arith, ints))
-
-seen_above : (z a : ℤ) → int_lt z a ≡ int_lt (pos 0) (a -ℤ z)
-seen_above z a = grind (arith, ints)
-
 counted_is : (w a b : Position)
     → is_counted w a b ≡ side (a.y -ℤ w.y) (b.y -ℤ w.y) (turn (a.x -ℤ w.x) (a.y -ℤ w.y) (b.x -ℤ w.x) (b.y -ℤ w.y))
-counted_is w a b = rw (seen_above w.y a.y, seen_above w.y b.y, seen_turn a b w)
+counted_is w a b = rw (moved_below w.y a.y, moved_below w.y b.y, moved_turn a b w)
 
 -- ---- the turn between two points on one side of the origin, of which one alone is above
 right_falls : (a1 a2 b1 b2 : ℤ) → pos 0 <ℤ a1 → pos 0 <ℤ b1 → pos 0 <ℤ a2 → b2 ≤ℤ pos 0
@@ -84,7 +77,7 @@ pub right_counted : (p a b : Position) → int_lt p.x a.x ≡ true → int_lt p.
 right_counted p a b h k =
     counted_is p a b
     ∙ right_side (a.x -ℤ p.x) (a.y -ℤ p.y) (b.x -ℤ p.x) (b.y -ℤ p.y) (past p.x a.x h) (past p.x b.x k)
-    ∙ sym (ap₂ xor (seen_above p.y a.y) (seen_above p.y b.y))
+    ∙ sym (ap₂ xor (moved_below p.y a.y) (moved_below p.y b.y))
 
 -- not right of p, no edge counts, also where an end is straight above p or below it
 pub left_uncounted : (p a b : Position) → int_le a.x p.x ≡ true → int_le b.x p.x ≡ true
@@ -127,7 +120,7 @@ module _ (P : Position → Type 0) (p : Position) (right : (q : Position) → P 
   way_right : (a z : Position) (rest : List Position) → P a → AllByRecursion P rest → P z
       → is_odd_count p (links (a ∷ rest ++ z ∷ [])) ≡ passes_level p a z
   way_right a z [] h k l =
-      ap (λ c. xor c false) (right_counted p a z (right a h) (right z l)) ∙ xor-false (passes_level p a z)
+      ap (λ c. xor c false) (right_counted p a z (right a h) (right z l)) ∙ xor-none (passes_level p a z)
   way_right a z (b ∷ rest) h k l =
       ap₂ xor (right_counted p a b (right a h) (right b k.0)) (way_right b z rest k.0 k.1 l)
       ∙ xor_through (int_lt p.y a.y) (int_lt p.y b.y) (int_lt p.y z.y)
@@ -172,9 +165,9 @@ holds_in_box r ring p h odd = record {
 
 pub box_has : (r : Box) (q : Position) → boxes_meet r (box_at q) ≡ true → BoxHas r q
 box_has r q h =
-    let k = and_both (int_le r.x0 q.x && int_le q.x r.x1) (int_le r.y0 q.y && int_le q.y r.y1) h in
-    let x = and_both (int_le r.x0 q.x) (int_le q.x r.x1) k.0 in
-    let y = and_both (int_le r.y0 q.y) (int_le q.y r.y1) k.1 in
+    let k = and_parts (int_le r.x0 q.x && int_le q.x r.x1) (int_le r.y0 q.y && int_le q.y r.y1) h in
+    let x = and_parts (int_le r.x0 q.x) (int_le q.x r.x1) k.0 in
+    let y = and_parts (int_le r.y0 q.y) (int_le q.y r.y1) k.1 in
     record { left = x.0; right = x.1; lower = y.0; upper = y.1 }
 
 pub has_box : (r : Box) (q : Position) → BoxHas r q → boxes_meet r (box_at q) ≡ true
@@ -271,7 +264,7 @@ counted_within p a b x l h =
 pub behind_within : (p a b : Position) (x : ℤ) → int_le x a.x ≡ true
     → behind_edge p a b ≡ true → boxes_meet (box_of (segment a b)) (ray_back p x) ≡ true
 behind_within p a b x l h =
-    let level = (and_both (passes_level p a b) (not (is_counted p a b)) h).0 in
+    let level = (and_parts (passes_level p a b) (not (is_counted p a b)) h).0 in
     subst (λ r. boxes_meet r (ray_back p x) ≡ true) (box_of_ends a b)
     (rw (level_columns p.x x a.x b.x l (by (int_lt p.x a.x) refl (int_lt p.x b.x) refl), level_rows p.y a.y b.y level))
   where

@@ -1,14 +1,14 @@
 -- Which rings hold a position, by the segments that count as far as the boxes that have it.
 use Rattle.kit_words.proofs.Common.{◌≡◌, ℤ, Bool, true, false, refl, sym, ap, ap₂, ◌∙◌, subst, cond, ◌&&◌, int_le}
 use Rattle.kit_words.proofs.Common.{arith, unsigned_abs, ◌≤◌, w64, List, [], ◌∷◌, Option, Some, Contains, unwrap_or}
-use Rattle.kit_words.proofs.Common.{filter, list_all, list_any, ints, to_z-of_z}
+use Rattle.kit_words.proofs.Common.{filter, list_all, list_any, ints, to_z-of_z, and_parts}
 use mir.Val.{of_z, to_z}
 use Rattle.std.specs.FinSet as set
 use Rattle.grid_geometry.specs.Common.{Position, Edge, edges, is_counted, is_inside, xor, Segment, Box, box_of}
 use Rattle.grid_geometry.specs.Common.{boxes_meet, segment, segment_eq}
 use Rattle.ring_machine.specs.Common.{Document, rings, segment_of, segments, is_ring}
-use Rattle.ring_machine.proofs.Common.{In, in_contains, contains_in, any_in, in_any, in_filter, in_mapped, there}
-use Rattle.ring_machine.proofs.Common.{edge_in, in-map, in-flat_map, and_both, segment_ordered, segment_eq-true}
+use Rattle.ring_machine.proofs.Common.{In, in_contains, contains_in, any_in, in_any, in_mapped, there, in-map}
+use Rattle.ring_machine.proofs.Common.{in-flat_map, segment_ordered, segment_eq-true, edge_ends, in-filter}
 use Rattle.segment_index.specs.Common.{is_within, SegmentSet}
 use Rattle.ring_boxes.specs.Common.{Covers, IsCovered, box_at, lies_in}
 use Rattle.map_frame.specs.declared.names.RingName.{RingName}
@@ -31,11 +31,11 @@ read_back x h = to_z-of_z w64 x (omega (arith, ints))
 -- the box within which a position is looked for, as far as it goes to either side
 pub in_front : (p : Position) (r : Box) → is_within (box_at p) r ≡ true → unsigned_abs r.x1 ≤ 1000000000000
     → int_le p.x (to_z w64 (of_z w64 r.x1)) ≡ true
-in_front p r h range = ap (int_le p.x) (read_back r.x1 range) ∙ (and_both _ _ (and_both _ _ h).0).1
+in_front p r h range = ap (int_le p.x) (read_back r.x1 range) ∙ (and_parts _ _ (and_parts _ _ h).0).1
 
 pub in_back : (p : Position) (r : Box) → is_within (box_at p) r ≡ true → unsigned_abs r.x0 ≤ 1000000000000
     → int_le (to_z w64 (of_z w64 r.x0)) p.x ≡ true
-in_back p r h range = ap (λ x. int_le x p.x) (read_back r.x0 range) ∙ (and_both _ _ (and_both _ _ h).0).0
+in_back p r h range = ap (λ x. int_le x p.x) (read_back r.x0 range) ∙ (and_parts _ _ (and_parts _ _ h).0).0
 
 -- ---- of the names, those that pass a test
 
@@ -63,15 +63,11 @@ lies_within : (b : Segment) (q : Position) (r : Box) → lies_in b q ≡ true �
     → (int_le r.x0 q.x ≡ true) × (int_le q.x r.x1 ≡ true)
 lies_within b q r h l =
     let has = box_has (box_of b) q h in
-    let in_x = and_both (int_le r.x0 (box_of b).x0) (int_le (box_of b).x1 r.x1) (and_both _ _ l).0 in
+    let in_x = and_parts (int_le r.x0 (box_of b).x0) (int_le (box_of b).x1 r.x1) (and_parts _ _ l).0 in
     (through r.x0 (box_of b).x0 q.x in_x.0 has.left, through q.x (box_of b).x1 r.x1 has.right in_x.1)
   where
     through : (u v w : ℤ) → int_le u v ≡ true → int_le v w ≡ true → int_le u w ≡ true
     through u v w h l = grind (arith, ints)
-
-ends_in : (ring : List Position) (e : Edge) → In e (edges ring) → In e.0 ring × In e.1 ring
-ends_in [] e i = absurd i
-ends_in (a ∷ rest) e i = edge_in a rest e i
 
 -- an edge of the segment that a ring has
 edge_of : (s : Segment) (ring : List Position) → list_any (segment_eq (segment s.lo s.hi)) (segments ring) ≡ true
@@ -91,7 +87,7 @@ module _ (d : Document) (are_rings : list_all is_ring (rings d) ≡ true) (p : P
     c = covers ring (in_contains (rings d) ring i)
 
     starts : (e : Edge) → In e (edges ring) → (int_le r.x0 (e.0).x ≡ true) × (int_le (e.0).x r.x1 ≡ true)
-    starts e j = lies_within c.by e.0 r (c.within e.0 (in_contains ring e.0 (ends_in ring e j).0)) (around c.by c.held has)
+    starts e j = lies_within c.by e.0 r (c.within e.0 (in_contains ring e.0 (edge_ends ring e j).0)) (around c.by c.held has)
 
     -- the segments that count
     meets : (t : Segment) → In t (segments ring) → is_passed p t ≡ true → boxes_meet (box_of t) (ray_to p r.x1) ≡ true
@@ -145,8 +141,8 @@ module _ (d : Document) (are_rings : list_all is_ring (rings d) ≡ true) (p : P
         let back : behind_edge p (e.0).0 (e.0).1 ≡ true =
         sym (behind_is p (e.0).0 (e.0).1) ∙ ap (is_behind p) e.2 ∙ behind_is p (left.0).lo (left.0).hi ∙ left.2 in
         let at = λ (q : Position) (j : In q ring.positions). box_has (box_of c.by) q (c.within q (in_contains ring.positions q j)) in
-        let g = ends_in ring.positions f.0 f.1 in
-        let k = ends_in ring.positions e.0 e.1 in
+        let g = edge_ends ring.positions f.0 f.1 in
+        let k = edge_ends ring.positions e.0 e.1 in
         let has : lies_in c.by p ≡ true = has_box (box_of c.by) p
         (both_sides (box_of c.by) p (f.0).0 (f.0).1 (e.0).0 (e.0).1 (at (f.0).0 g.0) (at (f.0).1 g.1) (at (e.0).0 k.0) (at (e.0).1 k.1) counted back) in
         ap (λ (o : Option (List Position)). is_inside p (unwrap_or o [])) ring.there ∙ sym (suspect ring.positions i has name ring.there) ∙ odds
@@ -159,7 +155,7 @@ module _ (d : Document) (are_rings : list_all is_ring (rings d) ≡ true) (p : P
       pub tells_near : (found : List RingName) → found ≡ filter (λ name. list_any (λ other. is_name other name) behind) suspects → TellsInside d p found
       tells_near found e = record {
         rings = λ name c.
-            let k = in_filter told name suspects (subst (In name) e (contains_in found name c)) in
+            let k = in-filter told name suspects (subst (In name) e (contains_in found name c)) in
             are_there d are_rings p (ray_to p r.x1) names h name
             (among name (contains_in sorted name (odds.among name (in_contains suspects name k.0))));
         odds = λ name i.

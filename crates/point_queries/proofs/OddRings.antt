@@ -2,22 +2,22 @@
 use Rattle.kit_words.proofs.Common.{◌≡◌, ℕ, suc, ◌+◌, ◌<◌, Bool, true, false, refl, sym, ap, ap₂, ◌∙◌, subst, ◌&&◌}
 use Rattle.kit_words.proofs.Common.{arith, List, [], ◌∷◌, ◌++◌, take, length, get_or, append_assoc, inl, inr, Option}
 use Rattle.kit_words.proofs.Common.{Some, None, is_some, ◌==◌, unwrap_or, list_any, false≢true, Decides-eqb, append-nil}
-use Rattle.kit_words.proofs.Common.{take_more}
+use Rattle.kit_words.proofs.Common.{take_more, and_parts}
 use Rattle.grid_geometry.specs.Common.{Position, xor, Segment, segment, segment_eq}
 use Rattle.ring_machine.specs.Common.{Document, segments}
-use Rattle.ring_machine.proofs.Common.{in-append, contains_in, in_contains, any_in, in_any, same_answer, and_both}
+use Rattle.ring_machine.proofs.Common.{in-append, contains_in, in_contains, any_in, in_any, same_answer, xor-none}
 use Rattle.map_frame.specs.declared.names.RingName.{RingName}
+use Rattle.map_frame.proofs.Common.{of_in}
 use Rattle.arc_store.specs.Common.{RingHas, AreOnce, ListsRings}
-use Rattle.arc_store.proofs.Common.{place_of}
 use Rattle.point_queries.specs.Common.{AreApart, ListsOdd, ring_of, ring_has, is_name}
-use Rattle.point_queries.proofs.Odds.{odd-append, odd_apart, xor-false}
+use Rattle.point_queries.proofs.Odds.{odd-append, odd_apart}
 
 -- ---- names of rings
 
 pub is_name-true : (a b : RingName) → is_name a b ≡ true → a ≡ b
 is_name-true a b h =
-    let k = and_both (a.feature == b.feature) (a.polygon == b.polygon && a.ring == b.ring) h in
-    let l = and_both (a.polygon == b.polygon) (a.ring == b.ring) k.1 in
+    let k = and_parts (a.feature == b.feature) (a.polygon == b.polygon && a.ring == b.ring) h in
+    let l = and_parts (a.polygon == b.polygon) (a.ring == b.ring) k.1 in
     let feature = (Decides-eqb a.feature b.feature).0 k.0 in
     let polygon = (Decides-eqb a.polygon b.polygon).0 l.0 in
     let ring = (Decides-eqb a.ring b.ring).0 l.1 in
@@ -36,7 +36,7 @@ apart_once (name ∷ names) h = (by (list_any (is_name name) names) refl, apart_
     by false e = refl
     by true e =
         let other = any_in (is_name name) names e in
-        let place = place_of names other.0 other.1 in
+        let place = of_in names other.0 other.1 in
         absurd (omega (arith, h 0 (suc place.0) name refl (place.1 ∙ ap Some (sym (is_name-true name other.0 other.2)))))
 
 -- ---- one segment
@@ -72,7 +72,7 @@ odd_one_listed d s old new l = record {
       (λ h. let other = any_in (is_name name) l.found h in
       has_of d s name (subst (RingHas d (segment s.lo s.hi)) (sym (is_name-true name other.0 other.2)) ((l.all other.0).0 (in_contains l.found other.0 other.1))))
       (λ h. in_any (is_name name) name l.found (contains_in l.found name ((l.all name).1 (of_has d s name h))) (is_name-refl name))
-      ∙ sym (xor-false (ring_has d name s));
+      ∙ sym (xor-none (ring_has d name s));
 }
 
 -- ---- more segments

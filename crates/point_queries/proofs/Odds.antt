@@ -1,33 +1,18 @@
 -- Odd numbers: of lists one after another, of lists in another order, and of pairs of two lists.
 use Rattle.kit_words.proofs.Common.{◌≡◌, ℕ, zero, suc, ◌+◌, Bool, true, false, refl, sym, ap, ap₂, ◌∙◌, cond, not, List}
-use Rattle.kit_words.proofs.Common.{[], ◌∷◌, ◌++◌, take, get_or, length, ◌<◌, ◌||◌, ◌&&◌, inl, inr, arith, list_any}
-use Rattle.kit_words.proofs.Common.{filter, IsPermutation, false≢true, append-nil, take_more, filter_more}
-use Rattle.kit_words.proofs.Common.{sum_by-IsPermutation, sum_by-cons}
+use Rattle.kit_words.proofs.Common.{[], ◌∷◌, ◌++◌, take, get_or, length, ◌<◌, ◌||◌, inl, inr, arith, list_any, filter}
+use Rattle.kit_words.proofs.Common.{IsPermutation, false≢true, append-nil, take_more, filter_more, sum_by-IsPermutation}
+use Rattle.kit_words.proofs.Common.{sum_by-cons}
 use Rattle.std.specs.Prelude.{sum_by}
 use Rattle.grid_geometry.specs.Common.{xor}
-use Rattle.ring_machine.proofs.Common.{In}
+use Rattle.ring_machine.proofs.Common.{In, xor-assoc, xor-comm, xor-same, xor-none}
 use Rattle.point_queries.specs.Common.{odd, AreApart}
 
 -- ---- of two truths
 
-pub xor-assoc : (a b c : Bool) → xor (xor a b) c ≡ xor a (xor b c)
-xor-assoc a b c = grind arith
-
-pub xor-comm : (a b : Bool) → xor a b ≡ xor b a
-xor-comm a b = grind arith
-
-pub xor-same : (a : Bool) → xor a a ≡ false
-xor-same a = grind arith
-
-pub xor-false : (a : Bool) → xor a false ≡ a
-xor-false a = grind arith
-
 -- the sums of two sums
 xor-cross : (a b c d : Bool) → xor (xor a b) (xor c d) ≡ xor (xor a c) (xor b d)
 xor-cross a b c d = grind arith
-
-pub both : (a b : Bool) → a ≡ true → b ≡ true → (a && b) ≡ true
-both a b e f = ap₂ (λ y z. y && z) e f
 
 -- ---- of lists
 
@@ -39,7 +24,7 @@ odd-append test (x ∷ xs) ys =
 -- an element at the end
 pub odd-pushed : {X : Type 0} (test : X → Bool) (xs : List X) (x : X) → odd test (xs ++ x ∷ []) ≡ xor (test x) (odd test xs)
 odd-pushed test xs x =
-    odd-append test xs (x ∷ []) ∙ ap (xor (odd test xs)) (xor-false (test x)) ∙ xor-comm (odd test xs) (test x)
+    odd-append test xs (x ∷ []) ∙ ap (xor (odd test xs)) (xor-none (test x)) ∙ xor-comm (odd test xs) (test x)
 
 pub odd-popped : {X : Type 0} (test : X → Bool) (xs ys : List X) (x : X) → ys ≡ xs ++ x ∷ [] → odd test xs ≡ xor (test x) (odd test ys)
 odd-popped test xs ys x e =

@@ -1,12 +1,13 @@
 -- The features on whose borders a position lies, by the segments near it.
 use Rattle.kit_words.proofs.Common.{◌≡◌, ℕ, ℤ, Bool, true, false, refl, sym, ap, ap₂, ◌∙◌, subst, cond, ◌&&◌, arith}
 use Rattle.kit_words.proofs.Common.{List, [], ◌∷◌, map, inl, inr, int_le, flat_map, int_min, int_max, ints, clamps}
+use Rattle.kit_words.proofs.Common.{and_parts, and_from}
 use Rattle.grid_geometry.specs.Common.{is_on, is_between, is_in_box, Position, Edge, edges, Segment, Box, segment}
 use Rattle.grid_geometry.specs.Common.{segment_eq, box_of, boxes_meet}
 use Rattle.grid_geometry.proofs.Common.{segment-comm}
 use Rattle.ring_machine.specs.Common.{Document, Feature, features, rings, rings_of, all_segments, segments_of}
 use Rattle.ring_machine.specs.Common.{is_on_border, border_at, segment_of, segments, are_distinct}
-use Rattle.ring_machine.proofs.Common.{In, in-flat_map, and_both, segment_ordered, segment_eq-true, contains_in}
+use Rattle.ring_machine.proofs.Common.{In, in-flat_map, segment_ordered, segment_eq-true, contains_in}
 use Rattle.ring_machine.proofs.Common.{in_contains, in_mapped, in_flat, any_in, in_any}
 use Rattle.map_frame.specs.declared.names.RingName.{RingName}
 use Rattle.arc_store.specs.Common.{ListsNear, HasOne, ListsUsers}
@@ -14,7 +15,6 @@ use Rattle.feature_exchange.proofs.Common.{segment_ends}
 use Rattle.arc_store.proofs.Common.{in_segments, segment_in, ring_named}
 use Rattle.point_queries.specs.Common.{IsSorted, on_edge}
 use Rattle.point_queries.proofs.Ascending.{numbers_found}
-use Rattle.point_queries.proofs.Odds.{both}
 use Rattle.point_queries.proofs.SharedBorders.{named_ring}
 
 -- ---- a segment on which the position lies
@@ -56,9 +56,9 @@ between_meets a b z h = grind (arith, ints, clamps)
 on_meets : (p : Position) (s : Segment) → is_on p s.lo s.hi ≡ true → boxes_meet (box_of s) (box_at p) ≡ true
 unfolding is_on
 on_meets p s h =
-    let box = (and_both _ (is_in_box p s.lo s.hi) h).1 in
-    let k = and_both (is_between s.lo.x s.hi.x p.x) (is_between s.lo.y s.hi.y p.y) box in
-    both _ _ (between_meets s.lo.x s.hi.x p.x k.0) (between_meets s.lo.y s.hi.y p.y k.1)
+    let box = (and_parts _ (is_in_box p s.lo s.hi) h).1 in
+    let k = and_parts (is_between s.lo.x s.hi.x p.x) (is_between s.lo.y s.hi.y p.y) box in
+    and_from _ _ (between_meets s.lo.x s.hi.x p.x k.0) (between_meets s.lo.y s.hi.y p.y k.1)
 
 module _ (d : Document) (distinct : are_distinct (map (λ f. f.number) (features d)) ≡ true) (p : Position)
     (near : List Segment) (n : ListsNear d (box_at p) [] near) where

@@ -5,8 +5,8 @@ use Rattle.kit_words.proofs.Common.{IsStrictlySortedBy, IsFiltered, DiffersFromL
 use Rattle.kit_words.proofs.Common.{dedup_is, IsStrictlySortedBy-dedup, IsPermutation-sym}
 use Rattle.grid_geometry.specs.Common.{Position, position_cmp, Segment, Box, segment_eq, segment_cmp, segment_lt}
 use Rattle.ring_machine.specs.Common.{Document}
-use Rattle.ring_machine.proofs.Common.{In, filter-in, contains_in, in_contains, in_filter, segment_ordered}
-use Rattle.ring_machine.proofs.Common.{segment_eq-true, in_permuted, none_new, none_lost, ties}
+use Rattle.ring_machine.proofs.Common.{In, filter-in, contains_in, in_contains, segment_ordered}
+use Rattle.ring_machine.proofs.Common.{segment_eq-true, in_permuted, none_new, none_lost, ties, in-filter}
 use Rattle.segment_index.proofs.Common.{segment_total}
 use Rattle.arc_store.specs.Common.{ListsNear}
 use Rattle.point_queries.specs.Common.{AreApart, ArePassed, is_passed}
@@ -45,7 +45,7 @@ module _ (d : Document) (p : Position) (rect : Box) (near : List Segment) (n : L
   pub passed_are : ArePassed d p rect once
   passed_are = record {
     among = λ s c.
-        let k = in_filter (is_passed p) s near (subst (In s) filtered (kept_in s (contains_in once s c))) in
+        let k = in-filter (is_passed p) s near (subst (In s) filtered (kept_in s (contains_in once s c))) in
         (n.among s (in_contains n.found s (subst (In s) n.appended k.0)), k.1);
     covers = λ s i h m.
         let there : In s near = subst (In s) (sym n.appended) (contains_in n.found s (n.covers s i m)) in

@@ -1,22 +1,21 @@
 -- Two features have a segment in common where a ring of one has the segment of an edge of the other.
 use Rattle.kit_words.proofs.Common.{◌≡◌, ℕ, Bool, true, refl, sym, ap, ap₂, ◌∙◌, subst, arith, List, [], ◌∷◌, map}
 use Rattle.kit_words.proofs.Common.{Option, Some, None, option_map, ◌&&◌, not, ◌==◌, find, filter, flat_map, list_any}
-use Rattle.kit_words.proofs.Common.{Decides-eqb}
+use Rattle.kit_words.proofs.Common.{Decides-eqb, and_parts, and_from}
 use Rattle.grid_geometry.specs.Common.{Position, Edge, edges, Segment, segment, segment_eq}
 use Rattle.ring_machine.specs.Common.{Document, Feature, features, feature, rings_of, segments_of, have_common}
 use Rattle.ring_machine.specs.Common.{neighbours_of, feature_at, or_else, no_feature, segment_of, segments}
 use Rattle.ring_machine.specs.Common.{are_distinct}
-use Rattle.ring_machine.proofs.Common.{In, filter-in, in-map, in-flat_map, and_both, contains_in, in_contains}
-use Rattle.ring_machine.proofs.Common.{in_filter, in_mapped, in_flat, any_in, in_any, mapped_there}
+use Rattle.ring_machine.proofs.Common.{In, filter-in, in-map, in-flat_map, contains_in, in_contains}
+use Rattle.ring_machine.proofs.Common.{in_mapped, in_flat, any_in, in_any, mapped_there, in-filter, slice-in}
 use Rattle.ring_machine.proofs.Found as finding
 use Rattle.map_frame.specs.declared.names.RingName.{RingName}
 use Rattle.map_frame.specs.Common.{Shown, shown, element, ring_at}
-use Rattle.map_frame.proofs.Common.{element_is, in_get}
+use Rattle.map_frame.proofs.Common.{element_is}
 use Rattle.arc_store.proofs.Common.{ring_named}
 use Rattle.arc_store.specs.Common.{HasOne, ListsUsers}
 use Rattle.point_queries.specs.Common.{IsSorted}
 use Rattle.point_queries.proofs.Ascending.{numbers_found}
-use Rattle.point_queries.proofs.Odds.{both}
 
 -- ---- the feature with a number
 
@@ -37,8 +36,8 @@ named_ring d name ps e =
     let b = element_is (option_map (λ f. f.polygons) (feature d name.feature)) name.polygon a.0 a.1 in
     let g = mapped_there (λ (f : Feature). f.polygons) (feature d name.feature) b.0 b.1 in
     let at = found_in name.feature (features d) g.0 g.1 in
-    let polygon : In a.0 (g.0).polygons = subst (In a.0) (sym g.2) (in_get b.0 name.polygon a.0 b.2) in
-    (g.0, at.0, at.1, in-flat_map (λ (polygon : List (List Position)). polygon) a.0 ps (g.0).polygons polygon (in_get a.0 name.ring ps a.2))
+    let polygon : In a.0 (g.0).polygons = subst (In a.0) (sym g.2) (slice-in b.0 name.polygon a.0 b.2) in
+    (g.0, at.0, at.1, in-flat_map (λ (polygon : List (List Position)). polygon) a.0 ps (g.0).polygons polygon (slice-in a.0 name.ring ps a.2))
 
 filter_mapped : {X Y : Type 0} (test : Y → Bool) (f : X → Y) (xs : List X) → filter test (map f xs) ≡ map f (filter (λ x. test (f x)) xs)
 filter_mapped test f [] = refl
@@ -111,11 +110,11 @@ module _ (d : Document) (distinct : are_distinct (map (λ f. f.number) (features
       numbers_found (λ name. name.feature) (filter other names) (λ g. not (g.number == f.number) && have_common f g) (features d)
       found sorted distinct (e ∙ filter_mapped (λ m. not (m == n)) (λ (name : RingName). name.feature) names) o
       (λ name i.
-      let k = in_filter other name names i in
+      let k = in-filter other name names i in
       let g = common_of name ((l.all name).0 (in_contains l.found name (subst (In name) l.appended k.0))) in
-      (g.0, g.1, both _ (have_common f g.0) (ap₂ (λ y z. not (y == z)) g.2 number ∙ k.1) g.3, g.2))
+      (g.0, g.1, and_from _ (have_common f g.0) (ap₂ (λ y z. not (y == z)) g.2 number ∙ k.1) g.3, g.2))
       (λ g i h.
-      let t = and_both (not (g.number == f.number)) (have_common f g) h in
+      let t = and_parts (not (g.number == f.number)) (have_common f g) h in
       let name = of_common g i t.1 in
       let there : In name.0 names = subst (In name.0) (sym l.appended) (contains_in l.found name.0 ((l.all name.0).1 name.2)) in
       (name.0, filter-in other name.0 names there (ap₂ (λ y z. not (y == z)) name.1 (sym number) ∙ t.0), name.1))

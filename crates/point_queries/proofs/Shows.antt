@@ -1,14 +1,14 @@
 -- What the readers of a map say of a feature, its polygons and their rings.
 use Rattle.kit_words.proofs.Common.{◌≡◌, ℕ, ◌≤◌, ◌+◌, zero, suc, Bool, true, false, cond, refl, sym, ap, ◌∙◌, List, []}
 use Rattle.kit_words.proofs.Common.{◌∷◌, map, length, get_or, Some, None, arith, ◌==◌, Option, is_some, option_map}
-use Rattle.kit_words.proofs.Common.{unwrap_or, slice_get, find, flat_map, list_any, sum_by-cons, sum_by-append}
-use Rattle.kit_words.proofs.Common.{unwrap_or-slice_get, length-map}
+use Rattle.kit_words.proofs.Common.{unwrap_or, slice_get, find, list_any, sum_by-cons, unwrap_or-slice_get, length-map}
 use Rattle.std.specs.Prelude.{sum_by}
 use Rattle.grid_geometry.specs.Common.{Position}
 use Rattle.ring_machine.specs.Common.{Document, Feature, features, feature, has_feature, rings_of, size, feature_at}
 use Rattle.ring_machine.specs.Common.{or_else, no_feature}
 use Rattle.map_frame.specs.Common.{Shown, shown, element, ring_at}
 use Rattle.ring_machine.proofs.Common.{is_some-mapped}
+use Rattle.feature_exchange.proofs.Placed.{sum_flat}
 
 -- the ring with these numbers, and none where there is no such ring
 pub ring_is : (d : Document) (n polygon ring : ℕ) → unwrap_or (ring_at d n polygon ring) [] ≡ get_or (get_or (feature_at d n).polygons polygon []) ring []
@@ -61,12 +61,6 @@ is_shown d n = at (features d) ∙ sym (is_some-mapped shown (feature d n))
 
 -- ---- how many positions there are
 
-sum_joined : {A B : Type 0} (h : B → ℕ) (g : A → List B) (xs : List A) → sum_by h (flat_map g xs) ≡ sum_by (λ x. sum_by h (g x)) xs
-sum_joined h g [] = refl
-sum_joined h g (x ∷ xs) =
-    sum_by-append h (g x) (flat_map g xs) ∙ ap (λ n. sum_by h (g x) + n) (sum_joined h g xs)
-    ∙ sym (sum_by-cons (λ y. sum_by h (g y)) x xs)
-
 -- one of a sum, and nothing where there is none
 pub one_of : {A : Type 0} (h : List A → ℕ) (xs : List (List A)) (i : ℕ) → h [] ≡ 0 → h (get_or xs i []) ≤ sum_by h xs
 one_of h [] i e = omega (arith, e)
@@ -79,8 +73,8 @@ feature-le-size d n = omega (arith, at (features d), whole)
   where
     whole : size d ≡ sum_by (λ f. sum_by (sum_by length) f.polygons) (features d)
     whole =
-        sum_joined length rings_of (features d)
-        ∙ ap (λ h. sum_by h (features d)) (λ i f. sum_joined length (λ rings. rings) f.polygons i)
+        sum_flat length rings_of (features d)
+        ∙ ap (λ h. sum_by h (features d)) (λ i f. sum_flat length (λ rings. rings) f.polygons i)
 
     at : (fs : List Feature) → sum_by (sum_by length) (or_else no_feature (find (λ f. f.number == n) fs)).polygons ≤ sum_by (λ f. sum_by (sum_by length) f.polygons) fs
     at [] = omega arith

@@ -1,13 +1,12 @@
 -- Coordinates and their new texts, one after another, as a loop makes them.
-use Rattle.kit_words.proofs.Common.{◌≡◌, ℕ, suc, ◌+◌, ◌<◌, ◌≤◌, List, [], ◌∷◌, ◌++◌, length, map, drop, get_or, refl}
-use Rattle.kit_words.proofs.Common.{sym, ap, ◌∙◌, subst, append_assoc, add-one, drop-cons, ℤ, Result, Ok, Err, IsErrAnd}
-use Rattle.kit_words.proofs.Common.{signed_decimal, append-nil, drop_all}
+use Rattle.kit_words.proofs.Common.{◌≡◌, ℕ, ◌+◌, ◌<◌, ◌≤◌, List, [], ◌∷◌, ◌++◌, length, map, drop, get_or, refl, sym}
+use Rattle.kit_words.proofs.Common.{ap, ◌∙◌, subst, append_assoc, ℤ, Result, Ok, Err, IsErrAnd, signed_decimal}
+use Rattle.kit_words.proofs.Common.{append-nil, drop_all, next_drop}
 use Rattle.json_spans.specs.Common.{Node, node}
 use Rattle.json_spans.specs.declared.span.Span.{Span}
 use Rattle.point_rounding.specs.declared.fault.PointFault.{PointFault}
 use Rattle.point_rounding.specs.declared.fault.PointFault.TheVariants as fault
-use Rattle.point_rounding.specs.Common.{Fails, Gives, all_coordinates, ◌>>=◌, each, number_on_grid, new_text, spliced}
-use Rattle.point_rounding.specs.Common.{rounded_under, root_of, rounded_points}
+use Rattle.point_rounding.specs.Common.{Fails, Gives, ◌>>=◌, each, number_on_grid, new_text}
 
 -- one fault stands for another
 carry : {Y Z : Type 0} (e : PointFault) (r : Result Y PointFault) (s : Result Z PointFault) → ((f : PointFault) → r ≡ Err f → s ≡ Err f)
@@ -43,39 +42,18 @@ regroup : {A : Type 0} (front : List A) (p : A) (r : Result (List A) PointFault)
 regroup {A = A} front p (Ok ps) = ap (λ (qs : List A). Ok qs) (sym (append_assoc front (p ∷ []) ps))
 regroup front p (Err e) = refl
 
--- what is left begins with the one that is reached
-pub here : {A : Type 0} (xs : List A) (i : ℕ) (a : A) → i < length xs → a ≡ get_or xs i a → drop i xs ≡ a ∷ drop (i + 1) xs
-here {A = A} xs i a lt is = drop-cons xs i a lt ∙ rw (add-one i) (ap (λ (b : A). b ∷ drop (suc i) xs) (sym is))
-
 pub each_turn : {B : Type 0} (f : Node → Result B PointFault) (front : List B) (b : B) (xs : List Span) (i : ℕ) (a : Span)
     (whole : Result (List B) PointFault)
     → i < length xs → a ≡ get_or xs i a → f (node a) ≡ Ok b → with_front front (each f (map node (drop i xs))) ≡ whole
     → with_front (front ++ b ∷ []) (each f (map node (drop (i + 1) xs))) ≡ whole
-each_turn f front b xs i a whole lt is fb h = sym (regroup front b (each f (map node (drop (i + 1) xs)))) ∙ rw (here xs i a lt is, fb) at h
+each_turn f front b xs i a whole lt is fb h = sym (regroup front b (each f (map node (drop (i + 1) xs)))) ∙ rw (next_drop xs i a lt is, fb) at h
 
 pub each_stop : {B : Type 0} (o : PointFault) (f : Node → Result B PointFault) (front : List B) (xs : List Span) (i : ℕ) (a : Span)
     (whole : Result (List B) PointFault)
     → i < length xs → a ≡ get_or xs i a → Fails o (f (node a)) → with_front front (each f (map node (drop i xs))) ≡ whole
     → Fails o whole
-each_stop o f front xs i a whole lt is fo h = carry o (f (node a)) whole (λ x fx. sym (rw (here xs i a lt is, fx) at h)) fo
+each_stop o f front xs i a whole lt is fo h = carry o (f (node a)) whole (λ x fx. sym (rw (next_drop xs i a lt is, fx) at h)) fo
 
 pub each_end : {B : Type 0} (f : Node → Result B PointFault) (front : List B) (xs : List Span) (i : ℕ) (whole : Result (List B) PointFault)
     → length xs ≤ i → with_front front (each f (map node (drop i xs))) ≡ whole → whole ≡ Ok front
 each_end f front xs i whole le h = sym (rw (drop_all i xs le, append-nil front) at h)
-
--- ---- the whole text
-
-pub all_change : (digits finer : ℕ) (bytes : List ℕ) (root : Node) (places : List Node) (changes : List (Node × List ℕ))
-    → places ≡ all_coordinates root → each (new_text digits finer) places ≡ Ok changes
-    → rounded_under digits finer bytes root ≡ Ok (spliced bytes 0 changes)
-all_change digits finer bytes root places changes e is = rw (← e, is) refl
-
-pub one_fails : (o : PointFault) (digits finer : ℕ) (bytes : List ℕ) (root : Node) (places : List Node) → places ≡ all_coordinates root
-    → Fails o (each (new_text digits finer) places) → Fails o (rounded_under digits finer bytes root)
-one_fails o digits finer bytes root places e h =
-    carry o (each (new_text digits finer) places) (rounded_under digits finer bytes root) (λ f fx. rw (← e, fx) refl) h
-
-pub at_root : {X : Type 0} (view : X → List ℕ) (result : Result X PointFault) (digits finer : ℕ) (bytes : List ℕ) (root : Node)
-    → root ≡ root_of bytes → Gives view result (rounded_under digits finer bytes root)
-    → Gives view result (rounded_points digits finer bytes)
-at_root view result digits finer bytes root e h = subst (λ r. Gives view result (rounded_under digits finer bytes r)) e h

@@ -1,10 +1,9 @@
 -- Coordinates, one after another, as a loop meets them.
 use Rattle.kit_words.proofs.Common.{◌≡◌, ℕ, ◌+◌, ◌<◌, ◌≤◌, List, [], ◌∷◌, ◌++◌, Bool, true, false, if◌then◌else◌, refl, length, map, drop, get_or}
-use Rattle.kit_words.proofs.Common.{append_assoc, append-nil, drop_all, flat_map}
+use Rattle.kit_words.proofs.Common.{append_assoc, append-nil, drop_all, flat_map, next_drop}
 use Rattle.json_spans.specs.Common.{Node, node, items}
 use Rattle.json_spans.specs.declared.span.Span.{Span}
 use Rattle.point_rounding.specs.Common.{pair, coordinates_of}
-use Rattle.point_rounding.proofs.Changing.{here}
 
 -- ---- positions
 
@@ -27,7 +26,7 @@ pub turn : (geometries : List Span) (i : ℕ) (g : Span) (old new : List Node) (
     → new ++ flat_map coordinates_of (map node (drop (i + 1) geometries)) ≡ whole
 turn geometries i g old new whole lt is e h =
     rw (e, append_assoc old (coordinates_of (node g)) (flat_map coordinates_of (map node (drop (i + 1) geometries))))
-    (rw (here geometries i g lt is) at h)
+    (rw (next_drop geometries i g lt is) at h)
 
 pub end : (geometries : List Span) (i : ℕ) (old whole : List Node) → length geometries ≤ i
     → old ++ flat_map coordinates_of (map node (drop i geometries)) ≡ whole → old ≡ whole

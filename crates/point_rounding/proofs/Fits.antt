@@ -1,9 +1,9 @@
 -- That no width cuts off what is computed of a coordinate.
 use mir.Syntax.{w64, w128}
 use mir.Val.{SFits, to_z, of_z}
-use Rattle.kit_words.proofs.Common.{◌≡◌, ℕ, ◌+◌, ◌-◌, ◌*◌, ◌<◌, ◌≤◌, ◌^◌, ap₂, ◌∙◌, arith, false, ℤ, pos, negsuc, ◌*ℤ◌}
-use Rattle.kit_words.proofs.Common.{unsigned_abs, nat_le, ints, to_z-of_z, fits_signed_mul, pow-add, mul-le-mul_right}
-use Rattle.exact_decimals.proofs.Common.{power_mono}
+use Rattle.kit_words.proofs.Common.{◌≡◌, ℕ, ◌+◌, ◌-◌, ◌*◌, ◌≤◌, ◌^◌, ap₂, ◌∙◌, arith, false, ℤ, pos, negsuc, ◌*ℤ◌}
+use Rattle.kit_words.proofs.Common.{unsigned_abs, ints, to_z-of_z, fits_signed_mul, pow-add, mul-le-mul_right, lt-leb}
+use Rattle.exact_decimals.proofs.Common.{power_mono, small_fits}
 use Rattle.point_rounding.specs.Common.{is_within}
 
 pub power_fits : (digits finer : ℕ) → 10 ^ (36 - finer - digits) ≤ 10 ^ 36
@@ -21,13 +21,6 @@ scaled_fits digits finer n h f le =
 
 -- ---- the finer grid
 
-pub scale_within : (finer s : ℕ) → finer ≤ 12 → s ≡ 10 ^ finer → s ≤ 10 ^ 12
-scale_within finer s f e = omega (arith, power_mono finer 12 f, e)
-
-number_fits : (r : ℤ) → unsigned_abs r ≤ 10 ^ 12 → SFits w64 r
-number_fits (pos n) h = omega (arith, ints)
-number_fits (negsuc n) h = omega (arith, ints)
-
 wide_fits : (r : ℤ) → unsigned_abs r ≤ 10 ^ 12 → SFits w128 r
 wide_fits (pos n) h = omega (arith, ints)
 wide_fits (negsuc n) h = omega (arith, ints)
@@ -38,7 +31,7 @@ scale_is s h = omega (arith, ints)
 pub product_is : (r w : ℤ) (s : ℕ) → unsigned_abs r ≤ 10 ^ 12 → s ≤ 10 ^ 12 → w ≡ to_z w64 (of_z w64 r)
     → to_z w128 (of_z w128 w) *ℤ to_z w128 s ≡ r *ℤ pos s
 product_is r w s h k e =
-    let is : w ≡ r = e ∙ to_z-of_z w64 r (number_fits r h) in
+    let is : w ≡ r = e ∙ to_z-of_z w64 r (small_fits r h) in
     rw is (ap₂ ◌*ℤ◌ (to_z-of_z w128 r (wide_fits r h)) (scale_is s k))
 
 pub product_fits : (r : ℤ) (s : ℕ) → unsigned_abs r ≤ 10 ^ 12 → s ≤ 10 ^ 12 → SFits w128 (r *ℤ pos s)
@@ -46,8 +39,5 @@ product_fits r s h k = fits_signed_mul w128 r (pos s) (10 ^ 12) (10 ^ 12) h k (o
 
 -- ---- a number that is too long to read
 
-pub not_at_least : (m n : ℕ) → n < m → nat_le m n ≡ false
-not_at_least m n h = grind arith
-
 pub beyond : (digits finer : ℕ) (z : ℤ) → 10 ^ 37 ≤ unsigned_abs z → is_within digits finer z ≡ false
-beyond digits finer z h = not_at_least (unsigned_abs z) (10 ^ (36 - finer - digits)) (omega (arith, power_fits digits finer))
+beyond digits finer z h = lt-leb (unsigned_abs z) (10 ^ (36 - finer - digits)) (omega (arith, power_fits digits finer))

@@ -1,10 +1,9 @@
 -- New texts, put in one after another.
 use Rattle.kit_words.proofs.Common.{◌≡◌, ℕ, ◌+◌, ◌<◌, ◌≤◌, List, ◌++◌, length, map, drop, get_or, refl, append_assoc}
-use Rattle.kit_words.proofs.Common.{signed_decimal, drop_all}
+use Rattle.kit_words.proofs.Common.{signed_decimal, drop_all, next_drop}
 use Rattle.json_spans.specs.Common.{node}
 use Rattle.point_rounding.specs.declared.rounding.Change.{Change}
 use Rattle.point_rounding.specs.Common.{change, between, end_of, spliced}
-use Rattle.point_rounding.proofs.Changing.{here}
 
 pub spliced_turn : (bytes : List ℕ) (from to : ℕ) (changes : List Change) (i : ℕ) (a : Change) (text front one two whole : List ℕ)
     → i < length changes → a ≡ get_or changes i a → front ≡ between from a.span.at bytes → one ≡ text ++ front
@@ -21,7 +20,7 @@ spliced_turn bytes from to changes i a text front one two whole lt is f o w t h 
       append_assoc (text ++ between from a.span.at bytes) (signed_decimal a.number) rest,
       append_assoc text (between from a.span.at bytes) (signed_decimal a.number ++ rest),
     )
-    (rw (here changes i a lt is) at h)
+    (rw (next_drop changes i a lt is) at h)
 
 pub spliced_end : (bytes : List ℕ) (from : ℕ) (changes : List Change) (i : ℕ) → length changes ≤ i
     → spliced bytes from (map change (drop i changes)) ≡ drop from bytes

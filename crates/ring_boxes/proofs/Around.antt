@@ -1,12 +1,12 @@
 -- The least box that has another one and those of the first so many segments.
 use Rattle.kit_words.proofs.Common.{◌≡◌, ◌<◌, ◌+◌, ◌&&◌, ℕ, ℤ, true, sym, ap, ◌∙◌, int_le, List, [], length, get_or}
 use Rattle.kit_words.proofs.Common.{take, inl, inr, arith, int_min, int_max, ints, list_any_more, list_any_kept}
+use Rattle.kit_words.proofs.Common.{or_cases, or_right, le_itself, min_left, max_left}
 use Rattle.grid_geometry.specs.Common.{Position, Segment, Box, box_of}
-use Rattle.ring_machine.proofs.Common.{or_true, or_right}
 use Rattle.segment_index.specs.Common.{is_within, box_around, SegmentSet, has, segment_is}
 use Rattle.segment_index.proofs.Common.{meet_parts, same_segment, is-itself}
 use Rattle.ring_boxes.specs.Common.{box_at, IsAround, AreBoxesOf, IsLeast}
-use Rattle.ring_boxes.proofs.Coordinates.{le_itself, min_left, min_right, max_left, max_right}
+use Rattle.ring_boxes.proofs.Coordinates.{min_right, max_right}
 
 below_both : (a b c : ℤ) → int_le c a ≡ true → int_le c b ≡ true → int_le c (int_min a b) ≡ true
 below_both a b c h k = grind (arith, ints)
@@ -47,7 +47,7 @@ pub least_more : (b : Box) (boxes : List Segment) (i : ℕ) (d : Segment) (r k :
 least_more b boxes i d r k lt here more before = rw more (record {
   has_first = within_first b r (box_of d) before.has_first;
   has_each = λ t h.
-      elim (or_true (has (take i boxes) t) (segment_is t (get_or boxes i d)) (sym (list_any_more (segment_is t) boxes i d lt) ∙ h)) [
+      elim (or_cases (has (take i boxes) t) (segment_is t (get_or boxes i d)) (sym (list_any_more (segment_is t) boxes i d lt) ∙ h)) [
         | inl e ↦ within_first (box_of t) r (box_of d) (before.has_each t e)
         | inr e ↦ ap (λ (s : Segment). is_within (box_of s) (box_around r (box_of d))) (same_segment t (get_or boxes i d) e ∙ sym here) ∙ within_last r (box_of d)
       ];

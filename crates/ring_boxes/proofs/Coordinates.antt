@@ -1,18 +1,9 @@
 -- The lesser and the greater of coordinates, also as the code computes them.
-use Rattle.kit_words.proofs.Common.{◌≡◌, ◌≤◌, ◌⊎◌, inl, inr, ℤ, Bool, true, false, cond, ◌&&◌, refl, int_le, w64, to_z}
-use Rattle.kit_words.proofs.Common.{of_z, unsigned_abs, arith, int_lt, int_min, int_max, ints}
-
-pub le_itself : (a : ℤ) → int_le a a ≡ true
-le_itself a = grind (arith, ints)
-
-pub min_left : (a b c : ℤ) → int_le a c ≡ true → int_le (int_min a b) c ≡ true
-min_left a b c h = grind (arith, ints)
+use Rattle.kit_words.proofs.Common.{◌≡◌, ◌≤◌, ℤ, true, ◌&&◌, int_le, w64, to_z, of_z, unsigned_abs, arith, int_min}
+use Rattle.kit_words.proofs.Common.{int_max, ints}
 
 pub min_right : (a b c : ℤ) → int_le b c ≡ true → int_le (int_min a b) c ≡ true
 min_right a b c h = grind (arith, ints)
-
-pub max_left : (a b c : ℤ) → int_le c a ≡ true → int_le c (int_max a b) ≡ true
-max_left a b c h = grind (arith, ints)
 
 pub max_right : (a b c : ℤ) → int_le c b ≡ true → int_le c (int_max a b) ≡ true
 max_right a b c h = grind (arith, ints)
@@ -20,14 +11,6 @@ max_right a b c h = grind (arith, ints)
 -- where the least and the greatest of three are one, so are all of them
 pub all_one : (a b c : ℤ) → int_min (int_min a b) c ≡ int_max (int_max a b) c → (int_le (int_min a b) c && int_le c (int_max a b)) ≡ true
 all_one a b c h = grind (arith, ints)
-
--- one of two numbers is the greater
-pub max_is : (a b : ℤ) → (int_max a b ≡ a) ⊎ (int_max a b ≡ b)
-max_is a b = by (int_lt b a)
-  where
-    by : (c : Bool) → (cond c a b ≡ a) ⊎ (cond c a b ≡ b)
-    by true = inl refl
-    by false = inr refl
 
 -- ---- in range
 

@@ -2,18 +2,13 @@
 use Rattle.kit_words.proofs.Common.{◌≡◌, ◌≤◌, ◌<◌, ◌+◌, ℕ, ℤ, Bool, true, false, cond, None, subst, ◌&&◌, ◌||◌, refl}
 use Rattle.kit_words.proofs.Common.{sym, ap, ◌∙◌, int_le, List, [], ◌++◌, length, get_or, take, inl, inr, Result, Ok}
 use Rattle.kit_words.proofs.Common.{Err, OnOk, OnErr, arith, int_min, int_max, list_any, ints, list_any_more}
-use Rattle.kit_words.proofs.Common.{list_any_at}
+use Rattle.kit_words.proofs.Common.{list_any_at, or_cases}
 use Rattle.std.specs.FinSet as set
 use Rattle.grid_geometry.specs.Common.{Position, Segment, box_of, boxes_meet, segment_eq}
-use Rattle.ring_machine.proofs.Common.{same_answer, or_true}
+use Rattle.ring_machine.proofs.Common.{same_answer}
 use Rattle.segment_index.specs.Common.{SegmentSet, Gives, has, segment_is, times_in, times_by}
 use Rattle.segment_index.proofs.Common.{same_segment, segment_eq-is, segment_total, is-itself, times-some}
 use Rattle.ring_boxes.specs.Common.{box_at, lies_in, AreBoxesOf, IsWidened, StaysHeld}
-
--- what holds where there is a value holds there in another form
-pub on_ok : {X E P Q : Type 0} (r : Result X E) → (P → Q) → OnOk r P → OnOk r Q
-on_ok (Ok x) f p = f p
-on_ok (Err e) f p = p
 
 -- ---- the boxes that are held
 
@@ -50,7 +45,7 @@ pub next_widened : (boxes : List Segment) (i : ℕ) (d : Segment) (p : Position)
     → ((t : Segment) → has (take i boxes) t ≡ true → IsWidened old t p)
     → (t : Segment) → has (take (i + 1) boxes) t ≡ true → IsWidened new t p
 next_widened boxes i d p old new lt here stays w below t h =
-    elim (or_true (has (take i boxes) t) (segment_is t (get_or boxes i d)) (sym (list_any_more (segment_is t) boxes i d lt) ∙ h)) [
+    elim (or_cases (has (take i boxes) t) (segment_is t (get_or boxes i d)) (sym (list_any_more (segment_is t) boxes i d lt) ∙ h)) [
       | inl e ↦ widened_stays old new t p stays (below t e)
       | inr e ↦ subst (λ s. IsWidened new s p) (sym (same_segment t (get_or boxes i d) e ∙ sym here)) w
     ]

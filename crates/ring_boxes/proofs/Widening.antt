@@ -1,10 +1,10 @@
 -- Boxes that have all that others have.
 use Rattle.kit_words.proofs.Common.{◌≡◌, Bool, true, false, cond, ◌&&◌, refl, subst, ap, ◌∙◌, int_le, Option, None}
-use Rattle.kit_words.proofs.Common.{Some, IsNone, IfSome, int_min, int_max, is_gt}
+use Rattle.kit_words.proofs.Common.{Some, IsNone, IfSome, int_min, int_max, is_gt, le_itself, min_left, max_left}
 use Rattle.std.proofs.Common.{unwrap_or}
 use Rattle.grid_geometry.specs.Common.{Position, position, position_cmp, Segment, segment}
 use Rattle.ring_boxes.specs.Common.{lies_in, IsWider}
-use Rattle.ring_boxes.proofs.Coordinates.{le_itself, min_left, min_right, max_left, max_right, all_one}
+use Rattle.ring_boxes.proofs.Coordinates.{min_right, max_right, all_one}
 
 four : (a b c d : Bool) → ((a && b) && (c && d)) ≡ true → (a ≡ true) × (b ≡ true) × (c ≡ true) × (d ≡ true)
 four true true true true h = (refl, refl, refl, refl)

@@ -1,16 +1,15 @@
 -- What an accepted edit of a vertex gives: a proper document, with every position on its side.
 use Rattle.kit_words.proofs.Common.{◌≡◌, ℕ, ℤ, Bool, true, false, refl, sym, ap, ◌∙◌, cond, List, [], ◌∷◌, arith, ◌++◌}
 use Rattle.kit_words.proofs.Common.{map, ◌||◌, ◌&&◌, Option, None, Some, inl, inr, not, list_any, fold, filter}
-use Rattle.kit_words.proofs.Common.{option_and_then, false≢true, list_any-append}
+use Rattle.kit_words.proofs.Common.{option_and_then, false≢true, list_any-append, or_cases, or_right}
+use Rattle.kit_words.proofs.Common.{false_from_ne_true, not-true}
 use Rattle.grid_geometry.specs.Common.{Position, position_eq, segment, is_inside}
 use Rattle.ring_machine.specs.Common.{has, canonical, Document, rings, is_vertex, is_segment, put, ins, del, del_ring}
 use Rattle.ring_machine.specs.Common.{is_junction, Proper, first_pair, move_sweeps, insert_sweeps, remove_sweeps}
 use Rattle.ring_machine.specs.Common.{ring_at, KeepsSides, vertices, Refusal, first_of, planar, conflict_of, is_small}
 use Rattle.ring_machine.specs.Common.{are_long, is_bridged, move_refusals, insert_refusals, remove_refusals, Thinning}
 use Rattle.ring_machine.specs.Common.{is_flat, without, thin_at, thinned}
-use Rattle.ring_machine.proofs.Order.{or_true, or_right, refuted}
 use Rattle.ring_machine.proofs.Canonical.{canonical_parts}
-use Rattle.ring_machine.proofs.Removal.{not_true}
 use Rattle.ring_machine.proofs.MergeAccepted.{passes}
 use Rattle.ring_machine.proofs.RingsOf.{rings-in_rings}
 use Rattle.ring_machine.proofs.StaysProper.{put_is_proper, ins_is_proper, del_is_proper}
@@ -41,7 +40,7 @@ move-accepted d p q h =
     let b = passes _ (not (is_vertex d q)) _ a.1 in
     let c = stays_apart (put d p q) _ b.1 in
     let e = passes _ (not (move_sweeps d p q)) _ c.1 in
-    record { vertex = a.0; free = not_true (is_vertex d q) b.0; apart = c.0; still = not_true (move_sweeps d p q) e.0 }
+    record { vertex = a.0; free = not-true (is_vertex d q) b.0; apart = c.0; still = not-true (move_sweeps d p q) e.0 }
 
 pub record InsertAccepted (d : Document) (a b q : Position) : Type 0 where
   pub border : is_segment d (segment a b) ≡ true
@@ -59,7 +58,7 @@ insert-accepted d a b q h =
     let l = passes _ (is_small (ins d a b q)) _ f.1 in
     let c = stays_apart (ins d a b q) _ l.1 in
     let e = passes _ (not (insert_sweeps d a b q)) _ c.1 in
-    record { border = s.0; free = not_true (is_vertex d q) f.0; small = l.0; apart = c.0; still = not_true (insert_sweeps d a b q) e.0 }
+    record { border = s.0; free = not-true (is_vertex d q) f.0; small = l.0; apart = c.0; still = not-true (insert_sweeps d a b q) e.0 }
 
 pub record RemoveAccepted (d : Document) (p : Position) : Type 0 where
   pub vertex : is_vertex d p ≡ true
@@ -79,7 +78,7 @@ remove-accepted d p h =
     let b = passes _ (not (is_bridged d p)) _ l.1 in
     let c = stays_apart (del d p) _ b.1 in
     let e = passes _ (not (remove_sweeps d p)) _ c.1 in
-    record { vertex = v.0; single = not_true (is_junction d p) j.0; long = l.0; bridge_is_new = not_true (is_bridged d p) b.0; apart = c.0; still = not_true (remove_sweeps d p) e.0 }
+    record { vertex = v.0; single = not-true (is_junction d p) j.0; long = l.0; bridge_is_new = not-true (is_bridged d p) b.0; apart = c.0; still = not-true (remove_sweeps d p) e.0 }
 
 -- ---- what they give
 
@@ -114,17 +113,17 @@ has-filter : (test : Position → Bool) (ps : List Position) (w : Position)
 has-filter test [] w h = h
 has-filter test (p ∷ ps) w h = grind (arith, has-filter test ps w)
 
-has-del : (p : Position) (ring : List Position) (w : Position) → has (del_ring p ring) w ≡ true
+pub has-del : (p : Position) (ring : List Position) (w : Position) → has (del_ring p ring) w ≡ true
     → has ring w ≡ true
 has-del p ring w h = has-filter (λ r. not (position_eq r p)) ring w (has-canonical (filter (λ r. not (position_eq r p)) ring) w h)
 
-vertex-del : (d : Document) (p w : Position) → is_vertex (del d p) w ≡ true → is_vertex d w ≡ true
+pub vertex-del : (d : Document) (p w : Position) → is_vertex (del d p) w ≡ true → is_vertex d w ≡ true
 vertex-del d p w h = over (rings d) (sym (ap (list_any (λ ring. has ring w)) (rings-in_rings (del_ring p) d)) ∙ h)
   where
     over : (rs : List (List Position)) → list_any (λ ring. has ring w) (map (del_ring p) rs) ≡ true
         → list_any (λ ring. has ring w) rs ≡ true
     over [] k = k
-    over (r ∷ rs) k = elim (or_true (has (del_ring p r) w) (list_any (λ ring. has ring w) (map (del_ring p) rs)) k) [
+    over (r ∷ rs) k = elim (or_cases (has (del_ring p r) w) (list_any (λ ring. has ring w) (map (del_ring p) rs)) k) [
       | inl i ↦ ap (λ t. t || list_any (λ ring. has ring w) rs) (has-del p r w i)
       | inr i ↦ or_right (has r w) _ (over rs i)
     ]
@@ -164,7 +163,7 @@ one_more before now p t h =
           let l = t.smaller n i j k.0 k.1 in
           let same : l.0 ≡ r = some_same l.0 r (sym l.1 ∙ e) in
           let now_vertex = vertex-del now p w u in
-          let off : has k.0 w ≡ false = refuted (has k.0 w) (λ x. false≢true (sym o ∙ ap (λ z. has z w) (sym same) ∙ l.2 w x)) in
+          let off : has k.0 w ≡ false = false_from_ne_true (has k.0 w) (λ x. false≢true (sym o ∙ ap (λ z. has z w) (sym same) ∙ l.2 w x)) in
           both.1 n i j k.0 s w k.1 f now_vertex u off ∙ t.sides n i j r k.0 w e k.1 v now_vertex o;
     }
   where

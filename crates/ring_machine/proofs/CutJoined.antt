@@ -1,18 +1,19 @@
 -- A feature cut in two, and two features joined: which features there are, and that the document
 -- stays well formed.
 use Rattle.kit_words.proofs.Common.{◌≡◌, ℕ, ◌≤◌, Bool, true, false, refl, sym, ap, ap₂, ◌∙◌, subst, List, [], ◌∷◌, map}
-use Rattle.kit_words.proofs.Common.{length, ◌||◌, Some, arith, ◌==◌, list_any}
+use Rattle.kit_words.proofs.Common.{length, ◌||◌, arith, ◌==◌, list_any}
 use Rattle.std.specs.Option.{is_some}
 use Rattle.grid_geometry.specs.Common.{Position}
 use Rattle.ring_machine.specs.Common.{Form, Polygon, MultiPolygon, Null, FeatureOf, Feature, Document, Text, features}
-use Rattle.ring_machine.specs.Common.{feature, has_feature, Path, is_cut_by, first_polygon, second_polygon}
-use Rattle.ring_machine.specs.Common.{change_first, first_that, instead, stays, cut, take_out, joined_polygons}
-use Rattle.ring_machine.specs.Common.{joined_feature, join, is_layer, fits_form, WellFormed}
+use Rattle.ring_machine.specs.Common.{feature, has_feature, Path, is_cut_by, first_polygon, change_first, first_that}
+use Rattle.ring_machine.specs.Common.{instead, stays, cut, take_out, joined_polygons, joined_feature, join, is_layer}
+use Rattle.ring_machine.specs.Common.{fits_form, WellFormed}
 use Rattle.ring_machine.proofs.Neighbours.{all_in}
 use Rattle.ring_machine.proofs.Found.{has_feature-found, feature_in}
 use Rattle.ring_machine.proofs.Instead.{feature-instead_other}
 use Rattle.ring_machine.proofs.Without.{feature-take_out_other}
 use Rattle.ring_machine.proofs.StaysFormed.{Replaces, replaces_one, replaces_two, formed-instead, formed-take_out}
+use Rattle.ring_machine.proofs.SplitFeatures.{new_feature}
 
 -- ---- lists
 
@@ -38,28 +39,17 @@ fits-count f ps e = by f.form
 
 -- ---- cut
 
--- the second part of a polygon as a new feature
-abbrev pub new_part : Path → ℕ → Text → Feature → List (List Position) → Feature
-new_part path number id f polygon = record {
-  number = number;
-  id = Some id;
-  form = Polygon;
-  properties = f.properties;
-  members = f.members;
-  polygons = second_polygon path polygon ∷ [];
-}
-
 module _ (d : Document) (n : ℕ) (id : Text) (path : Path) (number : ℕ) where
   -- the two parts of a feature
   abbrev pub parts : Feature → List Feature
-  parts f = stays path f ∷ map (new_part path number id f) (first_that (is_cut_by path) f.polygons)
+  parts f = stays path f ∷ map (new_feature path number id f) (first_that (is_cut_by path) f.polygons)
 
   pub cut_is : cut d n id path number ≡ instead n parts d
   unfolding cut
   cut_is = refl
 
   new_in : (m : ℕ) (f : Feature) (ps : List (List (List Position))) → (number == m) ≡ false
-      → list_any (λ (k : Feature). k.number == m) (map (new_part path number id f) ps) ≡ false
+      → list_any (λ (k : Feature). k.number == m) (map (new_feature path number id f) ps) ≡ false
   new_in m f [] h = refl
   new_in m f (p ∷ ps) h = ap₂ (λ a b. a || b) h (new_in m f ps h)
 
@@ -85,9 +75,9 @@ module _ (d : Document) (n : ℕ) (id : Text) (path : Path) (number : ℕ) where
     where
       of : (f : Feature) → f.number ≡ n → fits_form (stays path f) ≡ true → has_feature d n ≡ true
           → (ps : List (List (List Position))) → length ps ≤ 1
-          → Replaces d n (stays path f ∷ map (new_part path number id f) ps)
+          → Replaces d n (stays path f ∷ map (new_feature path number id f) ps)
       of f e k there [] l = replaces_one d n (stays path f) e k
-      of f e k there (p ∷ []) l = replaces_two d n (stays path f) (new_part path number id f p) there collected e new k refl
+      of f e k there (p ∷ []) l = replaces_two d n (stays path f) (new_feature path number id f p) there collected e new k refl
       of f e k there (p ∷ q ∷ ps) l = absurd (omega arith)
 
 -- ---- joined

@@ -1,15 +1,15 @@
 -- A ring that a path cuts: begun at the path's first position it is p, xs, q, ys.
 use Rattle.kit_words.proofs.Common.{◌≡◌, true, false, refl, sym, ap, ◌∙◌, List, [], ◌∷◌, ◌++◌, length, reverse, ◌&&◌}
-use Rattle.kit_words.proofs.Common.{inl, inr, not, nat_le, false≢true, append-nil, list_any-append}
+use Rattle.kit_words.proofs.Common.{inl, inr, not, nat_le, false≢true, append-nil, list_any-append, and_parts, or_parts}
+use Rattle.kit_words.proofs.Common.{not-true}
 use Rattle.grid_geometry.specs.Common.{Position, position_eq, Edge, edges}
 use Rattle.ring_machine.specs.Common.{canonical, has, is_distinct, is_ring, begins_least, Path, first_part, second_part}
-use Rattle.ring_machine.proofs.Order.{and_both, position_eq-refl}
+use Rattle.ring_machine.proofs.Order.{position_eq-refl}
 use Rattle.ring_machine.proofs.Canonical.{canonical_at, canonical_swap, canonical_parts, pivot_of}
 use Rattle.ring_machine.proofs.Edges.{edges_is, edges_to, edges_to-append}
 use Rattle.ring_machine.proofs.First.{In}
 use Rattle.ring_machine.proofs.Members.{in_swap}
 use Rattle.ring_machine.proofs.Neighbours.{has-in}
-use Rattle.ring_machine.proofs.Removal.{none_parts, not_true}
 use Rattle.ring_machine.proofs.Splitting as splitting
 use Rattle.ring_machine.proofs.Spots.{Rotated}
 use Rattle.ring_machine.proofs.StaysProper.{ring_distinct}
@@ -42,8 +42,8 @@ canonical_turns ps =
 pub ring_is_canonical : (ring : List Position) → is_ring ring ≡ true → canonical ring ≡ ring
 ring_is_canonical [] h = absurd (false≢true h)
 ring_is_canonical (p ∷ ps) h =
-    let rest = and_both (nat_le 3 (length (p ∷ ps))) (is_distinct (p ∷ ps) && begins_least (p ∷ ps)) h in
-    canonical_at [] ps p refl (and_both (is_distinct (p ∷ ps)) (begins_least (p ∷ ps)) rest.1).1 ∙ ap (λ z. p ∷ z) (append-nil ps)
+    let rest = and_parts (nat_le 3 (length (p ∷ ps))) (is_distinct (p ∷ ps) && begins_least (p ∷ ps)) h in
+    canonical_at [] ps p refl (and_parts (is_distinct (p ∷ ps)) (begins_least (p ∷ ps)) rest.1).1 ∙ ap (λ z. p ∷ z) (append-nil ps)
 
 -- ---- where a position stands
 
@@ -63,8 +63,8 @@ standing p (x ∷ ps) (inr h) =
 pub once_there : (us : List Position) (q : Position) (vs : List Position)
     → is_distinct (us ++ q ∷ vs) ≡ true → (has us q ≡ false) × (has vs q ≡ false)
 once_there us q vs d =
-    let turned = and_both (not (has (vs ++ us) q)) (is_distinct (vs ++ us)) (distinct_swap us (q ∷ vs) d) in
-    let parts = none_parts (has vs q) (has us q) (sym (list_any-append (position_eq q) vs us) ∙ not_true _ turned.0) in
+    let turned = and_parts (not (has (vs ++ us) q)) (is_distinct (vs ++ us)) (distinct_swap us (q ∷ vs) d) in
+    let parts = or_parts (has vs q) (has us q) (sym (list_any-append (position_eq q) vs us) ∙ not-true _ turned.0) in
     (parts.1, parts.0)
 
 -- ---- a ring cut at p and q
@@ -104,7 +104,7 @@ cut_ring ring p q r hp hq other = by (standing p ring (has-in p ring hp))
 
 module _ (ring : List Position) (path : Path) (c : CutRing ring path.first path.last) where
   p_once : has (c.xs ++ path.last ∷ c.ys) path.first ≡ false
-  p_once = not_true _ (and_both (not (has (c.xs ++ path.last ∷ c.ys) path.first)) (is_distinct (c.xs ++ path.last ∷ c.ys)) c.distinct).0
+  p_once = not-true _ (and_parts (not (has (c.xs ++ path.last ∷ c.ys) path.first)) (is_distinct (c.xs ++ path.last ∷ c.ys)) c.distinct).0
 
   q_once : (has (path.first ∷ c.xs) path.last ≡ false) × (has c.ys path.last ≡ false)
   q_once = once_there (path.first ∷ c.xs) path.last c.ys c.distinct

@@ -1,16 +1,13 @@
 -- The edges round a ring: a closed chain, begun elsewhere or gone round in reverse.
 use Rattle.kit_words.proofs.Common.{◌≡◌, ◌≤◌, ◌+◌, ℕ, Bool, true, false, refl, sym, ap, ap₂, ◌∙◌, subst, List, [], ◌∷◌}
-use Rattle.kit_words.proofs.Common.{◌++◌, length, map, reverse, ◌||◌, ◌&&◌, inl, inr, arith, not, list_any, false≢true}
-use Rattle.kit_words.proofs.Common.{append-nil, map-append, reverse-append, length-append, length-map, length-reverse}
-use Rattle.kit_words.proofs.Common.{list_any-append}
-use Rattle.grid_geometry.specs.Common.{Position, position_eq, Segment, segment_eq, Edge, links, edges}
+use Rattle.kit_words.proofs.Common.{◌++◌, length, map, reverse, inl, inr, arith, list_any, false≢true, append-nil}
+use Rattle.kit_words.proofs.Common.{map-append, reverse-append, length-append, length-map, length-reverse, or_parts}
+use Rattle.grid_geometry.specs.Common.{Position, Segment, segment_eq, Edge, links, edges}
 use Rattle.grid_geometry.proofs.Common.{segment-comm}
-use Rattle.ring_machine.specs.Common.{has, is_distinct, is_ring, canonical, Chain}
-use Rattle.ring_machine.proofs.Order.{and_both}
+use Rattle.ring_machine.specs.Common.{is_distinct, is_ring, canonical, Chain}
 use Rattle.ring_machine.proofs.Canonical.{canonical_parts}
 use Rattle.ring_machine.proofs.Edges.{edges_to, edges_is, edges_to-append, starts, chain_append}
 use Rattle.ring_machine.proofs.Arcs.{flip, flipped, links-reverse, is_of}
-use Rattle.ring_machine.proofs.Removal.{none_parts, not_true}
 use Rattle.ring_machine.proofs.StaysRing.{AtMostOne, distinct_swap}
 use Rattle.ring_machine.proofs.StaysProper.{edges_start, ring_distinct, ring_long}
 use Rattle.ring_machine.proofs.RingSegments.{ring_once}
@@ -18,6 +15,7 @@ use Rattle.ring_machine.proofs.Once.{one, times, times-append}
 use Rattle.ring_machine.proofs.Spots.{Rotated}
 use Rattle.ring_machine.proofs.First.{In, in_left, in_right, in-append}
 use Rattle.ring_machine.proofs.Members.{in_swap}
+use Rattle.ring_machine.proofs.SplitRings.{distinct_reversed}
 
 -- ---- chains
 
@@ -71,23 +69,6 @@ ends-flipped (e ∷ es) =
     ∙ map-append (λ (f : Edge). f.1) (flipped es) (flip e ∷ [])
     ∙ ap (λ z. z ++ e.0 ∷ []) (ends-flipped es)
     ∙ sym (reverse-append (e.0 ∷ []) (starts es))
-
-has-reverse : (ps : List Position) (p : Position) → has ps p ≡ false → has (reverse ps) p ≡ false
-has-reverse [] p h = refl
-has-reverse (q ∷ ps) p h =
-    let k = none_parts (position_eq p q) (has ps p) h in
-    ap (λ z. has z p) (reverse-append (q ∷ []) ps)
-    ∙ list_any-append (position_eq p) (reverse ps) (q ∷ [])
-    ∙ ap₂ (λ y z. y || (z || false)) (has-reverse ps p k.1) k.0
-
-pub distinct-reverse : (ps : List Position) → is_distinct ps ≡ true
-    → is_distinct (reverse ps) ≡ true
-distinct-reverse [] d = refl
-distinct-reverse (p ∷ ps) d =
-    let k = and_both (not (has ps p)) (is_distinct ps) d in
-    let h : not (has (reverse ps) p) ≡ true = ap not (has-reverse ps p (not_true (has ps p) k.0)) in
-    ap is_distinct (reverse-append (p ∷ []) ps)
-    ∙ distinct_swap (p ∷ []) (reverse ps) (ap₂ (λ y z. y && z) h (distinct-reverse ps k.1))
 
 pub chain-flipped : (p : Position) (es : List Edge) (q : Position) → Chain p es q
     → Chain q (flipped es) p
@@ -173,7 +154,7 @@ at_most s q (e ∷ es) h = by (is_of s e) refl (at_most s q es h.1)
     none : (fs : List Edge) → list_any (is_of s) fs ≡ false → times s fs ≡ 0
     none [] k = refl
     none (f ∷ fs) k =
-        let l = none_parts (is_of s f) (list_any (is_of s) fs) k in
+        let l = or_parts (is_of s f) (list_any (is_of s) fs) k in
         ap₂ (λ y z. one y + z) l.0 (none fs l.1)
 
     by : (b : Bool) → is_of s e ≡ b → times s es ≤ 1 → one b + times s es ≤ 1
@@ -226,8 +207,8 @@ pub cycle_flipped : (es : List Edge) → Cycle es → Cycle (flipped es)
 cycle_flipped es c = record {
   at = c.at;
   chain = chain-flipped c.at es c.at c.chain;
-  starts_once = ap is_distinct (starts-flipped es) ∙ distinct-reverse (ends es) c.ends_once;
-  ends_once = ap is_distinct (ends-flipped es) ∙ distinct-reverse (starts es) c.starts_once;
+  starts_once = ap is_distinct (starts-flipped es) ∙ distinct_reversed (ends es) c.ends_once;
+  ends_once = ap is_distinct (ends-flipped es) ∙ distinct_reversed (starts es) c.starts_once;
   once = λ t. omega (arith, times-flipped t es, c.once t);
   long = omega (arith, length-reverse (map flip es), length-map es flip, c.long);
 }

@@ -1,10 +1,8 @@
 -- Positions of which none stands twice, in two parts.
 use Rattle.kit_words.proofs.Common.{◌≡◌, Bool, true, false, refl, sym, ap₂, ◌∙◌, List, [], ◌∷◌, ◌++◌, ◌||◌, ◌&&◌, inl}
-use Rattle.kit_words.proofs.Common.{inr, not, false≢true, list_any-append}
+use Rattle.kit_words.proofs.Common.{inr, not, false≢true, list_any-append, and_parts, not-true}
 use Rattle.grid_geometry.specs.Common.{Position, position_eq}
 use Rattle.ring_machine.specs.Common.{has, is_distinct}
-use Rattle.ring_machine.proofs.Order.{and_both}
-use Rattle.ring_machine.proofs.Removal.{none_parts, not_true}
 use Rattle.ring_machine.proofs.First.{In, in_right}
 use Rattle.ring_machine.proofs.Neighbours.{has-in, in-has}
 
@@ -20,18 +18,11 @@ lacking ps p h i = false≢true (sym h ∙ in-has p ps i)
 
 -- the first is not among the others
 pub first_once : (p : Position) (ps : List Position) → is_distinct (p ∷ ps) ≡ true → In p ps → ⊥
-first_once p ps d = lacking ps p (not_true (has ps p) (and_both (not (has ps p)) (is_distinct ps) d).0)
+first_once p ps d = lacking ps p (not-true (has ps p) (and_parts (not (has ps p)) (is_distinct ps) d).0)
 
 pub distinct_rest : (p : Position) (ps : List Position) → is_distinct (p ∷ ps) ≡ true
     → is_distinct ps ≡ true
-distinct_rest p ps d = (and_both (not (has ps p)) (is_distinct ps) d).1
-
-pub distinct_left : (ps qs : List Position) → is_distinct (ps ++ qs) ≡ true → is_distinct ps ≡ true
-distinct_left [] qs d = refl
-distinct_left (p ∷ ps) qs d =
-    let k = and_both (not (has (ps ++ qs) p)) (is_distinct (ps ++ qs)) d in
-    let l = none_parts (has ps p) (has qs p) (sym (list_any-append (position_eq p) ps qs) ∙ not_true (has (ps ++ qs) p) k.0) in
-    ap₂ (λ y z. not y && z) l.0 (distinct_left ps qs k.1)
+distinct_rest p ps d = (and_parts (not (has ps p)) (is_distinct ps) d).1
 
 pub distinct_right : (ps qs : List Position) → is_distinct (ps ++ qs) ≡ true → is_distinct qs ≡ true
 distinct_right [] qs d = d
@@ -53,6 +44,6 @@ pub distinct_both : (ps qs : List Position) → is_distinct ps ≡ true → is_d
     → ((p : Position) → In p ps → In p qs → ⊥) → is_distinct (ps ++ qs) ≡ true
 distinct_both [] qs d e h = e
 distinct_both (p ∷ ps) qs d e h =
-    let k = and_both (not (has ps p)) (is_distinct ps) d in
-    let out = list_any-append (position_eq p) ps qs ∙ ap₂ (λ y z. y || z) (not_true (has ps p) k.0) (lacks qs p (h p (inl refl))) in
+    let k = and_parts (not (has ps p)) (is_distinct ps) d in
+    let out = list_any-append (position_eq p) ps qs ∙ ap₂ (λ y z. y || z) (not-true (has ps p) k.0) (lacks qs p (h p (inl refl))) in
     ap₂ (λ y z. not y && z) out (distinct_both ps qs k.1 e (λ q i j. h q (inr i) j))

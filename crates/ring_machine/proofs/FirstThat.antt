@@ -1,8 +1,7 @@
 -- The first element that passes a test, with what stands before and after it.
 use Rattle.kit_words.proofs.Common.{◌≡◌, Bool, true, false, refl, ap, ◌∙◌, List, [], ◌∷◌, ◌++◌, cond, ◌||◌, Some}
-use Rattle.kit_words.proofs.Common.{list_any, find, false≢true}
+use Rattle.kit_words.proofs.Common.{list_any, find, false≢true, or_parts}
 use Rattle.ring_machine.specs.Common.{change_first, first_that}
-use Rattle.ring_machine.proofs.Removal.{none_parts}
 
 pub record FirstThat {A : Type 0} (test : A → Bool) (xs : List A) : Type 0 where
   pub before : List A
@@ -36,21 +35,21 @@ module _ {A : Type 0} (test : A → Bool) where
       → first_that test (us ++ x ∷ vs) ≡ x ∷ []
   found [] x vs h k = ap (λ b. cond b (x ∷ []) (first_that test vs)) k
   found (u ∷ us) x vs h k =
-      let h' = none_parts (test u) (list_any test us) h in
+      let h' = or_parts (test u) (list_any test us) h in
       ap (λ b. cond b (u ∷ []) (first_that test (us ++ x ∷ vs))) h'.0 ∙ found us x vs h'.1 k
 
   pub find_it : (us : List A) (x : A) (vs : List A) → list_any test us ≡ false → test x ≡ true
       → find test (us ++ x ∷ vs) ≡ Some x
   find_it [] x vs h k = ap (λ b. cond b (Some x) (find test vs)) k
   find_it (u ∷ us) x vs h k =
-      let h' = none_parts (test u) (list_any test us) h in
+      let h' = or_parts (test u) (list_any test us) h in
       ap (λ b. cond b (Some u) (find test (us ++ x ∷ vs))) h'.0 ∙ find_it us x vs h'.1 k
 
   changed : (g : A → A) (us : List A) (x : A) (vs : List A) → list_any test us ≡ false → test x ≡ true
       → change_first test g (us ++ x ∷ vs) ≡ us ++ g x ∷ vs
   changed g [] x vs h k = ap (λ b. cond b (g x ∷ vs) (x ∷ change_first test g vs)) k
   changed g (u ∷ us) x vs h k =
-      let h' = none_parts (test u) (list_any test us) h in
+      let h' = or_parts (test u) (list_any test us) h in
       ap (λ b. cond b (g u ∷ us ++ x ∷ vs) (u ∷ change_first test g (us ++ x ∷ vs))) h'.0
       ∙ ap (λ z. u ∷ z) (changed g us x vs h'.1 k)
 

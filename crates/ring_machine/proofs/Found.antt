@@ -1,12 +1,11 @@
 -- Features by their numbers: which one is found, and where it stands among the others.
 use Rattle.kit_words.proofs.Common.{◌≡◌, ℕ, Bool, true, false, refl, sym, ap, ap₂, ◌∙◌, subst, cond, List, [], arith}
 use Rattle.kit_words.proofs.Common.{◌∷◌, ◌++◌, map, ◌||◌, ◌&&◌, inl, inr, Some, None, option_map, is_some, eqb-true}
-use Rattle.kit_words.proofs.Common.{eq-eqb, ◌==◌, not, list_any, find, filter_map, false≢true, map-append}
+use Rattle.kit_words.proofs.Common.{eq-eqb, ◌==◌, not, list_any, find, filter_map, false≢true, map-append, and_parts}
+use Rattle.kit_words.proofs.Common.{or_parts, not-true}
 use Rattle.ring_machine.specs.Common.{FeatureOf, ItemOf, DocumentOf, Open, Close, Leaf, Kept, feature_of, features}
 use Rattle.ring_machine.specs.Common.{feature, has_feature, in_item, in_features, in_feature, in_rings, are_distinct}
 use Rattle.ring_machine.specs.Common.{WellFormed}
-use Rattle.ring_machine.proofs.Order.{and_both}
-use Rattle.ring_machine.proofs.Removal.{none_parts, not_true}
 use Rattle.ring_machine.proofs.First.{In, in-append, in_left, in_right}
 use Rattle.ring_machine.proofs.Neighbours.{in-map}
 use Rattle.ring_machine.proofs.Members.{in_any}
@@ -28,7 +27,7 @@ module _ {A : Type 0} (test : A → Bool) where
   pub none_found : (xs : List A) → list_any test xs ≡ false → find test xs ≡ None
   none_found [] h = refl
   none_found (x ∷ xs) h =
-      let h' = none_parts (test x) (list_any test xs) h in
+      let h' = or_parts (test x) (list_any test xs) h in
       ap (λ b. cond b (Some x) (find test xs)) h'.0 ∙ none_found xs h'.1
 
 -- what is found among changed elements
@@ -61,8 +60,8 @@ pub distinct-append : (xs ys : List ℕ) → are_distinct xs ≡ true → are_di
     → AreApart xs ys → are_distinct (xs ++ ys) ≡ true
 distinct-append [] ys h k a = k
 distinct-append (x ∷ xs) ys h k a =
-    let h' = and_both (not (list_any (λ m. m == x) xs)) (are_distinct xs) h in
-    ap₂ (λ b c. not b && c) (not_among x (xs ++ ys) (other (not_true _ h'.0)))
+    let h' = and_parts (not (list_any (λ m. m == x) xs)) (are_distinct xs) h in
+    ap₂ (λ b c. not b && c) (not_among x (xs ++ ys) (other (not-true _ h'.0)))
     (distinct-append xs ys h'.1 k (λ m i j. a m (inr i) j))
   where
     other : list_any (λ m. m == x) xs ≡ false → In x (xs ++ ys) → ⊥
@@ -80,9 +79,9 @@ pub record DistinctParts (xs ys : List ℕ) : Type 0 where
 pub distinct_parts : (xs ys : List ℕ) → are_distinct (xs ++ ys) ≡ true → DistinctParts xs ys
 distinct_parts [] ys h = record { left = refl; right = h; apart = λ m i j. i }
 distinct_parts (x ∷ xs) ys h =
-    let h' = and_both (not (list_any (λ m. m == x) (xs ++ ys))) (are_distinct (xs ++ ys)) h in
+    let h' = and_parts (not (list_any (λ m. m == x) (xs ++ ys))) (are_distinct (xs ++ ys)) h in
     let k = distinct_parts xs ys h'.1 in
-    let alone : In x (xs ++ ys) → ⊥ = λ i. false≢true (sym (not_true _ h'.0) ∙ among x (xs ++ ys) i) in
+    let alone : In x (xs ++ ys) → ⊥ = λ i. false≢true (sym (not-true _ h'.0) ∙ among x (xs ++ ys) i) in
     record {
       left = ap₂ (λ b c. not b && c) (not_among x xs (λ i. alone (in_left x xs ys i))) k.left;
       right = k.right;
@@ -117,8 +116,8 @@ module _ {R : Type 0} where
       → are_distinct (numbers_of fs) ≡ true → find (λ g. g.number == n) fs ≡ Some f → Stands n f fs
   stands n f [] d e = absurd cc
   stands n f (g ∷ fs) d e =
-      let d' = and_both (not (list_any (λ m. m == g.number) (numbers_of fs))) (are_distinct (numbers_of fs)) d in
-      by (g.number == n) refl e (not_true _ d'.0) (stands n f fs d'.1)
+      let d' = and_parts (not (list_any (λ m. m == g.number) (numbers_of fs))) (are_distinct (numbers_of fs)) d in
+      by (g.number == n) refl e (not-true _ d'.0) (stands n f fs d'.1)
     where
       by : (b : Bool) → (g.number == n) ≡ b → cond b (Some g) (find (λ h. h.number == n) fs) ≡ Some f
           → list_any (λ m. m == g.number) (numbers_of fs) ≡ false
@@ -153,8 +152,8 @@ module _ {R : Type 0} where
       ap (λ b. cond b (Some g) (find (λ h. h.number == f.number) fs)) (eq-eqb g.number f.number (ap (λ h. h.number) e))
       ∙ ap (λ h. Some h) e
   found f (g ∷ fs) d (inr i) =
-      let d' = and_both (not (list_any (λ m. m == g.number) (numbers_of fs))) (are_distinct (numbers_of fs)) d in
-      by (g.number == f.number) refl (not_true _ d'.0) (found f fs d'.1 i)
+      let d' = and_parts (not (list_any (λ m. m == g.number) (numbers_of fs))) (are_distinct (numbers_of fs)) d in
+      by (g.number == f.number) refl (not-true _ d'.0) (found f fs d'.1 i)
     where
       by : (b : Bool) → (g.number == f.number) ≡ b
           → list_any (λ m. m == g.number) (numbers_of fs) ≡ false

@@ -1,10 +1,8 @@
 -- A document whose items are changed layer by layer.
 use Rattle.kit_words.proofs.Common.{◌≡◌, Bool, true, false, refl, sym, ap, ap₂, ◌∙◌, ◌&&◌, List, [], ◌∷◌, ◌++◌, map}
-use Rattle.kit_words.proofs.Common.{filter_map, flat_map, list_all, list_any, list_any-append}
+use Rattle.kit_words.proofs.Common.{filter_map, flat_map, list_all, list_any, list_any-append, and_parts, or_parts}
 use Rattle.ring_machine.specs.Common.{FeatureOf, ItemOf, LayerOf, DocumentOf, feature_of, features, in_layer, in_items}
 use Rattle.ring_machine.specs.Common.{is_geometry}
-use Rattle.ring_machine.proofs.Order.{and_both}
-use Rattle.ring_machine.proofs.Removal.{none_parts}
 
 -- the features of these layers
 abbrev pub of_layers : {R : Type 0} → List (LayerOf R) → List (FeatureOf R)
@@ -45,7 +43,7 @@ module _ {R : Type 0} (k : List (ItemOf R) → List (ItemOf R)) (test : FeatureO
       → map (in_layer k) ls ≡ ls
   layers-left [] h = refl
   layers-left (l ∷ ls) h =
-      let h' = none_parts (list_any test (filter_map feature_of l.items)) (list_any test (of_layers ls)) (sym (list_any-append test (filter_map feature_of l.items) (of_layers ls)) ∙ h) in
+      let h' = or_parts (list_any test (filter_map feature_of l.items)) (list_any test (of_layers ls)) (sym (list_any-append test (filter_map feature_of l.items) (of_layers ls)) ∙ h) in
       ap₂ (λ y z. record { name = l.name; items = y } ∷ z) (leaves l.items h'.0) (layers-left ls h'.1)
 
   pub in_items-left : (d : DocumentOf R) → list_any test (features d) ≡ false → in_items k d ≡ d
@@ -76,6 +74,6 @@ module _ {R S : Type 0} (k : List (ItemOf R) → List (ItemOf S)) (test : List (
       → list_all (λ l. is_geometry l.items) (map (in_layer k) ls) ≡ true
   geometries-in_items [] g t = refl
   geometries-in_items (l ∷ ls) g t =
-      let g' = and_both (is_geometry l.items) (list_all (λ l. is_geometry l.items) ls) g in
-      let t' = and_both (test l.items) (list_all (λ l. test l.items) ls) t in
+      let g' = and_parts (is_geometry l.items) (list_all (λ l. is_geometry l.items) ls) g in
+      let t' = and_parts (test l.items) (list_all (λ l. test l.items) ls) t in
       ap₂ (λ y z. y && z) (keeps l.items g'.0 t'.0) (geometries-in_items ls g'.1 t'.1)

@@ -1,11 +1,10 @@
 -- A document with other features in the place of one.
 use Rattle.kit_words.proofs.Common.{◌≡◌, ℕ, Bool, true, false, refl, ap, ap₂, ◌∙◌, subst, cond, List, [], ◌∷◌, ◌++◌}
 use Rattle.kit_words.proofs.Common.{map, ◌⊎◌, inl, inr, ◌==◌, eqb-false, list_any, find, flat_map, filter_map}
-use Rattle.kit_words.proofs.Common.{flat_map-append, filter_map-append}
+use Rattle.kit_words.proofs.Common.{flat_map-append, filter_map-append, or_parts}
 use Rattle.std.proofs.lemmas.Bool.{eqb-true}
 use Rattle.ring_machine.specs.Common.{FeatureOf, ItemOf, DocumentOf, Open, Close, Leaf, Kept, feature_of, features}
 use Rattle.ring_machine.specs.Common.{feature, has_feature, rings_of, rings, becomes, instead}
-use Rattle.ring_machine.proofs.Removal.{none_parts}
 use Rattle.ring_machine.proofs.First.{In}
 use Rattle.ring_machine.proofs.Members.{in_flat}
 use Rattle.ring_machine.proofs.InItems.{features-in_items, in_items-left}
@@ -49,7 +48,7 @@ module _ {R : Type 0} (n : ℕ) (g : FeatureOf R → List (FeatureOf R)) where
   becomes_none (Close ∷ is) h = ap (λ z. Close ∷ z) (becomes_none is h)
   becomes_none (Kept t ∷ is) h = ap (λ z. Kept t ∷ z) (becomes_none is h)
   becomes_none (Leaf f ∷ is) h =
-      let h' = none_parts (f.number == n) (list_any (λ k. k.number == n) (filter_map feature_of is)) h in
+      let h' = or_parts (f.number == n) (list_any (λ k. k.number == n) (filter_map feature_of is)) h in
       ap₂ (λ b z. cond b (map Leaf (g f)) (Leaf f ∷ []) ++ z) h'.0 (becomes_none is h'.1)
 
   -- nothing changes

@@ -1,19 +1,16 @@
 -- The area of the ring that joins two rings is the sum of their areas.
 use Rattle.kit_words.proofs.Common.{◌≡◌, ◌≤◌, ℤ, pos, ◌+ℤ◌, neg_ℤ, Bool, true, false, refl, sym, ap, ◌∙◌, subst, cond}
 use Rattle.kit_words.proofs.Common.{List, ◌∷◌, ◌++◌, reverse, inl, arith, int_lt, unsigned_abs, list_any, false≢true}
-use Rattle.kit_words.proofs.Common.{ints}
+use Rattle.kit_words.proofs.Common.{ints, or_parts}
 use Rattle.grid_geometry.specs.Common.{Position, Edge, edges, signed_area, total_area}
 use Rattle.ring_machine.specs.Common.{is_ring, is_common, passed_alike, positive, runs, same_side, same_segments}
 use Rattle.ring_machine.specs.Common.{joined, absolute_area}
 use Rattle.ring_machine.proofs.Arcs.{flip, flipped}
 use Rattle.ring_machine.proofs.Areas.{total_area-append, total_area-flipped, total_area_swap}
-use Rattle.ring_machine.proofs.Removal.{none_parts}
 use Rattle.ring_machine.proofs.Spots.{Rotated}
 use Rattle.ring_machine.proofs.First.{In, in_left}
-use Rattle.ring_machine.proofs.Cycles.{in_rotated, rotated-sym, edges_reversed}
-use Rattle.ring_machine.proofs.Cycles.{in_flipped}
-use Rattle.ring_machine.proofs.JoinedRuns.{Shared, shared, other_of, alike_in, in_alike}
-use Rattle.ring_machine.proofs.JoinedRuns.{in_reverse}
+use Rattle.ring_machine.proofs.Cycles.{in_rotated, rotated-sym, edges_reversed, in_flipped}
+use Rattle.ring_machine.proofs.JoinedRuns.{Shared, shared, other_of, alike_in, in_alike, in_reverse}
 use Rattle.ring_machine.proofs.JoinedRests.{joined_edges, run_in}
 
 -- ---- where a ring begins, and which way it goes
@@ -74,7 +71,7 @@ pub sums : (r s : List Position) → is_ring r ≡ true → is_ring s ≡ true �
     → same_side r s ≡ false
     → pos (unsigned_abs (signed_area r +ℤ signed_area (other_of r s)))
     ≡ absolute_area r +ℤ absolute_area s
-sums r s ring second k sides = by (below r) (below s) (passed_alike r s) refl refl refl (none_parts (same_segments r s) (passed_alike (positive r) (positive s)) sides).1
+sums r s ring second k sides = by (below r) (below s) (passed_alike r s) refl refl refl (or_parts (same_segments r s) (passed_alike (positive r) (positive s)) sides).1
   where
     first_here : In k.first (edges r)
     first_here = run_in r s ring second k k.first (inl refl)

@@ -2,13 +2,13 @@
 use Rattle.kit_words.proofs.Common.{◌≡◌, ◌≤◌, Bool, true, false, refl, sym, ap, ap₂, ◌∙◌, subst, cond, List, [], ◌∷◌}
 use Rattle.kit_words.proofs.Common.{◌++◌, reverse, length, ◌&&◌, ◌⊎◌, inl, inr, None, arith, not, is_gt, list_any}
 use Rattle.kit_words.proofs.Common.{filter, reduce, false≢true, map-append, length-append, length-map, reverse-append}
+use Rattle.kit_words.proofs.Common.{and_parts, or_cases, or_parts}
 use Rattle.grid_geometry.specs.Common.{Position, position_eq, position_cmp, position_lt, is_end, Edge, edges}
 use Rattle.ring_machine.specs.Common.{has, is_distinct, is_ring, segment_of, Chain, is_common, passed_alike}
 use Rattle.ring_machine.specs.Common.{same_segments, same_side, common_else, joined, positive}
-use Rattle.ring_machine.proofs.Order.{and_both, or_true, position_eq-true}
+use Rattle.ring_machine.proofs.Order.{position_eq-true}
 use Rattle.ring_machine.proofs.Edges.{starts}
 use Rattle.ring_machine.proofs.Arcs.{flip, flipped}
-use Rattle.ring_machine.proofs.Removal.{none_parts}
 use Rattle.ring_machine.proofs.StaysRing.{canonical_is_ring}
 use Rattle.ring_machine.proofs.StaysProper.{edges_start}
 use Rattle.ring_machine.proofs.First.{In, in-append, in_right, filter-in}
@@ -33,8 +33,8 @@ end_is p e h = by (is_gt (position_cmp e.0 e.1)) h
     by : (b : Bool)
         → is_end p (cond b (record { lo = e.1; hi = e.0 }) (record { lo = e.0; hi = e.1 })) ≡ true
         → (p ≡ e.0) ⊎ (p ≡ e.1)
-    by true k = elim (or_true (position_eq p e.1) (position_eq p e.0) k) [ inl a ↦ inr (position_eq-true p e.1 a) | inr a ↦ inl (position_eq-true p e.0 a) ]
-    by false k = elim (or_true (position_eq p e.0) (position_eq p e.1) k) [ inl a ↦ inl (position_eq-true p e.0 a) | inr a ↦ inr (position_eq-true p e.1 a) ]
+    by true k = elim (or_cases (position_eq p e.1) (position_eq p e.0) k) [ inl a ↦ inr (position_eq-true p e.1 a) | inr a ↦ inl (position_eq-true p e.0 a) ]
+    by false k = elim (or_cases (position_eq p e.0) (position_eq p e.1) k) [ inl a ↦ inl (position_eq-true p e.0 a) | inr a ↦ inr (position_eq-true p e.1 a) ]
 
 nothing : (f : Position → Position → Position) (ps : List Position) → reduce f ps ≡ None → ps ≡ []
 nothing f [] h = refl
@@ -54,7 +54,7 @@ is_on_run r s h p i j = by (on_run r s p) refl
 
 -- ---- positions by edges
 
-start_in : (ring : List Position) (e : Edge) → In e (edges ring) → In e.0 ring
+pub start_in : (ring : List Position) (e : Edge) → In e (edges ring) → In e.0 ring
 start_in [] e i = absurd i
 start_in (a ∷ rest) e i = subst (In e.0) (edges_start a rest) (in-map (λ (x : Edge). x.0) e (edges (a ∷ rest)) i)
 
@@ -104,7 +104,7 @@ module _ (r s : List Position) (ring : is_ring r ≡ true) (second : is_ring s �
       let here : In p r = subst (λ z. In z r) x.2 (start_in r x.0 (own_in x.0 x.1)) in
       let there : In p s = of_other p (subst (λ z. In z (other_of r s)) y.2 (start_in (other_of r s) y.0 (others_in y.0 y.1))) in
       let a = any_in (λ e. is_common s e && is_end p (segment_of e)) (edges r) (is_on_run r s h p here there) in
-      let b = and_both (is_common s a.0) (is_end p (segment_of a.0)) a.2 in
+      let b = and_parts (is_common s a.0) (is_end p (segment_of a.0)) a.2 in
       let e = in_run a.0 a.1 b.0 in
       elim (end_is p a.0 b.1) [
         | inl q ↦ distinct_apart (starts run) (starts k.own) own_once p (subst (λ z. In z (starts run)) (sym q) (in-map (λ (z : Edge). z.0) a.0 run e)) i
@@ -133,7 +133,7 @@ module _ (r s : List Position) (ring : is_ring r ≡ true) (second : is_ring s �
   -- the joined ring is a ring
   pub joined_is_ring : common_else r s ≡ None → same_side r s ≡ false → is_ring (joined r s) ≡ true
   joined_is_ring h sides =
-      let apart = (none_parts (same_segments r s) (passed_alike (positive r) (positive s)) sides).0 in
+      let apart = (or_parts (same_segments r s) (passed_alike (positive r) (positive s)) sides).0 in
       let w = between r s ring second k in
       let long = at_least_three w.begin w.end k.own k.others w.rest w.round (some_own r s ring second k apart) (some_others r s ring second k apart) no_way_back in
       ap is_ring (joined_rests r s ring second k)

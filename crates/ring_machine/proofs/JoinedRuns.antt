@@ -1,27 +1,26 @@
 -- Two rings with one common run: the one passes it, and the other passes it in reverse.
 use Rattle.kit_words.proofs.Common.{◌≡◌, ◌≤◌, Bool, true, false, refl, sym, ap, ◌∙◌, subst, cond, List, [], ◌∷◌}
 use Rattle.kit_words.proofs.Common.{◌++◌, reverse, ◌⊎◌, inl, inr, arith, list_any, list_all, false≢true}
-use Rattle.kit_words.proofs.Common.{map-append}
+use Rattle.kit_words.proofs.Common.{map-append, false_from_ne_true}
 use Rattle.grid_geometry.specs.Common.{Position, Segment, Edge, edges}
 use Rattle.grid_geometry.proofs.Common.{segment-comm}
 use Rattle.ring_machine.specs.Common.{edge_eq, is_distinct, is_ring, segment_of, Chain, is_common, passed_alike, runs}
-use Rattle.ring_machine.proofs.Order.{edge_eq-true, edge_eq-refl, refuted}
+use Rattle.ring_machine.proofs.Order.{edge_eq-true, edge_eq-refl}
 use Rattle.ring_machine.proofs.Edges.{starts}
 use Rattle.ring_machine.proofs.Arcs.{flip, flipped}
 use Rattle.ring_machine.proofs.Once.{times, times-append}
 use Rattle.ring_machine.proofs.Spots.{Rotated}
 use Rattle.ring_machine.proofs.First.{In, in-append, in_left, in_right}
 use Rattle.ring_machine.proofs.Members.{any_in, in_any}
-use Rattle.ring_machine.proofs.Cycles.{Cycle, cycle_of, cycle_reversed, cycle_rotated, in_rotated}
-use Rattle.ring_machine.proofs.Cycles.{rotated-sym, chain_parts, chain-flipped, times-flipped}
-use Rattle.ring_machine.proofs.Cycles.{edges_reversed, in_flipped, flipped_in, starts-flipped, ends}
-use Rattle.ring_machine.proofs.Cycles.{distinct-reverse}
-use Rattle.ring_machine.proofs.Distinct.{first_once, distinct_left}
+use Rattle.ring_machine.proofs.Cycles.{Cycle, cycle_of, cycle_reversed, cycle_rotated, in_rotated, rotated-sym}
+use Rattle.ring_machine.proofs.Cycles.{chain_parts, chain-flipped, times-flipped, edges_reversed, in_flipped}
+use Rattle.ring_machine.proofs.Cycles.{flipped_in, starts-flipped, ends}
+use Rattle.ring_machine.proofs.Distinct.{first_once}
 use Rattle.ring_machine.proofs.OneRun.{Run, run_of}
-use Rattle.ring_machine.proofs.Passed.{pass_none}
+use Rattle.ring_machine.proofs.Passed.{pass_none, common_in, in_common, flip_common, common-flip, times_in, alike_along}
 use Rattle.ring_machine.proofs.Neighbours.{all_in, none_in}
-use Rattle.ring_machine.proofs.Passed.{common_in, in_common, flip_common, common-flip, times_in}
-use Rattle.ring_machine.proofs.Passed.{alike_along, reverse_along, in_split, way_of}
+use Rattle.ring_machine.proofs.Passed.{reverse_along, in_split, way_of}
+use Rattle.ring_machine.proofs.SplitRings.{distinct_reversed, distinct_left}
 
 -- the second ring, turned where both pass the run in the same direction
 abbrev pub other_of : List Position → List Position → List Position
@@ -144,7 +143,7 @@ module _ (r s : List Position) (ring : is_ring r ≡ true) (second : is_ring s �
 
   back_once : is_distinct (starts (flipped (run.first ∷ run.more))) ≡ true
   back_once = ap is_distinct (starts-flipped (run.first ∷ run.more))
-      ∙ distinct-reverse (ends (run.first ∷ run.more)) (distinct_left (ends (run.first ∷ run.more)) (ends run.rest) (ap is_distinct (sym (map-append (λ (e : Edge). e.1) (run.first ∷ run.more) run.rest)) ∙ here_cycle.ends_once))
+      ∙ distinct_reversed (ends (run.first ∷ run.more)) (distinct_left (ends (run.first ∷ run.more)) (ends run.rest) (ap is_distinct (sym (map-append (λ (e : Edge). e.1) (run.first ∷ run.more) run.rest)) ∙ here_cycle.ends_once))
 
   there_is : (g : List Edge) × Rotated (edges (other_of r s)) (flipped (run.first ∷ run.more) ++ g)
   there_is = by (flipped (run.first ∷ run.more)) back_once (chain-flipped here_cycle.at (run.first ∷ run.more) run_chain.0 run_chain.1)
@@ -160,7 +159,7 @@ module _ (r s : List Position) (ring : is_ring r ≡ true) (second : is_ring s �
   -- what the other ring has beside the run is no edge of the one
   apart : (g : List Edge) → Rotated (edges (other_of r s)) (flipped (run.first ∷ run.more) ++ g)
       → (x : Edge) → In x g → is_common r x ≡ false
-  apart g there x i = refuted (is_common r x) (λ c. elim (common_in r x c) [
+  apart g there x i = false_from_ne_true (is_common r x) (λ c. elim (common_in r x c) [
     | inl j ↦ twice (times_in x (run.first ∷ run.more) (in_run x j shared))
     | inr j ↦ twice (subst (λ t. 1 ≤ times t (run.first ∷ run.more)) (segment-comm x.1 x.0) (times_in (flip x) (run.first ∷ run.more) (in_run (flip x) j (common-flip s x ∙ shared))))
   ])

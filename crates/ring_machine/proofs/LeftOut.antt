@@ -1,11 +1,9 @@
 -- Lists with some elements left out.
 use Rattle.kit_words.proofs.Common.{◌≡◌, ℕ, Bool, true, false, refl, sym, ap, ap₂, ◌∙◌, subst, cond, List, [], ◌∷◌}
 use Rattle.kit_words.proofs.Common.{◌++◌, map, ◌&&◌, inl, inr, None, ◌==◌, not, list_any, list_all, filter, flat_map}
-use Rattle.kit_words.proofs.Common.{reduce, false≢true}
+use Rattle.kit_words.proofs.Common.{reduce, false≢true, and_parts, not-true}
 use Rattle.grid_geometry.specs.Common.{Segment, segment_lt, conflict}
 use Rattle.ring_machine.specs.Common.{pair_lt, conflicts, least_conflict, are_distinct}
-use Rattle.ring_machine.proofs.Order.{and_both}
-use Rattle.ring_machine.proofs.Removal.{not_true}
 use Rattle.ring_machine.proofs.First.{In}
 use Rattle.ring_machine.proofs.Members.{any_in, in_any}
 
@@ -68,9 +66,9 @@ module _ {A : Type 0} where
   pub part_all : (test : A → Bool) {xs ys : List A} → IsPart xs ys → list_all test ys ≡ true
       → list_all test xs ≡ true
   part_all test none h = h
-  part_all test (skip {x} {xs} {ys} p) h = part_all test p (and_both (test x) (list_all test ys) h).1
+  part_all test (skip {x} {xs} {ys} p) h = part_all test p (and_parts (test x) (list_all test ys) h).1
   part_all test (keep {x} {xs} {ys} p) h =
-      let h' = and_both (test x) (list_all test ys) h in
+      let h' = and_parts (test x) (list_all test ys) h in
       ap₂ (λ y z. y && z) h'.0 (part_all test p h'.1)
 
   pub part_any : (test : A → Bool) (xs ys : List A) → IsPart xs ys → list_any test xs ≡ true
@@ -97,10 +95,10 @@ module _ {A B : Type 0} where
 pub part_distinct : {xs ys : List ℕ} → IsPart xs ys → are_distinct ys ≡ true → are_distinct xs ≡ true
 part_distinct none h = h
 part_distinct (skip {x} {xs} {ys} p) h =
-    part_distinct p (and_both (not (list_any (λ m. m == x) ys)) (are_distinct ys) h).1
+    part_distinct p (and_parts (not (list_any (λ m. m == x) ys)) (are_distinct ys) h).1
 part_distinct (keep {x} {xs} {ys} p) h =
-    let h' = and_both (not (list_any (λ m. m == x) ys)) (are_distinct ys) h in
-    ap₂ (λ y z. not y && z) (none_of (list_any (λ m. m == x) xs) refl (not_true _ h'.0)) (part_distinct p h'.1)
+    let h' = and_parts (not (list_any (λ m. m == x) ys)) (are_distinct ys) h in
+    ap₂ (λ y z. not y && z) (none_of (list_any (λ m. m == x) xs) refl (not-true _ h'.0)) (part_distinct p h'.1)
   where
     none_of : (b : Bool) → list_any (λ m. m == x) xs ≡ b → list_any (λ m. m == x) ys ≡ false
         → list_any (λ m. m == x) xs ≡ false

@@ -1,9 +1,8 @@
 -- What is among the elements of a list, and what a test of a whole list answers.
 use Rattle.kit_words.proofs.Common.{◌≡◌, ◌<◌, ℕ, zero, suc, Bool, true, refl, ap, ap₂, ◌∙◌, List, [], ◌∷◌, ◌++◌, map}
-use Rattle.kit_words.proofs.Common.{length, ◌||◌, inl, inr, arith, Option, Some, None, is_some, Contains}
-use Rattle.kit_words.proofs.Common.{slice_index_or, option_map, list_any, filter, flat_map, false≢true}
-use Rattle.ring_machine.proofs.Order.{or_true, or_right}
-use Rattle.ring_machine.proofs.First.{In, in-append, in_left, in_right, in-filter}
+use Rattle.kit_words.proofs.Common.{length, ◌||◌, inl, inr, arith, Option, Some, None, is_some, Contains, or_right}
+use Rattle.kit_words.proofs.Common.{slice_index_or, option_map, list_any, flat_map, false≢true, or_cases}
+use Rattle.ring_machine.proofs.First.{In, in-append, in_left, in_right}
 
 -- ---- by index
 
@@ -45,16 +44,12 @@ in_flat f b (x ∷ xs) h = elim (in-append b (f x) (flat_map f xs) h) [
   | inr i ↦ let k = in_flat f b xs i in (k.0, inr k.1, k.2)
 ]
 
-pub in_filter : {A : Type 0} (test : A → Bool) (a : A) (xs : List A) → In a (filter test xs)
-    → In a xs × (test a ≡ true)
-in_filter test a xs h = in-filter test a xs h
-
 -- ---- tests of a whole list
 
 pub any_in : {A : Type 0} (test : A → Bool) (xs : List A) → list_any test xs ≡ true
     → (a : A) × In a xs × (test a ≡ true)
 any_in test [] h = absurd (false≢true h)
-any_in test (x ∷ xs) h = elim (or_true (test x) (list_any test xs) h) [
+any_in test (x ∷ xs) h = elim (or_cases (test x) (list_any test xs) h) [
   | inl t ↦ (x, inl refl, t)
   | inr t ↦ let k = any_in test xs t in (k.0, inr k.1, k.2)
 ]
@@ -89,3 +84,11 @@ pub mapped_there : {A B : Type 0} (f : A → B) (o : Option A) (y : B) → optio
     → (x : A) × (o ≡ Some x) × (f x ≡ y)
 mapped_there f None y e = absurd cc
 mapped_there f (Some x) y e = (x, refl, cc)
+
+pub map_there : {A B : Type 0} (f g : A → B) (xs : List A) → ((x : A) → In x xs → f x ≡ g x) → map f xs ≡ map g xs
+map_there f g [] h = refl
+map_there f g (x ∷ xs) h = ap₂ (λ a b. a ∷ b) (h x (inl refl)) (map_there f g xs (λ y i. h y (inr i)))
+
+pub any_there : {A : Type 0} (f g : A → Bool) (xs : List A) → ((x : A) → In x xs → f x ≡ g x) → list_any f xs ≡ list_any g xs
+any_there f g [] h = refl
+any_there f g (x ∷ xs) h = ap₂ (λ a b. a || b) (h x (inl refl)) (any_there f g xs (λ y i. h y (inr i)))

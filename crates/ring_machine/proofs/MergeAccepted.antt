@@ -1,12 +1,10 @@
 -- What a merge without a refusal gives: two features of one polygon each, whose outer rings can be joined.
 use Rattle.kit_words.proofs.Common.{◌≡◌, ◌≤◌, ℕ, Bool, true, false, refl, sym, ap₂, ◌∙◌, List, [], ◌∷◌, ◌&&◌, Option}
-use Rattle.kit_words.proofs.Common.{None, Some, eqb-true, arith, ◌==◌, not, nat_le, list_any, find}
+use Rattle.kit_words.proofs.Common.{None, Some, eqb-true, arith, ◌==◌, not, nat_le, list_any, find, and_parts, not-true}
 use Rattle.grid_geometry.specs.Common.{Position, edges}
 use Rattle.ring_machine.specs.Common.{Document, Feature, features, feature, has_feature, is_common, runs, common_else}
 use Rattle.ring_machine.specs.Common.{same_side, Refusal, CommonElse, ◌unless◌, first_of, outer_of, ring_refusals}
 use Rattle.ring_machine.specs.Common.{merge_refusals, or_else, no_feature}
-use Rattle.ring_machine.proofs.Order.{and_both}
-use Rattle.ring_machine.proofs.Removal.{not_true}
 use Rattle.ring_machine.proofs.First.{In}
 use Rattle.ring_machine.proofs.Members.{there}
 use Rattle.ring_machine.proofs.Found.{any_found, found_in}
@@ -25,7 +23,7 @@ pub passes : (r : Refusal) (b : Bool) (rest : List (Option Refusal))
 passes r true rest h = (refl, h)
 passes r false rest h = absurd cc
 
-abbrev elsewhere : Option Position → Option Refusal
+abbrev pub elsewhere : Option Position → Option Refusal
 elsewhere None = None
 elsewhere (Some p) = Some (CommonElse p)
 
@@ -41,7 +39,7 @@ joinable r s h =
     let b = passes _ (nat_le (runs (is_common s) (edges r)) 1) _ a.1 in
     let c = nothing_else (common_else r s) _ b.1 in
     let d = passes _ (not (same_side r s)) _ c.1 in
-    record { some = a.0; one = at_most (runs (is_common s) (edges r)) b.0; none_else = c.0; sides = not_true (same_side r s) d.0 }
+    record { some = a.0; one = at_most (runs (is_common s) (edges r)) b.0; none_else = c.0; sides = not-true (same_side r s) d.0 }
   where
     at_most : (n : ℕ) → nat_le n 1 ≡ true → n ≤ 1
     at_most n h = grind arith
@@ -110,7 +108,7 @@ unfolding merge_refusals
 merge-accepted d n m h =
     let a = passes _ (has_feature d n && has_feature d m) _ h in
     let b = passes _ (not (n == m)) _ a.1 in
-    let both = and_both (has_feature d n) (has_feature d m) a.0 in
+    let both = and_parts (has_feature d n) (has_feature d m) a.0 in
     let f = found n (features d) both.0 in
     let g = found m (features d) both.1 in
     record {
@@ -122,6 +120,6 @@ merge-accepted d n m h =
       second_in = g.2;
       first_number = f.3;
       second_number = g.3;
-      differ = not_true (n == m) b.0;
+      differ = not-true (n == m) b.0;
       pair_is = pair f.0 g.0 (ap₂ (λ x y. first_of (ring_refusals (outer_of (or_else no_feature x)) (outer_of (or_else no_feature y)))) (sym f.1) (sym g.1) ∙ b.1);
     }

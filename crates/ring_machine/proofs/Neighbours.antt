@@ -1,11 +1,10 @@
 -- The neighbours of a position: by the edges of a ring, and by its places in the document.
 use Rattle.kit_words.proofs.Common.{◌≡◌, Bool, true, false, refl, sym, ap, ◌∙◌, subst, List, [], arith, ◌∷◌, ◌++◌, map}
 use Rattle.kit_words.proofs.Common.{append_assoc, ◌||◌, ◌⊎◌, inl, inr, list_any, list_all, flat_map, filter}
-use Rattle.kit_words.proofs.Common.{AllByRecursion, false≢true}
+use Rattle.kit_words.proofs.Common.{AllByRecursion, false≢true, and_parts, or_cases, or_parts}
 use Rattle.grid_geometry.specs.Common.{Position, position_eq, Segment, segment, Edge, links, edges}
 use Rattle.ring_machine.specs.Common.{has, between_each, spots, Document, rings, positions, is_vertex, around}
-use Rattle.ring_machine.proofs.Order.{position_eq-true, position_eq-refl, or_true, and_both}
-use Rattle.ring_machine.proofs.Removal.{none_parts}
+use Rattle.ring_machine.proofs.Order.{position_eq-true, position_eq-refl}
 use Rattle.ring_machine.proofs.Arcs.{links-append}
 use Rattle.ring_machine.proofs.First.{In, in-append, in_left, in_right, filter-in}
 
@@ -30,19 +29,19 @@ in-flat_map f a b (x ∷ xs) (inr i) k = in_right b (f x) (flat_map f xs) (in-fl
 pub none_in : {A : Type 0} (test : A → Bool) (xs : List A) (a : A) → list_any test xs ≡ false
     → In a xs → test a ≡ false
 none_in test [] a h i = absurd i
-none_in test (x ∷ xs) a h (inl i) = ap test (sym i) ∙ (none_parts (test x) (list_any test xs) h).0
-none_in test (x ∷ xs) a h (inr i) = none_in test xs a (none_parts (test x) (list_any test xs) h).1 i
+none_in test (x ∷ xs) a h (inl i) = ap test (sym i) ∙ (or_parts (test x) (list_any test xs) h).0
+none_in test (x ∷ xs) a h (inr i) = none_in test xs a (or_parts (test x) (list_any test xs) h).1 i
 
 pub all_in : {A : Type 0} (test : A → Bool) (xs : List A) (a : A) → list_all test xs ≡ true
     → In a xs → test a ≡ true
 all_in test [] a h i = absurd i
-all_in test (x ∷ xs) a h (inl i) = ap test (sym i) ∙ (and_both (test x) (list_all test xs) h).0
-all_in test (x ∷ xs) a h (inr i) = all_in test xs a (and_both (test x) (list_all test xs) h).1 i
+all_in test (x ∷ xs) a h (inl i) = ap test (sym i) ∙ (and_parts (test x) (list_all test xs) h).0
+all_in test (x ∷ xs) a h (inr i) = all_in test xs a (and_parts (test x) (list_all test xs) h).1 i
 
 -- a position that a ring has
 pub has-in : (p : Position) (ps : List Position) → has ps p ≡ true → In p ps
 has-in p [] h = absurd (false≢true h)
-has-in p (q ∷ ps) h = elim (or_true (position_eq p q) (has ps p) h) [ inl i ↦ inl (sym (position_eq-true p q i)) | inr i ↦ inr (has-in p ps i) ]
+has-in p (q ∷ ps) h = elim (or_cases (position_eq p q) (has ps p) h) [ inl i ↦ inl (sym (position_eq-true p q i)) | inr i ↦ inr (has-in p ps i) ]
 
 pub in-has : (p : Position) (ps : List Position) → In p ps → has ps p ≡ true
 in-has p [] h = absurd h
@@ -55,7 +54,7 @@ vertex_in d w h = over (rings d) h
     over : (rs : List (List Position)) → list_any (λ ring. has ring w) rs ≡ true
         → In w (flat_map (λ ring. ring) rs)
     over [] k = absurd (false≢true k)
-    over (r ∷ rs) k = elim (or_true (has r w) (list_any (λ ring. has ring w) rs) k) [
+    over (r ∷ rs) k = elim (or_cases (has r w) (list_any (λ ring. has ring w) rs) k) [
       | inl i ↦ in_left w r (flat_map (λ ring. ring) rs) (has-in w r i)
       | inr i ↦ in_right w r (flat_map (λ ring. ring) rs) (over rs i)
     ]
@@ -111,7 +110,7 @@ pub second_end : (c a : Position) → ((segment c a).lo ≡ a) ⊎ ((segment c a
 second_end c a = grind arith
 
 -- both ends of an edge are positions of the ring
-links_in : (as' : List Position) (e : Edge) → In e (links as') → In e.0 as' × In e.1 as'
+pub links_in : (as' : List Position) (e : Edge) → In e (links as') → In e.0 as' × In e.1 as'
 links_in [] e h = absurd h
 links_in (a ∷ []) e h = absurd h
 links_in (a ∷ b ∷ as') e (inl i) = (inl (ap (λ (f : Edge). f.0) i), inr (inl (ap (λ (f : Edge). f.1) i)))
@@ -125,3 +124,7 @@ edge_in x rest e h =
   where
     back : (p : Position) → In p ((x ∷ rest) ++ x ∷ []) → In p (x ∷ rest)
     back p h = elim (in-append p (x ∷ rest) (x ∷ []) h) [ inl i ↦ i | inr i ↦ elim i [ inl j ↦ inl j | inr j ↦ absurd j ] ]
+
+pub edge_ends : (ring : List Position) (e : Edge) → In e (edges ring) → In e.0 ring × In e.1 ring
+edge_ends [] e i = absurd i
+edge_ends (a ∷ rest) e i = edge_in a rest e i

@@ -1,10 +1,9 @@
 -- Where at most one run of a ring's elements passes a test, the ring is that run and the rest.
 use Rattle.kit_words.proofs.Common.{◌≡◌, ◌≤◌, ◌+◌, ℕ, Bool, true, false, refl, sym, ap, ap₂, ◌∙◌, cond, List, [], ◌∷◌}
 use Rattle.kit_words.proofs.Common.{◌++◌, append_assoc, ◌||◌, ◌&&◌, arith, not, list_any, list_all, zip, count_by}
-use Rattle.kit_words.proofs.Common.{false≢true, append-nil, sum_by-cons, list_any-append}
+use Rattle.kit_words.proofs.Common.{false≢true, append-nil, sum_by-cons, list_any-append, and_parts}
 use Rattle.grid_geometry.specs.Common.{Edge}
 use Rattle.ring_machine.specs.Common.{runs, neighbour_edges}
-use Rattle.ring_machine.proofs.Order.{and_both}
 
 -- the list, begun elsewhere, is a run of elements that pass the test, and others that do not
 pub record Run {A : Type 0} (c : A → Bool) (es : List A) : Type 0 where
@@ -22,7 +21,7 @@ pub all-append : {A : Type 0} (c : A → Bool) (xs ys : List A) → list_all c x
     → list_all c ys ≡ true → list_all c (xs ++ ys) ≡ true
 all-append c [] ys h k = k
 all-append c (x ∷ xs) ys h k =
-    let l = and_both (c x) (list_all c xs) h in
+    let l = and_parts (c x) (list_all c xs) h in
     ap₂ (λ y z. y && z) l.0 (all-append c xs ys l.1 k)
 
 module _ {A : Type 0} (c : A → Bool) where

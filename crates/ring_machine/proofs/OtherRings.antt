@@ -2,14 +2,13 @@
 -- the other features have to be what they were.
 use Rattle.kit_words.proofs.Common.{◌≡◌, ℕ, Bool, true, false, refl, sym, ap, ap₂, ◌∙◌, cond, List, [], ◌∷◌, ◌++◌, map}
 use Rattle.kit_words.proofs.Common.{◌||◌, inl, inr, ◌==◌, not, filter, filter_map, flat_map, list_any, list_all}
-use Rattle.kit_words.proofs.Common.{false≢true, filter-append, append-nil}
+use Rattle.kit_words.proofs.Common.{false≢true, filter-append, append-nil, and_parts}
 use Rattle.std.proofs.lemmas.Bool.{eqb-true}
 use Rattle.ring_machine.specs.Common.{FeatureOf, ItemOf, LayerOf, DocumentOf, Document, Feature, Open, Close, Leaf}
 use Rattle.ring_machine.specs.Common.{Kept, feature_of, features, rings_of, in_feature, in_layer, becomes, instead}
 use Rattle.ring_machine.specs.Common.{is_leaf, empty_collection, take_out, joined_feature, join, is_geometry}
 use Rattle.ring_machine.specs.Common.{WellFormed}
 use Rattle.ring_machine.proofs.First.{In, in_left, in_right}
-use Rattle.ring_machine.proofs.Order.{and_both}
 use Rattle.ring_machine.proofs.InItems.{of_layers}
 use Rattle.ring_machine.proofs.TakenOut.{taken, take_out_is, filtered_none, taken_none}
 use Rattle.ring_machine.proofs.Instead.{features_leaves}
@@ -109,7 +108,7 @@ module _ {R : Type 0} (n m : ℕ) (g : FeatureOf R → List (FeatureOf R)) (diff
       ≡ map (in_layer (flat_map (becomes n g))) (map (in_layer (taken m)) ls)
   layers_taken_become [] h a = refl
   layers_taken_become (l ∷ ls) h a =
-      let h' = and_both (is_geometry l.items) (list_all (λ k. is_geometry k.items) ls) h in
+      let h' = and_parts (is_geometry l.items) (list_all (λ k. is_geometry k.items) ls) h in
       ap₂ (λ y z. record { name = l.name; items = y } ∷ z)
       (taken_becomes l.items h'.0 (λ f i. a f (in_left f (filter_map feature_of l.items) (of_layers ls) i)))
       (layers_taken_become ls h'.1 (λ f i. a f (in_right f (filter_map feature_of l.items) (of_layers ls) i)))

@@ -1,11 +1,11 @@
 -- A document with another id for one feature.
-use Rattle.kit_words.proofs.Common.{◌≡◌, ℕ, false, refl, ap, ap₂, ◌∙◌, cond, List, [], ◌∷◌, ◌++◌, map, length, Option}
-use Rattle.kit_words.proofs.Common.{Some, None, option_map, arith, ◌==◌, flat_map, list_all, sum_by, nat_tests}
+use Rattle.kit_words.proofs.Common.{◌≡◌, ℕ, refl, ap, ap₂, ◌∙◌, cond, List, [], ◌∷◌, ◌++◌, map, length}
+use Rattle.kit_words.proofs.Common.{Some, arith, ◌==◌, flat_map, list_all, sum_by}
 use Rattle.ring_machine.specs.Common.{segments, is_ring, FeatureOf, ItemOf, DocumentOf, Document, Open, Close, Leaf}
-use Rattle.ring_machine.specs.Common.{Kept, Text, features, feature, rings_of, rings, size, in_item, becomes, instead}
+use Rattle.ring_machine.specs.Common.{Kept, Text, features, rings_of, rings, size, in_item, becomes, instead}
 use Rattle.ring_machine.specs.Common.{renamed, Proper, first_pair, least_conflict}
 use Rattle.ring_machine.proofs.InItems.{in_items-agree}
-use Rattle.ring_machine.proofs.Found.{feature_in, features-in_features, feature-in_features}
+use Rattle.ring_machine.proofs.Found.{features-in_features}
 
 -- the feature with this id where it has the number n
 abbrev pub with_id : {R : Type 0} → ℕ → Text → FeatureOf R → FeatureOf R
@@ -13,9 +13,6 @@ with_id n id f = cond (f.number == n) (record f { id = Some id }) f
 
 module _ {R : Type 0} (n : ℕ) (id : Text) where
   -- ---- one feature
-
-  same_number : (f : FeatureOf R) → (with_id n id f).number ≡ f.number
-  same_number f = grind arith
 
   same_rings : (f : FeatureOf R) → rings_of (with_id n id f) ≡ rings_of f
   same_rings f = grind arith
@@ -44,21 +41,6 @@ module _ {R : Type 0} (n : ℕ) (id : Text) where
   module _ (d : DocumentOf R) where
     pub features-renamed : features (renamed d n id) ≡ map (with_id n id) (features d)
     features-renamed = features-in_features (with_id n id) d
-
-    pub feature-renamed : (m : ℕ) → feature (renamed d n id) m ≡ option_map (with_id n id) (feature d m)
-    feature-renamed m = feature-in_features (with_id n id) same_number d m
-
-    pub feature-renamed_other : (m : ℕ) → (n == m) ≡ false → feature (renamed d n id) m ≡ feature d m
-    feature-renamed_other m o = feature-renamed m ∙ by (feature d m) refl
-      where
-        by : (o : Option (FeatureOf R)) → feature d m ≡ o → option_map (with_id n id) o ≡ o
-        by None e = refl
-        by (Some f) e =
-            let at : f.number ≡ m = (feature_in d m f e).1 in
-            ap (λ b. Some (cond b (record f { id = Some id }) f)) (ap (λ k. k == n) at ∙ other n m o)
-          where
-            other : (j k : ℕ) → (j == k) ≡ false → (k == j) ≡ false
-            other j k e = grind (arith, nat_tests)
 
     pub rings-renamed : rings (renamed d n id) ≡ rings d
     rings-renamed = ap (flat_map rings_of) features-renamed ∙ rings_same (features d)

@@ -2,7 +2,7 @@
 use Rattle.kit_words.proofs.Common.{◌≡◌, ◌≤◌, ℕ, zero, suc, Bool, true, false, refl, sym, ap, ap₂, ◌∙◌, subst, cond}
 use Rattle.kit_words.proofs.Common.{List, [], ◌∷◌, ◌++◌, map, length, ◌||◌, ◌&&◌, arith, Option, None, Some, ◌⊎◌, inl}
 use Rattle.kit_words.proofs.Common.{inr, not, nat_lt, ◌==◌, slice_get, list_all, find, option_and_then, is_gt}
-use Rattle.kit_words.proofs.Common.{false≢true}
+use Rattle.kit_words.proofs.Common.{false≢true, or_parts}
 use Rattle.grid_geometry.specs.Common.{Position, position_eq, position_cmp, Segment, segment, segment_eq, Edge, edges}
 use Rattle.grid_geometry.specs.Common.{xor, is_counted, is_inside, is_held}
 use Rattle.grid_geometry.proofs.Common.{segment-comm}
@@ -13,16 +13,15 @@ use Rattle.ring_machine.specs.Common.{holds_other, edge_sweeps, crosses_on_way, 
 use Rattle.ring_machine.specs.Common.{remove_sweeps, ring_of_feature, ring_at, KeepsSides}
 use Rattle.ring_machine.proofs.Canonical.{Pivot, pivot_of}
 use Rattle.ring_machine.proofs.Arcs.{is_of}
-use Rattle.ring_machine.proofs.Removal.{none_parts, others, filter_lacks}
+use Rattle.ring_machine.proofs.Removal.{others, filter_lacks}
 use Rattle.ring_machine.proofs.StaysRing.{del-distinct}
 use Rattle.ring_machine.proofs.RingSegments.{same_ends, segment_eq-true}
 use Rattle.ring_machine.proofs.Spots.{beside_of}
 use Rattle.ring_machine.proofs.First.{In}
 use Rattle.ring_machine.proofs.RingsOf.{features-in_rings}
 use Rattle.ring_machine.proofs.StaysProper.{ring_distinct, edges_start, others_long}
-use Rattle.ring_machine.proofs.Neighbours.{all_of, in-flat_map, none_in, all_in, has-in, vertex_in}
-use Rattle.ring_machine.proofs.Neighbours.{begin_place, end_place, place_around, first_end}
-use Rattle.ring_machine.proofs.Neighbours.{second_end, edge_in}
+use Rattle.ring_machine.proofs.Neighbours.{all_of, in-flat_map, none_in, all_in, has-in, vertex_in, begin_place}
+use Rattle.ring_machine.proofs.Neighbours.{end_place, place_around, first_end, second_end, edge_in}
 use Rattle.ring_machine.proofs.Walks.{is_counted-reverse, xor-comm}
 use Rattle.ring_machine.proofs.Sides.{is_inside-canonical, Unswept, unswept, unbridged, two_sides}
 use Rattle.ring_machine.proofs.Sides.{put-inside, ins-inside, del-inside}
@@ -38,7 +37,7 @@ slice-mapped g [] i = refl
 slice-mapped g (x ∷ xs) zero = refl
 slice-mapped g (x ∷ xs) (suc i) = slice-mapped g xs i
 
-slice-in : {A : Type 0} (xs : List A) (i : ℕ) (a : A) → slice_get xs i ≡ Some a → In a xs
+pub slice-in : {A : Type 0} (xs : List A) (i : ℕ) (a : A) → slice_get xs i ≡ Some a → In a xs
 slice-in [] i a e = absurd cc
 slice-in (x ∷ xs) zero a e = inl cc
 slice-in (x ∷ xs) (suc i) a e = inr (slice-in xs i a e)
@@ -116,7 +115,7 @@ move-keeps d p q proper still = keeps_by d (put_ring p q) (λ ring w i v o. put-
   where
     ends : (s : Segment) → In s (around d p)
         → (edge_sweeps d p q s.lo ≡ false) × (edge_sweeps d p q s.hi ≡ false)
-    ends s i = none_parts _ _ (none_in (λ s. edge_sweeps d p q s.lo || edge_sweeps d p q s.hi) (around d p) s (none_parts _ (crosses_on_way d p q) still).0 i)
+    ends s i = or_parts _ _ (none_in (λ s. edge_sweeps d p q s.lo || edge_sweeps d p q s.hi) (around d p) s (or_parts _ (crosses_on_way d p q) still).0 i)
 
     at_end : (a : Position) (s : Segment) → In s (around d p) → (s.lo ≡ a) ⊎ (s.hi ≡ a)
         → edge_sweeps d p q a ≡ false
@@ -183,7 +182,7 @@ equal_in (u ∷ us) s t h i j = sym (is u us s h i) ∙ is u us t h j
     is u us s h (inl i) = i
     is u us s h (inr i) = segment_eq-true u s (all_in (segment_eq u) us s h i)
 
-pivot_some : (ps : List Position) → 1 ≤ length ps → is_distinct ps ≡ true → Pivot ps
+pub pivot_some : (ps : List Position) → 1 ≤ length ps → is_distinct ps ≡ true → Pivot ps
 pivot_some [] l d = absurd (omega arith)
 pivot_some (p ∷ ps) l d = pivot_of p ps d
 

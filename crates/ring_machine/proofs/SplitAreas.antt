@@ -1,13 +1,12 @@
 -- The areas of the two parts of a ring, of a polygon and of a feature add up.
 use Rattle.kit_words.proofs.Common.{◌≡◌, ℤ, ◌+ℤ◌, ◌-ℤ◌, Bool, true, false, refl, sym, ap, ap₂, ◌∙◌, List, [], ◌∷◌, ◌++◌}
-use Rattle.kit_words.proofs.Common.{cond, arith, pos, not, unsigned_abs, filter, fold, ints, fold-append}
+use Rattle.kit_words.proofs.Common.{cond, arith, pos, not, unsigned_abs, filter, fold, ints, fold-append, and_parts}
+use Rattle.kit_words.proofs.Common.{not-false}
 use Rattle.grid_geometry.specs.Common.{Position, total_area, signed_area}
 use Rattle.ring_machine.specs.Common.{canonical, Path, first_part, second_part, same_sign, goes_first, is_wrong_side}
 use Rattle.ring_machine.specs.Common.{first_polygon, second_polygon, absolute_area, polygon_area}
 use Rattle.ring_machine.proofs.Areas.{total_area_swap}
-use Rattle.ring_machine.proofs.CutRings.{CutRing, first_is, second_is, rotated_edges}
-use Rattle.ring_machine.proofs.CutRings.{canonical_turns}
-use Rattle.ring_machine.proofs.Order.{and_both}
+use Rattle.ring_machine.proofs.CutRings.{CutRing, first_is, second_is, rotated_edges, canonical_turns}
 use Rattle.ring_machine.proofs.Spots.{Rotated}
 use Rattle.ring_machine.proofs.Walks.{cut_area}
 
@@ -60,10 +59,6 @@ shared_holes test x y (h ∷ holes) = by (test h) (λ a b. shared_holes test a b
     by true rest = rest (x -ℤ absolute_area h) y ∙ ap (λ z. less z holes) (move_left x y (absolute_area h))
     by false rest = rest x (y -ℤ absolute_area h) ∙ ap (λ z. less z holes) (move_right x y (absolute_area h))
 
-not_false : (b : Bool) → not b ≡ false → b ≡ true
-not_false true h = refl
-not_false false h = absurd cc
-
 -- where both parts lie on the ring's side, the areas of the two polygons add up
 pub polygons_area : (path : Path) (outer : List Position) (holes : List (List Position))
     → CutRing outer path.first path.last → is_wrong_side path (outer ∷ holes) ≡ false →
@@ -71,7 +66,7 @@ pub polygons_area : (path : Path) (outer : List Position) (holes : List (List Po
 polygons_area path outer holes c h =
     let first = first_part outer path in
     let second = second_part outer path in
-    let signs = and_both (same_sign (signed_area first) (signed_area outer)) (same_sign (signed_area second) (signed_area outer)) (not_false _ h) in
+    let signs = and_parts (same_sign (signed_area first) (signed_area outer)) (same_sign (signed_area second) (signed_area outer)) (not-false _ h) in
     shared_holes (goes_first first) (absolute_area (canonical first)) (absolute_area (canonical second)) holes
     ∙ ap (λ z. less z holes) (ap₂ (λ y z. y +ℤ z) (absolute_area-canonical first) (absolute_area-canonical second) ∙ absolute_sum (signed_area first) (signed_area second) (signed_area outer) (parts_area outer path c) signs.0 signs.1)
 

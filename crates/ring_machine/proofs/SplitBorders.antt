@@ -1,16 +1,14 @@
 -- The rings of a document that is split.
 use Rattle.kit_words.proofs.Common.{◌≡◌, ℕ, Bool, true, false, refl, sym, ap, ◌∙◌, subst, List, [], ◌∷◌, ◌++◌, ◌||◌}
-use Rattle.kit_words.proofs.Common.{◌⊎◌, inl, inr, not, list_any}
+use Rattle.kit_words.proofs.Common.{◌⊎◌, inl, inr, not, list_any, or_cases, or_right}
 use Rattle.grid_geometry.specs.Common.{Position}
 use Rattle.ring_machine.specs.Common.{canonical, Document, Feature, Text, features, rings_of, rings, Path, cut, stays}
 use Rattle.ring_machine.specs.Common.{first_part, second_part, first_polygon, second_polygon, goes_first}
 use Rattle.ring_machine.proofs.First.{In, in-append, in_left, in_right, filter-in}
 use Rattle.ring_machine.proofs.Members.{in_flat, any_in, in_any, same_answer}
 use Rattle.ring_machine.proofs.Neighbours.{in-flat_map}
-use Rattle.ring_machine.proofs.Order.{or_true, or_right}
 use Rattle.ring_machine.proofs.SplitFeatures.{new_feature, SplitFeature}
-use Rattle.ring_machine.proofs.SplitDocuments.{SplitDocument}
-use Rattle.ring_machine.proofs.SplitDocuments.{new_one}
+use Rattle.ring_machine.proofs.SplitDocuments.{SplitDocument, new_one}
 use Rattle.ring_machine.proofs.SplitProper.{target_there, rings_after}
 
 -- ---- rings of the two features
@@ -111,7 +109,7 @@ module _ (d : Document) (next n : ℕ) (id : Text) (path : Path) (s : SplitDocum
   any_ring_after test along e = same_answer _ _ onward back
     where
       both : test ring ≡ true ⊎ along ≡ true → list_any test (rings (cut d n id path next)) ≡ true
-      both h = elim (or_true (test (canonical (first_part ring path))) (test (canonical (second_part ring path))) (e ∙ whole h)) [
+      both h = elim (or_cases (test (canonical (first_part ring path))) (test (canonical (second_part ring path))) (e ∙ whole h)) [
         | inl t ↦ in_any test _ (rings (cut d n id path next)) first_there t
         | inr t ↦ in_any test _ (rings (cut d n id path next)) second_there t
       ]
@@ -122,7 +120,7 @@ module _ (d : Document) (next n : ℕ) (id : Text) (path : Path) (s : SplitDocum
 
       apart : (test (canonical (first_part ring path)) || test (canonical (second_part ring path))) ≡ true
           → (list_any test (rings d) || along) ≡ true
-      apart h = elim (or_true (test ring) along (sym e ∙ h)) [
+      apart h = elim (or_cases (test ring) along (sym e ∙ h)) [
         | inl t ↦ ap (λ z. z || along) (in_any test ring (rings d) (target_there d next n id path s) t)
         | inr t ↦ or_right (list_any test (rings d)) along t
       ]
@@ -141,7 +139,7 @@ module _ (d : Document) (next n : ℕ) (id : Text) (path : Path) (s : SplitDocum
 
       back : (list_any test (rings d) || along) ≡ true
           → list_any test (rings (cut d n id path next)) ≡ true
-      back h = elim (or_true (list_any test (rings d)) along h) [
+      back h = elim (or_cases (list_any test (rings d)) along h) [
         | inl t ↦ let k = any_in test (rings d) t in elim (rings_before k.0 k.1) [
           | inl i ↦ in_any test k.0 (rings (cut d n id path next)) i k.2
           | inr same ↦ both (inl (ap test same ∙ k.2))

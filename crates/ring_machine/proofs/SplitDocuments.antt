@@ -1,6 +1,6 @@
 -- A document whose feature n is cut: its features, and the accepted conditions.
 use Rattle.kit_words.proofs.Common.{◌≡◌, ℕ, Bool, true, false, refl, sym, ap, ◌∙◌, List, [], ◌∷◌, ◌++◌, Option, None}
-use Rattle.kit_words.proofs.Common.{Some, not, ◌==◌, nat_lt, list_any, AllByRecursion}
+use Rattle.kit_words.proofs.Common.{Some, not, ◌==◌, nat_lt, list_any, AllByRecursion, and_parts, not-true}
 use Rattle.ring_machine.specs.Common.{is_distinct, Document, Feature, Text, features, feature, has_feature, is_vertex}
 use Rattle.ring_machine.specs.Common.{WellFormed, first_pair, Path, cut, stays, parted, is_cut_by, is_wrong_side}
 use Rattle.ring_machine.specs.Common.{first_that, Refusal, ◌unless◌, first_of, planar, conflict_of, is_small, is_layer}
@@ -8,8 +8,6 @@ use Rattle.ring_machine.specs.Common.{feature_at, or_else, no_feature, positions
 use Rattle.ring_machine.proofs.Members.{there}
 use Rattle.ring_machine.proofs.Found.{has_feature-found, feature_stands}
 use Rattle.ring_machine.proofs.Instead.{features-instead_at}
-use Rattle.ring_machine.proofs.Order.{and_both}
-use Rattle.ring_machine.proofs.Removal.{not_true}
 use Rattle.ring_machine.proofs.Steps.{cut-is}
 use Rattle.ring_machine.proofs.SplitFeatures.{SplitFeature, split_feature, new_feature}
 
@@ -50,16 +48,16 @@ unfolding split_refusals
 split-accepted d next n id path h =
     let all = none_first (split_refusals d next n id path) h in
     let polygons = (feature_at d n).polygons in
-    let limits = and_both (nat_lt next 200000) (is_small (cut d n id path next)) (holds _ _ all.1.1.1.1.1.1.1.1.0) in
+    let limits = and_parts (nat_lt next 200000) (is_small (cut d n id path next)) (holds _ _ all.1.1.1.1.1.1.1.1.0) in
     record {
       there = holds _ (has_feature d n) all.0;
-      collected = not_true _ (holds _ (not (is_layer d n)) all.1.0);
+      collected = not-true _ (holds _ (not (is_layer d n)) all.1.0);
       cuts = holds _ (list_any (is_cut_by path) polygons) all.1.1.0;
       distinct = holds _ (is_distinct (positions_of path)) all.1.1.1.0;
-      free = not_true _ (holds _ (not (list_any (is_vertex d) path.inner)) all.1.1.1.1.0);
-      new = not_true _ (holds _ (not (is_path_segment d path)) all.1.1.1.1.1.0);
+      free = not-true _ (holds _ (not (list_any (is_vertex d) path.inner)) all.1.1.1.1.0);
+      new = not-true _ (holds _ (not (is_path_segment d path)) all.1.1.1.1.1.0);
       apart = no_conflict (cut d n id path next) all.1.1.1.1.1.1.0;
-      sides = not_true _ (holds _ (not (list_any (is_wrong_side path) (first_that (is_cut_by path) polygons))) all.1.1.1.1.1.1.1.0);
+      sides = not-true _ (holds _ (not (list_any (is_wrong_side path) (first_that (is_cut_by path) polygons))) all.1.1.1.1.1.1.1.0);
       numbers_left = limits.0;
       small = limits.1;
     }

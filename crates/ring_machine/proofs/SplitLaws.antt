@@ -1,15 +1,13 @@
 -- What an accepted split gives: areas that add up.
 use Rattle.kit_words.proofs.Common.{◌≡◌, ℕ, ◌+ℤ◌, Bool, true, false, refl, sym, ap, ap₂, ◌∙◌, List, [], ◌∷◌, ◌++◌}
 use Rattle.kit_words.proofs.Common.{append_assoc, ◌||◌, None, arith, ◌==◌, nat_lt, list_any, list_all, flat_map, find}
-use Rattle.kit_words.proofs.Common.{Decides-eqb, nat_tests, list_any-append, list_all-append}
+use Rattle.kit_words.proofs.Common.{Decides-eqb, nat_tests, list_any-append, list_all-append, and_parts}
 use Rattle.ring_machine.specs.Common.{is_ring, Document, Feature, Text, features, rings_of, WellFormed, Proper, Path}
 use Rattle.ring_machine.specs.Common.{cut, stays, is_wrong_side, is_cut_by, first_that, area_of, first_of, feature_at}
 use Rattle.ring_machine.specs.Common.{or_else, no_feature, split_refusals}
 use Rattle.ring_machine.proofs.FirstThat.{find_it}
-use Rattle.ring_machine.proofs.Order.{and_both}
 use Rattle.ring_machine.proofs.SplitFeatures.{features_area}
-use Rattle.ring_machine.proofs.SplitDocuments.{SplitDocument, accepted_split, new_one}
-use Rattle.ring_machine.proofs.SplitDocuments.{split-accepted}
+use Rattle.ring_machine.proofs.SplitDocuments.{SplitDocument, accepted_split, new_one, split-accepted}
 use Rattle.ring_machine.proofs.SplitRings.{ends_differ}
 
 -- every feature's number is below next
@@ -23,15 +21,15 @@ pub none_has : (next : ℕ) (fs : List Feature) → are_below next fs ≡ true
     → list_any (λ f. f.number == next) fs ≡ false
 none_has next [] h = refl
 none_has next (f ∷ fs) h =
-    let h' = and_both (nat_lt f.number next) (are_below next fs) h in
+    let h' = and_parts (nat_lt f.number next) (are_below next fs) h in
     ap₂ (λ a b. a || b) (below_differs f.number next h'.0) (none_has next fs h'.1)
 
 -- a feature's rings are rings where all are
 rings_pass : (before : List Feature) (f : Feature) (after : List Feature)
     → list_all is_ring (flat_map rings_of (before ++ f ∷ after)) ≡ true
     → list_all is_ring (rings_of f) ≡ true
-rings_pass [] f after h = (and_both _ _ (sym (list_all-append is_ring (rings_of f) (flat_map rings_of after)) ∙ h)).0
-rings_pass (e ∷ before) f after h = rings_pass before f after (and_both _ _ (sym (list_all-append is_ring (rings_of e) (flat_map rings_of (before ++ f ∷ after))) ∙ h)).1
+rings_pass [] f after h = (and_parts _ _ (sym (list_all-append is_ring (rings_of f) (flat_map rings_of after)) ∙ h)).0
+rings_pass (e ∷ before) f after h = rings_pass before f after (and_parts _ _ (sym (list_all-append is_ring (rings_of e) (flat_map rings_of (before ++ f ∷ after))) ∙ h)).1
 
 module _ (d : Document) (next n : ℕ) (id : Text) (path : Path) (s : SplitDocument d next n id path) where
   abbrev new : Feature
@@ -46,8 +44,8 @@ module _ (d : Document) (next n : ℕ) (id : Text) (path : Path) (s : SplitDocum
   -- and the new feature under the new one
   pub found_new : are_below next (features d) ≡ true → feature_at (cut d n id path next) next ≡ new
   found_new below =
-      let parts = and_both (are_below next s.before) (are_below next (s.old ∷ s.after)) (sym (list_all-append (λ f. nat_lt f.number next) s.before (s.old ∷ s.after)) ∙ ap (are_below next) (sym s.is) ∙ below) in
-      let here = and_both (nat_lt s.old.number next) (are_below next s.after) parts.1 in
+      let parts = and_parts (are_below next s.before) (are_below next (s.old ∷ s.after)) (sym (list_all-append (λ f. nat_lt f.number next) s.before (s.old ∷ s.after)) ∙ ap (are_below next) (sym s.is) ∙ below) in
+      let here = and_parts (nat_lt s.old.number next) (are_below next s.after) parts.1 in
       let lacking : list_any (λ f. f.number == next) (s.before ++ stays path s.old ∷ []) ≡ false =
       list_any-append (λ f. f.number == next) s.before (stays path s.old ∷ [])
       ∙ ap₂ (λ a b. a || b) (none_has next s.before parts.0) (ap (λ b. b || false) (below_differs s.old.number next here.0)) in

@@ -1,29 +1,25 @@
 -- An accepted split of a proper document gives a proper document.
 use Rattle.kit_words.proofs.Common.{◌≡◌, ℕ, Bool, true, false, refl, sym, ap, ap₂, ◌∙◌, subst, List, [], ◌∷◌, ◌++◌}
-use Rattle.kit_words.proofs.Common.{◌||◌, ◌⊎◌, inl, inr, None, not, list_any, false≢true}
+use Rattle.kit_words.proofs.Common.{◌||◌, ◌⊎◌, inl, inr, None, not, list_any, false≢true, or_parts, false_from_ne_true}
 use Rattle.grid_geometry.specs.Common.{Position, Segment, segment_eq, Edge, links}
 use Rattle.ring_machine.specs.Common.{canonical, has, is_ring, segments, segment_of, Document, Feature, Text, features}
 use Rattle.ring_machine.specs.Common.{rings_of, rings, is_vertex, is_segment, all_segments, WellFormed, Proper, Path}
 use Rattle.ring_machine.specs.Common.{cut, stays, first_part, second_part, first_polygon, second_polygon, goes_first}
 use Rattle.ring_machine.specs.Common.{first_of, positions_of, split_refusals}
-use Rattle.ring_machine.proofs.First.{In, in-append, in_left, in_right}
-use Rattle.ring_machine.proofs.Members.{in_flat, in_filter, any_in}
+use Rattle.ring_machine.proofs.First.{In, in-append, in_left, in_right, in-filter}
+use Rattle.ring_machine.proofs.Members.{in_flat, any_in}
 use Rattle.ring_machine.proofs.Neighbours.{in-flat_map, none_in, all_in}
-use Rattle.ring_machine.proofs.Order.{refuted}
-use Rattle.ring_machine.proofs.Removal.{none_parts}
 use Rattle.ring_machine.proofs.Passed.{pass_all}
 use Rattle.ring_machine.proofs.SplitFeatures.{new_feature, SplitFeature}
-use Rattle.ring_machine.proofs.SplitDocuments.{SplitAccepted, split-accepted, SplitDocument}
-use Rattle.ring_machine.proofs.SplitDocuments.{accepted_split, new_one}
-use Rattle.ring_machine.proofs.SplitRings.{CutsRing, is_edge_of, first_part_is_ring}
-use Rattle.ring_machine.proofs.SplitRings.{second_part_is_ring}
+use Rattle.ring_machine.proofs.SplitDocuments.{SplitAccepted, split-accepted, SplitDocument, accepted_split, new_one}
+use Rattle.ring_machine.proofs.SplitRings.{CutsRing, is_edge_of, first_part_is_ring, second_part_is_ring}
 
 -- what is weaker than a test that none passes
-none_weaker : {A : Type 0} (strong weak : A → Bool) → ((x : A) → strong x ≡ false → weak x ≡ false)
+pub none_weaker : {A : Type 0} (strong weak : A → Bool) → ((x : A) → strong x ≡ false → weak x ≡ false)
     → (xs : List A) → list_any strong xs ≡ false → list_any weak xs ≡ false
 none_weaker strong weak h [] k = refl
 none_weaker strong weak h (x ∷ xs) k =
-    let k' = none_parts (strong x) (list_any strong xs) k in
+    let k' = or_parts (strong x) (list_any strong xs) k in
     ap₂ (λ a b. a || b) (h x k'.0) (none_weaker strong weak h xs k'.1)
 
 -- ---- the rings of the two features
@@ -48,7 +44,7 @@ module _ (path : Path) (number : ℕ) (id : Text) (f : Feature) (s : SplitFeatur
         | inr i ↦ elim i [
           | inl e ↦ elim (subst (In r) (sym e) k.2) [
             | inl same ↦ inr same
-            | inr j ↦ inl (in_feature polygon r cut_one (inr (in_filter (goes_first (first_part s.outer path)) r s.holes j).0))
+            | inr j ↦ inl (in_feature polygon r cut_one (inr (in-filter (goes_first (first_part s.outer path)) r s.holes j).0))
           ]
           | inr j ↦ inl (in_feature k.0 r (in_right k.0 s.before (polygon ∷ s.after) (inr j)) k.2)
         ]
@@ -59,7 +55,7 @@ module _ (path : Path) (number : ℕ) (id : Text) (f : Feature) (s : SplitFeatur
   rings_that_go r h = elim (in-append r (second_polygon path polygon) [] h) [
     | inl i ↦ elim i [
       | inl same ↦ inr same
-      | inr j ↦ inl (in_feature polygon r cut_one (inr (in_filter (λ h. not (goes_first (first_part s.outer path) h)) r s.holes j).0))
+      | inr j ↦ inl (in_feature polygon r cut_one (inr (in-filter (λ h. not (goes_first (first_part s.outer path) h)) r s.holes j).0))
     ]
     | inr i ↦ absurd i
   ]
@@ -116,7 +112,7 @@ module _ (d : Document) (next n : ℕ) (id : Text) (path : Path) (s : SplitDocum
   }
     where
       not_there : (e : Edge) → is_segment d (segment_of e) ≡ false → is_edge_of target e ≡ false
-      not_there e k = refuted (is_edge_of target e) (λ t. none (any_in (segment_eq (segment_of e)) (segments target) t))
+      not_there e k = false_from_ne_true (is_edge_of target e) (λ t. none (any_in (segment_eq (segment_of e)) (segments target) t))
         where
           none : (a : Segment) × In a (segments target) × (segment_eq (segment_of e) a ≡ true) → ⊥
           none m = false≢true (sym (none_in (segment_eq (segment_of e)) (all_segments d) m.0 k (in-flat_map segments target m.0 (rings d) target_there m.1)) ∙ m.2)

@@ -1,8 +1,8 @@
 -- The two parts of a ring that a path cuts are rings.
 use Rattle.kit_words.proofs.Common.{◌≡◌, ◌≤◌, ◌+◌, Bool, true, false, refl, sym, ap, ap₂, ◌∙◌, subst, List, [], ◌∷◌}
 use Rattle.kit_words.proofs.Common.{◌++◌, length, reverse, append_assoc, ◌||◌, ◌&&◌, inl, arith, not, list_any}
-use Rattle.kit_words.proofs.Common.{false≢true, length-append, reverse-append, length-reverse, list_any-append}
-use Rattle.kit_words.proofs.Common.{list_any-IsPermutation, IsPermutation-reverse}
+use Rattle.kit_words.proofs.Common.{false≢true, length-append, reverse-append, length-reverse, list_any-append, or_comm}
+use Rattle.kit_words.proofs.Common.{list_any-IsPermutation, IsPermutation-reverse, and_parts, or_parts, not-true}
 use Rattle.grid_geometry.specs.Common.{Position, position_eq, segment_eq, Edge, edges, links}
 use Rattle.grid_geometry.proofs.Common.{segment-comm}
 use Rattle.ring_machine.specs.Common.{canonical, has, is_distinct, is_ring, segments, segment_of, Path, first_part}
@@ -11,40 +11,37 @@ use Rattle.ring_machine.proofs.CutRings.{CutRing, cut_ring, first_is, second_is,
 use Rattle.ring_machine.proofs.First.{In}
 use Rattle.ring_machine.proofs.Members.{in_swap, in_any}
 use Rattle.ring_machine.proofs.Neighbours.{in-map}
-use Rattle.ring_machine.proofs.Order.{and_both, position_eq-refl}
-use Rattle.ring_machine.proofs.Removal.{none_parts, not_true, position_eq-sym}
+use Rattle.ring_machine.proofs.Order.{position_eq-refl}
+use Rattle.ring_machine.proofs.Removal.{position_eq-sym}
 use Rattle.ring_machine.proofs.Spots.{Rotated, rotated-trans}
 use Rattle.ring_machine.proofs.StaysRing.{canonical_is_ring, distinct_swap}
 
 -- ---- distinct positions
-
-or_turned : (a b : Bool) → (a || b) ≡ (b || a)
-or_turned a b = grind arith
 
 -- a turned list has the same elements
 pub any_turned : {A : Type 0} (test : A → Bool) (xs ys : List A) → Rotated xs ys
     → list_any test xs ≡ list_any test ys
 any_turned test xs ys r =
     ap (list_any test) r.from ∙ list_any-append test r.us r.vs
-    ∙ or_turned (list_any test r.us) (list_any test r.vs)
+    ∙ or_comm (list_any test r.us) (list_any test r.vs)
     ∙ sym (ap (list_any test) r.to ∙ list_any-append test r.vs r.us)
 
 pub any_reversed : {A : Type 0} (test : A → Bool) (xs : List A)
     → list_any test (reverse xs) ≡ list_any test xs
 any_reversed test xs = sym (list_any-IsPermutation test xs (reverse xs) (IsPermutation-reverse xs))
 
-distinct_left : (us vs : List Position) → is_distinct (us ++ vs) ≡ true → is_distinct us ≡ true
+pub distinct_left : (us vs : List Position) → is_distinct (us ++ vs) ≡ true → is_distinct us ≡ true
 distinct_left [] vs d = refl
 distinct_left (u ∷ us) vs d =
-    let d' = and_both (not (has (us ++ vs) u)) (is_distinct (us ++ vs)) d in
-    ap₂ (λ a b. not a && b) (none_parts (has us u) (has vs u) (sym (list_any-append (position_eq u) us vs) ∙ not_true _ d'.0)).0 (distinct_left us vs d'.1)
+    let d' = and_parts (not (has (us ++ vs) u)) (is_distinct (us ++ vs)) d in
+    ap₂ (λ a b. not a && b) (or_parts (has us u) (has vs u) (sym (list_any-append (position_eq u) us vs) ∙ not-true _ d'.0)).0 (distinct_left us vs d'.1)
 
 none_of_more : (u : Position) (us vs : List Position) → list_any (has (u ∷ us)) vs ≡ false
     → (has vs u ≡ false) × (list_any (has us) vs ≡ false)
 none_of_more u us [] h = (refl, refl)
 none_of_more u us (v ∷ vs) h =
-    let h' = none_parts (has (u ∷ us) v) (list_any (has (u ∷ us)) vs) h in
-    let here = none_parts (position_eq v u) (has us v) h'.0 in
+    let h' = or_parts (has (u ∷ us) v) (list_any (has (u ∷ us)) vs) h in
+    let here = or_parts (position_eq v u) (has us v) h'.0 in
     let rest = none_of_more u us vs h'.1 in
     (ap₂ (λ a b. a || b) (position_eq-sym u v ∙ here.0) rest.0, ap₂ (λ a b. a || b) here.1 rest.1)
 
@@ -52,24 +49,24 @@ distinct_both : (us vs : List Position) → is_distinct us ≡ true → is_disti
     → list_any (has us) vs ≡ false → is_distinct (us ++ vs) ≡ true
 distinct_both [] vs d e h = e
 distinct_both (u ∷ us) vs d e h =
-    let d' = and_both (not (has us u)) (is_distinct us) d in
+    let d' = and_parts (not (has us u)) (is_distinct us) d in
     let h' = none_of_more u us vs h in
-    ap₂ (λ a b. not a && b) (list_any-append (position_eq u) us vs ∙ ap₂ (λ a b. a || b) (not_true _ d'.0) h'.0) (distinct_both us vs d'.1 e h'.1)
+    ap₂ (λ a b. not a && b) (list_any-append (position_eq u) us vs ∙ ap₂ (λ a b. a || b) (not-true _ d'.0) h'.0) (distinct_both us vs d'.1 e h'.1)
 
-distinct_reversed : (ps : List Position) → is_distinct ps ≡ true → is_distinct (reverse ps) ≡ true
+pub distinct_reversed : (ps : List Position) → is_distinct ps ≡ true → is_distinct (reverse ps) ≡ true
 distinct_reversed [] d = refl
 distinct_reversed (p ∷ ps) d =
-    let d' = and_both (not (has ps p)) (is_distinct ps) d in
+    let d' = and_parts (not (has ps p)) (is_distinct ps) d in
     ap is_distinct (reverse-append (p ∷ []) ps)
-    ∙ distinct_swap (p ∷ []) (reverse ps) (ap₂ (λ a b. not a && b) (any_reversed (position_eq p) ps ∙ not_true _ d'.0) (distinct_reversed ps d'.1))
+    ∙ distinct_swap (p ∷ []) (reverse ps) (ap₂ (λ a b. not a && b) (any_reversed (position_eq p) ps ∙ not-true _ d'.0) (distinct_reversed ps d'.1))
 
 -- none of us ++ vs, so none of us
 none_of_left : (us vs ws : List Position) → list_any (has (us ++ vs)) ws ≡ false
     → list_any (has us) ws ≡ false
 none_of_left us vs [] h = refl
 none_of_left us vs (w ∷ ws) h =
-    let h' = none_parts (has (us ++ vs) w) (list_any (has (us ++ vs)) ws) h in
-    ap₂ (λ a b. a || b) (none_parts (has us w) (has vs w) (sym (list_any-append (position_eq w) us vs) ∙ h'.0)).0 (none_of_left us vs ws h'.1)
+    let h' = or_parts (has (us ++ vs) w) (list_any (has (us ++ vs)) ws) h in
+    ap₂ (λ a b. a || b) (or_parts (has us w) (has vs w) (sym (list_any-append (position_eq w) us vs) ∙ h'.0)).0 (none_of_left us vs ws h'.1)
 
 -- ---- one part
 
@@ -106,14 +103,14 @@ neighbours ring p q rest r =
 one_between : (ring : List Position) (p : Position) (xs : List Position) (q : Position) (ys inner : List Position)
     → Rotated ring (p ∷ xs ++ q ∷ ys)
     → list_any (is_edge_of ring) (links (p ∷ inner ++ q ∷ [])) ≡ false → 1 ≤ length xs + length inner
-one_between ring p [] q ys [] r h = absurd (false≢true (sym (none_parts (is_edge_of ring (p, q)) false h).0 ∙ neighbours ring p q ys r))
+one_between ring p [] q ys [] r h = absurd (false≢true (sym (or_parts (is_edge_of ring (p, q)) false h).0 ∙ neighbours ring p q ys r))
 one_between ring p (x ∷ xs) q ys inner r h = omega arith
 one_between ring p [] q ys (i ∷ inner) r h = omega arith
 
 one_between_back : (ring : List Position) (p : Position) (xs : List Position) (q : Position) (ys inner : List Position)
     → Rotated ring (q ∷ ys ++ p ∷ xs)
     → list_any (is_edge_of ring) (links (p ∷ inner ++ q ∷ [])) ≡ false → 1 ≤ length ys + length inner
-one_between_back ring p xs q [] [] r h = absurd (false≢true (sym (none_parts (is_edge_of ring (p, q)) false h).0 ∙ ap (λ s. list_any (segment_eq s) (segments ring)) (segment-comm p q) ∙ neighbours ring q p xs r))
+one_between_back ring p xs q [] [] r h = absurd (false≢true (sym (or_parts (is_edge_of ring (p, q)) false h).0 ∙ ap (λ s. list_any (segment_eq s) (segments ring)) (segment-comm p q) ∙ neighbours ring q p xs r))
 one_between_back ring p xs q (y ∷ ys) inner r h = omega arith
 one_between_back ring p xs q [] (i ∷ inner) r h = omega arith
 
@@ -132,13 +129,13 @@ pub record CutsRing (ring : List Position) (path : Path) : Type 0 where
 pub ends_differ : (path : Path) → is_distinct (positions_of path) ≡ true
     → position_eq path.first path.last ≡ false
 ends_differ path d =
-    let away = and_both (not (has (path.inner ++ path.last ∷ []) path.first)) (is_distinct (path.inner ++ path.last ∷ [])) d in
-    let parts = none_parts (has path.inner path.first) (has (path.last ∷ []) path.first) (sym (list_any-append (position_eq path.first) path.inner (path.last ∷ [])) ∙ not_true _ away.0) in
-    (none_parts (position_eq path.first path.last) false parts.1).0
+    let away = and_parts (not (has (path.inner ++ path.last ∷ []) path.first)) (is_distinct (path.inner ++ path.last ∷ [])) d in
+    let parts = or_parts (has path.inner path.first) (has (path.last ∷ []) path.first) (sym (list_any-append (position_eq path.first) path.inner (path.last ∷ [])) ∙ not-true _ away.0) in
+    (or_parts (position_eq path.first path.last) false parts.1).0
 
 inner_distinct : (path : Path) → is_distinct (positions_of path) ≡ true → is_distinct path.inner ≡ true
 inner_distinct path d =
-    distinct_left path.inner (path.last ∷ []) (and_both (not (has (path.inner ++ path.last ∷ []) path.first)) (is_distinct (path.inner ++ path.last ∷ [])) d).1
+    distinct_left path.inner (path.last ∷ []) (and_parts (not (has (path.inner ++ path.last ∷ []) path.first)) (is_distinct (path.inner ++ path.last ∷ [])) d).1
 
 module _ (ring : List Position) (path : Path) (c : CutsRing ring path) where
   pub cut_of : CutRing ring path.first path.last
@@ -148,7 +145,7 @@ module _ (ring : List Position) (path : Path) (c : CutsRing ring path) where
       → list_any (has ps) inner ≡ false
   free_of ps [] r h = refl
   free_of ps (i ∷ inner) r h =
-      let h' = none_parts (has ring i) (list_any (has ring) inner) h in
+      let h' = or_parts (has ring i) (list_any (has ring) inner) h in
       ap₂ (λ a b. a || b) (sym (any_turned (position_eq i) ring ps r) ∙ h'.0) (free_of ps inner r h'.1)
 
   other_way : Rotated ring (path.last ∷ cut_of.ys ++ path.first ∷ cut_of.xs)

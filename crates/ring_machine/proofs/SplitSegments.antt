@@ -17,7 +17,7 @@ use Rattle.ring_machine.proofs.Walks.{walk, walk-append}
 abbrev pub path_segments : Path → List Segment
 path_segments path = map segment_of (links (positions_of path))
 
-any_mapped : {A B : Type 0} (test : B → Bool) (g : A → B) (xs : List A)
+pub any_mapped : {A B : Type 0} (test : B → Bool) (g : A → B) (xs : List A)
     → list_any test (map g xs) ≡ list_any (λ x. test (g x)) xs
 any_mapped test g [] = refl
 any_mapped test g (x ∷ xs) = ap (λ b. test (g x) || b) (any_mapped test g xs)

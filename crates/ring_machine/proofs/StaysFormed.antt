@@ -2,12 +2,11 @@
 use Rattle.kit_words.proofs.Common.{◌≡◌, ℕ, zero, suc, Bool, true, false, refl, sym, ap, ap₂, ◌∙◌, subst, cond, List}
 use Rattle.kit_words.proofs.Common.{[], ◌∷◌, ◌++◌, map, length, ◌||◌, ◌&&◌, ◌⊎◌, inl, inr, Option, Some, None, is_some}
 use Rattle.kit_words.proofs.Common.{eqb-true, eq-eqb, arith, ◌==◌, not, list_any, list_all, flat_map, filter_map}
-use Rattle.kit_words.proofs.Common.{false≢true, map-append, list_all-append}
+use Rattle.kit_words.proofs.Common.{false≢true, map-append, list_all-append, and_parts}
 use Rattle.ring_machine.specs.Common.{FeatureOf, ItemOf, LayerOf, DocumentOf, Open, Close, Leaf, Kept, Text, Member}
 use Rattle.ring_machine.specs.Common.{feature_of, features, feature, has_feature, in_feature, in_item, in_layer}
 use Rattle.ring_machine.specs.Common.{in_rings, becomes, instead, take_out, is_layer, renamed, is_inner, is_geometry}
 use Rattle.ring_machine.specs.Common.{fits_form, are_distinct, WellFormed}
-use Rattle.ring_machine.proofs.Order.{and_both}
 use Rattle.ring_machine.proofs.First.{In, in-append, in_left, in_right}
 use Rattle.ring_machine.proofs.Members.{in_mapped, in_any}
 use Rattle.ring_machine.proofs.Neighbours.{in-flat_map, all_in}
@@ -151,7 +150,7 @@ module _ {R : Type 0} (n : ℕ) (g : FeatureOf R → List (FeatureOf R)) where
       → list_all (λ l. is_geometry l.items) (map (in_layer (flat_map (becomes n g))) ls) ≡ true
   geometries_become [] h one = refl
   geometries_become (l ∷ ls) h one =
-      let h' = and_both (is_geometry l.items) (list_all (λ k. is_geometry k.items) ls) h in
+      let h' = and_parts (is_geometry l.items) (list_all (λ k. is_geometry k.items) ls) h in
       ap₂ (λ y z. y && z) (geometry_becomes l.items h'.0 (λ f e k. one l f (inl refl) e k))
       (geometries_become ls h'.1 (λ k f i e m. one k f (inr i) e m))
 
@@ -172,9 +171,9 @@ module _ {R : Type 0} (n : ℕ) (g : FeatureOf R → List (FeatureOf R)) where
       forms_kept =
           let before : list_all fits_form (place.us ++ f ∷ place.vs) ≡ true =
           ap (list_all fits_form) (sym place.is) ∙ formed.forms in
-          let parts = and_both (list_all fits_form place.us) (list_all fits_form (f ∷ place.vs))
+          let parts = and_parts (list_all fits_form place.us) (list_all fits_form (f ∷ place.vs))
           (sym (list_all-append fits_form place.us (f ∷ place.vs)) ∙ before) in
-          let behind = and_both (fits_form f) (list_all fits_form place.vs) parts.1 in
+          let behind = and_parts (fits_form f) (list_all fits_form place.vs) parts.1 in
           ap (list_all fits_form) (features-instead_at d n g f place)
           ∙ list_all-append fits_form place.us (g f ++ place.vs)
           ∙ ap₂ (λ y z. y && z) parts.0 (list_all-append fits_form (g f) place.vs

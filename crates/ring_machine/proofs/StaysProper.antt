@@ -1,28 +1,27 @@
 -- An accepted edit of a vertex gives a proper document.
 use Rattle.kit_words.proofs.Common.{◌≡◌, ◌≤◌, ◌+◌, ℕ, Bool, true, false, refl, ap, ap₂, ◌∙◌, subst, cond, List, [], ◌∷◌}
 use Rattle.kit_words.proofs.Common.{map, length, ◌||◌, ◌&&◌, arith, None, not, nat_le, nat_lt, list_any, list_all}
-use Rattle.kit_words.proofs.Common.{flat_map, false≢true, length-map}
+use Rattle.kit_words.proofs.Common.{flat_map, false≢true, length-map, and_parts, or_parts, not-true}
 use Rattle.grid_geometry.specs.Common.{Position, position_eq, Segment, segment, Edge, edges}
 use Rattle.ring_machine.specs.Common.{has, is_distinct, is_ring, begins_least, Document, rings, is_vertex, put, ins}
 use Rattle.ring_machine.specs.Common.{del, put_ring, ins_ring, del_ring, Proper, first_pair, are_long}
-use Rattle.ring_machine.proofs.Order.{and_both, position_eq-true}
+use Rattle.ring_machine.proofs.Order.{position_eq-true}
 use Rattle.ring_machine.proofs.Arcs.{is_of}
 use Rattle.ring_machine.proofs.Edges.{edges_is, edges_to}
-use Rattle.ring_machine.proofs.Removal.{none_parts, not_true, others, filter_lacks}
-use Rattle.ring_machine.proofs.StaysRing.{canonical_is_ring, put-distinct, del-distinct}
-use Rattle.ring_machine.proofs.StaysRing.{ins-distinct}
+use Rattle.ring_machine.proofs.Removal.{others, filter_lacks}
+use Rattle.ring_machine.proofs.StaysRing.{canonical_is_ring, put-distinct, del-distinct, ins-distinct}
 use Rattle.ring_machine.proofs.RingSegments.{ring_once}
 use Rattle.ring_machine.proofs.RingsOf.{rings-in_rings}
 
-at_least : (n : ℕ) → nat_le 3 n ≡ true → 3 ≤ n
+pub at_least : (n : ℕ) → nat_le 3 n ≡ true → 3 ≤ n
 at_least n h = grind arith
 
 -- the parts of being a ring
 pub ring_long : (ring : List Position) → is_ring ring ≡ true → 3 ≤ length ring
-ring_long ring h = at_least (length ring) (and_both (nat_le 3 (length ring)) (is_distinct ring && begins_least ring) h).0
+ring_long ring h = at_least (length ring) (and_parts (nat_le 3 (length ring)) (is_distinct ring && begins_least ring) h).0
 
 pub ring_distinct : (ring : List Position) → is_ring ring ≡ true → is_distinct ring ≡ true
-ring_distinct ring h = (and_both (is_distinct ring) (begins_least ring) (and_both (nat_le 3 (length ring)) (is_distinct ring && begins_least ring) h).1).0
+ring_distinct ring h = (and_parts (is_distinct ring) (begins_least ring) (and_parts (nat_le 3 (length ring)) (is_distinct ring && begins_least ring) h).1).0
 
 -- ---- one ring
 
@@ -35,8 +34,8 @@ pub others_long : (p : Position) (ps : List Position) → is_distinct ps ≡ tru
     → length ps ≤ length (others p ps) + 1
 others_long p [] d = omega arith
 others_long p (x ∷ ps) d =
-    let d' = and_both (not (has ps x)) (is_distinct ps) d in
-    by (position_eq x p) refl (not_true _ d'.0) (others_long p ps d'.1)
+    let d' = and_parts (not (has ps x)) (is_distinct ps) d in
+    by (position_eq x p) refl (not-true _ d'.0) (others_long p ps d'.1)
   where
     by : (t : Bool) → position_eq x p ≡ t → has ps x ≡ false → length ps ≤ length (others p ps) + 1
         → length (x ∷ ps) ≤ length (cond (not t) (x ∷ others p ps) (others p ps)) + 1
@@ -64,7 +63,7 @@ starts_are q (p ∷ ps) = ap (λ z. p ∷ z) (starts_are q ps)
 pub edges_start : (p : Position) (ps : List Position) → map (λ e. e.0) (edges (p ∷ ps)) ≡ p ∷ ps
 edges_start p ps = ap (map (λ e. e.0)) (edges_is p ps) ∙ starts_are p (p ∷ ps)
 
-abbrev with_between : Segment → Position → List Edge → List Position
+abbrev pub with_between : Segment → Position → List Edge → List Position
 with_between s q es = flat_map (λ e. cond (is_of s e) (e.0 ∷ q ∷ []) (e.0 ∷ [])) es
 
 longer : (s : Segment) (q : Position) (es : List Edge) → length es ≤ length (with_between s q es)
@@ -90,22 +89,22 @@ all_changed : {A B : Type 0} (test : A → Bool) (other : B → Bool) (g : A →
     → ((a : A) → test a ≡ true → other (g a) ≡ true) → (xs : List A) → list_all test xs ≡ true
     → list_all other (map g xs) ≡ true
 all_changed test other g h [] k = refl
-all_changed test other g h (x ∷ xs) k = let both = and_both (test x) (list_all test xs) k in ap₂ (λ y z. y && z) (h x both.0) (all_changed test other g h xs both.1)
+all_changed test other g h (x ∷ xs) k = let both = and_parts (test x) (list_all test xs) k in ap₂ (λ y z. y && z) (h x both.0) (all_changed test other g h xs both.1)
 
 all_and_none : {A : Type 0} (test none : A → Bool) (xs : List A) → list_all test xs ≡ true
     → list_any none xs ≡ false → list_all (λ x. test x && not (none x)) xs ≡ true
 all_and_none test none [] h k = refl
 all_and_none test none (x ∷ xs) h k =
-    let h' = and_both (test x) (list_all test xs) h in
-    let k' = none_parts (none x) (list_any none xs) k in
+    let h' = and_parts (test x) (list_all test xs) h in
+    let k' = or_parts (none x) (list_any none xs) k in
     ap₂ (λ y z. y && z) (ap₂ (λ y z. y && not z) h'.0 k'.0) (all_and_none test none xs h'.1 k'.1)
 
 all_and_all : {A : Type 0} (test more : A → Bool) (xs : List A) → list_all test xs ≡ true
     → list_all more xs ≡ true → list_all (λ x. test x && more x) xs ≡ true
 all_and_all test more [] h k = refl
 all_and_all test more (x ∷ xs) h k =
-    let h' = and_both (test x) (list_all test xs) h in
-    let k' = and_both (more x) (list_all more xs) k in
+    let h' = and_parts (test x) (list_all test xs) h in
+    let k' = and_parts (more x) (list_all more xs) k in
     ap₂ (λ y z. y && z) (ap₂ (λ y z. y && z) h'.0 k'.0) (all_and_all test more xs h'.1 k'.1)
 
 pub put_is_proper : (d : Document) (p q : Position) → Proper d → is_vertex d q ≡ false
@@ -113,7 +112,7 @@ pub put_is_proper : (d : Document) (p q : Position) → Proper d → is_vertex d
 put_is_proper d p q proper free apart = record {
   are_rings = ap (list_all is_ring) (rings-in_rings (put_ring p q) d)
       ∙ all_changed (λ ring. is_ring ring && not (has ring q)) is_ring (put_ring p q)
-      (λ ring h. let k = and_both (is_ring ring) (not (has ring q)) h in put_is_ring p q ring k.0 (not_true _ k.1))
+      (λ ring h. let k = and_parts (is_ring ring) (not (has ring q)) h in put_is_ring p q ring k.0 (not-true _ k.1))
       (rings d) (all_and_none is_ring (λ ring. has ring q) (rings d) proper.are_rings free);
   apart = apart;
 }
@@ -123,7 +122,7 @@ pub ins_is_proper : (d : Document) (a b q : Position) → Proper d → is_vertex
 ins_is_proper d a b q proper free apart = record {
   are_rings = ap (list_all is_ring) (rings-in_rings (ins_ring a b q) d)
       ∙ all_changed (λ ring. is_ring ring && not (has ring q)) is_ring (ins_ring a b q)
-      (λ ring h. let k = and_both (is_ring ring) (not (has ring q)) h in ins_is_ring a b q ring k.0 (not_true _ k.1))
+      (λ ring h. let k = and_parts (is_ring ring) (not (has ring q)) h in ins_is_ring a b q ring k.0 (not-true _ k.1))
       (rings d) (all_and_none is_ring (λ ring. has ring q) (rings d) proper.are_rings free);
   apart = apart;
 }
@@ -133,7 +132,7 @@ pub del_is_proper : (d : Document) (p : Position) → Proper d → are_long d p 
 del_is_proper d p proper long apart = record {
   are_rings = ap (list_all is_ring) (rings-in_rings (del_ring p) d)
       ∙ all_changed (λ ring. is_ring ring && (not (has ring p) || nat_lt 3 (length ring))) is_ring (del_ring p)
-      (λ ring h. let k = and_both (is_ring ring) (not (has ring p) || nat_lt 3 (length ring)) h in del_is_ring p ring k.0 k.1)
+      (λ ring h. let k = and_parts (is_ring ring) (not (has ring p) || nat_lt 3 (length ring)) h in del_is_ring p ring k.0 k.1)
       (rings d) (all_and_all is_ring (λ ring. not (has ring p) || nat_lt 3 (length ring)) (rings d) proper.are_rings long);
   apart = apart;
 }

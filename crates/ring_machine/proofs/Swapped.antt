@@ -1,9 +1,8 @@
 -- Lists of features in which those of one number become others, or none.
 use Rattle.kit_words.proofs.Common.{◌≡◌, ℕ, Bool, true, false, refl, sym, ap, ap₂, ◌∙◌, cond, List, [], arith, ◌∷◌}
 use Rattle.kit_words.proofs.Common.{◌++◌, inl, inr, Some, None, option_map, eqb-true, eq-eqb, ◌==◌, not, list_any}
-use Rattle.kit_words.proofs.Common.{filter, find, flat_map, option_or, flat_map-append, find-append}
+use Rattle.kit_words.proofs.Common.{filter, find, flat_map, option_or, flat_map-append, find-append, or_parts}
 use Rattle.ring_machine.specs.Common.{FeatureOf}
-use Rattle.ring_machine.proofs.Removal.{none_parts}
 use Rattle.ring_machine.proofs.First.{In}
 use Rattle.ring_machine.proofs.Found.{Stands}
 
@@ -21,7 +20,7 @@ module _ {R : Type 0} (n : ℕ) (g : FeatureOf R → List (FeatureOf R)) where
       → swapped fs ≡ fs
   swapped_none [] h = refl
   swapped_none (f ∷ fs) h =
-      let h' = none_parts (f.number == n) (list_any (λ k. k.number == n) fs) h in
+      let h' = or_parts (f.number == n) (list_any (λ k. k.number == n) fs) h in
       ap₂ (λ b z. cond b (g f) (f ∷ []) ++ z) h'.0 (swapped_none fs h'.1)
 
   -- where one stands alone, others stand in its place

@@ -1,10 +1,9 @@
 -- What a document is without one of its features.
 use Rattle.kit_words.proofs.Common.{◌≡◌, ℕ, false, refl, ap, ◌∙◌, cond, List, arith, [], ◌∷◌, map, Option, sym, ◌==◌}
-use Rattle.kit_words.proofs.Common.{not, filter, filter_map, flat_map, list_any, filter-append}
+use Rattle.kit_words.proofs.Common.{not, filter, filter_map, flat_map, list_any, filter-append, or_parts}
 use Rattle.ring_machine.specs.Common.{ItemOf, LayerOf, DocumentOf, Open, Close, Leaf, Kept, Text, Member, feature_of}
 use Rattle.ring_machine.specs.Common.{features, in_layer, in_items, has_feature, becomes, is_leaf, empty_collection}
 use Rattle.ring_machine.specs.Common.{take_out}
-use Rattle.ring_machine.proofs.Removal.{none_parts}
 use Rattle.ring_machine.proofs.InItems.{features-in_items, in_items-left}
 use Rattle.ring_machine.proofs.Swapped.{without, without_swapped}
 use Rattle.ring_machine.proofs.Instead.{features_becomes, becomes_none}
@@ -82,7 +81,7 @@ module _ {R : Type 0} (n : ℕ) where
   taken_none (Kept t ∷ is) h = filtered_none (Kept t ∷ is) h
   taken_none (Leaf f ∷ i ∷ is) h = filtered_none (Leaf f ∷ i ∷ is) h
   taken_none (Leaf f ∷ []) h =
-      ap (λ b. cond b empty_collection (Leaf f ∷ [])) (none_parts (f.number == n) false h).0
+      ap (λ b. cond b empty_collection (Leaf f ∷ [])) (or_parts (f.number == n) false h).0
 
   -- nothing changes
   pub take_out_none : (d : DocumentOf R) → has_feature d n ≡ false → take_out d n ≡ d

@@ -3,11 +3,9 @@ use Rattle.kit_words.proofs.Common.{◌≡◌, ℕ, ◌+◌, false, refl, sym, a
 use Rattle.kit_words.proofs.Common.{◌==◌, not, find, flat_map, sum_by, flat_map-append, sum_by-append, false≢true}
 use Rattle.ring_machine.specs.Common.{segments, is_ring, FeatureOf, Feature, DocumentOf, Document, features, feature}
 use Rattle.ring_machine.specs.Common.{rings_of, rings, all_segments, size, Proper, first_pair, instead, take_out}
-use Rattle.ring_machine.proofs.First.{In}
-use Rattle.ring_machine.proofs.Members.{in_filter}
+use Rattle.ring_machine.proofs.First.{In, in-filter}
 use Rattle.std.proofs.lemmas.Bool.{eq-eqb}
-use Rattle.ring_machine.proofs.LeftOut.{IsPart, part_filter, part_flat_map, part_all}
-use Rattle.ring_machine.proofs.LeftOut.{part_apart}
+use Rattle.ring_machine.proofs.LeftOut.{IsPart, part_filter, part_flat_map, part_all, part_apart}
 use Rattle.ring_machine.proofs.Found.{Stands}
 use Rattle.ring_machine.proofs.TakenOut.{features-take_out}
 use Rattle.ring_machine.proofs.Swapped.{swapped_alone, find_other, without_swapped}
@@ -28,7 +26,7 @@ module _ {R : Type 0} (d : DocumentOf R) (n : ℕ) where
   pub in-take_out : (f : FeatureOf R) → In f (features (take_out d n))
       → In f (features d) × (f.number ≡ n → ⊥)
   in-take_out f i =
-      let k = in_filter (λ (j : FeatureOf R). not (j.number == n)) f (features d) (subst (In f) (features-take_out n d) i) in
+      let k = in-filter (λ (j : FeatureOf R). not (j.number == n)) f (features d) (subst (In f) (features-take_out n d) i) in
       (k.0, λ e. false≢true (sym (ap not (eq-eqb f.number n e)) ∙ k.1))
 
   pub part-features : IsPart (features (take_out d n)) (features d)

@@ -10,9 +10,6 @@ use Rattle.ring_parts.specs.Common.{begins}
 abbrev pub left_begins : Bool → List Bool → Bool → ℕ
 left_begins b bs z = count_by (λ u. not u.0 && u.1) (zip (b ∷ bs) (bs ++ z ∷ []))
 
-abbrev begin : Bool → Bool → ℕ
-begin b c = cond (not b && c) 1 0
-
 count_cons : {A : Type 0} (p : A → Bool) (x : A) (xs : List A) → count_by p (x ∷ xs) ≡ cond (p x) 1 0 + count_by p xs
 count_cons p x xs = simp sum_by-cons
 

@@ -1,16 +1,15 @@
 -- The segments that two rings have in common: what they tell of each ring.
-use Rattle.kit_words.proofs.Common.{◌≡◌, ◌+◌, Bool, true, false, refl, sym, ap, ap₂, ◌∙◌, subst, cond, List, []}
-use Rattle.kit_words.proofs.Common.{◌∷◌, length, ◌&&◌, ◌||◌, ◌⊎◌, inl, inr}
-use Rattle.kit_words.proofs.Common.{list_any, list_all, filter, map, int_lt, pos, reverse, reverse-reverse}
-use Rattle.kit_words.proofs.Common.{not, ◌==◌, cases_Bool, arith, nat_tests}
-use Rattle.grid_geometry.specs.Common.{Position, Edge, edges, signed_area}
-use Rattle.ring_machine.specs.Common.{edge_eq, is_common, passed_alike, positive}
-use Rattle.ring_machine.proofs.Common.{In, flip, and_both, edge_eq-true}
+use Rattle.kit_words.proofs.Common.{◌≡◌, ◌+◌, Bool, true, false, refl, sym, ap, ap₂, ◌∙◌, subst, cond, List, [], ◌∷◌}
+use Rattle.kit_words.proofs.Common.{length, ◌&&◌, ◌||◌, inl, inr, list_any, list_all, filter, map, reverse}
+use Rattle.kit_words.proofs.Common.{reverse-reverse, not, ◌==◌, cases_Bool, arith, nat_tests}
+use Rattle.grid_geometry.specs.Common.{Position, Edge, edges}
+use Rattle.ring_machine.specs.Common.{edge_eq, is_common, passed_alike}
+use Rattle.ring_machine.proofs.Common.{In, flip, edge_eq-true, map_there, any_there, any_mapped}
 use Rattle.std.proofs.Math.Bool.{and-true, and-false, and-or_distrib_right}
 use Rattle.ring_machine.proofs.JoinedRuns.{in_reverse}
 use Rattle.ring_machine.proofs.Passed.{in_common, common-flip}
 use Rattle.ring_parts.specs.Borders.{ends_of, is_shared, run_ends, both_ends, IsEitherWay}
-use Rattle.ring_parts.proofs.Ways.{any_of, common_by_ends}
+use Rattle.ring_parts.proofs.Ways.{common_by_ends}
 use Rattle.ring_parts.proofs.Counted.{all_mapped}
 
 -- ---- tests of those that are kept
@@ -23,15 +22,6 @@ any_kept {A} t c (x ∷ xs) = by (c x) (any_kept t c xs)
         → list_any t (cond b (x ∷ filter c xs) (filter c xs)) ≡ ((b && t x) || list_any (λ y. c y && t y) xs)
     by true h = ap (λ z. t x || z) h
     by false h = h
-
--- tests that agree for each element of a list
-pub any_there : {A : Type 0} (f g : A → Bool) (xs : List A) → ((x : A) → In x xs → f x ≡ g x) → list_any f xs ≡ list_any g xs
-any_there f g [] h = refl
-any_there f g (x ∷ xs) h = ap₂ (λ a b. a || b) (h x (inl refl)) (any_there f g xs (λ y i. h y (inr i)))
-
-map_there : {A B : Type 0} (f g : A → B) (xs : List A) → ((x : A) → In x xs → f x ≡ g x) → map f xs ≡ map g xs
-map_there f g [] h = refl
-map_there f g (x ∷ xs) h = ap₂ (λ a b. a ∷ b) (h x (inl refl)) (map_there f g xs (λ y i. h y (inr i)))
 
 filter_there : {A : Type 0} (f g : A → Bool) (xs : List A) → ((x : A) → In x xs → f x ≡ g x) → filter f xs ≡ filter g xs
 filter_there f g [] h = refl
@@ -52,11 +42,11 @@ module _ (r s : List Position) where
   pub kept_by_ends : (e : Edge) → list_any (edge_eq (ends_of e)) (map ends_of (filter (is_common s) (edges r))) ≡ is_shared r s e
   unfolding is_shared
   kept_by_ends e =
-      any_of (edge_eq (ends_of e)) ends_of (filter (is_common s) (edges r))
+      any_mapped (edge_eq (ends_of e)) ends_of (filter (is_common s) (edges r))
       ∙ any_kept (λ f. edge_eq (ends_of e) (ends_of f)) (is_common s) (edges r)
       ∙ any_there (λ f. is_common s f && edge_eq (ends_of e) (ends_of f)) (λ f. edge_eq (ends_of e) (ends_of f) && is_common s e) (edges r) (λ f i. turned f (edge_eq (ends_of e) (ends_of f)) (same_common s e f))
       ∙ any_and (λ f. edge_eq (ends_of e) (ends_of f)) (is_common s e) (edges r)
-      ∙ ap (λ b. b && is_common s e) (sym (any_of (edge_eq (ends_of e)) ends_of (edges r)) ∙ common_by_ends r e)
+      ∙ ap (λ b. b && is_common s e) (sym (any_mapped (edge_eq (ends_of e)) ends_of (edges r)) ∙ common_by_ends r e)
     where
       turned : (f : Edge) (b : Bool) → (b ≡ true → is_common s f ≡ is_common s e) → (is_common s f && b) ≡ (b && is_common s e)
       turned f true h = and-true (is_common s f) ∙ h refl
@@ -64,7 +54,7 @@ module _ (r s : List Position) where
 
   pub some_kept : list_any (λ (side : Edge). true) (map ends_of (filter (is_common s) (edges r))) ≡ list_any (is_common s) (edges r)
   some_kept =
-      any_of (λ (side : Edge). true) ends_of (filter (is_common s) (edges r))
+      any_mapped (λ (side : Edge). true) ends_of (filter (is_common s) (edges r))
       ∙ any_kept (λ (f : Edge). true) (is_common s) (edges r)
       ∙ any_there (λ f. is_common s f && true) (is_common s) (edges r) (λ f i. and-true (is_common s f))
 
@@ -116,13 +106,6 @@ some_here (x ∷ xs) = elim (cases_Bool (length (x ∷ xs) == 0)) [
   | inl t ↦ let k : length xs + 1 ≡ 0 = grind (arith, nat_tests) in absurd (omega arith)
   | inr f ↦ ap not f
 ]
-
-pub positive_way : (ring : List Position) → IsEitherWay ring (positive ring)
-positive_way ring = by (int_lt (signed_area ring) (pos 0))
-  where
-    by : (b : Bool) → IsEitherWay ring (cond b (reverse ring) ring)
-    by true = inr refl
-    by false = inl refl
 
 pub turned_way : (ring : List Position) (b : Bool) → IsEitherWay ring (cond b (reverse ring) ring)
 turned_way ring true = inr refl

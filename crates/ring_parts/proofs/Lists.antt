@@ -1,17 +1,13 @@
 -- Lists of rings and polygons, one at a time.
 use Rattle.kit_words.proofs.Common.{◌≡◌, ℕ, zero, suc, ◌+◌, ◌<◌, ◌≤◌, ◌-◌, Bool, true, false, refl, sym, ap, ap₂, ◌∙◌}
-use Rattle.kit_words.proofs.Common.{cond, List, [], ◌∷◌, ◌++◌, map, length, take, drop, get_or, arith, ◌||◌, list_any}
-use Rattle.kit_words.proofs.Common.{take_more, take_all, map-append, list_any-append}
-use Rattle.kit_words.proofs.Common.{false≢true}
+use Rattle.kit_words.proofs.Common.{cond, List, [], ◌∷◌, map, length, take, get_or, arith, ◌||◌, list_any, take_all}
+use Rattle.kit_words.proofs.Common.{list_any-append, false≢true, mapped_more}
 use Rattle.ring_machine.specs.Common.{first_that}
-
-pub one_more : {A B : Type 0} (of : A → B) (xs : List A) (i : ℕ) (x : A) → i < length xs → x ≡ get_or xs i x → map of (take (i + 1) xs) ≡ map of (take i xs) ++ of x ∷ []
-one_more of xs i x l e = ap (map of) (take_more xs i x l ∙ ap (λ z. take i xs ++ z ∷ []) (sym e)) ∙ map-append of (take i xs) (x ∷ [])
 
 module _ {A B : Type 0} (of : A → B) (test : B → Bool) where
   -- none so far, and not this one
   pub none_more : (xs : List A) (i : ℕ) (x : A) → i < length xs → x ≡ get_or xs i x → list_any test (map of (take i xs)) ≡ false → test (of x) ≡ false → list_any test (map of (take (i + 1) xs)) ≡ false
-  none_more xs i x l e h k = ap (list_any test) (one_more of xs i x l e) ∙ list_any-append test (map of (take i xs)) (of x ∷ []) ∙ ap₂ (λ a b. a || (b || false)) h k
+  none_more xs i x l e h k = ap (list_any test) (mapped_more of xs i x l e) ∙ list_any-append test (map of (take i xs)) (of x ∷ []) ∙ ap₂ (λ a b. a || (b || false)) h k
 
   -- this one
   pub some_here : (xs : List A) (i : ℕ) (x : A) → i < length xs → x ≡ get_or xs i x → test (of x) ≡ true → list_any test (map of xs) ≡ true
@@ -41,8 +37,3 @@ pub map-take : {A B : Type 0} (of : A → B) (i : ℕ) (xs : List A) → map of 
 map-take of zero xs = refl
 map-take of (suc i) [] = refl
 map-take of (suc i) (x ∷ xs) = ap (λ ys. of x ∷ ys) (map-take of i xs)
-
--- a list from its first element and the others
-pub list_is : {A : Type 0} (xs : List A) (first : A) → 1 ≤ length xs → first ≡ get_or xs 0 first → first ∷ take (length xs - 1) (drop 1 xs) ≡ xs
-list_is [] first l e = absurd (omega arith)
-list_is (x ∷ xs) first l e = ap₂ (λ y ys. y ∷ ys) e (take_all (length (x ∷ xs) - 1) xs (omega arith))

@@ -1,8 +1,7 @@
 -- The edges of a ring off its run, by the positions where they begin.
 use Rattle.kit_words.proofs.Common.{◌≡◌, ℕ, zero, suc, ◌+◌, ◌<◌, ◌≤◌, Bool, true, false, refl, sym, ap, ap₂, ◌∙◌, cond}
-use Rattle.kit_words.proofs.Common.{List, [], ◌∷◌, ◌++◌, map, length, take, drop, get_or, drop_of_length-le}
-use Rattle.kit_words.proofs.Common.{append_assoc, not, zip, filter, prefix_len, at_drop_more, drop_more, map-append}
-use Rattle.kit_words.proofs.Common.{length-map}
+use Rattle.kit_words.proofs.Common.{List, [], ◌∷◌, ◌++◌, map, length, take, drop, get_or, drop_of_length-le, not, zip}
+use Rattle.kit_words.proofs.Common.{filter, prefix_len, at_drop_more, map-append, length-map}
 use Rattle.grid_geometry.specs.Common.{Position, Edge, edges}
 use Rattle.ring_machine.specs.Common.{off_run}
 use Rattle.ring_machine.proofs.Common.{edges_to, edges_is, starts}
@@ -16,27 +15,6 @@ off_turn bs i d l = at_drop_more (prefix_len not) bs i d l
 
 pub off_done : (bs : List Bool) (i : ℕ) → length bs ≤ i → prefix_len not (drop i bs) ≡ 0
 off_done bs i l = ap (prefix_len not) (drop_of_length-le bs l)
-
--- ---- a position at a time
-
-off_here : (ps : List Position) (bs : List Bool) (i : ℕ) (p : Position) (b : Bool) → i < length ps → i < length bs → p ≡ get_or ps i p → b ≡ get_or bs i b
-    → off_ones (drop i ps) (drop i bs) ≡ off_ones (p ∷ drop (i + 1) ps) (b ∷ drop (i + 1) bs)
-off_here ps bs i p b l k e f =
-    ap₂ (λ xs ys. off_ones xs ys) (drop_more ps i p l ∙ ap (λ q. q ∷ drop (i + 1) ps) (sym e)) (drop_more bs i b k ∙ ap (λ c. c ∷ drop (i + 1) bs) (sym f))
-
-pub taken_off : (rest more : List Position) (ps : List Position) (bs : List Bool) (i : ℕ) (p : Position) (b : Bool) → i < length ps → i < length bs → p ≡ get_or ps i p → b ≡ get_or bs i b → b ≡ false → more ≡ rest ++ p ∷ []
-    → more ++ off_ones (drop (i + 1) ps) (drop (i + 1) bs) ≡ rest ++ off_ones (drop i ps) (drop i bs)
-taken_off rest more ps bs i p b l k e f h m =
-    let left = off_ones (drop (i + 1) ps) (drop (i + 1) bs) in
-    ap (λ qs. qs ++ left) m ∙ append_assoc rest (p ∷ []) left
-    ∙ sym (ap (λ qs. rest ++ qs) (off_here ps bs i p b l k e f ∙ ap (λ c. off_ones (p ∷ drop (i + 1) ps) (c ∷ drop (i + 1) bs)) h))
-
-pub left_on : (rest : List Position) (ps : List Position) (bs : List Bool) (i : ℕ) (p : Position) (b : Bool) → i < length ps → i < length bs → p ≡ get_or ps i p → b ≡ get_or bs i b → b ≡ true
-    → rest ++ off_ones (drop (i + 1) ps) (drop (i + 1) bs) ≡ rest ++ off_ones (drop i ps) (drop i bs)
-left_on rest ps bs i p b l k e f h = sym (ap (λ qs. rest ++ qs) (off_here ps bs i p b l k e f ∙ ap (λ c. off_ones (p ∷ drop (i + 1) ps) (c ∷ drop (i + 1) bs)) h))
-
-pub all_off : (rest : List Position) (ps : List Position) (bs : List Bool) (i : ℕ) → length ps ≤ i → rest ++ off_ones (drop i ps) (drop i bs) ≡ rest ++ []
-all_off rest ps bs i l = ap (λ qs. rest ++ off_ones qs (drop i bs)) (drop_of_length-le ps l)
 
 -- ---- the whole rest
 

@@ -1,12 +1,12 @@
 -- What a search of a sorted list finds.
-use Rattle.kit_words.proofs.Common.{◌≡◌, ℕ, zero, suc, ◌<◌, ◌≤◌, Bool, true, false, refl, sym, ap, ap₂, ◌∙◌, List, []}
-use Rattle.kit_words.proofs.Common.{◌∷◌, length, get_or, ◌||◌, ◌⊎◌, inl, inr, arith, Result, Ok, Err, is_ok}
-use Rattle.kit_words.proofs.Common.{IsTotalOrder, list_any, IsPermutation, IsSorted, IsBinarySearchResult}
-use Rattle.kit_words.proofs.Common.{IsSearchInRange, IsPartitionPoint, Ordering, Less, Greater, is_eq}
-use Rattle.kit_words.proofs.Common.{searchable_from_sorted, IsPermutation-sym}
+use Rattle.kit_words.proofs.Common.{◌≡◌, ℕ, zero, suc, ◌<◌, Bool, true, false, refl, sym, ap, ap₂, ◌∙◌, List, [], ◌∷◌}
+use Rattle.kit_words.proofs.Common.{length, get_or, ◌||◌, inl, inr, arith, Result, Ok, Err, is_ok, IsTotalOrder}
+use Rattle.kit_words.proofs.Common.{list_any, IsPermutation, IsSorted, IsBinarySearchResult, IsSearchInRange}
+use Rattle.kit_words.proofs.Common.{IsPartitionPoint, Ordering, Less, Greater, is_eq, searchable_from_sorted}
+use Rattle.kit_words.proofs.Common.{IsPermutation-sym, or_right, cases_lt}
 use Rattle.grid_geometry.specs.Common.{Position, position_eq}
 use Rattle.ring_machine.specs.Common.{has}
-use Rattle.ring_machine.proofs.Common.{or_right, any_in, in_any, same_answer, position_eq-sym, in_permuted}
+use Rattle.ring_machine.proofs.Common.{any_in, in_any, same_answer, position_eq-sym, in_permuted}
 
 any_here : {A : Type 0} (test : A → Bool) (xs : List A) (i : ℕ) → i < length xs → ((d : A) → test (get_or xs i d) ≡ true) → list_any test xs ≡ true
 any_here test [] i l h = absurd (omega arith)
@@ -17,14 +17,9 @@ none_there : {A : Type 0} (test : A → Bool) (xs : List A) → ((k : ℕ) (d : 
 none_there test [] h = refl
 none_there test (x ∷ xs) h = ap₂ (λ a b. a || b) (h 0 x (omega arith)) (none_there test xs (λ k d l. h (suc k) d (omega arith)))
 
-side : (k i : ℕ) → (k < i) ⊎ (i ≤ k)
-side k zero = inr (omega arith)
-side zero (suc i) = inl (omega arith)
-side (suc k) (suc i) = elim (side k i) [ inl l ↦ inl (omega arith) | inr l ↦ inr (omega arith) ]
-
 module _ {K : Type 0} (R : K → K → Ordering) (o : IsTotalOrder R) (eq : K → K → Bool) (ties : (a b : K) → eq a b ≡ is_eq (R a b)) (xs : List K) (x : K) (up : IsSorted R xs) where
   between : (i : ℕ) → IsPartitionPoint (λ y. R y x ≡ Less) (λ y. R y x ≡ Greater) xs i → list_any (λ y. eq y x) xs ≡ false
-  between i h = none_there (λ y. eq y x) xs (λ k d l. ties (get_or xs k d) x ∙ elim (side k i) [
+  between i h = none_there (λ y. eq y x) xs (λ k d l. ties (get_or xs k d) x ∙ elim (cases_lt k i) [
     | inl b ↦ ap is_eq (h.0 k d (omega arith) b)
     | inr b ↦ ap is_eq (h.1 k d b l)
   ])

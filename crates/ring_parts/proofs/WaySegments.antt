@@ -1,17 +1,13 @@
 -- The segments of a way that has no position twice, position by position.
 use Rattle.kit_words.proofs.Common.{◌≡◌, ◌<◌, ◌+◌, ℕ, true, sym, ap, ◌∙◌, subst, List, [], ◌∷◌, ◌++◌, map, length, drop}
-use Rattle.kit_words.proofs.Common.{get_or, append_assoc, inl, not, false≢true, drop_more}
+use Rattle.kit_words.proofs.Common.{get_or, append_assoc, inl, not, false≢true, and_parts, not-true, next_drop}
 use Rattle.grid_geometry.specs.Common.{Position, Segment, links}
 use Rattle.ring_machine.specs.Common.{has, is_distinct, segment_of}
-use Rattle.ring_machine.proofs.Common.{In, in-has, and_both, not_true}
+use Rattle.ring_machine.proofs.Common.{In, in-has}
 
 -- the segments of a way, each from a position to the next one
 abbrev pub segments_along : List Position → List Segment
 segments_along ps = map segment_of (links ps)
-
-next_drop : (rest : List Position) (i : ℕ) (to : Position) → i < length rest → to ≡ get_or rest i to
-    → drop i rest ≡ to ∷ drop (i + 1) rest
-next_drop rest i to l e = drop_more rest i to l ∙ ap (λ z. z ∷ drop (i + 1) rest) (sym e)
 
 -- one segment more
 pub way_more : (done new all : List Segment) (from to : Position) (rest : List Position) (i : ℕ)
@@ -28,11 +24,11 @@ pub way_on : (from to : Position) (rest : List Position) (i : ℕ) → i < lengt
     → is_distinct (to ∷ drop (i + 1) rest) ≡ true
 way_on from to rest i l e d =
     ap is_distinct (sym (next_drop rest i to l e))
-    ∙ (and_both (not (has (drop i rest) from)) (is_distinct (drop i rest)) d).1
+    ∙ (and_parts (not (has (drop i rest) from)) (is_distinct (drop i rest)) d).1
 
 -- the next position is another
 pub way_apart : (from to : Position) (rest : List Position) (i : ℕ) → i < length rest
     → to ≡ get_or rest i to → is_distinct (from ∷ drop i rest) ≡ true → from ≡ to → ⊥
 way_apart from to rest i l e d same =
-    let none = not_true _ (and_both (not (has (drop i rest) from)) (is_distinct (drop i rest)) d).0 in
+    let none = not-true _ (and_parts (not (has (drop i rest) from)) (is_distinct (drop i rest)) d).0 in
     false≢true (sym none ∙ in-has from (drop i rest) (subst (In from) (sym (next_drop rest i to l e)) (inl (sym same))))

@@ -1,10 +1,9 @@
 -- The edges round a ring, and how they are compared.
-use Rattle.kit_words.proofs.Common.{◌≡◌, ℕ, ◌+◌, ◌<◌, ◌≤◌, refl, sym, ap, ◌∙◌, List, [], ◌∷◌, ◌++◌, length, drop}
-use Rattle.kit_words.proofs.Common.{get_or, append_assoc, drop_of_length-le, map, Bool, ◌&&◌, ◌||◌, list_any}
-use Rattle.kit_words.proofs.Common.{at_drop_more}
+use Rattle.kit_words.proofs.Common.{◌≡◌, ℕ, ◌+◌, ◌<◌, ◌≤◌, sym, ap, ◌∙◌, List, [], ◌∷◌, ◌++◌, length, drop, get_or}
+use Rattle.kit_words.proofs.Common.{append_assoc, drop_of_length-le, map, ◌&&◌, list_any, at_drop_more}
 use Rattle.grid_geometry.specs.Common.{Position, position_eq, Edge, links, edges}
 use Rattle.ring_machine.specs.Common.{edge_eq, segment_of, is_common}
-use Rattle.ring_machine.proofs.Common.{position_eq-sym}
+use Rattle.ring_machine.proofs.Common.{position_eq-sym, any_mapped}
 use Rattle.ring_parts.specs.Common.{ends_of}
 
 -- the edges of the way from a over the positions to z
@@ -28,10 +27,6 @@ pub ruleset edge_steps = (edge_step, last_step)
 pub edge_turned : (es : List Edge) (e : Edge) → list_any (λ f. edge_eq f e) es ≡ list_any (edge_eq e) es
 edge_turned es e = λ i. list_any (λ f. position_eq-sym f.0 e.0 i && position_eq-sym f.1 e.1 i) es
 
-pub any_of : {A B : Type 0} (test : B → Bool) (of : A → B) (xs : List A) → list_any test (map of xs) ≡ list_any (λ x. test (of x)) xs
-any_of test of [] = refl
-any_of test of (x ∷ xs) = ap (λ b. test (of x) || b) (any_of test of xs)
-
 -- a common segment by its ends
 pub common_by_ends : (ring : List Position) (e : Edge) → list_any (edge_eq (ends_of e)) (map ends_of (edges ring)) ≡ is_common ring e
-common_by_ends ring e = any_of (edge_eq (ends_of e)) ends_of (edges ring) ∙ sym (any_of (λ s. position_eq (segment_of e).lo s.lo && position_eq (segment_of e).hi s.hi) segment_of (edges ring))
+common_by_ends ring e = any_mapped (edge_eq (ends_of e)) ends_of (edges ring) ∙ sym (any_mapped (λ s. position_eq (segment_of e).lo s.lo && position_eq (segment_of e).hi s.hi) segment_of (edges ring))

@@ -1,10 +1,10 @@
 -- One ring more among those that are laid.
 use Rattle.kit_words.proofs.Common.{◌≡◌, ◌≢◌, ℕ, Bool, true, false, refl, sym, ap, ap₂, ◌∙◌, cond, List, [], ◌∷◌, ◌++◌}
-use Rattle.kit_words.proofs.Common.{map, ◌&&◌, ◌||◌, Some, inl, inr, arith, ◌==◌, not, nat_cmp, eq_by_cmp}
-use Rattle.kit_words.proofs.Common.{nat_cmp_total, Decides-eqb, nat_tests}
+use Rattle.kit_words.proofs.Common.{◌&&◌, ◌||◌, Some, inl, inr, arith, ◌==◌, not, nat_cmp, eq_by_cmp, nat_cmp_total}
+use Rattle.kit_words.proofs.Common.{Decides-eqb, nat_tests, and_parts, or_parts, not-true}
 use Rattle.std.specs.FinMap as table
 use Rattle.ring_machine.specs.Common.{are_distinct}
-use Rattle.ring_machine.proofs.Common.{In, and_both, none_parts, not_true}
+use Rattle.ring_machine.proofs.Common.{In}
 use Rattle.arc_tables.specs.Common.{Edge, Rings}
 use Rattle.ring_store.proofs.KeyRings.{has_key}
 
@@ -22,13 +22,13 @@ pub distinct_more : (ns : List ℕ) (r : ℕ) → ((n : ℕ) → In n ns → n �
     → are_distinct (ns ++ r ∷ []) ≡ true
 distinct_more [] r h d = refl
 distinct_more (n ∷ ns) r h d =
-    let d' = and_both (not (has_key n ns)) (are_distinct ns) d in
-    ap₂ (λ a b. not a && b) (absent ns (not_true _ d'.0)) (distinct_more ns r (λ m i. h m (inr i)) d'.1)
+    let d' = and_parts (not (has_key n ns)) (are_distinct ns) d in
+    ap₂ (λ a b. not a && b) (absent ns (not-true _ d'.0)) (distinct_more ns r (λ m i. h m (inr i)) d'.1)
   where
     absent : (ms : List ℕ) → has_key n ms ≡ false → has_key n (ms ++ r ∷ []) ≡ false
     absent [] e = ap (λ t. t || false) (not_same r n (λ i. h n (inl refl) (sym i)))
     absent (m ∷ ms) e =
-        let e' = none_parts (m == n) (has_key n ms) e in
+        let e' = or_parts (m == n) (has_key n ms) e in
         ap₂ (λ a b. a || b) e'.0 (absent ms e'.1)
 
 -- ---- a ring more
@@ -44,8 +44,3 @@ pub ring_here : (rings : Rings) (r : ℕ) (es : List Edge)
 ring_here rings r es =
     let e : eq_by_cmp nat_cmp r r ≡ true = grind (arith, nat_tests) in
     table.get-insert nat_cmp_total rings r es r ∙ ap (λ b. cond b (Some es) (table.get rings r)) e
-
-pub same_map : {A B : Type 0} (f g : A → B) (xs : List A) → ((x : A) → In x xs → f x ≡ g x)
-    → map f xs ≡ map g xs
-same_map f g [] h = refl
-same_map f g (x ∷ xs) h = ap₂ (λ y z. y ∷ z) (h x (inl refl)) (same_map f g xs (λ y i. h y (inr i)))

@@ -1,10 +1,10 @@
 -- For callers: what follows from a count of uses, and a removal in other words.
-use Rattle.kit_words.proofs.Common.{◌≡◌, ◌≢◌, ℕ, ◌≤◌, Bool, true, cond, refl, sym, ap, ◌∙◌, List, [], ◌∷◌, map, Some}
-use Rattle.kit_words.proofs.Common.{is_some, arith, ◌==◌, not, filter, AllByRecursion, nat_cmp, false≢true, nat_tests}
+use Rattle.kit_words.proofs.Common.{◌≡◌, ◌≢◌, ℕ, ◌≤◌, Bool, true, cond, sym, ap, ◌∙◌, List, [], ◌∷◌, map, Some}
+use Rattle.kit_words.proofs.Common.{is_some, arith, nat_cmp, false≢true}
 use Rattle.kit_words.proofs.Common.{sum_by-cons}
 use Rattle.std.specs.Prelude.{count_by}
 use Rattle.std.specs.FinMap as rings
-use Rattle.arc_tables.specs.Common.{Edge, Rings, has_segment, users_of, onto, collapsed}
+use Rattle.arc_tables.specs.Common.{Edge, Rings, has_segment, users_of}
 use Rattle.ring_store.specs.Common.{Joined}
 use Rattle.arc_tables.proofs.Common.{times_segment}
 
@@ -18,7 +18,3 @@ pub unused_apart : (m : Rings) (a b : ℕ) → users_of m a b ≡ 0 → ¬ (Join
 unused_apart m a b none j = absurd (omega (arith, counted_one (has_segment a b) (rings.entries m) j.ring j.edges (sym (rings.get-entries m j.ring) ∙ j.held) (times_segment a b j.edges j.has)))
 
 -- ---- where no edge stays at its vertex, p moves onto b and the edges that then do go
-
-pub collapsed_moves : (p b : ℕ) (es : List Edge) → AllByRecursion (λ e. e.0 ≢ e.1) es → collapsed p b es ≡ filter (λ e. not (e.0 == e.1)) (map (λ (e : Edge). (onto p b e.0, onto p b e.1)) es)
-collapsed_moves p b [] h = refl
-collapsed_moves p b (e ∷ es) h = grind (arith, nat_tests, h.0, collapsed_moves p b es h.1)

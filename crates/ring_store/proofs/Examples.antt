@@ -4,9 +4,9 @@ use Rattle.kit_words.proofs.Common.{same_Some, none-some, ℕ_discrete}
 use Rattle.std.specs.FinMap as table
 use Rattle.grid_geometry.specs.Common.{Position, position, position_eq, segment}
 use Rattle.vertex_index.specs.Common.{Placement, IsOccupied}
+use Rattle.vertex_index.proofs.Common.{get-inserted}
 use Rattle.ring_store.proofs.Places.{insert_other}
 use Rattle.ring_store.specs.Common.{Removal, ArePlaceable, comings, goings}
-use Rattle.ring_store.proofs.PuttingBack.{insert_here}
 
 abbrev on_axis : ℕ → Position
 on_axis x = position (pos x) (pos 0)
@@ -28,7 +28,7 @@ apart p q same differ e = false≢true (sym differ ∙ ap (position_eq p) (sym e
 module _ (places : Placement) (first : IsOccupied places (on_axis 0)) (last : IsOccupied places (on_axis 4)) (free : ¬ (IsOccupied places (on_axis 2))) (free_too : ¬ (IsOccupied places (on_axis 3))) where
   -- the second is placeable wherever the first was placed
   they_are_placeable : ArePlaceable places two
-  they_are_placeable = (apart (on_axis 0) (on_axis 4) refl refl, first, last, free, λ k new. (apart (on_axis 2) (on_axis 4) refl refl, (k, insert_here places k (on_axis 2)), still k new, not_yet k, λ j next. tt))
+  they_are_placeable = (apart (on_axis 0) (on_axis 4) refl refl, first, last, free, λ k new. (apart (on_axis 2) (on_axis 4) refl refl, (k, get-inserted places k (on_axis 2)), still k new, not_yet k, λ j next. tt))
     where
       differs : (k : ℕ) → table.get places k ≡ None → last.0 ≢ k
       differs k new e = none-some (on_axis 4) (sym new ∙ ap (table.get places) (sym e) ∙ last.1)
@@ -40,5 +40,5 @@ module _ (places : Placement) (first : IsOccupied places (on_axis 0)) (last : Is
       not_yet k held = by (ℕ_discrete held.0 k)
         where
           by : Dec (held.0 ≡ k) → ⊥
-          by (yes e) = apart (on_axis 2) (on_axis 3) refl refl (same_Some (on_axis 2) (on_axis 3) (sym (insert_here places k (on_axis 2)) ∙ ap (table.get (table.insert places k (on_axis 2))) (sym e) ∙ held.1))
+          by (yes e) = apart (on_axis 2) (on_axis 3) refl refl (same_Some (on_axis 2) (on_axis 3) (sym (get-inserted places k (on_axis 2)) ∙ ap (table.get (table.insert places k (on_axis 2))) (sym e) ∙ held.1))
           by (no f) = free_too (held.0, sym (insert_other places k (on_axis 2) held.0 f) ∙ held.1)

@@ -1,10 +1,10 @@
 -- An index that holds the segments of the rings, and of some edges more.
 use Rattle.kit_words.proofs.Common.{◌≡◌, ◌+◌, Bool, true, false, refl, sym, ap, ◌∙◌, subst, cond, List, [], ◌∷◌, ◌++◌}
-use Rattle.kit_words.proofs.Common.{◌||◌, ◌&&◌, ◌⊎◌, inl, inr, not, Contains, false≢true, map-append}
-use Rattle.kit_words.proofs.Common.{Contains-append_left, Contains-push, Contains-push_cases}
+use Rattle.kit_words.proofs.Common.{◌||◌, ◌&&◌, ◌⊎◌, inl, inr, not, Contains, false≢true, map-append, or_right}
+use Rattle.kit_words.proofs.Common.{Contains-append_left, Contains-push, Contains-push_cases, and_parts, or_cases}
+use Rattle.kit_words.proofs.Common.{not-true}
 use Rattle.std.specs.FinSet as set
 use Rattle.grid_geometry.specs.Common.{Segment, segment}
-use Rattle.ring_machine.proofs.Common.{or_true, or_right, and_both, not_true}
 use Rattle.vertex_index.specs.Common.{Placement, place}
 use Rattle.segment_index.specs.Common.{SegmentSet, segment_is}
 use Rattle.segment_index.proofs.Common.{segment_total, same_segment, same_sets, is-itself}
@@ -92,7 +92,7 @@ module _ (places : Placement) (rings : Rings) (held : SegmentSet) (done : List E
         → HoldsWith places rings held done → HoldsWith places rings held' (done ++ e ∷ [])
     unfolding side
     holds_more held' put h t = (
-      λ i. elim (or_true (segment_is t side) (set.contains held t) (sym (now t) ∙ i)) [
+      λ i. elim (or_cases (segment_is t side) (set.contains held t) (sym (now t) ∙ i)) [
         | inl is ↦ inr (last t (sym (same_segment t side is)))
         | inr there ↦ elim ((h t).0 there) [ inl a ↦ inl a | inr c ↦ inr (before t c) ]
       ],
@@ -113,12 +113,12 @@ module _ (places : Placement) (rings : Rings) (held : SegmentSet) (done : List E
     unfolding side
     holds_less held' gone h t = (
       λ i.
-          let k = and_both (not (segment_is t side)) (set.contains held t) (sym (now t) ∙ i) in
+          let k = and_parts (not (segment_is t side)) (set.contains held t) (sym (now t) ∙ i) in
           elim ((h t).0 k.1) [
             | inl a ↦ inl a
             | inr c ↦ elim (parted t c) [
               | inl d ↦ inr d
-              | inr is ↦ absurd (false≢true (sym (not_true (segment_is t side) k.0) ∙ ap (λ z. segment_is z side) (sym is) ∙ is-itself side))
+              | inr is ↦ absurd (false≢true (sym (not-true (segment_is t side) k.0) ∙ ap (λ z. segment_is z side) (sym is) ∙ is-itself side))
             ]
           ],
       λ o. now t ∙ elim o [

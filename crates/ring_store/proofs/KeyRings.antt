@@ -1,14 +1,15 @@
 -- Rings that are begun elsewhere, and rings of positions that go along keys.
 use Rattle.kit_words.proofs.Common.{◌≡◌, ◌≢◌, ◌≤◌, ℕ, Bool, true, false, refl, sym, ap, ap₂, ◌∙◌, subst, List, [], ◌∷◌}
 use Rattle.kit_words.proofs.Common.{◌++◌, ◌+◌, map, length, ◌||◌, ◌&&◌, ◌⊎◌, inl, inr, arith, ◌==◌, not, list_any}
-use Rattle.kit_words.proofs.Common.{false≢true, Decides-eqb, append-nil, length-append, map-append}
+use Rattle.kit_words.proofs.Common.{false≢true, Decides-eqb, append-nil, map-append, and_parts, or_parts, not-true}
 use Rattle.grid_geometry.specs.Common.{Position, Segment, segment}
 use Rattle.grid_geometry.specs.Ring as geometry
 use Rattle.ring_machine.specs.Common.{canonical, between_each, spots, are_distinct}
-use Rattle.ring_machine.proofs.Common.{and_both, or_true, canonical_parts, edges_to, edges_to-append, edges_is, In}
-use Rattle.ring_machine.proofs.Common.{in-append, none_parts, not_true, links-append, in_swap}
+use Rattle.ring_machine.proofs.Common.{canonical_parts, edges_to, edges_to-append, edges_is, In}
+use Rattle.ring_machine.proofs.Common.{in-append, links-append, in_swap}
 use Rattle.vertex_index.specs.Common.{Placement}
 use Rattle.arc_tables.specs.Common.{Edge, links, is_seg, one, times, edges, begins}
+use Rattle.arc_tables.proofs.Common.{ends_of}
 use Rattle.ring_store.specs.Common.{GoesRound, IsRound}
 
 -- ---- a ring begun elsewhere
@@ -40,21 +41,10 @@ edge_in_canonical ps e h =
     subst (In e) (sym (ap geometry.edges parts.3 ∙ sw.3))
     (in_swap e sw.0 sw.1 (subst (In e) (ap geometry.edges parts.2 ∙ sw.2) h))
 
--- and the same positions
-pub in_canonical : (ps : List Position) (p : Position) → In p ps → In p (canonical ps)
-in_canonical ps p h =
-    let parts = canonical_parts ps in
-    subst (In p) (sym parts.3) (in_swap p parts.0 parts.1 (subst (In p) parts.2 h))
-
 pub of_canonical : (ps : List Position) (p : Position) → In p (canonical ps) → In p ps
 of_canonical ps p h =
     let parts = canonical_parts ps in
     subst (In p) (sym parts.2) (in_swap p parts.1 parts.0 (subst (In p) parts.3 h))
-
-pub length-canonical : (ps : List Position) → length (canonical ps) ≡ length ps
-length-canonical ps =
-    let parts = canonical_parts ps in
-    omega (arith, ap length parts.2, ap length parts.3, length-append parts.0 parts.1, length-append parts.1 parts.0)
 
 -- ---- what stands beside a position
 
@@ -165,14 +155,14 @@ differ j k h e = false≢true (sym h ∙ (Decides-eqb j k).1 e)
 links_apart : (l j : ℕ) (ks : List ℕ) → has_key l (j ∷ ks) ≡ false → are_distinct (j ∷ ks) ≡ true
     → (e : Edge) → In e (links (j ∷ ks ++ l ∷ [])) → e.0 ≢ e.1
 links_apart l j [] h d e (inl i) f =
-    differ j l (none_parts (j == l) false h).0 (ap (λ (u : Edge). u.0) i ∙ f ∙ sym (ap (λ (u : Edge). u.1) i))
+    differ j l (or_parts (j == l) false h).0 (ap (λ (u : Edge). u.0) i ∙ f ∙ sym (ap (λ (u : Edge). u.1) i))
 links_apart l j [] h d e (inr i) f = absurd i
 links_apart l j (k ∷ ks) h d e (inl i) f =
-    let d' = and_both (not (has_key j (k ∷ ks))) (are_distinct (k ∷ ks)) d in
-    differ k j (none_parts (k == j) (has_key j ks) (not_true _ d'.0)).0 (ap (λ (u : Edge). u.1) i ∙ sym f ∙ sym (ap (λ (u : Edge). u.0) i))
+    let d' = and_parts (not (has_key j (k ∷ ks))) (are_distinct (k ∷ ks)) d in
+    differ k j (or_parts (k == j) (has_key j ks) (not-true _ d'.0)).0 (ap (λ (u : Edge). u.1) i ∙ sym f ∙ sym (ap (λ (u : Edge). u.0) i))
 links_apart l j (k ∷ ks) h d e (inr i) f =
-    let d' = and_both (not (has_key j (k ∷ ks))) (are_distinct (k ∷ ks)) d in
-    links_apart l k ks (none_parts (j == l) (has_key l (k ∷ ks)) h).1 d'.1 e i f
+    let d' = and_parts (not (has_key j (k ∷ ks))) (are_distinct (k ∷ ks)) d in
+    links_apart l k ks (or_parts (j == l) (has_key l (k ∷ ks)) h).1 d'.1 e i f
 
 -- the ends of an edge are two keys
 pub edge_apart : (es : List Edge) → GoesRound es → (e : Edge) → In e es → e.0 ≢ e.1
@@ -182,21 +172,13 @@ edge_apart es g e h = over g.keys g.long g.different (subst (In e) g.along h)
     over [] l d i f = absurd (omega arith)
     over (k ∷ []) l d i f = absurd (omega arith)
     over (j ∷ k ∷ ks) l d (inl i) f =
-        let d' = and_both (not (has_key j (k ∷ ks))) (are_distinct (k ∷ ks)) d in
-        differ k j (none_parts (k == j) (has_key j ks) (not_true _ d'.0)).0 (ap (λ (u : Edge). u.1) i ∙ sym f ∙ sym (ap (λ (u : Edge). u.0) i))
+        let d' = and_parts (not (has_key j (k ∷ ks))) (are_distinct (k ∷ ks)) d in
+        differ k j (or_parts (k == j) (has_key j ks) (not-true _ d'.0)).0 (ap (λ (u : Edge). u.1) i ∙ sym f ∙ sym (ap (λ (u : Edge). u.0) i))
     over (j ∷ k ∷ ks) l d (inr i) f =
-        let d' = and_both (not (has_key j (k ∷ ks))) (are_distinct (k ∷ ks)) d in
-        links_apart j k ks (not_true _ d'.0) d'.1 e i f
+        let d' = and_parts (not (has_key j (k ∷ ks))) (are_distinct (k ∷ ks)) d in
+        links_apart j k ks (not-true _ d'.0) d'.1 e i f
 
 -- ---- segments of keys
-
--- an edge of the segment goes from one of its keys to the other
-pub is_seg_ends : (a b : ℕ) (e : Edge) → is_seg a b e ≡ true
-    → ((e.0 ≡ a) × (e.1 ≡ b)) ⊎ ((e.0 ≡ b) × (e.1 ≡ a))
-is_seg_ends a b e h = elim (or_true (e.0 == a && e.1 == b) (e.0 == b && e.1 == a) h) [
-  | inl i ↦ let k = and_both (e.0 == a) (e.1 == b) i in inl ((Decides-eqb e.0 a).0 k.0, (Decides-eqb e.1 b).0 k.1)
-  | inr i ↦ let k = and_both (e.0 == b) (e.1 == a) i in inr ((Decides-eqb e.0 b).0 k.0, (Decides-eqb e.1 a).0 k.1)
-]
 
 pub ends_is_seg : (a b : ℕ) (e : Edge) → ((e.0 ≡ a) × (e.1 ≡ b)) ⊎ ((e.0 ≡ b) × (e.1 ≡ a))
     → is_seg a b e ≡ true
@@ -216,7 +198,7 @@ times_edge a b (e ∷ es) h = by (is_seg a b e) refl h (times_edge a b es)
     by : (t : Bool) → is_seg a b e ≡ t → 1 ≤ one t + times a b es
         → (1 ≤ times a b es → (f : Edge) × In f es × (((f.0 ≡ a) × (f.1 ≡ b)) ⊎ ((f.0 ≡ b) × (f.1 ≡ a))))
         → (f : Edge) × In f (e ∷ es) × (((f.0 ≡ a) × (f.1 ≡ b)) ⊎ ((f.0 ≡ b) × (f.1 ≡ a)))
-    by true i l k = (e, inl refl, is_seg_ends a b e i)
+    by true i l k = (e, inl refl, ends_of a b e i)
     by false i l k = let m = k (omega (arith, l)) in (m.0, inr m.1, m.2)
 
 pub edge_times : (a b : ℕ) (es : List Edge) (e : Edge) → In e es

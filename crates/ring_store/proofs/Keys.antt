@@ -1,9 +1,10 @@
 -- Keys of the positions of a ring, and that they differ as the positions do.
 use Rattle.kit_words.proofs.Common.{◌≡◌, ℕ, zero, suc, true, false, refl, sym, ap, ap₂, ◌∙◌, subst, List, [], ◌∷◌, map}
-use Rattle.kit_words.proofs.Common.{take, length, ◌||◌, ◌&&◌, inl, arith, not, length-map}
+use Rattle.kit_words.proofs.Common.{take, length, ◌||◌, ◌&&◌, inl, arith, not, length-map, and_parts, or_parts}
+use Rattle.kit_words.proofs.Common.{not-true}
 use Rattle.grid_geometry.specs.Common.{Position, position_eq}
 use Rattle.ring_machine.specs.Common.{has, is_distinct, is_ring, are_distinct}
-use Rattle.ring_machine.proofs.Common.{and_both, none_parts, not_true, ring_long}
+use Rattle.ring_machine.proofs.Common.{ring_long}
 use Rattle.vertex_index.specs.Common.{Placement, place}
 use Rattle.ring_store.specs.Common.{ArePut, IsRound}
 use Rattle.ring_store.proofs.Places.{keys_distinct}
@@ -15,15 +16,15 @@ absent_take : (p : Position) (i : ℕ) (ps : List Position) → has ps p ≡ fal
 absent_take p zero ps h = refl
 absent_take p (suc i) [] h = refl
 absent_take p (suc i) (q ∷ ps) h =
-    let h' = none_parts (position_eq p q) (has ps p) h in
+    let h' = or_parts (position_eq p q) (has ps p) h in
     ap₂ (λ a b. a || b) h'.0 (absent_take p i ps h'.1)
 
 distinct_take : (i : ℕ) (ps : List Position) → is_distinct ps ≡ true → is_distinct (take i ps) ≡ true
 distinct_take zero ps h = refl
 distinct_take (suc i) [] h = refl
 distinct_take (suc i) (p ∷ ps) h =
-    let h' = and_both (not (has ps p)) (is_distinct ps) h in
-    ap₂ (λ a b. not a && b) (absent_take p i ps (not_true _ h'.0)) (distinct_take i ps h'.1)
+    let h' = and_parts (not (has ps p)) (is_distinct ps) h in
+    ap₂ (λ a b. not a && b) (absent_take p i ps (not-true _ h'.0)) (distinct_take i ps h'.1)
 
 -- ---- the loop over a ring's positions
 

@@ -2,10 +2,11 @@
 use Rattle.kit_words.proofs.Common.{◌≡◌, ◌≢◌, ℕ, Bool, true, false, refl, sym, ap, ap₂, ◌∙◌, cond, List, [], ◌∷◌, map}
 use Rattle.kit_words.proofs.Common.{◌||◌, ◌&&◌, inl, inr, Some, None, arith, ◌==◌, IsTrue, not, pos, unwrap_or, is_some}
 use Rattle.kit_words.proofs.Common.{list_any, nat_cmp, eq_by_cmp, false≢true, Decides-eqb, nat_tests, nat_cmp_total}
+use Rattle.kit_words.proofs.Common.{and_parts, or_parts, not-true}
 use Rattle.std.specs.FinMap as table
 use Rattle.grid_geometry.specs.Common.{Position, position, position_eq}
 use Rattle.ring_machine.specs.Common.{has, is_distinct, are_distinct}
-use Rattle.ring_machine.proofs.Common.{In, and_both, position_eq-refl, position_eq-true, none_parts, not_true, there}
+use Rattle.ring_machine.proofs.Common.{In, position_eq-refl, position_eq-true, there}
 use Rattle.vertex_index.specs.Common.{Placement, AreDistinct, place}
 use Rattle.ring_store.proofs.KeyRings.{has_key}
 
@@ -46,14 +47,14 @@ pub distinct_places : (places : Placement) → AreDistinct places → (ks : List
     → is_distinct (map (place places) ks) ≡ true
 distinct_places places d [] kept h = refl
 distinct_places places d (k ∷ ks) kept h =
-    let h' = and_both (not (has_key k ks)) (are_distinct ks) h in
-    ap₂ (λ a b. not a && b) (absent ks (λ j i. kept j (inr i)) (not_true _ h'.0)) (distinct_places places d ks (λ j i. kept j (inr i)) h'.1)
+    let h' = and_parts (not (has_key k ks)) (are_distinct ks) h in
+    ap₂ (λ a b. not a && b) (absent ks (λ j i. kept j (inr i)) (not-true _ h'.0)) (distinct_places places d ks (λ j i. kept j (inr i)) h'.1)
   where
     absent : (js : List ℕ) → ((j : ℕ) → In j js → IsKept places j) → has_key k js ≡ false
         → has (map (place places) js) (place places k) ≡ false
     absent [] kept' n = refl
     absent (j ∷ js) kept' n =
-        let n' = none_parts (j == k) (has_key k js) n in
+        let n' = or_parts (j == k) (has_key k js) n in
         ap₂ (λ a b. a || b) (apart (position_eq (place places k) (place places j)) refl n'.0) (absent js (λ i m. kept' i (inr m)) n'.1)
       where
         apart : (t : Bool) → position_eq (place places k) (place places j) ≡ t → (j == k) ≡ false
@@ -66,13 +67,13 @@ pub keys_distinct : (at : ℕ → Position) (ks : List ℕ) → is_distinct (map
     → are_distinct ks ≡ true
 keys_distinct at [] d = refl
 keys_distinct at (k ∷ ks) d =
-    let d' = and_both (not (has (map at ks) (at k))) (is_distinct (map at ks)) d in
-    ap₂ (λ a b. not a && b) (absent ks (not_true _ d'.0)) (keys_distinct at ks d'.1)
+    let d' = and_parts (not (has (map at ks) (at k))) (is_distinct (map at ks)) d in
+    ap₂ (λ a b. not a && b) (absent ks (not-true _ d'.0)) (keys_distinct at ks d'.1)
   where
     absent : (js : List ℕ) → has (map at js) (at k) ≡ false → list_any (λ m. m == k) js ≡ false
     absent [] n = refl
     absent (j ∷ js) n =
-        let n' = none_parts (position_eq (at k) (at j)) (has (map at js) (at k)) n in
+        let n' = or_parts (position_eq (at k) (at j)) (has (map at js) (at k)) n in
         ap₂ (λ a b. a || b) (apart (j == k) refl n'.0) (absent js n'.1)
       where
         apart : (t : Bool) → (j == k) ≡ t → position_eq (at k) (at j) ≡ false → (j == k) ≡ false

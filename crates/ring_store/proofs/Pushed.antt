@@ -1,19 +1,12 @@
 -- Lists with one element more.
 use Rattle.kit_words.proofs.Common.{◌≡◌, ◌<◌, ℕ, ◌+◌, sym, ap, ◌∙◌, List, [], ◌∷◌, ◌++◌, map, length, take, get_or}
-use Rattle.kit_words.proofs.Common.{Contains, arith, length-map, map_push, map-append, get_or-map, take_more}
+use Rattle.kit_words.proofs.Common.{Contains, arith, length-map, map_push, get_or-map, take_more}
 
 -- ---- one more that is taken
 
 pub taken : {X : Type 0} (xs : List X) (i : ℕ) (x : X) → i < length xs → x ≡ get_or xs i x
     → take (i + 1) xs ≡ take i xs ++ x ∷ []
 taken xs i x l e = take_more xs i x l ∙ ap (λ y. take i xs ++ y ∷ []) (sym e)
-
--- one more mapped element
-pub map_more : {A B : Type 0} (f : A → B) (xs : List A) (i : ℕ) (x : A) → i < length xs
-    → x ≡ get_or xs i x → map f (take (i + 1) xs) ≡ map f (take i xs) ++ f x ∷ []
-map_more f xs i x h e =
-    ap (map f) (take_more xs i x h) ∙ map-append f (take i xs) (get_or xs i x ∷ [])
-    ∙ ap (λ z. map f (take i xs) ++ f z ∷ []) (sym e)
 
 -- what is mapped stands among all that are mapped
 pub at_contains : {X Y : Type 0} (f : X → Y) (xs : List X) (i : ℕ) (x : X) (y : Y) → i < length xs

@@ -1,11 +1,12 @@
 -- Vertices put back one after the other: what they are placed under, and what that gives.
 use Rattle.kit_words.proofs.Common.{◌≡◌, ◌≢◌, ◌≤◌, ◌<◌, ◌+◌, ◌-◌, ℕ, zero, suc, true, false, cond, refl, sym, ap, ◌∙◌}
 use Rattle.kit_words.proofs.Common.{subst, arith, List, [], ◌∷◌, ◌++◌, length, take, drop, get_or, Some, None, is_some}
-use Rattle.kit_words.proofs.Common.{AllByRecursion, nat_cmp, eq_by_cmp, false≢true, nat_tests, nat_cmp_total, drop_more}
-use Rattle.kit_words.proofs.Common.{same_Some, none-some, ℕ_discrete}
+use Rattle.kit_words.proofs.Common.{AllByRecursion, nat_cmp, eq_by_cmp, false≢true, nat_tests, drop_more, same_Some}
+use Rattle.kit_words.proofs.Common.{none-some, ℕ_discrete}
 use Rattle.std.specs.FinMap as table
 use Rattle.grid_geometry.specs.Common.{Position}
 use Rattle.vertex_index.specs.Common.{Placement, IsOccupied}
+use Rattle.vertex_index.proofs.Common.{get-inserted}
 use Rattle.arc_tables.specs.declared.batch.Put.{Put}
 use Rattle.arc_tables.specs.Common.{ArePuts}
 use Rattle.arc_tables.proofs.Common.{taken_last}
@@ -52,17 +53,12 @@ apart_at rs h i r l e = subst IsApart (sym e) (each_at IsApart rs i r (all_apart
 
 -- ---- a position that comes in
 
-pub insert_here : (places : Placement) (k : ℕ) (q : Position) → table.get (table.insert places k q) k ≡ Some q
-insert_here places k q =
-    let e : eq_by_cmp nat_cmp k k ≡ true = grind (arith, nat_tests) in
-    table.get-insert nat_cmp_total places k q k ∙ ap (λ b. cond b (Some q) (table.get places k)) e
-
 still_kept : (places : Placement) (k : ℕ) (q : Position) (x : ℕ) → table.contains_key places x ≡ true
     → table.contains_key (table.insert places k q) x ≡ true
 still_kept places k q x h = by (ℕ_discrete x k)
   where
     by : Dec (x ≡ k) → table.contains_key (table.insert places k q) x ≡ true
-    by (yes e) = ap (λ y. is_some (table.get (table.insert places k q) y)) e ∙ ap is_some (insert_here places k q)
+    by (yes e) = ap (λ y. is_some (table.get (table.insert places k q) y)) e ∙ ap is_some (get-inserted places k q)
     by (no f) = ap is_some (insert_other places k q x f) ∙ h
 
 -- a key that holds nothing afterwards held nothing before
@@ -71,7 +67,7 @@ free_before : (places : Placement) (k : ℕ) (q : Position) (x : ℕ) → table.
 free_before places k q x h = by (ℕ_discrete x k)
   where
     by : Dec (x ≡ k) → table.get places x ≡ None
-    by (yes e) = absurd (none-some q (sym h ∙ ap (table.get (table.insert places k q)) e ∙ insert_here places k q))
+    by (yes e) = absurd (none-some q (sym h ∙ ap (table.get (table.insert places k q)) e ∙ get-inserted places k q))
     by (no f) = sym (insert_other places k q x f) ∙ h
 
 -- a key that holds nothing is another than one that holds a position
@@ -145,7 +141,7 @@ module _ (places now : Placement) (ps : List Put) (n : ℕ) (p : Put) (some : 1 
 
   -- the key of the last put holds its vertex
   pub last_kept : table.contains_key now p.q ≡ true
-  last_kept = ap (λ z. is_some (table.get z p.q)) its.last ∙ ap is_some (insert_here its.before p.q its.at)
+  last_kept = ap (λ z. is_some (table.get z p.q)) its.last ∙ ap is_some (get-inserted its.before p.q its.at)
 
   -- without it those before it are left
   pub placed_but_last : (next : Placement) → next ≡ table.remove now p.q → WerePlaced places (take (n - 1) ps) next
@@ -182,7 +178,7 @@ puts_fit IsNew places (r ∷ rs) [] places' new able h = absurd h
 puts_fit IsNew places (r ∷ rs) (p ∷ ps) places' new able h = (
   (differ, λ e. other_key places p.a p.q (ap is_some h.0) h.2 (sym e), λ e. other_key places p.b p.q (ap is_some h.1) h.2 (sym e)),
   new p.q h.2,
-  keys_apart (table.insert places p.q r.at) rs ps places' p.q (ap is_some (insert_here places p.q r.at)) h.3,
+  keys_apart (table.insert places p.q r.at) rs ps places' p.q (ap is_some (get-inserted places p.q r.at)) h.3,
   puts_fit IsNew (table.insert places p.q r.at) rs ps places' (λ k e. new k (free_before places p.q r.at k e)) (able.4 p.q h.2) h.3,
 )
   where

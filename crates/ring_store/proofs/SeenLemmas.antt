@@ -1,33 +1,20 @@
 -- What stands around every vertex, by a table.
-use Rattle.kit_words.proofs.Common.{◌≡◌, ℕ, zero, suc, ◌<◌, ◌≤◌, refl, sym, ap, ◌∙◌, List, [], ◌∷◌, ◌++◌, length}
-use Rattle.kit_words.proofs.Common.{get_or, set, arith, Contains, Some, Option, nat_tests, cases_eq, get_or-set_same}
-use Rattle.kit_words.proofs.Common.{get_or-set_other}
+use Rattle.kit_words.proofs.Common.{◌≡◌, ℕ, ◌≤◌, refl, sym, ap, ◌∙◌, List, [], ◌++◌}
+use Rattle.kit_words.proofs.Common.{get_or, arith, Contains, Some, Option}
 use Rattle.std.proofs.Common.{None as Absent}
 use Rattle.slab.specs.Slab.{get, entries}
 use Rattle.slab.proofs.SlabLemmas.{Contains-entries}
 use Rattle.arc_tables.specs.declared.arc.Arc.{Arc}
 use Rattle.arc_tables.specs.declared.tables.Tables.{Tables}
-use Rattle.ring_store.specs.Common.{Neighbours, None, noted, noted_all, other_ends, ends_in, SeesMore, Joined}
+use Rattle.ring_store.specs.Common.{Neighbours, None, noted_all, other_ends, ends_in, SeesMore, Joined}
 use Rattle.ring_store.specs.Common.{AreAllNeighbours}
-use Rattle.ring_store.specs.Neighbours.{ending}
 use Rattle.arc_tables.specs.Common.{links, times, path_in, rings_of}
 use Rattle.ring_store.proofs.NeighbourLemmas.{noted_all-append, in_flat_map, to_flat_map, ends_times, times_ends}
 use Rattle.ring_store.proofs.JoinedLemmas.{EachUsed, arc_joined, joined_arc, neighbours_of}
 
--- one more place with nothing changes nothing
-pub read_past : {X : Type 0} (xs : List X) (d : X) (j : ℕ) → get_or (xs ++ d ∷ []) j d ≡ get_or xs j d
-read_past [] d zero = refl
-read_past [] d (suc j) = refl
-read_past (x ∷ xs) d zero = refl
-read_past (x ∷ xs) d (suc j) = read_past xs d j
-
 -- first these are seen, and then those
 pub sees_then : (a b c : List Neighbours) (f g : ℕ → List ℕ) → SeesMore a b f → SeesMore b c g → SeesMore a c (λ j. f j ++ g j)
 sees_then a b c f g h i j = i j ∙ ap (λ n. noted_all n (g j)) (h j) ∙ sym (noted_all-append (get_or a j None) (f j) (g j))
-
--- one more is seen at k
-pub sees_here : (ts : List Neighbours) (k x : ℕ) → k < length ts → SeesMore ts (set ts k (noted (get_or ts k None) x)) (ending k x)
-sees_here ts k x l j = grind (arith, nat_tests, cases_eq k j, get_or-set_same ts k (noted (get_or ts k None) x) None l, get_or-set_other ts k j (noted (get_or ts k None) x) None)
 
 module _ {A : Type 0} where
   -- the other ends at k in the arcs that are there are what is joined to it

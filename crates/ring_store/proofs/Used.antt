@@ -9,19 +9,20 @@ use Rattle.grid_geometry.proofs.Common.{segment-comm}
 use Rattle.ring_machine.proofs.Common.{In, contains_in, in_contains, any_in, same_ends}
 use Rattle.vertex_index.specs.Common.{Placement, place}
 use Rattle.arc_tables.specs.Common.{Edge, is_seg, Rings, has_segment, users_of, begins}
+use Rattle.arc_tables.proofs.Common.{ends_of}
 use Rattle.ring_store.proofs.CallerLemmas.{unused_apart}
-use Rattle.ring_store.proofs.KeyRings.{is_seg_ends, edge_times, edge_ends}
+use Rattle.ring_store.proofs.KeyRings.{edge_times, edge_ends}
 use Rattle.ring_store.proofs.Places.{IsKept, one_key}
 use Rattle.ring_store.specs.Common.{IsSide}
 use Rattle.ring_store.specs.Steps.{AreKeyed}
 
 -- ---- an entry of a map
 
-first_of_two : (a b : Bool) → T (a && b) → T a
+pub first_of_two : (a b : Bool) → T (a && b) → T a
 first_of_two true b p = tt
 first_of_two false b p = absurd p
 
-second_of_two : (a b : Bool) → T (a && b) → T b
+pub second_of_two : (a b : Bool) → T (a && b) → T b
 second_of_two true b p = p
 second_of_two false b p = absurd p
 
@@ -88,7 +89,7 @@ used_side places m a b h =
       held = u.2;
       edge = e.0;
       among = in_contains u.1 e.0 e.1;
-      is = elim (is_seg_ends a b e.0 e.2) [
+      is = elim (ends_of a b e.0 e.2) [
         | inl i ↦ ap₂ (λ x y. segment (place places x) (place places y)) (sym i.0) (sym i.1)
         | inr i ↦ segment-comm (place places a) (place places b) ∙ ap₂ (λ x y. segment (place places x) (place places y)) (sym i.0) (sym i.1)
       ];

@@ -1,10 +1,9 @@
 -- A path is read position by position.
 use Rattle.kit_words.proofs.Common.{◌≡◌, ◌≢◌, ℕ, ◌+◌, ◌≤◌, ◌<◌, refl, sym, ap, ◌∙◌, subst, List, [], ◌∷◌, ◌++◌, length}
-use Rattle.kit_words.proofs.Common.{arith, append_assoc, AllByRecursion}
+use Rattle.kit_words.proofs.Common.{arith, append_assoc, AllByRecursion, all_joined}
 use Rattle.std.proofs.Common.{append-nil, length-append}
 use Rattle.std.proofs.lemmas.Grind.{flat_map-append}
 use Rattle.grid_geometry.specs.Common.{Position, InRange}
-use Rattle.map_text.proofs.Common.{each-append}
 use Rattle.script_lines.specs.Common.{spaced_position, spaced_path, EndsWord, IsPlace, IsPathTail}
 use Rattle.script_lines.proofs.WordLemmas.{place_once}
 
@@ -77,7 +76,7 @@ module _ (bytes rest : List ℕ) (front : List Position) (r : Read bytes rest fr
   pub read_more : (tail : List ℕ) (p : Position) → IsPlace rest p tail → length front ≢ 256 → Read bytes tail (front ++ p ∷ [])
   read_more tail p s room = record {
     whole = r.whole ∙ ap (λ t. spaced_path front ++ t) s.whole ∙ sym (append_assoc (spaced_path front) (spaced_position p) tail) ∙ ap (λ t. t ++ tail) (sym (longer front p));
-    ranges = each-append InRange front (p ∷ []) r.ranges (s.range, tt);
+    ranges = all_joined InRange front (p ∷ []) r.ranges (s.range, tt);
     below = omega (arith, r.below, room, length-append front (p ∷ []));
     only = λ path h.
         let o = r.only path h in

@@ -1,11 +1,9 @@
 -- The bytes up to a line feed, fed at once.
 use Rattle.kit_words.proofs.Common.{◌≡◌, ◌≢◌, ℕ, zero, suc, ◌+◌, ◌-◌, ◌<◌, ◌≤◌, min, Bool, true, false, length, take}
 use Rattle.kit_words.proofs.Common.{drop, get_or, List, [], ◌∷◌, ◌++◌, refl, sym, ap, ap₂, subst, ◌∙◌, arith}
-use Rattle.kit_words.proofs.Common.{append_assoc, nat_lt, not, ◌==◌, ◌||◌, Option, Some, None, Result, Ok, Err, OnErr}
-use Rattle.kit_words.proofs.Common.{inl, inr, ◌⊎◌, MatchBool, nat_tests, take-append-drop, drop_more, drop-drop}
-use Rattle.kit_words.proofs.Common.{take_all, Appends, Appends-nil}
+use Rattle.kit_words.proofs.Common.{append_assoc, nat_lt, ◌==◌, ◌||◌, Option, inl, nat_tests, take-append-drop}
+use Rattle.kit_words.proofs.Common.{drop_more, drop-drop, take_all, Appends, Appends-nil, Appends-trans}
 use Rattle.std.proofs.Common.{append-nil, length-append, length-drop}
-use Rattle.device_io.proofs.Common.{Appends-more}
 use Rattle.memchr.specs.Find.{Passes, is_byte, NoneBefore, Nowhere}
 use Rattle.script_runner.specs.Common.{NoFeed, Progress, LineStep, more, ByteStep, Feeds, FeedsPart, PutsPart, Told}
 use Rattle.script_runner.proofs.StepLemmas.{fed_line, put_at_feed, Feeds-more, Feeds-append}
@@ -203,7 +201,7 @@ fed_on old now new p q r piece rest line next text h cut put fed = record {
   done = h.done ++ line;
   text = h.text ++ text;
   whole = h.whole ∙ ap (λ t. h.done ++ t) cut ∙ sym (append_assoc h.done line next);
-  put = Appends-more old now new h.text text h.put put;
+  put = Appends-trans old now new h.text text h.put put;
   fed = Feeds-append h.done line p q r h.text text h.fed fed;
 }
 
@@ -221,7 +219,7 @@ fed_part old now new p q piece rest line next h cut part = record {
       ∙ sym (append_assoc h.done part.front (part.byte ∷ (part.rest ++ next)));
   fed = Feeds-append h.done part.front p q part.mid h.text part.before h.fed part.fed;
   is = part.is;
-  put = subst (Appends old new) (sym (append_assoc h.text part.before part.part)) (Appends-more old now new h.text (part.before ++ part.part) h.put part.put);
+  put = subst (Appends old new) (sym (append_assoc h.text part.before part.part)) (Appends-trans old now new h.text (part.before ++ part.part) h.put part.put);
 }
 
 -- all was fed

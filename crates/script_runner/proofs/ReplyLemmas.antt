@@ -5,10 +5,11 @@ use Rattle.ring_machine.specs.Common.{Document, features, has_feature, vertices,
 use Rattle.ring_machine.specs.Common.{feature_refusals, feature_at, State, step, edit, query}
 use Rattle.ring_machine.specs.Command.{Command, Undo, Rings, Count, Show, Refusal, NoFeature, NothingToUndo, Answer as Answered, Done, RingsAre, CountsAre, DocumentIs, Refused}
 use Rattle.arc_store.specs.declared.fault.EditFault.{EditFault}
-use Rattle.undo_ring.specs.Common.{answer_of, refusal_of, Edited, machine_of, IsSame, Applies, Refuses, LacksMemory}
-use Rattle.undo_ring.specs.Common.{IsCutShort, Fails, IsUndone}
+use Rattle.undo_ring.specs.Common.{answer_of, refusal_of, Edited, machine_of, Applies, Refuses, LacksMemory, IsCutShort}
+use Rattle.undo_ring.specs.Common.{Fails, IsUndone}
 use Rattle.undo_ring.specs.declared.answer.Answer.{Answer}
 use Rattle.undo_ring.specs.declared.answer.Answer.TheVariants as told
+use Rattle.undo_ring.proofs.MapAnswers.{is_false}
 use Rattle.script_runner.specs.Common.{answer_text, refusal_text, polygons_text, numbers_text, refusals, Replied}
 use Rattle.script_runner.specs.Common.{IsShown, TellsFault}
 
@@ -79,10 +80,6 @@ there d n h = rw h refl
 
 missing : (d : Document) (n : ℕ) → has_feature d n ≡ false → first_of (feature_refusals d n) ≡ Some NoFeature
 missing d n h = rw h refl
-
-is_false : (b : Bool) → (IsTrue b → ⊥) → b ≡ false
-is_false true k = absurd (k refl)
-is_false false k = refl
 
 module _ (d : Document) (n : ℕ) (old new : List ℕ) where
   pub listed : IsTrue (has_feature d n) → new ≡ old ++ polygons_text (feature_at d n).polygons → IsShown d (Rings n) old new false

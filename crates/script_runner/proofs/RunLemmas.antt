@@ -2,9 +2,8 @@
 use Rattle.kit_words.proofs.Common.{◌≡◌, ◌≢◌, ℕ, ◌+◌, ◌<◌, ◌≤◌, min, Bool, true, false, length, take, drop, List, []}
 use Rattle.kit_words.proofs.Common.{◌∷◌, ◌++◌, refl, sym, ap, ap₂, subst, ◌∙◌, arith, append_assoc, MatchBool, ◌==◌}
 use Rattle.kit_words.proofs.Common.{map, inl, inr, ◌⊎◌, Option, nat_tests, take-append-drop, length-take-le, take-take}
-use Rattle.kit_words.proofs.Common.{Appends, Consumes, Keeps, IsAtEnd}
+use Rattle.kit_words.proofs.Common.{Appends, Consumes, Keeps, IsAtEnd, Appends-trans, Consumes-trans, Consumes-kept}
 use Rattle.std.proofs.Common.{append-nil, length-append, length-drop}
-use Rattle.device_io.proofs.Common.{Consumes-more, Consumes-none, Appends-more}
 use Rattle.ring_machine.specs.Common.{Document}
 use Rattle.script_runner.specs.Common.{Reader, Writer, Devices, devices, ended_line, open_line, lines_of, reply_text}
 use Rattle.script_runner.specs.Common.{state_after_all, opened_state, Progress, start, line_at, LineStep, Feeds}
@@ -89,7 +88,7 @@ module _ (depth : ℕ) (d : Document) (before after : Devices) where
       let (part, put_more, is) = h in
       let all = subst (Consumes before.script.coming after.script.coming) (sym (append-nil read)) came in
       record {
-        lines = up_to read text [] part p fed all (omega arith) (Appends-more before.answers.taken mid after.answers.taken text part put put_more);
+        lines = up_to read text [] part p fed all (omega arith) (Appends-trans before.answers.taken mid after.answers.taken text part put put_more);
         stopped = λ _. end;
         front = front_at_end read text part p (stands depth d read text p fed) end is;
       }
@@ -101,7 +100,7 @@ module _ (depth : ℕ) (d : Document) (before after : Devices) where
       part_at_byte (read ++ h.front) (text ++ h.before) (h.rest ++ further) h.part h.byte h.mid (Feeds-append read h.front (start depth d) p h.mid text h.before fed h.fed)
       (subst (Consumes before.script.coming after.script.coming) (ap (λ t. read ++ t) parts ∙ sym (append_assoc read h.front (h.byte ∷ (h.rest ++ further)))) came)
       (let e = ap length parts in let f = length-append h.front (h.byte ∷ (h.rest ++ further)) in omega arith)
-      (subst (Appends before.answers.taken after.answers.taken) (sym (append_assoc text h.before h.part)) (Appends-more before.answers.taken mid after.answers.taken text (h.before ++ h.part) put h.put))
+      (subst (Appends before.answers.taken after.answers.taken) (sym (append_assoc text h.before h.part)) (Appends-trans before.answers.taken mid after.answers.taken text (h.before ++ h.part) put h.put))
       h.is
     where
       parts : piece ++ further ≡ h.front ++ (h.byte ∷ (h.rest ++ further))
@@ -171,36 +170,33 @@ all_answered depth d e before after read text p s mid fed came end within put h 
       read = came;
       ended = end;
       within = within;
-      wrote = Appends-more before.answers.taken mid after.answers.taken text last put put_last;
+      wrote = Appends-trans before.answers.taken mid after.answers.taken text last put put_last;
       sent = sent;
       runs = script_run depth d e read text last p s fed done;
     }
 
 -- ---- bytes of a reader
 
-pub kept_read : (a b c : Option (List ℕ)) (read : List ℕ) → Consumes a b read → Keeps b c → Consumes a c read
-kept_read a b c read h k = subst (Consumes a c) (append-nil read) (Consumes-more a b c read [] h (Consumes-none b c k))
-
 pub end_read : (a b c : Option (List ℕ)) (read room : List ℕ) (n : ℕ) → n ≡ 0 → Consumes a b read → Consumes b c (take n room) → Consumes a c read
 end_read a b c read room n e h k =
-    subst (Consumes a c) (append-nil read) (Consumes-more a b c read [] h (subst (λ m. Consumes b c (take m room)) e k))
+    subst (Consumes a c) (append-nil read) (Consumes-trans a b c read [] h (subst (λ m. Consumes b c (take m room)) e k))
 
 -- what came in one more call: a front of it that is fed, and the rest
 pub piece_came : (a b c : Option (List ℕ)) (read room : List ℕ) (n t : ℕ) → t ≤ n → Consumes a b read → Consumes b c (take n room)
     → Consumes a c (read ++ (take t room ++ drop t (take n room)))
-piece_came a b c read room n t within h k = Consumes-more a b c read (take t room ++ drop t (take n room)) h (subst (Consumes b c) parts k)
+piece_came a b c read room n t within h k = Consumes-trans a b c read (take t room ++ drop t (take n room)) h (subst (Consumes b c) parts k)
   where
     parts : take n room ≡ take t room ++ drop t (take n room)
     parts = sym (take-append-drop t (take n room)) ∙ ap (λ r. r ++ drop t (take n room)) (take-take t n room within)
 
 pub whole_came : (a b c : Option (List ℕ)) (read room : List ℕ) (n t : ℕ) → t ≡ n → Consumes a b read → Consumes b c (take n room) → Consumes a c (read ++ take t room)
-whole_came a b c read room n t e h k = Consumes-more a b c read (take t room) h (subst (λ m. Consumes b c (take m room)) (sym e) k)
+whole_came a b c read room n t e h k = Consumes-trans a b c read (take t room) h (subst (λ m. Consumes b c (take m room)) (sym e) k)
 
 -- the reader failed
 pub lines_kept : (depth : ℕ) (d : Document) (before after : Devices) (read text : List ℕ) (p : Progress) (mid : Option (List ℕ)) → Feeds (start depth d) read text p
     → Consumes before.script.coming mid read → Keeps mid after.script.coming → after.script.failed ≡ true → Appends before.answers.taken after.answers.taken text → AnswersLines depth d before after
 lines_kept depth d before after read text p mid fed came k failed put =
-    lines_answered depth d before after read text [] p fed (subst (Consumes before.script.coming after.script.coming) (sym (append-nil read)) (kept_read before.script.coming mid after.script.coming read came k))
+    lines_answered depth d before after read text [] p fed (subst (Consumes before.script.coming after.script.coming) (sym (append-nil read)) (Consumes-kept before.script.coming mid after.script.coming read came k))
     (omega arith) (inl (refl, failed)) put
 
 -- the script goes past its limit in this piece
@@ -210,7 +206,7 @@ pub lines_in_piece : (depth : ℕ) (d : Document) (before after : Devices) (read
 lines_in_piece depth d before after read text piece further new p q mid fed came short put put_new fed_new limit =
     lines_answered depth d before after (read ++ piece) (text ++ new) further q (Feeds-append read piece (start depth d) p q text new fed fed_new)
     (subst (Consumes before.script.coming after.script.coming) (sym (append_assoc read piece further)) came) short (inr limit)
-    (Appends-more before.answers.taken mid after.answers.taken text new put put_new)
+    (Appends-trans before.answers.taken mid after.answers.taken text new put put_new)
 
 -- a piece is no longer than its room, and so is what of it goes past the limit
 pub piece_fits : (room : List ℕ) (n t : ℕ) → length room ≡ 4096 → n ≤ length room → t ≤ n → length (take t room ++ drop t (take n room)) ≤ 4096

@@ -1,8 +1,6 @@
 -- What a writer has of the answer to a line.
 use Rattle.kit_words.proofs.Common.{◌≡◌, ℕ, List, [], ◌++◌, length, false, Option, refl, sym, ap, subst, ◌∙◌, arith}
-use Rattle.kit_words.proofs.Common.{codes, take_all, Appends, Keeps}
-use Rattle.std.proofs.Common.{append-nil}
-use Rattle.device_io.proofs.Common.{Appends-more, Appends-none}
+use Rattle.kit_words.proofs.Common.{codes, take_all, Appends, Keeps, Appends-kept}
 use Rattle.device_io.specs.Common.{AppendsPrefix}
 use Rattle.ring_machine.specs.Common.{Document, Show}
 use Rattle.undo_ring.specs.Common.{Edited, machine_of}
@@ -26,9 +24,5 @@ shown_text e d is = ap (λ z. text_of z ++ codes "\n") is ∙ sym (show_text e)
 
 -- ---- what stays taken
 
--- the whole text stays put
-pub put_kept : (a b c : Option (List ℕ)) (xs : List ℕ) → Appends a b xs → Keeps b c → Appends a c xs
-put_kept a b c xs h k = subst (Appends a c) (append-nil xs) (Appends-more a b c xs [] h (Appends-none b c k))
-
 pub prefix_kept : (a b c : Option (List ℕ)) (xs : List ℕ) → Appends a b xs → Keeps b c → AppendsPrefix a c xs
-prefix_kept a b c xs h k = (length xs, omega arith, subst (Appends a c) (sym (take_all (length xs) xs (omega arith))) (put_kept a b c xs h k))
+prefix_kept a b c xs h k = (length xs, omega arith, subst (Appends a c) (sym (take_all (length xs) xs (omega arith))) (Appends-kept a b c xs h k))

@@ -1,8 +1,8 @@
 -- Steps that follow one another, and what stands where one of them failed.
-use Rattle.kit_words.proofs.Common.{Result, Ok, Err, OnErr, ◌≡◌, ◌≢◌, ℕ, ◌+◌, ◌<◌, take, drop, get_or, length, List, []}
-use Rattle.kit_words.proofs.Common.{◌∷◌, ◌++◌, Option, None, Some, refl, sym, ap, ap₂, subst, ◌∙◌, arith, append_assoc}
-use Rattle.kit_words.proofs.Common.{inl, inr, ◌⊎◌, MatchBool, Bool, true, false, cond, ◌==◌, take_all, take-append-drop}
-use Rattle.kit_words.proofs.Common.{drop_more, Appends, Keeps, Appends-nil}
+use Rattle.kit_words.proofs.Common.{Result, Ok, Err, OnErr, ◌≡◌, ◌≢◌, ℕ, ◌+◌, take, length, List, [], ◌∷◌, ◌++◌, Option}
+use Rattle.kit_words.proofs.Common.{None, Some, refl, sym, ap, ap₂, subst, ◌∙◌, arith, append_assoc, inl, inr, ◌⊎◌}
+use Rattle.kit_words.proofs.Common.{MatchBool, Bool, true, false, cond, ◌==◌, take_all, Keeps, Appends-nil}
+use Rattle.kit_words.proofs.Common.{Appends-kept}
 use Rattle.std.proofs.Common.{append-nil}
 use Rattle.ring_machine.specs.Common.{Document, Show}
 use Rattle.undo_ring.specs.Common.{command_of, Edited, machine_of}
@@ -12,12 +12,11 @@ use Rattle.script_lines.specs.declared.lines.Line.{Line}
 use Rattle.script_lines.specs.declared.lines.Line.TheVariants as said
 use Rattle.script_lines.proofs.Common.{not_empty}
 use Rattle.device_io.specs.Common.{AppendsPrefix}
-use Rattle.device_io.proofs.Common.{Appends-none, Appends-more}
+use Rattle.device_io.proofs.Common.{Appends-none}
 use Rattle.script_runner.specs.Common.{Meaning, Asked, reply_text, state_after, answered_by, refused_by, ShowsSaved}
 use Rattle.script_runner.specs.Common.{RepliedLine, IsShownSaved, meaning_of_said, Progress, KeptMeans, LineStep}
 use Rattle.script_runner.specs.Common.{ByteStep, Feeds, IsReplyFront, PutsPart, IsPartAt, FeedsPart, Told, Finishes}
 use Rattle.script_runner.specs.Common.{PutsLast, Counts, Summary}
-use Rattle.script_runner.proofs.SendLemmas.{put_kept}
 
 pub OnErr-by : {A E : Type 0} (r : Result A E) {P : Type 0} → P → OnErr r P
 OnErr-by (Ok x) h = tt
@@ -124,7 +123,7 @@ put_last p q a b c some h k =
     let (text, put, step) = h in
     let (m, means, done) = step in
     let whole : take (length text) (reply_text p.depth p.state m) ≡ text = ap (take (length text)) (sym done.told) ∙ take_all (length text) text (omega arith) in
-    (text, put_kept a b c text put k, inr (not_empty p.line some, (m, length text, means, sym whole)))
+    (text, Appends-kept a b c text put k, inr (not_empty p.line some, (m, length text, means, sym whole)))
 
 -- some of the reply to the line, which is not empty
 pub put_some : (p : Progress) (a b : Option (List ℕ)) → (length p.line == 0) ≡ false → PutsPart false p a b → PutsLast p a b
@@ -146,7 +145,7 @@ pub finished_line : (p q : Progress) (a b c : Option (List ℕ)) (s : Summary) (
     → Counts q s → d ≡ q.state.doc → Told a c (λ text. Finishes p text s d)
 finished_line p q a b c s d e h k n l =
     let (text, put, step) = h in
-    (text, put_kept a b c text put k, (q, subst (λ t. MatchBool t ((text ≡ []) × (q ≡ p)) (LineStep false p text q)) (sym e) step, n, l))
+    (text, Appends-kept a b c text put k, (q, subst (λ t. MatchBool t ((text ≡ []) × (q ≡ p)) (LineStep false p text q)) (sym e) step, n, l))
 
 -- ---- after a fault
 

@@ -1,8 +1,8 @@
 -- Segments in an index, and segments that conflict.
-use Rattle.kit_words.proofs.Common.{◌≡◌, ◌<◌, ℕ, ℤ, Bool, true, false, ◌&&◌, ◌||◌, int_le, refl, sym, ap, ap₂, subst}
-use Rattle.kit_words.proofs.Common.{◌∙◌, List, [], ◌∷◌, ◌++◌, length, get_or, Contains, None, arith, zero, suc, Option}
+use Rattle.kit_words.proofs.Common.{◌≡◌, ◌<◌, ℕ, ℤ, true, false, ◌&&◌, ◌||◌, int_le, refl, sym, ap, ap₂, subst, ◌∙◌}
+use Rattle.kit_words.proofs.Common.{List, [], ◌∷◌, ◌++◌, length, get_or, Contains, None, arith, zero, suc, Option}
 use Rattle.kit_words.proofs.Common.{Result, Ok, Err, is_ok, list_any, HoldsAt, IsSearchInRange, Equal, int_min, int_max}
-use Rattle.kit_words.proofs.Common.{false≢true, false_from_ne_true, ints, clamps}
+use Rattle.kit_words.proofs.Common.{false≢true, false_from_ne_true, ints, clamps, by_bool}
 use Rattle.std.specs.FinSet as set
 use Rattle.std.specs.Result.{IfOk}
 use Rattle.grid_geometry.specs.Common.{Segment, Box, box_of, boxes_meet, segment_cmp, segment_eq, segment_lt, conflict}
@@ -11,10 +11,6 @@ use Rattle.ring_machine.specs.Common.{least_conflict, pair_lt}
 use Rattle.ring_machine.proofs.Common.{In, least_conflict_is, Bad, IsLeast, contains_in, segment_ordered}
 use Rattle.segment_index.specs.Common.{SegmentSet, Gives, has}
 use Rattle.segment_index.proofs.Common.{segment_eq-is, segment_exact}
-
-by_bool : {X : Type 0} (p : Bool) → (p ≡ true → X) → (p ≡ false → X) → X
-by_bool true f g = f refl
-by_bool false f g = g refl
 
 -- ---- in an index
 

@@ -2,11 +2,9 @@
 use Rattle.kit_words.proofs.Common.{◌≡◌, ◌≤◌, ◌<◌, ℕ, zero, suc, ℤ, ◌<ℤ◌, Bool, true, false, ◌&&◌, refl, sym, ap, ap₂}
 use Rattle.kit_words.proofs.Common.{subst, ◌∙◌, List, [], ◌∷◌, ◌++◌, map, length, get_or, Contains, arith, cond, ◌||◌}
 use Rattle.kit_words.proofs.Common.{◌==◌, All, list_all, IsStrictlySortedBy, int_cmp, false≢true, map-append}
-use Rattle.kit_words.proofs.Common.{list_all-append, All-push, All-same, All-nil, All-tail, is_gt, is_lt, Ordering}
-use Rattle.kit_words.proofs.Common.{Less, Equal, Greater}
+use Rattle.kit_words.proofs.Common.{list_all-append, All-push, All-same, All-nil, All-tail, is_gt, or_right, less_is}
 use Rattle.grid_geometry.specs.Common.{Position, position_cmp, position_eq, Segment, segment, segment_cmp, segment_lt}
 use Rattle.grid_geometry.proofs.Common.{position_eq-same}
-use Rattle.ring_machine.proofs.Common.{or_right}
 use Rattle.segment_index.proofs.Common.{segment_total}
 use Rattle.snap_geometry.specs.Common.{is_near, along}
 use Rattle.segment_paths.specs.Common.{Path, IsWay, IsKnown, vertex, ArePaths, segments_of, links_of, path_seen}
@@ -116,11 +114,6 @@ ways_none ss ways stops paths links given = record {
 seen_segments : {A : Type 0} (paths : List (SegmentPath A)) → segments_of (paths_seen paths) ≡ map (λ p. p.segment) paths
 seen_segments [] = refl
 seen_segments (p ∷ ps) = ap (λ z. p.segment ∷ z) (seen_segments ps)
-
-less_is : (o : Ordering) → is_lt o ≡ true → o ≡ Less
-less_is Less h = refl
-less_is Equal h = cc
-less_is Greater h = cc
 
 pub past_all : {A : Type 0} (paths : List (SegmentPath A)) (n : ℕ) (p : SegmentPath A) (s : Segment) → length paths ≡ suc n → p ≡ get_or paths n p
     → segment_lt p.segment s ≡ true → IsStrictlySortedBy segment_cmp (segments_of (paths_seen paths))

@@ -1,15 +1,11 @@
 -- Lists that ascend, with one element more at their end.
 use Rattle.kit_words.proofs.Common.{◌≡◌, ℕ, zero, suc, ℤ, ◌≤ℤ◌, ◌<ℤ◌, refl, subst, List, [], ◌∷◌, ◌++◌, map, length}
 use Rattle.kit_words.proofs.Common.{get_or, arith, AllByRecursion, IsStrictlySortedBy, int_cmp, IsTotalOrder, Ordering}
-use Rattle.kit_words.proofs.Common.{Less, int_ranked, by_ranked, ints}
+use Rattle.kit_words.proofs.Common.{Less, int_ranked, by_ranked, ints, all_weaker}
 
 each_push : {X : Type 0} (P : X → Type 0) (xs : List X) (y : X) → AllByRecursion P xs → P y → AllByRecursion P (xs ++ y ∷ [])
 each_push P [] y h k = (k, tt)
 each_push P (x ∷ xs) y h k = (h.0, each_push P xs y h.1 k)
-
-each_weaker : {X : Type 0} (P Q : X → Type 0) → ((x : X) → P x → Q x) → (xs : List X) → AllByRecursion P xs → AllByRecursion Q xs
-each_weaker P Q f [] h = tt
-each_weaker P Q f (x ∷ xs) h = (f x h.0, each_weaker P Q f xs h.1)
 
 -- one element more, greater than all
 pub sorted_push : {X : Type 0} (cmp : X → X → Ordering) (xs : List X) (y : X) → IsStrictlySortedBy cmp xs
@@ -44,8 +40,8 @@ pub record Rising (zs : List ℤ) (r : ℤ) : Type 0 where
 
 pub rising_push : (zs : List ℤ) (r y : ℤ) → Rising zs r → r <ℤ y → Rising (zs ++ y ∷ []) y
 rising_push zs r y h k = record {
-  sorted = sorted_push int_cmp zs y h.sorted (each_weaker (λ z. z ≤ℤ r) (λ z. int_cmp z y ≡ Less) (λ z b. is_less z y (under z b)) zs h.below);
-  below = each_push (λ z. z ≤ℤ y) zs y (each_weaker (λ z. z ≤ℤ r) (λ z. z ≤ℤ y) (λ z b. up z b) zs h.below) (omega (arith, ints));
+  sorted = sorted_push int_cmp zs y h.sorted (all_weaker (λ z. z ≤ℤ r) (λ z. int_cmp z y ≡ Less) (λ z b. is_less z y (under z b)) zs h.below);
+  below = each_push (λ z. z ≤ℤ y) zs y (all_weaker (λ z. z ≤ℤ r) (λ z. z ≤ℤ y) (λ z b. up z b) zs h.below) (omega (arith, ints));
 }
   where
     under : (z : ℤ) → z ≤ℤ r → z <ℤ y

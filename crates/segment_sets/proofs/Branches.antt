@@ -2,12 +2,13 @@
 use Rattle.kit_words.proofs.Common.{◌≡◌, ◌≤◌, ◌+◌, ℤ, ◌≤ℤ◌, ℕ, zero, suc, leb, Bool, true, false, cond, ◌&&◌, ◌||◌}
 use Rattle.kit_words.proofs.Common.{List, [], ◌∷◌, ◌++◌, refl, sym, ap, ◌∙◌, arith, int_le, take, get_or, length, ◌<◌}
 use Rattle.kit_words.proofs.Common.{Option, None, Some, Result, Ok, Err, OnOk, OnErr, ints, take_more, int_min, int_max}
+use Rattle.kit_words.proofs.Common.{on_ok_weaker, on_err_weaker, le_itself, min_left, max_left}
 use Rattle.std.proofs.Common.{unwrap_or}
 use Rattle.std.specs.FinSet as set
 use Rattle.grid_geometry.specs.Common.{Segment, Box, box_of, boxes_meet}
 use Rattle.segment_sets.specs.Common.{is_within, box_around, joined, segment_is, set_of, has, times_in, AreSingle}
 use Rattle.segment_sets.specs.Common.{Loses, Gains, IsSame, LieIn, LiesIn}
-use Rattle.segment_sets.proofs.Singles.{segment_total, same_segment, same_sets, contains-set_of, has-is, times-append, times-push, times-some, loses-none, gained-single, ok_then, err_then}
+use Rattle.segment_sets.proofs.Singles.{segment_total, same_segment, same_sets, contains-set_of, has-is, times-append, times-push, times-some, loses-none, gained-single}
 
 pub meet_parts : (a b c d : Bool) → ((a && b) && (c && d)) ≡ true → (a ≡ true) × (b ≡ true) × (c ≡ true) × (d ≡ true)
 meet_parts a b c d h = (grind arith, grind arith, grind arith, grind arith)
@@ -18,20 +19,11 @@ le_from a b h = grind (arith, ints)
 le_through : (a b c : ℤ) → int_le a b ≡ true → int_le b c ≡ true → int_le a c ≡ true
 le_through a b c h k = grind (arith, ints)
 
-min_left : (a b c : ℤ) → int_le a c ≡ true → int_le (int_min a b) c ≡ true
-min_left a b c h = grind (arith, ints)
-
-max_left : (a b c : ℤ) → int_le c a ≡ true → int_le c (int_max a b) ≡ true
-max_left a b c h = grind (arith, ints)
-
 min_below : (a b : ℤ) → int_le (int_min a b) b ≡ true
 min_below a b = grind (arith, ints)
 
 max_above : (a b : ℤ) → int_le b (int_max a b) ≡ true
 max_above a b = grind (arith, ints)
-
-le_itself : (a : ℤ) → int_le a a ≡ true
-le_itself a = grind (arith, ints)
 
 -- what meets a box meets each that has it
 within_meets : (r b q : Box) → is_within r b ≡ true → boxes_meet r q ≡ true → boxes_meet b q ≡ true
@@ -170,10 +162,10 @@ put-single (Ok v) old new s single out ok err = gained-single old new s single o
 put-single (Err e) old new s single out ok err = λ t. omega (arith, single t, err t)
 
 pub put-added : {T E : Type 0} (r : Result T E) (old new : List Segment) (s : Segment) → OnOk r (Gains s old new) → OnOk r (set_of new ≡ set.insert (set_of old) s)
-put-added r old new s ok = ok_then r (gained-set old new s) ok
+put-added r old new s ok = on_ok_weaker r (gained-set old new s) ok
 
 pub put-unchanged : {T E : Type 0} (r : Result T E) (old new : List Segment) → OnErr r (IsSame old new) → OnErr r (set_of new ≡ set_of old)
-put-unchanged r old new err = err_then r (same-set old new) err
+put-unchanged r old new err = on_err_weaker r (same-set old new) err
 
 -- the box after an add that may have failed
 pub put-lies : {T E : Type 0} (r : Result T E) (b : Box) (s : Segment) (old new : List Segment) → LieIn b old → OnOk r (Gains s old new) → OnErr r (IsSame old new) → LieIn (box_around b (box_of s)) new

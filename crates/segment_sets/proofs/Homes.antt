@@ -1,7 +1,7 @@
 -- Segments in the home cells of a directory.
 use Rattle.kit_words.proofs.Common.{◌≡◌, ◌≢◌, ◌≤◌, ◌<◌, ◌+◌, ◌-◌, ℕ, zero, suc, Bool, true, false, cond, leb, ◌&&◌}
 use Rattle.kit_words.proofs.Common.{List, [], ◌∷◌, ◌++◌, length, set, replicate, refl, sym, ap, ◌∙◌, arith, int_le}
-use Rattle.kit_words.proofs.Common.{Option, Some, None, Result, Ok, Err, OnOk, OnErr}
+use Rattle.kit_words.proofs.Common.{Option, Some, None, Result, Ok, Err, OnOk, OnErr, on_ok_weaker, on_err_weaker}
 use Rattle.std.proofs.Common.{unwrap_or}
 use Rattle.grid_geometry.specs.Common.{Segment, Box, box_of, boxes_meet}
 use Rattle.segment_sets.specs.Bounds.{joined as joined_boxes}
@@ -12,7 +12,7 @@ use Rattle.segment_sets.specs.Cells.{joined}
 use Rattle.segment_sets.proofs.Branches.{lies-put, lies-less, none-meets, some-at, meet_parts, le_from}
 use Rattle.segment_sets.proofs.Gathering.{gathers-nothing}
 use Rattle.segment_sets.proofs.Sums.{counted-zero, total-one}
-use Rattle.segment_sets.proofs.Singles.{same_segment, times-append, times-none, loses-none, has-no, ok_then, err_then}
+use Rattle.segment_sets.proofs.Singles.{same_segment, times-append, times-none, loses-none, has-no}
 use Rattle.segment_sets.proofs.Steps.{at-set, empty-cells}
 
 -- ---- all cells together
@@ -32,12 +32,6 @@ every-set (x ∷ columns) (suc i) c t h = omega (arith, times-append (joined x) 
 -- one cell of one column is
 pub cell-set : (columns : List (List (List Segment))) (i j : ℕ) (c : List Segment) (t : Segment) → i < length columns → j < length (column columns i) → times_in (every (set columns i (set (column columns i) j c))) t + times_in (cell (column columns i) j) t ≡ times_in (every columns) t + times_in c t
 cell-set columns i j c t h k = omega (arith, every-set columns i (set (column columns i) j c) t h, joined-set (column columns i) j c t k)
-
--- a cell has no more than all cells together
-times-joined : (cells : List (List Segment)) (j : ℕ) (t : Segment) → times_in (cell cells j) t ≤ times_in (joined cells) t
-times-joined [] j t = omega arith
-times-joined (x ∷ cells) zero t = omega (arith, times-append x (joined cells) t)
-times-joined (x ∷ cells) (suc j) t = omega (arith, times-append x (joined cells) t, times-joined cells j t)
 
 -- what no cell has they have not together
 joined-none : (cells : List (List Segment)) (t : Segment) → ((j : ℕ) → times_in (cell cells j) t ≡ 0) → times_in (joined cells) t ≡ 0
@@ -162,9 +156,6 @@ home-more l columns i j col c s h k home at_home e gains = home-set l columns i 
     step t some true is = ap (λ u. home_of l (box_of u)) (same_segment t s is) ∙ home
     step t some false is = let g : times_in c t ≡ times_in (cell (column columns i) j) t + 0 = rw is at (gains t) in at_home i j t (omega (arith, some, g))
 
-pub home-lost : (l : Lines) (columns : List (List (List Segment))) (i j : ℕ) (col : List (List Segment)) (s : Segment) → i < length columns → j < length (column columns i) → AreAtHome l columns → ChangesAt j (Loses s) (column columns i) col → AreAtHome l (set columns i col)
-home-lost l columns i j col s h k at_home ch = home-less l columns i j col ch.0 h k at_home ch.1 (λ t. omega (arith, ch.2 t))
-
 -- ---- a segment is put in, or refused
 
 pub home-put : {T E : Type 0} (r : Result T E) (l : Lines) (columns : List (List (List Segment))) (i j : ℕ) (col : List (List Segment)) (s : Segment) → i < length columns → j < length (column columns i) → home_of l (box_of s) ≡ Some (i, j) → AreAtHome l columns → OnOk r (ChangesAt j (Gains s) (column columns i) col) → OnErr r (ChangesAt j IsSame (column columns i) col) → AreAtHome l (set columns i col)
@@ -182,10 +173,10 @@ put-same columns i j col rest h k ch t =
     omega (arith, e, cell-set columns i j ch.0 t h k, ch.2 t, times-append (every columns) rest t, times-append (every (set columns i col)) rest t)
 
 pub gained-at_home : {T E : Type 0} (r : Result T E) (columns : List (List (List Segment))) (i j : ℕ) (col : List (List Segment)) (rest : List Segment) (s : Segment) → i < length columns → j < length (column columns i) → OnOk r (ChangesAt j (Gains s) (column columns i) col) → OnOk r (Gains s (every columns ++ rest) (every (set columns i col) ++ rest))
-gained-at_home r columns i j col rest s h k ok = ok_then r (put-gains columns i j col rest s h k) ok
+gained-at_home r columns i j col rest s h k ok = on_ok_weaker r (put-gains columns i j col rest s h k) ok
 
 pub same-at_home : {T E : Type 0} (r : Result T E) (columns : List (List (List Segment))) (i j : ℕ) (col : List (List Segment)) (rest : List Segment) → i < length columns → j < length (column columns i) → OnErr r (ChangesAt j IsSame (column columns i) col) → OnErr r (IsSame (every columns ++ rest) (every (set columns i col) ++ rest))
-same-at_home r columns i j col rest h k err = err_then r (put-same columns i j col rest h k) err
+same-at_home r columns i j col rest h k err = on_err_weaker r (put-same columns i j col rest h k) err
 
 -- ---- no segments
 
@@ -199,11 +190,6 @@ every-empty (suc n) m = (λ k. joined-empty m k ++ every-empty n m k)
 
 pub none-held : (n m : ℕ) (columns : List (List (List Segment))) (rest : List Segment) → columns ≡ replicate n (replicate m []) → rest ≡ [] → every columns ++ rest ≡ []
 none-held n m columns rest e f = rw (e, f, every-empty n m) refl
-
-pub none-at_home : (l : Lines) (n m : ℕ) (columns : List (List (List Segment))) → columns ≡ replicate n (replicate m []) → AreAtHome l columns
-none-at_home l n m columns e i j t some =
-    let none : times_in (cell (column columns i) j) t ≡ 0 = ap (λ c. times_in (cell (column c i) j) t) e ∙ ap (λ c. times_in c t) (empty-cells n m i j) in
-    absurd (omega (arith, some, none))
 
 -- ---- a call for candidates
 

@@ -4,7 +4,7 @@ use Rattle.kit_words.proofs.Common.{false, not, cond, ◌&&◌, ◌||◌, List, 
 use Rattle.kit_words.proofs.Common.{Result, Ok, Err, OnOk, OnErr, filter, swap_remove, sum_by, Ordering, Less, Equal}
 use Rattle.kit_words.proofs.Common.{Greater, int_cmp, int_eq, is_eq, ordering_then, IsTotalOrder, int_cmp_total}
 use Rattle.kit_words.proofs.Common.{on_total, then_total, Equal-is, tied_itself, ints, get_or_default, list_any_more}
-use Rattle.kit_words.proofs.Common.{list_any_at, sum_by-cons, sum_by-swap_remove}
+use Rattle.kit_words.proofs.Common.{list_any_at, sum_by-cons, sum_by-swap_remove, on_ok_weaker}
 use Rattle.std.specs.FinSet as set
 use Rattle.grid_geometry.specs.Common.{Position, position_cmp, Segment, Box, box_of, boxes_meet, segment_cmp}
 use Rattle.grid_geometry.specs.Common.{segment_eq}
@@ -145,22 +145,13 @@ gives-list xs old new rect all single g = record {
   covers = λ e t h m. has-some g.found t (omega (arith, g.full e t m, times-some xs t (sym (contains-set_of xs t) ∙ h)));
 }
 
--- what follows of a call that may have failed
-pub ok_then : {T E P Q : Type 0} (r : Result T E) → (P → Q) → OnOk r P → OnOk r Q
-ok_then (Ok v) f h = f h
-ok_then (Err e) f h = h
-
-pub err_then : {T E P Q : Type 0} (r : Result T E) → (P → Q) → OnErr r P → OnErr r Q
-err_then (Ok v) f h = h
-err_then (Err e) f h = f h
-
 -- an add that may have failed
 pub single-added : {T E : Type 0} (r : Result T E) (old new : List Segment) (s : Segment) → AreSingle old → set.contains (set_of old) s ≡ false → OnOk r (new ≡ old ++ s ∷ []) → OnErr r (new ≡ old) → AreSingle new
 single-added (Ok v) old new s single out ok err = rw ok (single-push old s single out)
 single-added (Err e) old new s single out ok err = rw err single
 
 pub set_of-added : {T E : Type 0} (r : Result T E) (old new : List Segment) (s : Segment) → OnOk r (new ≡ old ++ s ∷ []) → OnOk r (set_of new ≡ set.insert (set_of old) s)
-set_of-added r old new s ok = ok_then r (λ (e : new ≡ old ++ s ∷ []). ap set_of e ∙ set_of-push old s) ok
+set_of-added r old new s ok = on_ok_weaker r (λ (e : new ≡ old ++ s ∷ []). ap set_of e ∙ set_of-push old s) ok
 
 -- a search from the front
 pub place-found : (xs : List Segment) (s t : Segment) (i : ℕ) → i < length xs → t ≡ get_or xs i t → true ≡ segment_eq t s → get_or xs i s ≡ s
@@ -185,10 +176,10 @@ has-push (x ∷ xs) y t = grind (arith, has-push xs y t)
 
 -- a put that may have failed, of a segment that the list did not have
 pub single-once : {T E : Type 0} (r : Result T E) (old new : List Segment) (s : Segment) → AreSingle old → has old s ≡ false → OnOk r (new ≡ old ++ s ∷ []) → OnOk r (AreSingle new)
-single-once r old new s single none ok = ok_then r (λ (e : new ≡ old ++ s ∷ []). rw e (single-push old s single (contains-set_of old s ∙ none))) ok
+single-once r old new s single none ok = on_ok_weaker r (λ (e : new ≡ old ++ s ∷ []). rw e (single-push old s single (contains-set_of old s ∙ none))) ok
 
 pub had-once : {T E : Type 0} (r : Result T E) (old new : List Segment) (s : Segment) → OnOk r (new ≡ old ++ s ∷ []) → OnOk r ((t : Segment) → has new t ≡ (has old t || segment_is t s))
-had-once r old new s ok = ok_then r (λ (e : new ≡ old ++ s ∷ []) t. ap (λ xs. has xs t) e ∙ has-push old s t) ok
+had-once r old new s ok = on_ok_weaker r (λ (e : new ≡ old ++ s ∷ []) t. ap (λ xs. has xs t) e ∙ has-push old s t) ok
 
 -- what an index gives for a box, as a set
 pub near_given : (held : SegmentSet) (times : Segment → Box → ℕ) (rect : Box) (given near : List Segment) → Gives held times rect [] given true → ((t : Segment) → has near t ≡ has given t) → HasNear held rect (set_of near)

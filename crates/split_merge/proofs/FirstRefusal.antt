@@ -1,6 +1,6 @@
 -- The first refusal of two groups of conditions, the one after the other.
-use Rattle.kit_words.proofs.Common.{◌≡◌, ◌++◌, Bool, true, false, refl, sym, subst, List, [], ◌∷◌, Option, None, Some}
-use Rattle.ring_machine.specs.Common.{Refusal, ◌unless◌, first_of}
+use Rattle.kit_words.proofs.Common.{◌≡◌, ◌++◌, refl, sym, subst, List, [], ◌∷◌, Option, None, Some}
+use Rattle.ring_machine.specs.Common.{Refusal, first_of}
 use Rattle.arc_store.specs.Common.{Refuses}
 use Rattle.arc_store.specs.declared.fault.EditFault.{EditFault}
 use Rattle.arc_store.specs.declared.fault.EditFault.TheVariants as edit
@@ -34,9 +34,3 @@ refuses_first fault xs ys h = by (first_of xs) refl h
         → Refuses fault (first_of (xs ++ ys))
     by None e h = memory fault (first_of (xs ++ ys)) h
     by (Some r) e h = subst (Refuses fault) (sym (first_group xs ys r e)) h
-
--- the first of some conditions holds, and the others refuse nothing
-pub passes : (r : Refusal) (b : Bool) (rest : List (Option Refusal))
-    → first_of (r unless b ∷ rest) ≡ None → (b ≡ true) × (first_of rest ≡ None)
-passes r true rest h = (refl, h)
-passes r false rest h = absurd cc

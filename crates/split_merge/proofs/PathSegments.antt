@@ -1,27 +1,12 @@
 -- The segments along a path, and those of the map.
-use Rattle.kit_words.proofs.Common.{◌≡◌, ℕ, suc, ◌+◌, ◌<◌, Bool, true, false, refl, sym, ap, ◌∙◌, cond, List, [], ◌∷◌}
-use Rattle.kit_words.proofs.Common.{◌||◌, length, drop, get_or, arith, nat_lt, list_any, filter, nat_tests}
-use Rattle.kit_words.proofs.Common.{at_drop_more}
+use Rattle.kit_words.proofs.Common.{◌≡◌, ℕ, ◌+◌, ◌<◌, Bool, false, sym, ap, ◌∙◌, List, [], ◌∷◌, ◌||◌, length, drop}
+use Rattle.kit_words.proofs.Common.{get_or, nat_lt, list_any, at_drop_more, kept_any}
 use Rattle.grid_geometry.specs.Common.{Position, Segment, Edge, links}
 use Rattle.ring_machine.specs.Common.{Document, rings, is_segment}
 use Rattle.arc_store.specs.Common.{users}
 use Rattle.arc_store.proofs.Common.{has_segment, is_segment_by}
 
 -- ---- a segment
-
-one_kept : (n : ℕ) → nat_lt 0 (suc n) ≡ true
-one_kept n = grind (arith, nat_tests)
-
--- a filter keeps none where no element passes, and else one or more
-kept_any : {A : Type 0} (test : A → Bool) (xs : List A)
-    → nat_lt 0 (length (filter test xs)) ≡ list_any test xs
-kept_any test [] = refl
-kept_any test (x ∷ xs) = by (test x) (kept_any test xs)
-  where
-    by : (t : Bool) → nat_lt 0 (length (filter test xs)) ≡ list_any test xs
-        → nat_lt 0 (length (cond t (x ∷ filter test xs) (filter test xs))) ≡ (t || list_any test xs)
-    by true h = one_kept (length (filter test xs))
-    by false h = h
 
 -- a segment is one of the document where some ring has it
 pub segment_used : (d : Document) (s : Segment) → nat_lt 0 (length (users d s)) ≡ is_segment d s

@@ -4,7 +4,7 @@ use Rattle.kit_words.proofs.Common.{is_some, eq-eqb, Result, Ok, Err, OnOk, fals
 use Rattle.ring_machine.specs.Common.{Document, Feature, Text, features, feature, has_feature, join, take_out, Path}
 use Rattle.ring_machine.specs.Common.{renamed, Refusal, NoFeature, first_of, feature_refusals, split_refusals}
 use Rattle.ring_machine.specs.Common.{merge_refusals, feature_at, or_else, no_feature}
-use Rattle.ring_machine.proofs.Common.{has_feature-found, merge-accepted}
+use Rattle.ring_machine.proofs.Common.{has_feature-found, merge-accepted, passes}
 use Rattle.ring_machine.proofs.MergeAccepted.{found}
 use Rattle.edit_records.specs.Common.{Renamed, Exchanged, IsHeld, Takes}
 use Rattle.edit_records.proofs.Common.{deleted, merged, split, delete-recorded, merge-recorded, split-recorded}
@@ -12,7 +12,6 @@ use Rattle.edit_records.proofs.Common.{rename-recorded}
 use Rattle.arc_store.specs.Common.{Edits, split_map, State, IsRecorded}
 use Rattle.arc_store.specs.declared.fault.EditFault.{EditFault}
 use Rattle.arc_store.proofs.Common.{is_made, holds_made}
-use Rattle.split_merge.proofs.FirstRefusal.{passes}
 
 -- a feature that is cut is there
 split_there : (d : Document) (next n : ℕ) (id : Text) (path : Path)

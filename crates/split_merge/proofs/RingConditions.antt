@@ -4,10 +4,7 @@ use Rattle.kit_words.proofs.Common.{Some, arith, not, nat_le, list_any, nat_test
 use Rattle.grid_geometry.specs.Common.{Position, edges}
 use Rattle.ring_machine.specs.Common.{is_common, runs, common_else, same_side, Refusal, NotNeighbours, Runs, CommonElse}
 use Rattle.ring_machine.specs.Common.{SameSide, ◌unless◌, first_of, ring_refusals}
-
-abbrev elsewhere : Option Position → Option Refusal
-elsewhere None = None
-elsewhere (Some p) = Some (CommonElse p)
+use Rattle.ring_machine.proofs.MergeAccepted.{elsewhere}
 
 -- the first refusal by the answers
 abbrev rings_by : Bool → ℕ → Bool → Option Position → Bool → Option Refusal

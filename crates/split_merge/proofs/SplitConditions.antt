@@ -1,15 +1,14 @@
 -- A split that passes the conditions before any test of two segments.
 use Rattle.kit_words.proofs.Common.{◌≡◌, ℕ, ◌<◌, ◌≤◌, true, false, refl, sym, ap, ap₂, ◌∙◌, List, [], ◌∷◌, ◌++◌, Option}
 use Rattle.kit_words.proofs.Common.{None, ◌⊎◌, inl, inr, arith, not, ◌&&◌, ◌==◌, nat_lt, is_some, Result, Ok, Err, OnOk}
-use Rattle.kit_words.proofs.Common.{IfOk, ◌+ℤ◌, list_any, cases_lt, false≢true, Decides-eqb, nat_tests}
+use Rattle.kit_words.proofs.Common.{IfOk, ◌+ℤ◌, list_any, cases_lt, false≢true, Decides-eqb, nat_tests, not-true}
 use Rattle.ring_machine.specs.Common.{is_distinct, Document, Feature, Text, features, feature, has_feature, is_vertex}
 use Rattle.ring_machine.specs.Common.{WellFormed, Proper, Path, cut, is_cut_by, is_wrong_side, first_that, Refusal}
 use Rattle.ring_machine.specs.Common.{WrongSide, TooLarge, area_of, ◌unless◌, first_of, planar, is_small, feature_at}
 use Rattle.ring_machine.specs.Common.{is_layer, positions_of, is_path_segment, split_refusals}
-use Rattle.ring_machine.proofs.Common.{In, has_feature-found, in_any, not_true}
+use Rattle.ring_machine.proofs.Common.{In, has_feature-found, in_any, passes}
 use Rattle.ring_machine.proofs.SplitLaws.{are_below, split_areas}
 use Rattle.split_merge.specs.Common.{early_refusals}
-use Rattle.split_merge.proofs.FirstRefusal.{passes}
 
 -- what is asked of a split after that
 abbrev pub late_refusals : Document → ℕ → ℕ → Text → Path → List (Option Refusal)
@@ -44,11 +43,11 @@ passed d n path h =
     let g = passes _ (not (is_path_segment d path)) _ f.1 in
     record {
       there = a.0;
-      collected = not_true (is_layer d n) b.0;
+      collected = not-true (is_layer d n) b.0;
       cuts = c.0;
       distinct = e.0;
-      free = not_true (list_any (is_vertex d) path.inner) f.0;
-      new = not_true (is_path_segment d path) g.0;
+      free = not-true (list_any (is_vertex d) path.inner) f.0;
+      new = not-true (is_path_segment d path) g.0;
     }
 
 -- ---- areas

@@ -5,6 +5,5 @@ pub use Rattle.topo_outline.proofs.KeptShapes.{keeps-cut, keeps-join, keeps-rena
 pub use Rattle.topo_outline.proofs.LeafArcs.{HasArcs, leaves_have_arcs}
 pub use Rattle.topo_outline.proofs.Levels.{is_a_list, list_here, list_nests}
 pub use Rattle.topo_outline.proofs.Shaped.{outline_few, outline_gives, outline_means}
-pub use Rattle.topo_outline.proofs.Steps.{both_true}
 pub use Rattle.topo_outline.proofs.Walking.{carry, each_at_stop, each_at_turn, each_drop_turn, each_turn, regroup}
-pub use Rattle.topo_outline.proofs.Walking.{with_front}
+pub use Rattle.topo_outline.proofs.Walking.{tail_at, with_front}

@@ -1,17 +1,16 @@
 -- The names of an object are tested in order exactly if no two stand for one text.
-use Rattle.kit_words.proofs.Common.{◌≡◌, not, List, [], ◌∷◌, ◌++◌, ℕ, Bool, true, false, refl, sym, ◌∙◌, subst}
-use Rattle.kit_words.proofs.Common.{true≢false, nat_list_eq_equiv, Ok, Option, Some, None, list_any, IsDistinct}
-use Rattle.kit_words.proofs.Common.{AllByRecursion, list_any-append, bytes_eq-Decides, AllPairs-from_IsDistinct}
-use Rattle.kit_words.proofs.Common.{IsDistinct-from_AllPairs}
+use Rattle.kit_words.proofs.Common.{◌≡◌, not, List, [], ◌∷◌, ◌++◌, ℕ, true, false, refl, sym, ◌∙◌, subst}
+use Rattle.kit_words.proofs.Common.{nat_list_eq_equiv, Ok, Option, Some, None, list_any, IsDistinct, AllByRecursion}
+use Rattle.kit_words.proofs.Common.{list_any-append, bytes_eq-Decides, AllPairs-from_IsDistinct}
+use Rattle.kit_words.proofs.Common.{IsDistinct-from_AllPairs, or_parts, not-true}
 use Rattle.std.proofs.Common.{bytes_eq}
 use Rattle.json_spans.specs.Common.{Node, members, decoded}
 use Rattle.json_spans.proofs.Common.{members_told}
 use Rattle.topo_outline.specs.Common.{Fault, duplicate, demand, EntryNode, entry_of, named, name_text, text_from}
 use Rattle.topo_outline.specs.Common.{unquoted, members_of, is_object, Entries, no_entry, entry, HasEntries}
 use Rattle.topo_outline.specs.Common.{NestsAtMost}
-use Rattle.ring_machine.proofs.Common.{not_true}
 use Rattle.topo_outline.proofs.Levels.{object_here}
-use Rattle.topo_outline.proofs.Steps.{step, demanded, same_ok, neither}
+use Rattle.topo_outline.proofs.Steps.{step, demanded, same_ok}
 
 -- none of the texts is one of those seen
 abbrev Unseen : List (List ℕ) → List (List ℕ) → Type 0
@@ -28,8 +27,8 @@ other_order t u h = nat_list_eq_equiv.symm t u ∙ h
 
 apart : (seen : List (List ℕ)) (t u : List ℕ) → list_any (bytes_eq u) (seen ++ t ∷ []) ≡ false → (list_any (bytes_eq u) seen ≡ false) × (bytes_eq t u ≡ false)
 apart seen t u h =
-    let (before, now) = neither (list_any (bytes_eq u) seen) (list_any (bytes_eq u) (t ∷ [])) (sym (list_any-append (bytes_eq u) seen (t ∷ [])) ∙ h) in
-    (before, other_order t u (neither (bytes_eq u t) false now).0)
+    let (before, now) = or_parts (list_any (bytes_eq u) seen) (list_any (bytes_eq u) (t ∷ [])) (sym (list_any-append (bytes_eq u) seen (t ∷ [])) ∙ h) in
+    (before, other_order t u (or_parts (bytes_eq u t) false now).0)
 
 joined : (seen : List (List ℕ)) (t u : List ℕ) → list_any (bytes_eq u) seen ≡ false → bytes_eq t u ≡ false → list_any (bytes_eq u) (seen ++ t ∷ []) ≡ false
 joined seen t u before now = rw (list_any-append (bytes_eq u) seen (t ∷ []), before, other_order u t now) refl
@@ -70,7 +69,7 @@ named_means seen (m ∷ ms) es h =
     step (name_text m.0) _ h λ t is tested.
     step (demand (not (list_any (bytes_eq t) seen)) (duplicate (unquoted m.0.bytes)) (named (seen ++ t ∷ []) ms)) _ tested λ rest left last.
     let (new, after) = demanded _ _ _ left in
-    rw (← same_ok last) (one_more m t (text_is _ _ is) (not_true _ new) (named_means (seen ++ t ∷ []) ms rest after))
+    rw (← same_ok last) (one_more m t (text_is _ _ is) (not-true _ new) (named_means (seen ++ t ∷ []) ms rest after))
 
 named_gives : {ms : List (Node × Node)} {ts : List (List ℕ)} {es : List EntryNode} → Entries ms ts es → (seen : List (List ℕ)) → Unseen seen ts → IsDistinct bytes_eq ts → named seen ms ≡ Ok es
 unfolding named IsDistinct

@@ -4,12 +4,12 @@ use Rattle.kit_words.proofs.Common.{refl, sym, ap, ◌∙◌, subst, cond, inl, 
 use Rattle.kit_words.proofs.Common.{filter, flat_map, filter_map}
 use Rattle.grid_geometry.specs.Common.{Position}
 use Rattle.ring_machine.specs.Common.{FeatureOf, ItemOf, LayerOf, DocumentOf, Open, Close, Leaf, Kept, Feature}
-use Rattle.ring_machine.specs.Common.{Document, Form, Text, feature_of, features, feature, in_layer, in_items, Path}
-use Rattle.ring_machine.specs.Common.{is_cut_by, first_that, becomes, instead, cut, is_leaf, empty_collection, take_out}
+use Rattle.ring_machine.specs.Common.{Document, Form, Text, feature_of, features, in_layer, in_items, Path, is_cut_by}
+use Rattle.ring_machine.specs.Common.{first_that, becomes, instead, cut, is_leaf, empty_collection, take_out}
 use Rattle.ring_machine.specs.Common.{joined_feature, join, renamed, fits_form, WellFormed}
 use Rattle.ring_machine.specs.Document as form
 use Rattle.ring_machine.proofs.Common.{In, in_left, in_right, all_in, of_layers, taken, take_out_is, renamed_is}
-use Rattle.ring_machine.proofs.Common.{new_part, parts, cut_is, join_is}
+use Rattle.ring_machine.proofs.Common.{parts, cut_is, join_is, new_feature}
 use Rattle.topo_outline.specs.declared.members.Owner.TheVariants as owner
 use Rattle.topo_outline.specs.Common.{IsJson, IsName, AreKeptMembers, owner_of, KeepsItem, KeepsTexts}
 
@@ -150,7 +150,7 @@ keeps-cut d n id path number formed j h =
     (k, of f k (all_in fits_form (features d) f formed.forms i) f.polygons refl)))
   where
     new_keeps : (f : Feature) → KeepsItem (Leaf f) → owner_of f.form ≡ owner.Rings
-        → (ps : List (List (List Position))) → KeepsFeatures (map (new_part path number id f) ps)
+        → (ps : List (List (List Position))) → KeepsFeatures (map (new_feature path number id f) ps)
     new_keeps f k o [] = tt
     new_keeps f k o (p ∷ ps) = (
       record { id = j; properties = k.properties; members = subst (λ w. AreKeptMembers w f.members) o k.members },
@@ -158,7 +158,7 @@ keeps-cut d n id path number formed j h =
     )
 
     of : (f : Feature) → KeepsItem (Leaf f) → fits_form f ≡ true → (ps : List (List (List Position)))
-        → f.polygons ≡ ps → KeepsFeatures (map (new_part path number id f) (first_that (is_cut_by path) ps))
+        → f.polygons ≡ ps → KeepsFeatures (map (new_feature path number id f) (first_that (is_cut_by path) ps))
     of f k t [] e = tt
     of f k t (p ∷ ps) e = new_keeps f k (rings_owner f p ps e t) (first_that (is_cut_by path) (p ∷ ps))
 

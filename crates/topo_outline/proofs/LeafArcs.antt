@@ -1,5 +1,5 @@
 -- The `arcs` of each feature of an outline is a list of lists, as deep as its form asks.
-use Rattle.kit_words.proofs.Common.{List, [], ◌∷◌, ◌++◌, AllByRecursion}
+use Rattle.kit_words.proofs.Common.{List, [], ◌∷◌, AllByRecursion, all_joined}
 use Rattle.json_spans.specs.Common.{Node}
 use Rattle.ring_machine.specs.Common.{Form}
 use Rattle.topo_outline.specs.Common.{EntryNode, Piece, starts, ends, leaf, text, LayerText, OutlineText, leaves_in}
@@ -16,10 +16,6 @@ IsRight (starts h) = Unit {0}
 IsRight ends = Unit {0}
 IsRight (leaf f h n) = AreArcs f n
 IsRight (text t) = Unit {0}
-
-all_joined : {A : Type 0} (P : A → Type 0) (xs ys : List A) → AllByRecursion P xs → AllByRecursion P ys → AllByRecursion P (xs ++ ys)
-all_joined P [] ys h k = k
-all_joined P (x ∷ xs) ys h k = (h.0, all_joined P xs ys h.1 k)
 
 mutual
   geometry_right : {n : Node} {ps : List Piece} → IsGeometry n ps → AllByRecursion IsRight ps

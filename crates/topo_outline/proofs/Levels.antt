@@ -1,7 +1,7 @@
 -- What stands in a list or in an object has fewer lists and objects one in another, and what is
 -- tested is so in the grammar.
-use Rattle.kit_words.proofs.Common.{◌≡◌, ◌≤◌, ◌&&◌, ℕ, zero, suc, List, [], ◌∷◌, Bool, true, false, refl, sym, ap, ap₂}
-use Rattle.kit_words.proofs.Common.{subst, arith, Some, AllByRecursion, list_all, recursion_from_All}
+use Rattle.kit_words.proofs.Common.{◌≡◌, ◌≤◌, ◌&&◌, ℕ, zero, suc, List, [], ◌∷◌, Bool, true, refl, sym, ap, ap₂, subst}
+use Rattle.kit_words.proofs.Common.{arith, Some, AllByRecursion, list_all, recursion_from_All, and_parts}
 use Rattle.json_spans.specs.Common.{Node, items, members, kind_of, IsText, IsValue, IsListOf, IsObjectOf, IsList}
 use Rattle.json_spans.specs.Common.{IsListWith}
 use Rattle.json_spans.specs.declared.kinds.Kind.{Kind}
@@ -10,7 +10,6 @@ use Rattle.json_spans.proofs.Common.{items_are_values, members_are_values, list_
 use Rattle.json_spans.proofs.Common.{object_kind, items_told, members_told}
 use Rattle.topo_outline.specs.Common.{Word, EntryNode, is_list, is_object, is_list_kind, is_kind_object, are_lists}
 use Rattle.topo_outline.specs.Common.{are_lists_of_lists, HasEntries, value_at, AreLists, AreListsOfLists, NestsAtMost}
-use Rattle.topo_outline.proofs.Steps.{both_true}
 use Rattle.topo_outline.proofs.Values.{values_have, value_has}
 
 -- the value of each member has at most k levels
@@ -74,12 +73,12 @@ module _ (P : Node → Type 0) (test : Node → Bool) where
   each_here : ((k : ℕ) (n : Node) → NestsAtMost k n → test n ≡ true → P n) → (k : ℕ) (ns : List Node) → AllByRecursion (NestsAtMost k) ns → list_all test ns ≡ true → AllByRecursion P ns
   each_here one k [] nests h = tt
   each_here one k (n ∷ ns) nests h =
-      let (first, rest) = both_true (test n) (list_all test ns) h in
+      let (first, rest) = and_parts (test n) (list_all test ns) h in
       (one k n nests.0 first, each_here one k ns nests.1 rest)
 
   listed_here : ((k : ℕ) (n : Node) → NestsAtMost k n → test n ≡ true → P n) → (k : ℕ) (n : Node) → NestsAtMost k n → (is_list n && list_all test (items n)) ≡ true → IsListWith P n
   listed_here one k n nests h =
-      let (list, all) = both_true (is_list n) (list_all test (items n)) h in
+      let (list, all) = and_parts (is_list n) (list_all test (items n)) h in
       let found = list_here k n nests list in
       let (j, less, inner) = list_nests k n nests found in
       (items n, found, each_here one j (items n) inner all)

@@ -1,14 +1,12 @@
 -- The features in the order of the text, as the loops go over them.
-use Rattle.kit_words.proofs.Common.{◌≡◌, ℕ, suc, ◌+◌, ◌<◌, ◌≤◌, List, ◌∷◌, ◌++◌, length, get_or, drop, map, refl, sym}
-use Rattle.kit_words.proofs.Common.{ap, ◌∙◌, append_assoc, add-one, drop-cons, append-nil, drop_all}
+use Rattle.kit_words.proofs.Common.{◌≡◌, ℕ, ◌+◌, ◌<◌, ◌≤◌, List, ◌++◌, length, get_or, drop, map, refl, sym, ◌∙◌}
+use Rattle.kit_words.proofs.Common.{append_assoc, append-nil, drop_all}
 use Rattle.json_spans.specs.Common.{Node}
 use Rattle.ring_machine.specs.Common.{Form}
 use Rattle.topo_outline.specs.declared.document.Item.{Item}
 use Rattle.topo_outline.specs.declared.document.RawLayer.{RawLayer}
 use Rattle.topo_outline.specs.Common.{leaf_of, at_most_one, leaves_in, leaves, view_item, view_layer}
-
-tail_at : {A : Type 0} (a : A) (xs : List A) (i : ℕ) → i < length xs → a ≡ get_or xs i a → drop i xs ≡ a ∷ drop (i + 1) xs
-tail_at {A = A} a xs i lt is = drop-cons xs i a lt ∙ rw add-one (ap (λ (b : A). b ∷ drop (suc i) xs) (sym is))
+use Rattle.topo_outline.proofs.Walking.{tail_at}
 
 more : (old a b s whole : List (Form × Node)) → s ≡ a ++ b → old ++ s ≡ whole → (old ++ a) ++ b ≡ whole
 more old a b s whole e h = append_assoc old a b ∙ rw e at h

@@ -1,6 +1,6 @@
 -- An outline is answered exactly if it is that of the topology, and has few features.
-use Rattle.kit_words.proofs.Common.{arith, ◌≤◌, ◌≡◌, ◌&&◌, ℕ, List, [], ◌∷◌, true, refl, sym, ap, ap₂, subst, codes, Ok}
-use Rattle.kit_words.proofs.Common.{Option, Some, None, option_map}
+use Rattle.kit_words.proofs.Common.{arith, ◌≤◌, ◌≡◌, ◌&&◌, ℕ, List, [], ◌∷◌, true, refl, ap, ap₂, subst, codes, Ok}
+use Rattle.kit_words.proofs.Common.{Option, Some, None, option_map, and_parts}
 use Rattle.json_spans.specs.Common.{Node, IsListOf, items, kind_of, decoded}
 use Rattle.json_spans.proofs.Common.{number_kind, items_told, number_told, text_told, null_told, text_kind, null_kind}
 use Rattle.json_spans.specs.declared.kinds.Kind.{Kind}
@@ -10,9 +10,9 @@ use Rattle.topo_outline.specs.Common.{Word, Geometry, geometry_of, not_topology,
 use Rattle.topo_outline.specs.Common.{member, kept, LayerText, OutlineText, few, is_list, is_object, members_of}
 use Rattle.topo_outline.specs.Common.{member_that, wrong, is_number, two_numbers, are_two_numbers, is_transform}
 use Rattle.topo_outline.specs.Common.{transform_value, transform_from, is_topology_word, says_topology, is_type_text}
-use Rattle.topo_outline.specs.Common.{is_topology, is_kind_object, layers, outline_text, outlined, outline, NestsAtMost}
-use Rattle.topo_outline.specs.Common.{HasEntries, value_at, HasType, AreTwoNumbers, IsGeometry, IsTransform}
-use Rattle.topo_outline.specs.Common.{no_transform, null_transform, AreLayers, no_layer, IsOutline}
+use Rattle.topo_outline.specs.Common.{is_topology, layers, outline_text, outlined, outline, NestsAtMost, HasEntries}
+use Rattle.topo_outline.specs.Common.{value_at, HasType, AreTwoNumbers, IsTransform, no_transform, null_transform}
+use Rattle.topo_outline.specs.Common.{AreLayers, no_layer, IsOutline}
 use Rattle.topo_outline.specs.declared.words.Word.TheVariants as word
 use Rattle.topo_outline.specs.declared.words.Geometry.TheVariants as geo
 use Rattle.topo_outline.specs.declared.fault.Limit.TheVariants as limit
@@ -20,14 +20,14 @@ use Rattle.topo_outline.specs.declared.members.Owner.TheVariants as owner
 use Rattle.topo_outline.specs.Shape.{layer, geometry}
 use Rattle.topo_outline.specs.IsOutline as shape
 use Rattle.topo_outline.proofs.Levels.{AllNest, an_object, object_nests, list_nests, value_nests, list_here, is_an_object, is_a_list}
-use Rattle.topo_outline.proofs.Steps.{step, demanded, same_ok, both_true}
+use Rattle.topo_outline.proofs.Steps.{step, demanded, same_ok}
 use Rattle.topo_outline.proofs.Entering.{object_means, object_gives}
 use Rattle.topo_outline.proofs.Typing.{member_at, value_of_member, good_member, member_is_good, Says, topology, says}
 use Rattle.topo_outline.proofs.Nesting.{geometry_means, geometry_gives, geometry_is_object}
 
 -- ---- the transform
 
-number_means : (k : Kind) → is_number k ≡ true → k ≡ kind.Number
+pub number_means : (k : Kind) → is_number k ≡ true → k ≡ kind.Number
 number_means kind.Number h = refl
 number_means _ h = absurd cc
 
@@ -35,7 +35,7 @@ two_mean : (k : ℕ) (n : Node) (ns : List Node) → NestsAtMost k n → IsListO
 two_mean k n [] nests l h = absurd cc
 two_mean k n (x ∷ []) nests l h = absurd cc
 two_mean k n (x ∷ y ∷ []) nests l h =
-    let (first, second) = both_true (is_number (kind_of x.bytes)) (is_number (kind_of y.bytes)) h in
+    let (first, second) = and_parts (is_number (kind_of x.bytes)) (is_number (kind_of y.bytes)) h in
     let (j, less, all) = list_nests k n nests l in
     record { x = x; y = y; two = l; x_number = number_told all.0 (number_means _ first); y_number = number_told all.1.0 (number_means _ second) }
 two_mean k n (x ∷ y ∷ z ∷ ns) nests l h = absurd cc
@@ -46,7 +46,7 @@ numbers_mean k w es all h = by (member w es) refl h
     by : (o : Option EntryNode) → member w es ≡ o → are_two_numbers o ≡ true → (v : Node) × (value_at w es ≡ Some v) × AreTwoNumbers v
     by None e h = absurd cc
     by (Some m) e h =
-        let (list, two) = both_true (is_list m.value) (two_numbers (items m.value)) h in
+        let (list, two) = and_parts (is_list m.value) (two_numbers (items m.value)) h in
         let there = value_of_member w es m e in
         let nests = value_nests k w es m.value all there in
         (m.value, there, two_mean k m.value (items m.value) nests (list_here k m.value nests list) two)
@@ -66,7 +66,7 @@ value_means j m kind.Null t nests e h = rw (← same_ok h) (null_transform (null
 value_means j m kind.Object t nests e h =
     step (members_of m.value) _ h λ es entered tested.
     let (right, last) = demanded (is_transform es) (wrong m) (Ok (Some m.value.bytes)) tested in
-    let (scales, translates) = both_true (are_two_numbers (member word.Scale es)) (are_two_numbers (member word.Translate es)) right in
+    let (scales, translates) = and_parts (are_two_numbers (member word.Scale es)) (are_two_numbers (member word.Translate es)) right in
     let o = object_means j m.value es nests (kind_is_object m.value e) entered in
     let (i, less, all) = object_nests j m.value es nests o in
     let (scale, at_scale, two_scales) = numbers_mean i word.Scale es all scales in
@@ -128,7 +128,7 @@ topology_means j es all h = by (member word.Type es) refl h
     by : (o : Option EntryNode) → member word.Type es ≡ o → is_topology o ≡ true → HasType es (codes "Topology")
     by None found h = absurd cc
     by (Some m) found h =
-        let (string, said) = both_true (is_type_text (kind_of m.value.bytes)) (says_topology (decoded m.value.bytes)) h in
+        let (string, said) = and_parts (is_type_text (kind_of m.value.bytes)) (says_topology (decoded m.value.bytes)) h in
         let there = value_of_member word.Type es m found in
         record { value = m.value; there = there; string = text_told (value_nests j word.Type es m.value all there) (text_kind_is _ string); says = topology_said _ said }
 

@@ -1,5 +1,5 @@
 -- What stood before an answer: each step of a program in do-notation.
-use Rattle.kit_words.proofs.Common.{◌≡◌, ◌||◌, ◌&&◌, refl, Bool, true, false, Result, Ok, Err}
+use Rattle.kit_words.proofs.Common.{◌≡◌, refl, Bool, true, false, Result, Ok, Err}
 use Rattle.topo_outline.specs.Common.{Fault, ◌>>=◌, demand}
 
 pub step : {A B P : Type 0} (r : Result A Fault) (f : A → Result B Fault) {y : B} → r >>= f ≡ Ok y → ((x : A) → r ≡ Ok x → f x ≡ Ok y → P) → P
@@ -12,11 +12,3 @@ demanded false e r h = absurd cc
 
 pub same_ok : {A : Type 0} {x y : A} → ◌≡◌ {A = Result A Fault} (Ok x) (Ok y) → x ≡ y
 same_ok h = cc
-
-pub both_true : (a b : Bool) → (a && b) ≡ true → (a ≡ true) × (b ≡ true)
-both_true true b h = (refl, h)
-both_true false b h = absurd cc
-
-pub neither : (a b : Bool) → (a || b) ≡ false → (a ≡ false) × (b ≡ false)
-neither true b h = absurd cc
-neither false b h = (refl, h)

@@ -27,7 +27,7 @@ each_turn f front b a as' left whole e is h = sym (regroup front b (each f as'))
 
 -- ---- one by one, with numbers
 
-tail_at : {A : Type 0} (a : A) (xs : List A) (i : ℕ) → i < length xs → a ≡ get_or xs i a → drop i xs ≡ a ∷ drop (i + 1) xs
+pub tail_at : {A : Type 0} (a : A) (xs : List A) (i : ℕ) → i < length xs → a ≡ get_or xs i a → drop i xs ≡ a ∷ drop (i + 1) xs
 tail_at {A = A} a xs i lt is = drop-cons xs i a lt ∙ rw add-one (ap (λ (b : A). b ∷ drop (suc i) xs) (sym is))
 
 pub each_at_turn : {A B C : Type 0} (f : ℕ → B → Result C Fault) (v : A → B) (front : List C) (c : C) (xs : List A) (i : ℕ) (a : A) (whole : Result (List C) Fault) → i < length xs → a ≡ get_or xs i a → f i (v a) ≡ Ok c → with_front front (each_at f i (map v (drop i xs))) ≡ whole → with_front (front ++ c ∷ []) (each_at f (i + 1) (map v (drop (i + 1) xs))) ≡ whole

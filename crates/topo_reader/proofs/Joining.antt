@@ -1,13 +1,14 @@
 -- Joining arcs, as the loops do.
-use Rattle.kit_words.proofs.Common.{◌≡◌, ℕ, suc, ◌+◌, ◌<◌, ◌≤◌, List, [], ◌∷◌, ◌++◌, length, get_or, drop, refl, sym}
-use Rattle.kit_words.proofs.Common.{ap, ◌∙◌, append_assoc, add-one, drop-cons, map, true, cond, Option, Some, None}
-use Rattle.kit_words.proofs.Common.{◌&&◌, append-nil, drop_all, Bool, false, Ok, Err, ◌-◌, take, dedup, dedup_from, dedup_is, IsFiltered}
-use Rattle.kit_words.proofs.Common.{DiffersFromLast}
+use Rattle.kit_words.proofs.Common.{◌≡◌, ℕ, ◌+◌, ◌<◌, ◌≤◌, List, [], ◌∷◌, ◌++◌, length, get_or, drop, refl, sym, ap}
+use Rattle.kit_words.proofs.Common.{◌∙◌, append_assoc, add-one, drop-cons, map, true, cond, Option, Some, None, ◌&&◌}
+use Rattle.kit_words.proofs.Common.{append-nil, drop_all, Bool, false, Ok, Err, ◌-◌, take, dedup, dedup_from, dedup_is}
+use Rattle.kit_words.proofs.Common.{IsFiltered, DiffersFromLast}
 use Rattle.grid_geometry.specs.Common.{Position, position_eq}
 use Rattle.ring_machine.specs.Common.{has}
 use Rattle.ring_machine.proofs.Common.{position_eq-sym, position_eq-true}
 use Rattle.topo_outline.specs.declared.fault.RingAt.{RingAt}
 use Rattle.topo_outline.specs.Common.{arcs_do_not_meet}
+use Rattle.topo_outline.proofs.Common.{tail_at}
 use Rattle.topo_reader.specs.Common.{Closed, Rings, Walks, closed_of, meet, ring_of, simple, walk_of}
 use Rattle.topo_reader.specs.Common.{Arc, Use, arc_of, first_of, last_of, starts_at, unless, ends, meet_from}
 use Rattle.topo_reader.specs.Common.{squeezed, all_of, front, joined, first_repeat}
@@ -27,10 +28,6 @@ repeat_step seen ps i d lt = rw (drop-cons ps i d lt, add-one i) refl
 pub repeat_end : (seen ps : List Position) (i : ℕ) → length ps ≤ i → first_repeat seen (drop i ps) ≡ None
 unfolding first_repeat
 repeat_end seen ps i le = rw (drop_all i ps le) refl
-
--- the tail from an item on
-pub tail_at : {A : Type 0} (a : A) (xs : List A) (i : ℕ) → i < length xs → a ≡ get_or xs i a → drop i xs ≡ a ∷ drop (i + 1) xs
-tail_at {A = A} a xs i lt is = drop-cons xs i a lt ∙ rw add-one (ap (λ (b : A). b ∷ drop (suc i) xs) (sym is))
 
 -- ---- what `dedup` leaves
 

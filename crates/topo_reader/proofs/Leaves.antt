@@ -3,7 +3,7 @@ use Rattle.kit_words.proofs.Common.{◌≡◌, ℕ, ◌+◌, ◌-◌, ◌<◌, �
 use Rattle.kit_words.proofs.Common.{drop_all}
 use Rattle.std.proofs.Common.{length-append}
 use Rattle.topo_outline.specs.Common.{LayerText, Piece, at_most_one, leaf_of, leaves_in, leaves}
-use Rattle.topo_reader.proofs.Joining.{tail_at}
+use Rattle.topo_outline.proofs.Common.{tail_at}
 
 pub item_turn : {X : Type 0} (v : X → Piece) (whole left left' n : ℕ) (xs : List X) (i : ℕ) (x : X) → i < length xs → x ≡ get_or xs i x →
     n ≡ length (at_most_one (leaf_of (v x))) → left' ≡ left - n → left - length (leaves_in (map v (drop i xs))) ≡ whole → left' - length (leaves_in (map v (drop (i + 1) xs))) ≡ whole

@@ -1,7 +1,7 @@
 -- What the arcs mean is what the reader gives.
 use Rattle.kit_words.proofs.Common.{◌≡◌, ℕ, suc, ◌≤◌, ◌<◌, ◌^◌, length, ℤ, ◌+ℤ◌, ◌&&◌, List, [], ◌∷◌, Bool, true, false}
 use Rattle.kit_words.proofs.Common.{cond, refl, sym, ap, subst, ◌∙◌, ap₂, arith, Option, Some, None, Result, Ok, Err}
-use Rattle.kit_words.proofs.Common.{unsigned_abs, AllByRecursion, AllZip, false≢true, ints}
+use Rattle.kit_words.proofs.Common.{unsigned_abs, AllByRecursion, AllZip, false≢true, ints, le-leb, leb-true}
 use Rattle.json_spans.specs.Common.{Node, IsListOf, IsList, items, whole_of}
 use Rattle.json_spans.specs.declared.number.NotWhole.{NotWhole}
 use Rattle.json_spans.proofs.Common.{whole_read, whole_meant, items_told, item_values}
@@ -12,15 +12,15 @@ use Rattle.topo_reader.specs.Common.{Arc, origin, is_within, summed, coordinate,
 use Rattle.topo_reader.specs.Common.{positions, has_two, arc, arcs, IsSum, Sums, ArePositions, IsArc, AreArcs}
 use Rattle.topo_reader.specs.Positions.{pair}
 use Rattle.topo_reader.specs.Reads as reads
-use Rattle.topo_reader.proofs.Steps.{bind_ok, ok_same, at_least, at_most, each_of, of_each}
+use Rattle.topo_reader.proofs.Steps.{bind_ok, ok_same, each_of, of_each}
 
 -- ---- what is meant is read
 
 pub within : (z sum : ℤ) → sum ≡ z → unsigned_abs sum ≤ 1000000000000 → is_within z ≡ true
-within z sum e h = at_least (unsigned_abs z) 1000000000000 (subst (λ (y : ℤ). unsigned_abs y ≤ 1000000000000) e h)
+within z sum e h = le-leb (unsigned_abs z) 1000000000000 (subst (λ (y : ℤ). unsigned_abs y ≤ 1000000000000) e h)
 
 -- a difference of two coordinates is small
-small_step : (before z sum : ℤ) → unsigned_abs before ≤ 1000000000000 → sum ≡ before +ℤ z → unsigned_abs sum ≤ 1000000000000 → unsigned_abs z < 2 ^ 63
+pub small_step : (before z sum : ℤ) → unsigned_abs before ≤ 1000000000000 → sum ≡ before +ℤ z → unsigned_abs sum ≤ 1000000000000 → unsigned_abs z < 2 ^ 63
 small_step before z sum h e k = omega (arith, ints, h, e, k)
 
 position_of : (before p : Position) (n : Node) → InRange before → IsSum before n p → position before n ≡ Ok p
@@ -40,7 +40,7 @@ position_of before p n near s =
       s.sum,
     ) refl
 
-origin_in_range : InRange origin
+pub origin_in_range : InRange origin
 origin_in_range = record { across = omega arith; upward = omega arith }
 
 sums_of : {before : Position} {ns : List Node} {ps : List Position} → InRange before → Sums before ns ps → positions true before ns ≡ Ok ps
@@ -129,7 +129,7 @@ unfolding position
 is_sum k before p n nests h = by (is_list n) refl (two_of (items n)) refl h
   where
     reach : (z sum : ℤ) → sum ≡ z → is_within z ≡ true → unsigned_abs sum ≤ 1000000000000
-    reach z sum e w = subst (λ (y : ℤ). unsigned_abs y ≤ 1000000000000) (sym e) (at_most (unsigned_abs z) 1000000000000 w)
+    reach z sum e w = subst (λ (y : ℤ). unsigned_abs y ≤ 1000000000000) (sym e) (leb-true (unsigned_abs z) 1000000000000 w)
 
     by : (b : Bool) → is_list n ≡ b → (o : Option (Node × Node)) → two_of (items n) ≡ o → cond b (pair before n.at_byte o) (Err (bad_position n.at_byte)) ≡ Ok p → IsSum before n p
     by false e o f h = absurd cc

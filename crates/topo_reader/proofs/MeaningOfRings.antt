@@ -1,11 +1,11 @@
 -- The walks and rings that arcs mean are those that the reader gives.
 use Rattle.kit_words.proofs.Common.{◌≡◌, ℕ, ◌-◌, ◌≤◌, Bool, true, false, List, [], ◌∷◌, ◌++◌, length, take, refl, sym}
 use Rattle.kit_words.proofs.Common.{ap, ◌∙◌, subst, arith, Option, Some, None, Ok, nat_le, AllZip, flat_map, false≢true}
-use Rattle.kit_words.proofs.Common.{reverse-append, flat_map-cons, take-append_seam}
+use Rattle.kit_words.proofs.Common.{reverse-append, flat_map-cons, take-append_seam, and_parts, le-leb, leb-true}
 use Rattle.std.proofs.Common.{length-append}
 use Rattle.grid_geometry.specs.Common.{Position, position_eq}
 use Rattle.ring_machine.specs.Common.{canonical}
-use Rattle.ring_machine.proofs.Common.{and_both, position_eq-true, position_eq-refl}
+use Rattle.ring_machine.proofs.Common.{position_eq-true, position_eq-refl}
 use Rattle.topo_outline.specs.declared.fault.RingAt.{RingAt}
 use Rattle.topo_outline.specs.Common.{arcs_do_not_meet, ring_short}
 use Rattle.topo_reader.specs.Common.{Closed, Rings, Walks, Arc, first_of, last_of, meet_from, ends, meet, unless}
@@ -14,7 +14,7 @@ use Rattle.topo_reader.specs.Common.{walk_of, ring_of, closed_of, polygon_of, fe
 use Rattle.topo_reader.specs.Common.{Chain, there, along, Once, none, last, same, next, IsWalk, nowhere, around, IsRing}
 use Rattle.topo_reader.specs.Common.{IsClosed, AreClosed}
 use Rattle.topo_reader.proofs.Repeats.{none_again, no_repeat, Differ, differ, distinct_of, not_equal}
-use Rattle.topo_reader.proofs.Steps.{at_least, at_most, bind_ok, demand_ok, ok_same, each_at_of, of_each_at}
+use Rattle.topo_reader.proofs.Steps.{bind_ok, demand_ok, ok_same, each_at_of, of_each_at}
 
 -- ---- equal neighbours taken once
 
@@ -114,7 +114,7 @@ unfolding meet_from ends
 meets_chain p [] h = (p, there, refl)
 meets_chain p ([] ∷ as') h = absurd (false≢true h)
 meets_chain p ((r ∷ ps) ∷ as') h =
-    let two = and_both (position_eq p r) (meet_from (last_of (r ∷ ps)) as') h in
+    let two = and_parts (position_eq p r) (meet_from (last_of (r ∷ ps)) as') h in
     let one = leads r ps in
     let rest = meets_chain one.0 as' (ap (λ o. meet_from o as') (sym (last_is one.1)) ∙ two.1) in (
       rest.0,
@@ -196,7 +196,7 @@ pub ring_read : (at_ring : RingAt) (uses : List Arc) (ring : List Position) → 
 unfolding ring_of
 ring_read at_ring uses ring r =
     let new : first_repeat [] r.corners ≡ None = no_repeat [] r.corners (distinct_of r.corners r.different, λ q h. absurd (false≢true h)) in
-    rw (walk_read at_ring uses r.corners (around r.closed r.once), at_least 3 (length r.corners) r.long, new, r.turned) refl
+    rw (walk_read at_ring uses r.corners (around r.closed r.once), le-leb 3 (length r.corners) r.long, new, r.turned) refl
 
 pub long_ring : {uses : List Arc} {walk ring : List Position} → IsWalk uses walk → 3 ≤ length walk → Differ walk → ring ≡ canonical walk → IsRing uses ring
 long_ring nowhere long different turned = absurd (omega (arith, long))
@@ -214,7 +214,7 @@ long_ring (around {start = start} {walk = walk} c o) long different turned = rec
 simple_ring : (at_ring : RingAt) (uses : List Arc) (walk ring : List Position) → IsWalk uses walk → simple at_ring walk ≡ Ok ring → IsRing uses ring
 simple_ring at_ring uses walk ring w h =
     let long = demand_ok (nat_le 3 (length walk)) (ring_short at_ring) (distinct at_ring walk (first_repeat [] walk)) ring h in
-    by (first_repeat [] walk) refl (at_most 3 (length walk) long.0) long.1
+    by (first_repeat [] walk) refl (leb-true 3 (length walk) long.0) long.1
   where
     by : (o : Option Position) → first_repeat [] walk ≡ o → 3 ≤ length walk → distinct at_ring walk o ≡ Ok ring → IsRing uses ring
     by (Some p) e l d = absurd cc

@@ -1,6 +1,6 @@
 -- What a text means is what opening it gives, in both directions.
 use Rattle.kit_words.proofs.Common.{◌≡◌, ◌≢◌, ℕ, ◌≤◌, List, length, refl, sym, ap, ◌∙◌, subst, arith, Bool, Result, Ok}
-use Rattle.kit_words.proofs.Common.{Err, IfOk, IfErr, nat_le, is_some, AllZip, AllZip-long}
+use Rattle.kit_words.proofs.Common.{Err, IfOk, IfErr, nat_le, is_some, AllZip, AllZip-long, le-leb, leb-true}
 use Rattle.json_spans.specs.Common.{Json, Node}
 use Rattle.ring_machine.specs.Common.{Document}
 use Rattle.topo_outline.specs.declared.fault.Limit.TheVariants as limit
@@ -18,7 +18,7 @@ use Rattle.topo_outline.proofs.Common.{HasArcs, leaves_have_arcs, outline_means,
 use Rattle.topo_reader.proofs.MeaningOfArcs.{arcs_of, are_arcs}
 use Rattle.topo_reader.proofs.MeaningOfUses.{AreFew, uses_are, are_uses}
 use Rattle.topo_reader.proofs.MeaningOfRings.{rings_of, are_rings}
-use Rattle.topo_reader.proofs.Steps.{at_least, at_most, bind_ok, demand_ok, ok_same, each_of, of_each}
+use Rattle.topo_reader.proofs.Steps.{bind_ok, demand_ok, ok_same, each_of, of_each}
 
 abbrev pub made : OutlineText → List Polygons → Opened
 made shape ps = record { transform = shape.transform; layers = shape.layers; members = shape.members; polygons = ps }
@@ -36,7 +36,7 @@ polygons_of : (closed : Closed) (shape : OutlineText) (found : List Arc) (uses :
 polygons_of closed shape found uses polygons few a u r small = rw (
   arcs_of (is_some shape.transform) shape.arcs found a,
   each_of (GeometryUses found) (uses_of found) (uses_are found few) (leaves shape.layers) uses u,
-  at_least (size uses) 4000000 small,
+  le-leb (size uses) 4000000 small,
   rings_of closed uses polygons r,
 ) refl
 
@@ -49,7 +49,7 @@ opens closed bytes d r f =
       record {
         short = f.short;
         json = f.flat;
-        opens = rw (outline_gives (root_of bytes) r.shape (root_value 100 bytes f.flat) topology (at_least (length (leaves r.shape.layers)) 200000 f.few), polygons_of closed r.shape r.arcs r.uses r.polygons few r.arcs_are r.uses_are r.rings_are f.small) refl;
+        opens = rw (outline_gives (root_of bytes) r.shape (root_value 100 bytes f.flat) topology (le-leb (length (leaves r.shape.layers)) 200000 f.few), polygons_of closed r.shape r.arcs r.uses r.polygons few r.arcs_are r.uses_are r.rings_are f.small) refl;
       },
       sym r.document,
     )
@@ -85,7 +85,7 @@ made_along AreThese closed bytes shape found ps short text e are h =
         rings_are = are_rings closed uses.0 ps fits.1;
         document = refl;
       },
-      record { short = short; flat = text; few = at_most (length (leaves shape.layers)) 200000 (outline_few (root_of bytes) shape e); small = at_most (size uses.0) 4000000 fits.0 },
+      record { short = short; flat = text; few = leb-true (length (leaves shape.layers)) 200000 (outline_few (root_of bytes) shape e); small = leb-true (size uses.0) 4000000 fits.0 },
     )
 
 -- the polygons that were read are meant

@@ -1,12 +1,11 @@
 -- What opens is of rings, or of walks.
-use Rattle.kit_words.proofs.Common.{◌≡◌, ℕ, suc, ◌+◌, ◌-◌, ◌≤◌, Bool, true, List, [], ◌∷◌, length, refl}
-use Rattle.kit_words.proofs.Common.{sym, ap, ap₂, ◌∙◌, subst, arith, ◌&&◌, Option, Some, None, Result, Ok, Err, IfOk}
-use Rattle.kit_words.proofs.Common.{nat_le, is_some, list_all, flat_map, length-append, length-take, take_all}
-use Rattle.kit_words.proofs.Common.{sum_by-cons}
+use Rattle.kit_words.proofs.Common.{◌≡◌, ℕ, suc, ◌+◌, ◌-◌, ◌≤◌, Bool, true, List, [], ◌∷◌, length, refl, sym, ap, ap₂}
+use Rattle.kit_words.proofs.Common.{◌∙◌, subst, arith, ◌&&◌, Option, Some, None, Result, Ok, Err, IfOk, nat_le, is_some}
+use Rattle.kit_words.proofs.Common.{list_all, flat_map, length-append, length-take, take_all, sum_by-cons, leb-true}
 use Rattle.std.specs.Prelude.{sum_by}
 use Rattle.grid_geometry.specs.Common.{Position}
 use Rattle.ring_machine.specs.Common.{is_ring, canonical, rings, size, WellFormed}
-use Rattle.ring_machine.proofs.Common.{canonical_parts, canonical_is_ring}
+use Rattle.ring_machine.proofs.Common.{canonical_is_ring, canonical_length}
 use Rattle.json_spans.specs.Common.{Json, Node}
 use Rattle.topo_outline.specs.Common.{Fault, arcs_do_not_meet, ring_short, too_large, ◌>>=◌, each, each_at, demand}
 use Rattle.topo_outline.specs.Common.{OutlineText, leaves, KeepsTexts, outline}
@@ -25,7 +24,7 @@ use Rattle.topo_reader.proofs.MeaningOfText.{made, made_along, is_read_by}
 use Rattle.topo_reader.proofs.MeaningOfRings.{walk_meant}
 use Rattle.topo_reader.proofs.Apart.{walk_is}
 use Rattle.topo_reader.proofs.Repeats.{none_again}
-use Rattle.topo_reader.proofs.Steps.{at_most, bind_ok, demand_ok, ok_same}
+use Rattle.topo_reader.proofs.Steps.{bind_ok, demand_ok, ok_same}
 use Rattle.topo_reader.proofs.Numbering.{rings_within, rings_document, all_within, sum_within}
 
 each_length : {A B : Type 0} (f : A → Result B Fault) (xs : List A) (ys : List B) → each f xs ≡ Ok ys → length ys ≡ length xs
@@ -69,12 +68,6 @@ all_length (a ∷ uses) = length-append a (all_of uses) ∙ ap (λ (n : ℕ). le
 joined_length : (uses : List Arc) → length (joined uses) ≤ sum_by length uses
 joined_length uses = omega (arith, length-take (length (squeezed None (all_of uses)) - 1) (squeezed None (all_of uses)), squeezed_length None (all_of uses), all_length uses)
 
-canonical_length : (ps : List Position) → length (canonical ps) ≡ length ps
-canonical_length ps =
-    let parts = canonical_parts ps in
-    let whole : length parts.1 + length parts.0 ≡ length ps = omega (arith, ap (λ (qs : List Position). length qs) parts.2, length-append parts.0 parts.1) in
-    ap (λ (qs : List Position). length qs) parts.3 ∙ length-append parts.1 parts.0 ∙ whole
-
 -- the list passes the test, and is no longer than the arcs
 abbrev IsGood : (List Position → Bool) → List Arc → List Position → Type 0
 IsGood t uses r = (t r ≡ true) × (length r ≤ sizes.ring_size uses)
@@ -82,7 +75,7 @@ IsGood t uses r = (t r ≡ true) × (length r ≤ sizes.ring_size uses)
 simple_good : (at_ring : RingAt) (uses : List Arc) (walk r : List Position) → length walk ≤ sizes.ring_size uses → simple at_ring walk ≡ Ok r → IsGood is_ring uses r
 simple_good at_ring uses walk r small h =
     let long = demand_ok (nat_le 3 (length walk)) (ring_short at_ring) (distinct at_ring walk (first_repeat [] walk)) r h in
-    by (first_repeat [] walk) refl (at_most 3 (length walk) long.0) long.1
+    by (first_repeat [] walk) refl (leb-true 3 (length walk) long.0) long.1
   where
     by : (o : Option Position) → first_repeat [] walk ≡ o → 3 ≤ length walk → distinct at_ring walk o ≡ Ok r → IsGood is_ring uses r
     by (Some p) e l d = absurd cc
@@ -131,7 +124,7 @@ module _ (closed : Closed) (t : List Position → Bool) (one : (at_ring : RingAt
       let uses = bind_ok (each (uses_of found) (leaves shape.layers)) (λ (uses : List (List (List (List Arc)))). demand (nat_le (sizes.size uses) 4000000) (too_large limit.Positions) (all_rings closed uses)) ps h in
       let fits = demand_ok (nat_le (sizes.size uses.0) 4000000) (too_large limit.Positions) (all_rings closed uses.0) ps uses.2 in
       let good = all_good uses.0 ps fits.1 in
-      (at_most (length (leaves shape.layers)) 200000 (outline_few n shape e), good.2 ∙ each_length (uses_of found) (leaves shape.layers) uses.0 uses.1, good.0, omega (arith, good.1, at_most (sizes.size uses.0) 4000000 fits.0))
+      (leb-true (length (leaves shape.layers)) 200000 (outline_few n shape e), good.2 ∙ each_length (uses_of found) (leaves shape.layers) uses.0 uses.1, good.0, omega (arith, good.1, leb-true (sizes.size uses.0) 4000000 fits.0))
 
   made_of : (shape : OutlineText) (ps : List Polygons) → IsWhole shape ps → WellFormed (document_of (made shape ps)) → KeepsTexts (document_of (made shape ps)) → IsOf t (made shape ps)
   made_of shape ps w formed keeps =

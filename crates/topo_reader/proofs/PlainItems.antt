@@ -2,9 +2,8 @@
 use Rattle.kit_words.proofs.Common.{◌≡◌, ℕ, suc, ◌+◌, ◌-◌, List, [], ◌∷◌, ◌++◌, length, take, drop, map, true, false}
 use Rattle.kit_words.proofs.Common.{refl, sym, ap, subst, ◌∙◌, arith, ℤ, Some, None, Ok, reverse, list_all, take_while}
 use Rattle.kit_words.proofs.Common.{nat_tests, reverse-append, length-append, take_all, list_all-append}
-use Rattle.kit_words.proofs.Common.{take_while-cons, drop-append_seam, take-append_seam}
+use Rattle.kit_words.proofs.Common.{take_while-cons, drop-append_seam, take-append_seam, and_parts}
 use Rattle.std.proofs.lemmas.List.{append_assoc}
-use Rattle.ring_machine.proofs.Common.{and_both}
 use Rattle.json_spans.specs.Common.{is_space, skip_step, part_len, closes, after_comma, parts_left, trimmed}
 use Rattle.json_spans.specs.Common.{spaces_before, items, whole_of}
 use Rattle.json_spans.specs.Parts.{Node}
@@ -28,7 +27,7 @@ word_len : (l : ℕ) (w rest : List ℕ) → list_all is_plain w ≡ true → pa
 unfolding part_len
 word_len l [] rest e = omega arith
 word_len l (x ∷ w) rest e =
-    let both = and_both (is_plain x) (list_all is_plain w) e in
+    let both = and_parts (is_plain x) (list_all is_plain w) e in
     rw (plain_passes l x both.0) (omega (arith, word_len l w rest both.1))
 
 -- ---- what has no space round it
@@ -46,19 +45,19 @@ tight_trimmed place v t =
 all_reverse : (v : List ℕ) → list_all is_plain v ≡ true → list_all is_plain (reverse v) ≡ true
 all_reverse [] e = refl
 all_reverse (x ∷ v) e =
-    let both = and_both (is_plain x) (list_all is_plain v) e in
+    let both = and_parts (is_plain x) (list_all is_plain v) e in
     rw (reverse-append (x ∷ []) v, list_all-append is_plain (reverse v) (x ∷ []), all_reverse v both.1, both.0) refl
 
 plain_first : (v : List ℕ) → list_all is_plain v ≡ true → take_while is_space v ≡ []
 plain_first [] e = refl
 plain_first (x ∷ v) e =
-    let both = and_both (is_plain x) (list_all is_plain v) e in
+    let both = and_parts (is_plain x) (list_all is_plain v) e in
     rw (take_while-cons is_space x v, no_space x both.0) refl
 
 word_begins : (v : List ℕ) → list_all is_plain v ≡ true → spaces_before v ≡ 0
 word_begins [] e = refl
 word_begins (x ∷ v) e =
-    let both = and_both (is_plain x) (list_all is_plain v) e in
+    let both = and_parts (is_plain x) (list_all is_plain v) e in
     rw (no_space x both.0) refl
 
 word_tight : (v : List ℕ) → list_all is_plain v ≡ true → Tight v
@@ -103,7 +102,7 @@ word_ends w x rest e stop = rw (word_len 0 w (x ∷ rest) e, stop) (omega arith)
 pub pair_items : (place : ℕ) (a b : List ℕ) (x : ℤ) → list_all is_plain a ≡ true → whole_of a ≡ Ok x → list_all is_plain b ≡ true → items (record { at_byte = place; bytes = pair_text a b }) ≡ record { at_byte = place + 1; bytes = a } ∷ record { at_byte = place + 1 + length a + 1; bytes = b } ∷ []
 pair_items place [] b x ea oa eb = absurd cc
 pair_items place (c ∷ a) b x ea oa eb =
-    let both = and_both (is_plain c) (list_all is_plain a) ea in
+    let both = and_parts (is_plain c) (list_all is_plain a) ea in
     let word : List ℕ = c ∷ a in
     rw (no_space c both.0, no_end c both.0, first_part (place + 1) word (b ++ (93 ∷ [])) (word_ends word 44 (b ++ (93 ∷ [])) ea refl), last_part (place + 1 + length word + 1) b (word_ends b 93 [] eb refl), tight_trimmed (place + 1) word (word_tight word ea), tight_trimmed (place + 1 + length word + 1) b (word_tight b eb))
     refl

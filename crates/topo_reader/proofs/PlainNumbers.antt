@@ -1,18 +1,18 @@
 -- A number read digit by digit is the whole number of its word.
 use Rattle.kit_words.proofs.Common.{rules, to_z, of_z, ◌≡◌, ℕ, zero, suc, ◌+◌, ◌-◌, ◌*◌, ◌<◌, ◌^◌, nat_lt, nat_le, List}
-use Rattle.kit_words.proofs.Common.{[], ◌∷◌, ◌++◌, length, take, drop, get_or, true, false, refl, ap, ◌∙◌, arith}
-use Rattle.kit_words.proofs.Common.{add-one, ◌==◌, ℤ, pos, ◌-ℤ◌, Some, Ok, list_all, prefix_len, nat_tests}
-use Rattle.kit_words.proofs.Common.{take_all, drop_all, list_all-append, take-suc, to_z_pos, to_z-of_z, ints}
+use Rattle.kit_words.proofs.Common.{[], ◌∷◌, ◌++◌, length, take, drop, get_or, true, refl, ap, ◌∙◌, arith, add-one, ℤ}
+use Rattle.kit_words.proofs.Common.{pos, ◌-ℤ◌, Some, Ok, list_all, prefix_len, nat_tests, take_all, drop_all}
+use Rattle.kit_words.proofs.Common.{list_all-append, take-suc, to_z_pos, to_z-of_z, ints, and_parts}
 use Rattle.json_spans.specs.Common.{is_digit, value_from, digits_len, whole_digits, whole_of}
 use Rattle.json_spans.specs.Whole.{minus}
-use Rattle.ring_machine.proofs.Common.{and_both}
+use Rattle.json_spans.proofs.Common.{digit_no_minus}
 use Rattle.topo_reader.specs.Common.{is_plain, PlainDigits, PlainNumber}
 use mir.Syntax.{w64}
 use mir.Val.{SFits}
 
 -- ---- one digit more
 
-one_more : (n : ℕ) (xs : List ℕ) (x : ℕ) → value_from n (xs ++ x ∷ []) ≡ value_from n xs * 10 + (x - 48)
+pub one_more : (n : ℕ) (xs : List ℕ) (x : ℕ) → value_from n (xs ++ x ∷ []) ≡ value_from n xs * 10 + (x - 48)
 unfolding value_from
 one_more n [] x = refl
 one_more n (y ∷ xs) x = one_more (n * 10 + (y - 48)) xs x
@@ -28,19 +28,16 @@ digits_more xs i lt here before = rw (add-one i, take-suc xs i 0 lt, list_all-ap
 digit_plain : (x : ℕ) → is_digit x ≡ true → is_plain x ≡ true
 digit_plain x e = grind (arith, nat_tests)
 
-digit_no_minus : (x : ℕ) → is_digit x ≡ true → (x == 45) ≡ false
-digit_no_minus x e = grind (arith, nat_tests)
-
 digits_plain : (xs : List ℕ) → list_all is_digit xs ≡ true → list_all is_plain xs ≡ true
 digits_plain [] e = refl
 digits_plain (x ∷ xs) e =
-    let both = and_both (is_digit x) (list_all is_digit xs) e in
+    let both = and_parts (is_digit x) (list_all is_digit xs) e in
     rw (digit_plain x both.0) (digits_plain xs both.1)
 
 all_digits : (xs : List ℕ) → list_all is_digit xs ≡ true → prefix_len is_digit xs ≡ length xs
 all_digits [] e = refl
 all_digits (x ∷ xs) e =
-    let both = and_both (is_digit x) (list_all is_digit xs) e in
+    let both = and_parts (is_digit x) (list_all is_digit xs) e in
     rw (both.0, all_digits xs both.1) (omega arith)
 
 digits_whole : (x : ℕ) (xs : List ℕ) → list_all is_digit (x ∷ xs) ≡ true → whole_digits (x ∷ xs) ≡ Some (x ∷ xs)
@@ -55,7 +52,7 @@ digits_whole x xs e =
 digits_read : (xs : List ℕ) → list_all is_digit xs ≡ true → 0 < length xs → value_from 0 xs < 10 ^ 18 → whole_of xs ≡ Ok (pos (value_from 0 xs))
 digits_read [] e some small = absurd (omega arith)
 digits_read (x ∷ xs) e some small =
-    let both = and_both (is_digit x) (list_all is_digit xs) e in
+    let both = and_parts (is_digit x) (list_all is_digit xs) e in
     let fits : nat_lt (value_from 0 (x ∷ xs)) (2 ^ 63) ≡ true = grind (arith, nat_tests) in
     rw (digit_no_minus x both.0, digits_whole x xs e, fits) refl
 

@@ -1,10 +1,11 @@
 -- No position stands twice: as a loop with what was seen finds it, as a test, and by places.
 use Rattle.kit_words.proofs.Common.{◌≡◌, ◌≢◌, suc, Bool, true, false, cond, List, [], ◌∷◌, ◌++◌, get_or, refl, sym, ap}
 use Rattle.kit_words.proofs.Common.{ap₂, ◌∙◌, arith, ◌&&◌, ◌||◌, inl, inr, Some, None, not, All, AllPairs, false≢true}
-use Rattle.kit_words.proofs.Common.{list_any-append, list_any_none, All-cons, All-nil, AllPairs-cons}
+use Rattle.kit_words.proofs.Common.{list_any-append, list_any_none, All-cons, All-nil, AllPairs-cons, and_parts}
+use Rattle.kit_words.proofs.Common.{or_cases, not-true}
 use Rattle.grid_geometry.specs.Common.{Position, position_eq}
 use Rattle.ring_machine.specs.Common.{has, is_distinct}
-use Rattle.ring_machine.proofs.Common.{and_both, or_true, position_eq-true, position_eq-refl, not_true}
+use Rattle.ring_machine.proofs.Common.{position_eq-true, position_eq-refl}
 use Rattle.topo_reader.specs.Common.{first_repeat}
 
 -- ---- by a loop and by a test
@@ -41,11 +42,11 @@ pub no_repeat : (seen ps : List Position) → AreNew seen ps → first_repeat se
 unfolding first_repeat
 no_repeat seen [] new = refl
 no_repeat seen (p ∷ ps) new =
-    let two = and_both (not (has ps p)) (is_distinct ps) new.0 in
-    grind (arith, position_eq-refl p, new.1 p, no_repeat (seen ++ p ∷ []) ps (two.1, λ q is. later (not_true (has ps p) two.0) q is))
+    let two = and_parts (not (has ps p)) (is_distinct ps) new.0 in
+    grind (arith, position_eq-refl p, new.1 p, no_repeat (seen ++ p ∷ []) ps (two.1, λ q is. later (not-true (has ps p) two.0) q is))
   where
     later : has ps p ≡ false → (q : Position) → has (seen ++ p ∷ []) q ≡ true → has ps q ≡ false
-    later mine q is = elim (or_true (has seen q) (position_eq q p || false) (sym (list_any-append (position_eq q) seen (p ∷ [])) ∙ is)) [
+    later mine q is = elim (or_cases (has seen q) (position_eq q p || false) (sym (list_any-append (position_eq q) seen (p ∷ [])) ∙ is)) [
       | inl before ↦ or_none (position_eq q p) (has ps q) (new.1 q before)
       | inr that ↦ ap (has ps) (only_that p q that) ∙ mine
     ]
@@ -64,8 +65,8 @@ others p (q ∷ ps) h = All-cons (λ r. p ≢ r) q ps
 pub differ : (ps : List Position) → is_distinct ps ≡ true → Differ ps
 differ [] h = λ i j d lt within. absurd (omega (arith, within))
 differ (p ∷ ps) h =
-    let two = and_both (not (has ps p)) (is_distinct ps) h in
-    AllPairs-cons (λ q r. q ≢ r) p ps (others p ps (not_true (has ps p) two.0)) (differ ps two.1)
+    let two = and_parts (not (has ps p)) (is_distinct ps) h in
+    AllPairs-cons (λ q r. q ≢ r) p ps (others p ps (not-true (has ps p) two.0)) (differ ps two.1)
 
 pub not_equal : (p q : Position) → p ≢ q → position_eq p q ≡ false
 not_equal p q h = grind (arith, position_eq-true p q)

@@ -5,8 +5,8 @@ use Rattle.kit_words.proofs.Common.{list_any, int_cmp, tied_then, BTreeSet, cont
 use Rattle.grid_geometry.specs.Common.{Position, position_cmp, position_eq}
 use Rattle.ring_machine.specs.Common.{has}
 use Rattle.ring_machine.proofs.Common.{position_eq-sym}
+use Rattle.topo_outline.proofs.Common.{tail_at}
 use Rattle.topo_reader.specs.Common.{first_repeat}
-use Rattle.topo_reader.proofs.Joining.{tail_at}
 
 -- the order finds a position where the test of equality does
 pub has_by_order : (s : BTreeSet Position) (q : Position) → contains position_cmp s q ≡ has s.keys q

@@ -1,21 +1,18 @@
 -- Positions that stay all when equal neighbours of the sorted ones are left out are distinct.
-use Rattle.kit_words.proofs.Common.{◌≡◌, suc, ◌≤◌, true, false, List, [], ◌∷◌, length, refl, sym, ap}
-use Rattle.kit_words.proofs.Common.{ap₂, ◌∙◌, subst, arith, not, ◌&&◌, ◌||◌, None, AllByRecursion, IsDistinct, dedup}
-use Rattle.kit_words.proofs.Common.{dedup_from, IsPermutation, IsSorted, IsFiltered, DiffersFromLast, int_cmp}
-use Rattle.kit_words.proofs.Common.{eq_by_cmp, IsTotalOrder, int_cmp_total, on_total, then_total, tied_then, false≢true}
-use Rattle.kit_words.proofs.Common.{dedup_is, IsStrictlySortedBy-dedup, IsPermutation-sym}
+use Rattle.kit_words.proofs.Common.{◌≡◌, suc, ◌≤◌, true, false, List, [], ◌∷◌, length, refl, sym, ap, ap₂, ◌∙◌, subst}
+use Rattle.kit_words.proofs.Common.{arith, not, ◌&&◌, ◌||◌, None, AllByRecursion, IsDistinct, dedup, dedup_from}
+use Rattle.kit_words.proofs.Common.{IsPermutation, IsSorted, IsFiltered, DiffersFromLast, eq_by_cmp, IsTotalOrder}
+use Rattle.kit_words.proofs.Common.{int_cmp_total, on_total, then_total, false≢true, dedup_is, IsStrictlySortedBy-dedup}
+use Rattle.kit_words.proofs.Common.{IsPermutation-sym}
 use Rattle.std.proofs.lemmas.Map.Keys.{IsDistinct-from_sorted, IsDistinct-IsPermutation, IsDistinct-head, IsDistinct-tail}
 use Rattle.grid_geometry.specs.Common.{Position, position_cmp, position_eq}
 use Rattle.ring_machine.specs.Common.{has, is_distinct}
-use Rattle.ring_machine.proofs.Common.{position_eq-sym}
+use Rattle.ring_machine.proofs.Common.{position_eq-sym, ties}
 use Rattle.topo_reader.specs.Common.{first_repeat}
 use Rattle.topo_reader.proofs.Repeats.{no_repeat}
 
 position_total : IsTotalOrder position_cmp
 position_total = then_total (on_total (λ (p : Position). p.x) int_cmp_total) (on_total (λ (p : Position). p.y) int_cmp_total)
-
-ties : (p q : Position) → position_eq p q ≡ eq_by_cmp position_cmp p q
-ties p q = tied_then (int_cmp p.x q.x) (int_cmp p.y q.y)
 
 flips : (p q : Position) → eq_by_cmp position_cmp p q ≡ eq_by_cmp position_cmp q p
 flips p q = sym (ties p q) ∙ position_eq-sym p q ∙ ties q p

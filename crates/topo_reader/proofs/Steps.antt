@@ -1,6 +1,6 @@
 -- Steps that went well, one after another.
-use Rattle.kit_words.proofs.Common.{◌≡◌, ℕ, ◌+◌, ◌≤◌, arith, Bool, true, false, List, [], ◌∷◌, refl, subst, Result, Ok}
-use Rattle.kit_words.proofs.Common.{Err, nat_le, AllByRecursion, AllZip}
+use Rattle.kit_words.proofs.Common.{◌≡◌, ℕ, ◌+◌, Bool, true, false, List, [], ◌∷◌, refl, subst, Result, Ok, Err}
+use Rattle.kit_words.proofs.Common.{AllByRecursion, AllZip}
 use Rattle.topo_outline.specs.Common.{Fault, ◌>>=◌, each, each_at, demand}
 
 pub bind_ok : {A B : Type 0} (r : Result A Fault) (f : A → Result B Fault) (b : B) → (r >>= f) ≡ Ok b → (a : A) × (r ≡ Ok a) × (f a ≡ Ok b)
@@ -13,12 +13,6 @@ demand_ok false e r a h = absurd cc
 
 pub ok_same : {A : Type 0} (a b : A) → ◌≡◌ {A = Result A Fault} (Ok a) (Ok b) → a ≡ b
 ok_same a b h = cc
-
-pub at_least : (m n : ℕ) → m ≤ n → nat_le m n ≡ true
-at_least m n h = grind arith
-
-pub at_most : (m n : ℕ) → nat_le m n ≡ true → m ≤ n
-at_most m n h = grind arith
 
 -- ---- one by one: all answers are good where each is
 

@@ -1,10 +1,10 @@
 -- Bytes mean a document of rings exactly where they mean one of walks that are all simple: the rings are the
 -- walks, begun at their least positions.
 use Rattle.kit_words.proofs.Common.{◌≡◌, ℕ, Bool, true, List, [], ◌∷◌, length, map, refl, sym, ap, ap₂, ◌∙◌, arith}
-use Rattle.kit_words.proofs.Common.{◌&&◌, nat_le, AllZip, list_all, flat_map, take_all, AllZip-long}
+use Rattle.kit_words.proofs.Common.{◌&&◌, nat_le, AllZip, list_all, flat_map, take_all, AllZip-long, and_parts, le-leb}
+use Rattle.kit_words.proofs.Common.{leb-true}
 use Rattle.grid_geometry.specs.Common.{Position}
 use Rattle.ring_machine.specs.Common.{is_distinct, canonical, Document, rings, in_rings}
-use Rattle.ring_machine.proofs.Common.{and_both}
 use Rattle.topo_outline.specs.Common.{OutlineText, leaves}
 use Rattle.topo_reader.specs.Common.{Arc, Polygons, Opened, document_of, is_simple, GeometryUses, IsWalk, around}
 use Rattle.topo_reader.specs.Common.{IsRing, AreClosed, ReadsBy, Reads, ReadsWalks, Fits}
@@ -12,7 +12,6 @@ use Rattle.topo_reader.proofs.MeaningOfRings.{long_ring}
 use Rattle.topo_reader.proofs.Numbering.{rings_within, rings_document, all_within}
 use Rattle.topo_reader.proofs.Repeats.{differ, distinct_of}
 use Rattle.topo_reader.proofs.RingsChanged.{rings_changed}
-use Rattle.topo_reader.proofs.Steps.{at_least, at_most}
 
 -- ---- one ring
 
@@ -23,14 +22,14 @@ pub ring_walk : (uses : List Arc) (ring : List Position) → IsRing uses ring �
 ring_walk uses ring r = (
   r.corners,
   around r.closed r.once,
-  ap₂ (λ a b. a && b) (at_least 3 (length r.corners) r.long) (distinct_of r.corners r.different),
+  ap₂ (λ a b. a && b) (le-leb 3 (length r.corners) r.long) (distinct_of r.corners r.different),
   r.turned,
 )
 
 pub walk_ring : (uses : List Arc) (walk : List Position) → IsWalk uses walk → is_simple walk ≡ true → IsRing uses (canonical walk)
 walk_ring uses walk w h =
-    let two = and_both (nat_le 3 (length walk)) (is_distinct walk) h in
-    long_ring w (at_most 3 (length walk) two.0) (differ walk two.1) refl
+    let two = and_parts (nat_le 3 (length walk)) (is_distinct walk) h in
+    long_ring w (leb-true 3 (length walk) two.0) (differ walk two.1) refl
 
 -- ---- place by place
 
@@ -55,7 +54,7 @@ module _ {A B C : Type 0} (R : A → B → Type 0) (S : A → C → Type 0) (h :
   zip_joins one [] (z ∷ zs) k e = absurd k
   zip_joins one (x ∷ xs) [] k e = absurd k
   zip_joins one (x ∷ xs) (z ∷ zs) k e =
-      let two = and_both (t z) (list_all t zs) e in
+      let two = and_parts (t z) (list_all t zs) e in
       (one x z k.0 two.0, zip_joins one xs zs k.1 two.1)
 
 abbrev turned : Polygons → Polygons

@@ -5,9 +5,9 @@ use Rattle.kit_words.proofs.Common.{int_max, drop_all, take_min, take-map, flat_
 use Rattle.grid_geometry.specs.Common.{Position, Box}
 use Rattle.ring_machine.specs.Common.{positions}
 use Rattle.topo_outline.specs.Common.{LayerText, leaves}
+use Rattle.topo_outline.proofs.Common.{tail_at}
 use Rattle.topo_reader.specs.Common.{Polygons, Opened, document_of, box_with, widened, extent_of, feature_corners}
 use Rattle.topo_reader.specs.Common.{polygon_corners, positions_of}
-use Rattle.topo_reader.proofs.Joining.{tail_at}
 use Rattle.topo_reader.proofs.Numbering.{rings_within, rings_document}
 
 pub step : (r : Option Box) (ps : List Position) (i : ℕ) (p : Position) → i < length ps → p ≡ get_or ps i p → widened r (drop i ps) ≡ widened (Some (box_with r p)) (drop (i + 1) ps)

@@ -1,11 +1,11 @@
 -- The text of a feature, part after part.
-use Rattle.kit_words.proofs.Common.{◌≡◌, refl, sym, ap, ◌∙◌, List, [], ◌∷◌, ◌++◌, map, append_assoc, codes, append-nil}
+use Rattle.kit_words.proofs.Common.{◌≡◌, sym, ap, ◌∙◌, List, [], ◌∷◌, ◌++◌, map, append_assoc, codes, append-nil}
 use Rattle.kit_words.proofs.Common.{map-map, Bool}
 use Rattle.grid_geometry.specs.Common.{Position}
 use Rattle.ring_machine.specs.Common.{Feature, Member, Polygon, MultiPolygon, Text}
 use Rattle.map_text.specs.Common.{indexes, commas, further, member_if, member_text, polygon_text, shape_text, type_text}
+use Rattle.map_text.proofs.Common.{further_joined}
 use Rattle.topo_writer.specs.Common.{written_feature, written_polygon, written_polygons, written_shape}
-use Rattle.topo_writer.proofs.MemberLemmas.{further_both}
 
 -- two texts appended, one after the other
 pub then : (o x y a b : Text) → a ≡ o ++ x → b ≡ a ++ y → b ≡ o ++ (x ++ y)
@@ -37,8 +37,8 @@ joined t i p s k y f e = simp (e, append_assoc)
 further_four : (i p s k : List Member)
     → further (map member_text (i ++ (p ++ (s ++ k)))) ≡ further (map member_text i) ++ (further (map member_text p) ++ (further (map member_text s) ++ further (map member_text k)))
 further_four i p s k =
-    further_both i (p ++ (s ++ k))
-    ∙ ap (λ z. further (map member_text i) ++ z) (further_both p (s ++ k) ∙ ap (λ z. further (map member_text p) ++ z) (further_both s k))
+    further_joined i (p ++ (s ++ k))
+    ∙ ap (λ z. further (map member_text i) ++ z) (further_joined p (s ++ k) ∙ ap (λ z. further (map member_text p) ++ z) (further_joined s k))
 
 -- the text of a feature from the texts of its members
 pub feature_texts : (j : Position → Bool) (arcs : List (List Position)) (f : Feature) (o a b i p s k e : Text)

@@ -1,14 +1,13 @@
 -- The items of a layer as they are shown are those of the document.
-use Rattle.kit_words.proofs.Common.{◌≡◌, ℕ, Bool, true, false, refl, sym, ap, ◌∙◌, subst, cond, List, [], ◌∷◌, ◌++◌}
-use Rattle.kit_words.proofs.Common.{◌||◌, map, arith, Some, inl, inr, ◌==◌, not, Contains, unwrap_or, filter_map, find}
-use Rattle.kit_words.proofs.Common.{list_any, map-id, map-map, nat_tests}
+use Rattle.kit_words.proofs.Common.{◌≡◌, ℕ, Bool, true, false, refl, sym, ap, ◌∙◌, subst, List, [], ◌∷◌, ◌++◌, map}
+use Rattle.kit_words.proofs.Common.{arith, Some, inl, inr, ◌==◌, Contains, unwrap_or, filter_map, find, list_any}
+use Rattle.kit_words.proofs.Common.{map-id, map-map, nat_tests}
 use Rattle.ring_machine.specs.Common.{Document, Feature, Item, ItemOf, Head, Open, Close, Leaf, Kept, Layer, feature}
 use Rattle.ring_machine.specs.Common.{feature_of, features, WellFormed, are_distinct, is_geometry}
-use Rattle.ring_machine.proofs.Common.{In, all_in, in-flat_map, contains_in}
+use Rattle.ring_machine.proofs.Common.{In, all_in, in-flat_map, contains_in, map_there}
 use Rattle.map_frame.specs.Common.{ShownItem, Opens, Closes, Stands, Keeps, shown_item}
 use Rattle.topo_writer.specs.Common.{bare, item_at, written_item, written_at, feature_at, IsThere, ShowsLayer, is_begin}
 use Rattle.topo_writer.specs.Common.{open_after, more_after}
-use Rattle.topo_writer.proofs.Later.{map_alike}
 use Rattle.topo_writer.proofs.OpenedLemmas.{geometry_begins}
 
 -- ---- a feature is the one with its number
@@ -45,7 +44,7 @@ module _ (d : Document) (formed : WellFormed d) (layer : Layer) (there : Contain
   item_back (Kept t) i = refl
 
   pub items_back : map (item_at d) (map shown_item layer.items) ≡ layer.items
-  items_back = map-map (item_at d) shown_item layer.items ∙ map_alike (λ i. item_at d (shown_item i)) (λ i. i) layer.items item_back ∙ map-id layer.items
+  items_back = map-map (item_at d) shown_item layer.items ∙ map_there (λ i. item_at d (shown_item i)) (λ i. i) layer.items item_back ∙ map-id layer.items
 
 -- ---- the items of a layer are a geometry
 

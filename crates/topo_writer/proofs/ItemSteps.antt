@@ -1,6 +1,6 @@
 -- One item more of a layer.
 use Rattle.kit_words.proofs.Common.{◌≡◌, Bool, true, false, sym, ap, ap₂, ◌∙◌, subst, List, [], ◌∷◌, ◌++◌, map}
-use Rattle.kit_words.proofs.Common.{append_assoc, flat_map, append-nil, map-append, flat_map-append}
+use Rattle.kit_words.proofs.Common.{append_assoc, flat_map, map-append, flat_map-append}
 use Rattle.device_io.specs.Common.{Took, TookFront}
 use Rattle.device_io.specs.declared.Sink as sink
 use Rattle.device_io.proofs.Common.{took_both, took_first, took_second}
@@ -15,10 +15,6 @@ use Rattle.topo_writer.proofs.Leading.{item_rings-append}
 use Rattle.topo_writer.proofs.OpenedLemmas.{items_both, begin_left}
 
 -- ---- the text of one item
-
--- a text alone after a comma
-pub alone : (o : Text) (more : Bool) (t now : Text) → now ≡ o ++ (comma_if more ++ t) → now ≡ o ++ (comma_if more ++ (t ++ []))
-alone o more t now e = e ∙ ap (λ z. o ++ (comma_if more ++ z)) (sym (append-nil t))
 
 -- a comma and then a text
 pub after_comma : (o : Text) (more : Bool) (t mid now : Text) → mid ≡ o ++ comma_if more → now ≡ mid ++ t → now ≡ o ++ (comma_if more ++ t)

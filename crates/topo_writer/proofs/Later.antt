@@ -1,15 +1,13 @@
 -- Later arcs leave the indexes of earlier rings as they are.
-use Rattle.kit_words.proofs.Common.{◌≡◌, ℕ, ◌+◌, ◌≤◌, ◌<◌, Bool, true, false, refl, sym, ap, ap₂, ◌∙◌, cond, List, []}
-use Rattle.kit_words.proofs.Common.{◌∷◌, ◌++◌, ◌||◌, arith, length, reverse, take, append_assoc, Some, inl, inr, pos}
-use Rattle.kit_words.proofs.Common.{negsuc, map, get_or, unwrap_or, nat_lt, flat_map, false≢true, append-nil}
-use Rattle.kit_words.proofs.Common.{length-append, take_more, flat_map-append}
+use Rattle.kit_words.proofs.Common.{◌≡◌, ℕ, ◌+◌, ◌≤◌, ◌<◌, Bool, true, false, refl, sym, ap, ◌∙◌, cond, List, [], ◌∷◌}
+use Rattle.kit_words.proofs.Common.{◌++◌, arith, length, take, append_assoc, pos, map, get_or, unwrap_or, nat_lt}
+use Rattle.kit_words.proofs.Common.{flat_map, false≢true, append-nil, length-append, take_more, flat_map-append}
 use Rattle.grid_geometry.specs.Common.{Position}
 use Rattle.ring_machine.specs.Common.{Text}
-use Rattle.ring_machine.proofs.Common.{In, in-flat_map}
-use Rattle.map_text.specs.Common.{are_equal, index_from, index_of, indexes, is_arc, with_piece, with_pieces, pieces}
-use Rattle.map_text.specs.Common.{led_from, cut_way, cut_round, begun, commas, comma_if, ring_text}
-use Rattle.map_text.proofs.Common.{all_arcs, each_in}
-use Rattle.map_text.proofs.Junctions.{begun_rotated}
+use Rattle.ring_machine.proofs.Common.{In, in-flat_map, in_recursion, map_there}
+use Rattle.map_text.specs.Common.{index_from, index_of, indexes, is_arc, with_piece, with_pieces, pieces, commas}
+use Rattle.map_text.specs.Common.{comma_if, ring_text}
+use Rattle.map_text.proofs.Common.{all_arcs, pieces_length}
 use Rattle.topo_writer.specs.Common.{written_ring}
 use Rattle.topo_writer.proofs.Listed.{items_step}
 
@@ -37,10 +35,6 @@ index_stays arcs more ps h =
     let new = with_pieces_new arcs more in
     ap (λ o. unwrap_or o (pos 0)) (ap (λ z. index_from 0 z ps) new.1 ∙ index_kept 0 arcs new.0 ps h)
 
-pub map_alike : {A B : Type 0} (f g : A → B) (xs : List A) → ((x : A) → In x xs → f x ≡ g x) → map f xs ≡ map g xs
-map_alike f g [] h = refl
-map_alike f g (x ∷ xs) h = ap₂ (λ y z. y ∷ z) (h x (inl refl)) (map_alike f g xs (λ y i. h y (inr i)))
-
 module _ (j : Position → Bool) (start : List (List Position)) where
   -- the arcs after these rings
   abbrev after : List (List Position) → List (List Position)
@@ -48,13 +42,13 @@ module _ (j : Position → Bool) (start : List (List Position)) where
 
   ring_stays : (rs more : List (List Position)) (ring : List Position) → In ring rs
       → indexes j (with_pieces (after rs) more) ring ≡ indexes j (after rs) ring
-  ring_stays rs more ring i = map_alike (index_of (with_pieces (after rs) more)) (index_of (after rs)) (pieces j ring) (λ ps k.
-      index_stays (after rs) more ps (each_in (λ qs. is_arc (after rs) qs ≡ true) (flat_map (pieces j) rs) ps (all_arcs start (flat_map (pieces j) rs))
+  ring_stays rs more ring i = map_there (index_of (with_pieces (after rs) more)) (index_of (after rs)) (pieces j ring) (λ ps k.
+      index_stays (after rs) more ps (in_recursion (λ qs. is_arc (after rs) qs ≡ true) (flat_map (pieces j) rs) ps (all_arcs start (flat_map (pieces j) rs))
       (in-flat_map (pieces j) ring ps rs i k)))
 
   rings_stay : (rs more : List (List Position))
       → map (written_ring j (with_pieces (after rs) more)) rs ≡ map (written_ring j (after rs)) rs
-  rings_stay rs more = map_alike (written_ring j (with_pieces (after rs) more)) (written_ring j (after rs)) rs (λ ring i. ap ring_text (ring_stays rs more ring i))
+  rings_stay rs more = map_there (written_ring j (with_pieces (after rs) more)) (written_ring j (after rs)) rs (λ ring i. ap ring_text (ring_stays rs more ring i))
 
   pub with_pieces-append : (arcs xs ys : List (List Position)) → with_pieces arcs (xs ++ ys) ≡ with_pieces (with_pieces arcs xs) ys
   with_pieces-append arcs [] ys = refl
@@ -88,25 +82,7 @@ with_pieces_few : (arcs pss : List (List Position)) → length (with_pieces arcs
 with_pieces_few arcs [] = omega arith
 with_pieces_few arcs (ps ∷ pss) = omega (arith, with_pieces_few (with_piece arcs ps) pss, with_piece_few arcs ps)
 
-led_few : (p : Position) (pss : List (List Position)) → length (led_from p pss) ≡ length pss
-led_few p [] = refl
-led_few p (ps ∷ pss) = refl
-
-cut_few : (j : Position → Bool) (p : Position) (ps : List Position) → length (cut_way j p ps) ≤ length ps
-cut_few j p [] = omega arith
-cut_few j p (q ∷ []) = omega arith
-cut_few j p (q ∷ r ∷ rs) = grind (arith, cut_few j q (r ∷ rs), led_few p (cut_way j q (r ∷ rs)))
-
-pub pieces_few : (j : Position → Bool) (ring : List Position) → length (pieces j ring) ≤ length ring
-pieces_few j ring =
-    let t = begun_rotated j ring in
-    go (begun j ring) (omega (arith, ap length t.from, ap length t.to, length-append t.us t.vs, length-append t.vs t.us))
-  where
-    go : (ps : List Position) → length ps ≤ length ring → length (cut_round j ps) ≤ length ring
-    go [] l = omega arith
-    go (q ∷ qs) l = omega (arith, l, cut_few j q (qs ++ q ∷ []), length-append qs (q ∷ []))
-
 -- a ring adds at most as many arcs as it has positions
 pub ring_few : (j : Position → Bool) (arcs : List (List Position)) (ring : List Position)
     → length (with_pieces arcs (pieces j ring)) ≤ length arcs + length ring
-ring_few j arcs ring = omega (arith, with_pieces_few arcs (pieces j ring), pieces_few j ring)
+ring_few j arcs ring = omega (arith, with_pieces_few arcs (pieces j ring), pieces_length j ring)

@@ -1,35 +1,24 @@
 -- Parts of a map that have rings, written one after another: later arcs leave earlier parts as they are.
-use Rattle.kit_words.proofs.Common.{◌≡◌, ℕ, zero, suc, ◌+◌, ◌≤◌, ◌<◌, refl, sym, ap, ap₂, subst, ◌∙◌, Bool, true, List}
-use Rattle.kit_words.proofs.Common.{[], ◌∷◌, ◌++◌, arith, length, take, drop, map, get_or, inl, inr, nat_lt, flat_map}
-use Rattle.kit_words.proofs.Common.{sum_by, AllByRecursion, append-nil, take_more, drop_more, flat_map-append}
-use Rattle.kit_words.proofs.Common.{sum_by-append, sum_by-cons}
+use Rattle.kit_words.proofs.Common.{◌≡◌, ℕ, ◌+◌, ◌≤◌, ◌<◌, refl, sym, ap, ap₂, subst, ◌∙◌, Bool, true, List, [], ◌∷◌}
+use Rattle.kit_words.proofs.Common.{◌++◌, arith, length, take, drop, map, get_or, inl, inr, nat_lt, flat_map, sum_by}
+use Rattle.kit_words.proofs.Common.{AllByRecursion, append-nil, take_more, drop_more, flat_map-append, sum_by-append}
+use Rattle.kit_words.proofs.Common.{sum_by-cons, all_front, all_back}
 use Rattle.grid_geometry.specs.Common.{Position}
 use Rattle.ring_machine.specs.Common.{Text}
-use Rattle.ring_machine.proofs.Common.{In, in_left, in_right, all_of}
+use Rattle.ring_machine.proofs.Common.{In, in_recursion, map_there}
 use Rattle.map_text.specs.Common.{indexes, index_of, is_arc, with_pieces, pieces, commas, comma_if, polygon_text}
-use Rattle.map_text.proofs.Common.{all_arcs, each_in}
+use Rattle.map_text.proofs.Common.{all_arcs}
 use Rattle.topo_writer.specs.Common.{written_polygon}
-use Rattle.topo_writer.proofs.Later.{index_stays, map_alike, with_pieces-append, ring_few}
+use Rattle.topo_writer.proofs.Later.{index_stays, with_pieces-append, ring_few}
 use Rattle.topo_writer.proofs.Listed.{items_step}
 
 -- ---- what holds of each, of parts
 
-pub each_left : {A : Type 0} (P : A → Type 0) (xs ys : List A) → AllByRecursion P (xs ++ ys) → AllByRecursion P xs
-each_left P xs ys h = all_of P xs (λ a k. each_in P (xs ++ ys) a h (in_left a xs ys k))
-
-pub each_right : {A : Type 0} (P : A → Type 0) (xs ys : List A) → AllByRecursion P (xs ++ ys) → AllByRecursion P ys
-each_right P xs ys h = all_of P ys (λ a k. each_in P (xs ++ ys) a h (in_right a xs ys k))
-
 pub each_part : {A X : Type 0} (P : A → Type 0) (own : X → List A) (xs : List X) (x : X) → In x xs
     → AllByRecursion P (flat_map own xs) → AllByRecursion P (own x)
 each_part P own [] x i h = absurd i
-each_part P own (y ∷ ys) x (inl e) h = subst (λ z. AllByRecursion P (own z)) e (each_left P (own y) (flat_map own ys) h)
-each_part P own (y ∷ ys) x (inr i) h = each_part P own ys x i (each_right P (own y) (flat_map own ys) h)
-
-pub in_place : {X : Type 0} (xs : List X) (i : ℕ) (d : X) → i < length xs → In (get_or xs i d) xs
-in_place [] i d l = absurd (omega (arith, l))
-in_place (x ∷ xs) zero d l = inl refl
-in_place (x ∷ xs) (suc i) d l = inr (in_place xs i d (omega (arith, l)))
+each_part P own (y ∷ ys) x (inl e) h = subst (λ z. AllByRecursion P (own z)) e (all_front P (own y) (flat_map own ys) h)
+each_part P own (y ∷ ys) x (inr i) h = each_part P own ys x i (all_back P (own y) (flat_map own ys) h)
 
 -- ---- rings whose pieces are arcs
 
@@ -41,15 +30,15 @@ module _ (j : Position → Bool) where
   ring_same : (arcs more : List (List Position)) (ring : List Position) → AllByRecursion (Known arcs) (pieces j ring)
       → indexes j (with_pieces arcs more) ring ≡ indexes j arcs ring
   ring_same arcs more ring h =
-      map_alike (index_of (with_pieces arcs more)) (index_of arcs) (pieces j ring)
-      (λ ps k. index_stays arcs more ps (each_in (Known arcs) (pieces j ring) ps h k))
+      map_there (index_of (with_pieces arcs more)) (index_of arcs) (pieces j ring)
+      (λ ps k. index_stays arcs more ps (in_recursion (Known arcs) (pieces j ring) ps h k))
 
   pub rings_same : (arcs more rs : List (List Position)) → AllByRecursion (Known arcs) (flat_map (pieces j) rs)
       → map (indexes j (with_pieces arcs more)) rs ≡ map (indexes j arcs) rs
   rings_same arcs more [] h = refl
   rings_same arcs more (r ∷ rs) h =
-      ap₂ (λ y z. y ∷ z) (ring_same arcs more r (each_left (Known arcs) (pieces j r) (flat_map (pieces j) rs) h))
-      (rings_same arcs more rs (each_right (Known arcs) (pieces j r) (flat_map (pieces j) rs) h))
+      ap₂ (λ y z. y ∷ z) (ring_same arcs more r (all_front (Known arcs) (pieces j r) (flat_map (pieces j) rs) h))
+      (rings_same arcs more rs (all_back (Known arcs) (pieces j r) (flat_map (pieces j) rs) h))
 
   -- a polygon stays as it is written when arcs come after
   pub polygon_same : (arcs more polygon : List (List Position)) → AllByRecursion (Known arcs) (flat_map (pieces j) polygon)
@@ -105,10 +94,10 @@ module _ (j : Position → Bool) (start : List (List Position)) {X : Type 0} (ow
       → AllByRecursion P (flat_map (pieces j) (own x))
   within P [] x i h = absurd i
   within P (y ∷ ys) x (inl e) h =
-      subst (λ z. AllByRecursion P (flat_map (pieces j) (own z))) e (each_left P (flat_map (pieces j) (own y)) (flat_map (pieces j) (flat_map own ys))
+      subst (λ z. AllByRecursion P (flat_map (pieces j) (own z))) e (all_front P (flat_map (pieces j) (own y)) (flat_map (pieces j) (flat_map own ys))
       (subst (AllByRecursion P) (flat_map-append (pieces j) (own y) (flat_map own ys)) h))
   within P (y ∷ ys) x (inr i) h =
-      within P ys x i (each_right P (flat_map (pieces j) (own y)) (flat_map (pieces j) (flat_map own ys))
+      within P ys x i (all_back P (flat_map (pieces j) (own y)) (flat_map (pieces j) (flat_map own ys))
       (subst (AllByRecursion P) (flat_map-append (pieces j) (own y) (flat_map own ys)) h))
 
   each_known : (xs : List X) (x : X) → In x xs → AllByRecursion (Known (after xs)) (flat_map (pieces j) (own x))
@@ -116,7 +105,7 @@ module _ (j : Position → Bool) (start : List (List Position)) {X : Type 0} (ow
 
   parts_stay : (say : List (List Position) → X → Text) → Stays say → (xs : List X) (more : List (List Position))
       → map (say (with_pieces (after xs) more)) xs ≡ map (say (after xs)) xs
-  parts_stay say s xs more = map_alike (say (with_pieces (after xs) more)) (say (after xs)) xs (λ x i. s (after xs) more x (each_known xs x i))
+  parts_stay say s xs more = map_there (say (with_pieces (after xs) more)) (say (after xs)) xs (λ x i. s (after xs) more x (each_known xs x i))
 
   pub part_text : (say : List (List Position) → X → Text) → Stays say
       → (xs : List X) (i : ℕ) (x : X) → i < length xs → x ≡ get_or xs i x → (now next : List (List Position))

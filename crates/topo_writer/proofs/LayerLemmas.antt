@@ -6,13 +6,13 @@ use Rattle.kit_words.proofs.Common.{flat_map-append, slice_get-map, slice_get-ge
 use Rattle.kit_words.proofs.Common.{take-length}
 use Rattle.grid_geometry.specs.Common.{Position}
 use Rattle.ring_machine.specs.Common.{Document, Layer, Item, Text, feature_of, rings_of, size, is_junction}
-use Rattle.ring_machine.proofs.Common.{in_contains}
+use Rattle.ring_machine.proofs.Common.{in_contains, in_at}
 use Rattle.map_frame.specs.Common.{ShownItem, shown_item, ShownFrame, shown_layer}
 use Rattle.map_text.specs.Common.{arcs_of, pieces, with_pieces, items_text}
 use Rattle.topo_writer.specs.Common.{items_at, item_rings, items_written, written_item, LeadsOn, ShowsLayer, arcs_after}
 use Rattle.topo_writer.specs.Common.{layer_at, layer_rings, layer_text, IsMapFrame}
 use Rattle.topo_writer.proofs.ItemLemmas.{items_back, written_layer}
-use Rattle.topo_writer.proofs.LaterParts.{in_place, part_arcs}
+use Rattle.topo_writer.proofs.LaterParts.{part_arcs}
 use Rattle.topo_writer.proofs.Leading.{item_rings-append, leads_begin, leads_first, leads_off}
 
 -- ---- a layer as it is shown
@@ -25,7 +25,7 @@ pub layer_there : (d : Document) (i : ℕ) → i < length d.layers → layer_at 
 layer_there d i l = sym (get_or_from_slice_get d.layers i (layer_at d i) (layer_at d i) (slice_get-get_or d.layers i _ l))
 
 pub layer_contained : (d : Document) (i : ℕ) → i < length d.layers → Contains d.layers (layer_at d i)
-layer_contained d i l = in_contains d.layers (layer_at d i) (in_place d.layers i _ l)
+layer_contained d i l = in_contains d.layers (layer_at d i) (in_at d.layers i _ l)
 
 pub layer_shown : (d : Document) (frame : ShownFrame) (i : ℕ) → IsMapFrame d frame → i < length d.layers
     → slice_get frame.layers i ≡ Some (shown_layer (layer_at d i))

@@ -2,7 +2,7 @@
 use Rattle.kit_words.proofs.Common.{◌≡◌, ℕ, Bool, subst, ◌+◌, ◌≤◌, refl, sym, ap, ap₂, ◌∙◌, List, [], ◌∷◌, ◌++◌, map}
 use Rattle.kit_words.proofs.Common.{length, arith, append_assoc, Some, option_map, unwrap_or, flat_map, filter_map}
 use Rattle.kit_words.proofs.Common.{sum_by, AllByRecursion, append-nil, flat_map-append, filter_map-append}
-use Rattle.kit_words.proofs.Common.{sum_by-append}
+use Rattle.kit_words.proofs.Common.{sum_by-append, all_front, all_back}
 use Rattle.grid_geometry.specs.Common.{Position}
 use Rattle.ring_machine.specs.Common.{Document, Feature, Item, Leaf, Layer, feature, feature_of, rings, rings_of}
 use Rattle.ring_machine.specs.Common.{in_feature, size, is_junction}
@@ -10,7 +10,7 @@ use Rattle.map_text.specs.Common.{arcs_of, indexes, pieces, with_pieces}
 use Rattle.map_text.proofs.Common.{all_arcs}
 use Rattle.topo_writer.specs.Common.{feature_at, item_rings, LeadsOn, all_rings_at}
 use Rattle.topo_writer.proofs.Later.{with_pieces-append}
-use Rattle.topo_writer.proofs.LaterParts.{Known, each_left, each_right, rings_same, rings_few}
+use Rattle.topo_writer.proofs.LaterParts.{Known, rings_same, rings_few}
 
 pub item_rings-append : (xs ys : List Item) → item_rings (xs ++ ys) ≡ item_rings xs ++ item_rings ys
 item_rings-append xs ys =
@@ -72,8 +72,8 @@ module _ (j : Position → Bool) where
   polygons_same arcs more [] h = refl
   polygons_same arcs more (p ∷ ps) h =
       let k = subst (AllByRecursion (Known arcs)) (flat_map-append (pieces j) p (flat_map (λ polygon. polygon) ps)) h in
-      ap₂ (λ y z. y ∷ z) (rings_same j arcs more p (each_left (Known arcs) (flat_map (pieces j) p) (flat_map (pieces j) (flat_map (λ polygon. polygon) ps)) k))
-      (polygons_same arcs more ps (each_right (Known arcs) (flat_map (pieces j) p) (flat_map (pieces j) (flat_map (λ polygon. polygon) ps)) k))
+      ap₂ (λ y z. y ∷ z) (rings_same j arcs more p (all_front (Known arcs) (flat_map (pieces j) p) (flat_map (pieces j) (flat_map (λ polygon. polygon) ps)) k))
+      (polygons_same arcs more ps (all_back (Known arcs) (flat_map (pieces j) p) (flat_map (pieces j) (flat_map (λ polygon. polygon) ps)) k))
 
   feature_same : (arcs more : List (List Position)) (f : Feature) → AllByRecursion (Known arcs) (flat_map (pieces j) (rings_of f))
       → in_feature (indexes j (with_pieces arcs more)) f ≡ in_feature (indexes j arcs) f

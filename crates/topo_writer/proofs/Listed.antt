@@ -1,17 +1,12 @@
 -- Texts with commas between them, one after another.
-use Rattle.kit_words.proofs.Common.{◌≡◌, ℕ, zero, suc, ◌+◌, ◌<◌, length, take, List, [], ◌∷◌, ◌++◌, map, true, refl}
-use Rattle.kit_words.proofs.Common.{sym, ap, ap₂, ◌∙◌, arith, append_assoc, get_or, Bool, codes, nat_lt, append-nil}
-use Rattle.kit_words.proofs.Common.{map-append, take_more, flat_map-append, map-map}
+use Rattle.kit_words.proofs.Common.{◌≡◌, ℕ, zero, suc, ◌+◌, ◌<◌, length, take, List, [], ◌∷◌, ◌++◌, map, sym, ap, ap₂}
+use Rattle.kit_words.proofs.Common.{◌∙◌, arith, append_assoc, get_or, Bool, codes, nat_lt, append-nil, map-append}
+use Rattle.kit_words.proofs.Common.{take_more, map-map, suc_positive}
 use Rattle.grid_geometry.specs.Common.{Position}
 use Rattle.ring_machine.specs.Common.{Text}
 use Rattle.map_text.specs.Common.{indexes, arc_text, further, commas, comma_if, ring_text}
-use Rattle.topo_writer.specs.Common.{listed_arcs, written_ring, written_rings, written_polygon}
-
-pub further_push : (ts : List Text) (t : Text) → further (ts ++ t ∷ []) ≡ further ts ++ (codes "," ++ t)
-further_push ts t = flat_map-append (λ u. codes "," ++ u) ts (t ∷ []) ∙ ap (λ z. further ts ++ z) (append-nil (codes "," ++ t))
-
-pub positive : (i : ℕ) → nat_lt 0 (suc i) ≡ true
-positive i = grind arith
+use Rattle.map_text.proofs.Common.{further_push}
+use Rattle.topo_writer.specs.Common.{listed_arcs, written_rings, written_polygon}
 
 -- one more item, after a comma where something stands before
 pub commas_step : {A : Type 0} (f : A → Text) (xs : List A) (i : ℕ) (x : A) → i < length xs → x ≡ get_or xs i x
@@ -23,7 +18,7 @@ commas_step f (y ∷ ys) (suc i) x h e =
     ∙ ap (λ z. f y ++ further z) (map-append f (take i ys) (x ∷ []))
     ∙ ap (λ z. f y ++ z) (further_push (map f (take i ys)) (f x))
     ∙ sym (append_assoc (f y) (further (map f (take i ys))) (codes "," ++ f x))
-    ∙ ap (λ b. (f y ++ further (map f (take i ys))) ++ (comma_if b ++ f x)) (sym (positive i))
+    ∙ ap (λ b. (f y ++ further (map f (take i ys))) ++ (comma_if b ++ f x)) (sym (suc_positive i))
 
 -- the text before, with one more item
 pub items_step : {A : Type 0} (f : A → Text) (xs : List A) (i : ℕ) (x : A) → i < length xs → x ≡ get_or xs i x
@@ -43,7 +38,7 @@ commas_push f (y ∷ ys) x =
     ap (λ z. f y ++ further z) (map-append f ys (x ∷ []))
     ∙ ap (λ z. f y ++ z) (further_push (map f ys) (f x))
     ∙ sym (append_assoc (f y) (further (map f ys)) (codes "," ++ f x))
-    ∙ ap (λ b. (f y ++ further (map f ys)) ++ (comma_if b ++ f x)) (sym (positive (length ys)))
+    ∙ ap (λ b. (f y ++ further (map f ys)) ++ (comma_if b ++ f x)) (sym (suc_positive (length ys)))
 
 -- one more arc after all of them
 pub listed_push : (delta : Bool) (arcs : List (List Position)) (piece : List Position) (count : ℕ) (old mid new : Text)

@@ -1,17 +1,17 @@
 -- The rings that are named, and the arcs along them.
 use Rattle.kit_words.proofs.Common.{◌≡◌, ℕ, zero, suc, ◌≤◌, sym, ap, ◌∙◌, subst, List, [], ◌∷◌, ◌++◌, map, length}
 use Rattle.kit_words.proofs.Common.{get_or, Contains, flat_map, AllByRecursion, append-nil, map-append, flat_map-append}
+use Rattle.kit_words.proofs.Common.{all_front, all_back, all_joined}
 use Rattle.grid_geometry.specs.Common.{Position}
 use Rattle.ring_machine.specs.Common.{Document, rings, Proper, is_junction}
-use Rattle.ring_machine.proofs.Common.{all_of, in-flat_map, contains_in, in_contains}
+use Rattle.ring_machine.proofs.Common.{all_of, in-flat_map, contains_in, in_contains, in_recursion}
 use Rattle.map_text.specs.Common.{indexes, pieces, with_pieces}
-use Rattle.map_text.proofs.Common.{with_pieces-each, each_in, each-append}
+use Rattle.map_text.proofs.Common.{with_pieces-each}
 use Rattle.topo_writer.specs.Common.{arcs_along, named_ring, all_rings_at, polygons_at, rings_at, all_found, all_pieces}
 use Rattle.topo_writer.specs.Common.{indexes_found, ArePieces, FitAll}
 use Rattle.topo_writer.specs.declared.arcs.RingName.{RingName}
 use Rattle.topo_writer.proofs.InDocument.{rings_there}
 use Rattle.topo_writer.proofs.Later.{with_pieces-append}
-use Rattle.topo_writer.proofs.LaterParts.{each_left, each_right}
 use Rattle.topo_writer.proofs.ReadRings.{ring_is}
 use Rattle.topo_writer.proofs.RingPieces.{ring_arcs, ring_fits, ring_indexes, ring_long}
 use Rattle.topo_writer.proofs.SeenParts.{polygon_is_at}
@@ -26,7 +26,7 @@ each_or P (x ∷ xs) (suc i) d h p = each_or P xs i d h.1 p
 parts_each : {A : Type 0} (P : A → Type 0) (xss : List (List A)) → AllByRecursion P (flat_map (λ xs. xs) xss) → AllByRecursion (AllByRecursion P) xss
 parts_each P [] h = tt
 parts_each P (xs ∷ xss) h =
-    (each_left P xs (flat_map (λ ys. ys) xss) h, parts_each P xss (each_right P xs (flat_map (λ ys. ys) xss) h))
+    (all_front P xs (flat_map (λ ys. ys) xss) h, parts_each P xss (all_back P xs (flat_map (λ ys. ys) xss) h))
 
 -- what holds of no position, and of each ring of the document, holds of a ring that is named
 pub each_named : (d : Document) (P : List Position → Type 0) → P [] → ((ring : List Position) → Contains (rings d) ring → P ring)
@@ -34,7 +34,7 @@ pub each_named : (d : Document) (P : List Position → Type 0) → P [] → ((ri
 each_named d P none each name =
     let n = name.feature in
     let all : AllByRecursion P (all_rings_at d n) =
-    all_of P (all_rings_at d n) (λ ring i. each ring (each_in (Contains (rings d)) (all_rings_at d n) ring (rings_there d n) i)) in
+    all_of P (all_rings_at d n) (λ ring i. each ring (in_recursion (Contains (rings d)) (all_rings_at d n) ring (rings_there d n) i)) in
     let mine : AllByRecursion P (rings_at d n name.polygon) =
     subst (AllByRecursion P) (sym (polygon_is_at d n name.polygon))
     (each_or (AllByRecursion P) (polygons_at d n) name.polygon [] (parts_each P (polygons_at d n) all) tt) in
@@ -51,7 +51,7 @@ module _ (d : Document) where
   pieces_there : (names : List RingName) → AllByRecursion (Contains (all_pieces d)) (flat_map (pieces (is_junction d)) (map (named_ring d) names))
   pieces_there [] = tt
   pieces_there (name ∷ names) =
-      each-append (Contains (all_pieces d)) (pieces (is_junction d) (named_ring d name)) (flat_map (pieces (is_junction d)) (map (named_ring d) names))
+      all_joined (Contains (all_pieces d)) (pieces (is_junction d) (named_ring d name)) (flat_map (pieces (is_junction d)) (map (named_ring d) names))
       (each_named d (λ ring. AllByRecursion (Contains (all_pieces d)) (pieces (is_junction d) ring)) tt ring_pieces name) (pieces_there names)
 
   -- they are pieces of the document

@@ -1,11 +1,10 @@
 -- What is cut of a ring of a proper document, beside arcs that are pieces of it.
-use Rattle.kit_words.proofs.Common.{◌≡◌, ◌≤◌, Bool, true, false, refl, List, [], ◌∷◌, length, arith, Contains}
-use Rattle.kit_words.proofs.Common.{AllByRecursion}
+use Rattle.kit_words.proofs.Common.{◌≡◌, ◌≤◌, Bool, true, false, List, [], ◌∷◌, length, arith, Contains, AllByRecursion}
 use Rattle.grid_geometry.specs.Common.{Position, position_eq}
 use Rattle.ring_machine.specs.Common.{is_ring, Document, rings, Proper, is_junction}
-use Rattle.ring_machine.proofs.Common.{In, position_eq-true, all_of, all_in, in-flat_map, contains_in}
+use Rattle.ring_machine.proofs.Common.{In, position_eq-true, all_of, all_in, in-flat_map, contains_in, in_recursion}
 use Rattle.map_text.specs.Common.{pieces, with_pieces, indexes, IsCut}
-use Rattle.map_text.proofs.Common.{each_in, each-flat_map, Simple, ring_cut, long_cut}
+use Rattle.map_text.proofs.Common.{each-flat_map, Simple, ring_cut, long_cut}
 use Rattle.map_text.proofs.Borders.{ends, goes, simple}
 use Rattle.map_text.proofs.RingsBack.{Apart, pieces_apart}
 use Rattle.topo_writer.specs.Common.{all_found, indexes_found, FitAll, all_pieces, ArePieces}
@@ -19,7 +18,7 @@ apart_eq p q n = grind (arith, position_eq-true p q)
 pub ring_long : (j : Position → Bool) (ring : List Position) → AllByRecursion (λ piece. 2 ≤ length piece) (pieces j ring)
 ring_long j ring =
     all_of (λ piece. 2 ≤ length piece) (pieces j ring)
-    (λ piece i. long_cut j piece (each_in (IsCut j) (pieces j ring) piece (ring_cut j ring) i))
+    (λ piece i. long_cut j piece (in_recursion (IsCut j) (pieces j ring) piece (ring_cut j ring) i))
 
 module _ (d : Document) (proper : Proper d) where
   are : (ring : List Position) → In ring (rings d) → is_ring ring ≡ true
@@ -44,11 +43,11 @@ module _ (d : Document) (proper : Proper d) where
 
   whole_piece : (piece : List Position) → In piece (all_pieces d) → IsWhole piece
   whole_piece piece i =
-      whole piece (each_in (Simple (ends d are) (goes d are)) (all_pieces d) piece (simple d are) i)
-      (each_in (λ ps. 2 ≤ length ps) (all_pieces d) piece long i) (each_in Apart (all_pieces d) piece apart i)
+      whole piece (in_recursion (Simple (ends d are) (goes d are)) (all_pieces d) piece (simple d are) i)
+      (in_recursion (λ ps. 2 ≤ length ps) (all_pieces d) piece long i) (in_recursion Apart (all_pieces d) piece apart i)
 
   borders : (arcs : List (List Position)) → ArePieces d arcs → AllByRecursion IsBorder arcs
-  borders arcs h = all_borders (ends d are) (goes d are) arcs (all_of IsWhole arcs (λ a i. whole_piece a (contains_in (all_pieces d) a (each_in (Contains (all_pieces d)) arcs a h i))))
+  borders arcs h = all_borders (ends d are) (goes d are) arcs (all_of IsWhole arcs (λ a i. whole_piece a (contains_in (all_pieces d) a (in_recursion (Contains (all_pieces d)) arcs a h i))))
 
   module _ (ring : List Position) (there : Contains (rings d) ring) where
     in_all : (piece : List Position) → In piece (pieces (is_junction d) ring) → In piece (all_pieces d)

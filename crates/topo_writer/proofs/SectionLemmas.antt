@@ -11,9 +11,9 @@ use Rattle.map_frame.specs.Common.{ShownFrame}
 use Rattle.map_text.specs.Common.{Saved, arcs_of, commas, further, member, member_if, member_text, layer_member}
 use Rattle.map_text.specs.Common.{object_text, arcs_text, text_of}
 use Rattle.map_text.proofs.ReadingBack.{text_saves}
+use Rattle.map_text.proofs.Common.{further_joined}
 use Rattle.topo_writer.specs.Common.{written_item, Arcs, listed_arcs, begin_text, layer_text, layers_text, middle_text}
 use Rattle.topo_writer.specs.Common.{end_text, IsMapFrame, arcs_in, FindsArcs}
-use Rattle.topo_writer.proofs.MemberLemmas.{further_both}
 use Rattle.topo_writer.proofs.Sent.{filled}
 
 -- ---- the text
@@ -52,7 +52,7 @@ sections_are d =
     let list = member (codes "\"arcs\"") (arcs_text (is_some d.transform) (arcs_of d)) in
     let x = further (map member_text transform) in
     let m = further (map member_text d.members) in
-    ap (λ z. codes "{\"type\":\"Topology\"" ++ (z ++ codes "}")) (further_both transform (objects ∷ (list ∷ d.members)))
+    ap (λ z. codes "{\"type\":\"Topology\"" ++ (z ++ codes "}")) (further_joined transform (objects ∷ (list ∷ d.members)))
     ∙ ap (λ z. codes "{\"type\":\"Topology\"" ++ z)
     (regrouped x (commas (map member_text layers)) (list_of_arcs d) m (codes ",\"objects\":{") (codes "}") (codes ",\"arcs\":[") (codes "]") (codes "}"))
     ∙ ap (λ z. (((begin_text d.transform ++ commas z) ++ middle_text) ++ list_of_arcs d) ++ end_text d.members) (layers_are d d.layers)

@@ -1,11 +1,11 @@
 -- What a sink took of texts with commas between them.
 use Rattle.kit_words.proofs.Common.{◌≡◌, ℕ, zero, suc, ◌+◌, ◌<◌, length, take, List, [], ◌∷◌, ◌++◌, map, Bool, sym, ap}
-use Rattle.kit_words.proofs.Common.{subst, ◌∙◌, arith, append_assoc, get_or, codes, nat_lt}
+use Rattle.kit_words.proofs.Common.{subst, ◌∙◌, arith, append_assoc, get_or, codes, nat_lt, suc_positive}
 use Rattle.device_io.specs.Common.{Took, TookFront}
 use Rattle.device_io.specs.declared.Sink as sink
 use Rattle.device_io.proofs.Common.{took_both, took_first, took_second}
 use Rattle.map_text.specs.Common.{further, commas, comma_if}
-use Rattle.topo_writer.proofs.Listed.{positive, commas_step}
+use Rattle.topo_writer.proofs.Listed.{commas_step}
 
 -- a text in an empty buffer is all that stands there
 pub filled : (o now xs : List ℕ) → o ≡ [] → now ≡ o ++ xs → now ≡ xs
@@ -17,7 +17,7 @@ commas_split {A = A} f [] i x h e = absurd (omega arith)
 commas_split {A = A} f (y ∷ ys) zero x h e = (further (map f ys), ap (λ z. f z ++ further (map f ys)) (sym e))
 commas_split {A = A} f (y ∷ ys) (suc i) x h e =
     let r = later ys i h e in
-    (r.0, ap (λ z. f y ++ z) r.1 ∙ sym (append_assoc (f y) (further (map f (take i ys))) ((codes "," ++ f x) ++ r.0)) ∙ ap (λ b. (f y ++ further (map f (take i ys))) ++ ((comma_if b ++ f x) ++ r.0)) (sym (positive i)))
+    (r.0, ap (λ z. f y ++ z) r.1 ∙ sym (append_assoc (f y) (further (map f (take i ys))) ((codes "," ++ f x) ++ r.0)) ∙ ap (λ b. (f y ++ further (map f (take i ys))) ++ ((comma_if b ++ f x) ++ r.0)) (sym (suc_positive i)))
   where
     later : (zs : List A) (k : ℕ) → suc k < length (y ∷ zs) → x ≡ get_or zs k x → (rest : List ℕ) × (further (map f zs) ≡ further (map f (take k zs)) ++ ((codes "," ++ f x) ++ rest))
     later [] k l d = absurd (omega arith)

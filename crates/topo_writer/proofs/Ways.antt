@@ -1,15 +1,15 @@
 -- A way that is cut while one goes along it is cut as the definition says, and arcs that are found by
 -- an edge are those that are found whole.
 use Rattle.kit_words.proofs.Common.{◌≡◌, ℕ, ◌+◌, ◌-◌, ◌≤◌, Bool, true, false, refl, sym, ap, ap₂, ◌∙◌, subst, cond}
-use Rattle.kit_words.proofs.Common.{List, [], ◌∷◌, ◌++◌, ◌||◌, arith, length, reverse, ◌<◌, take, drop, append_assoc}
-use Rattle.kit_words.proofs.Common.{Option, Some, None, ℤ, pos, negsuc, map, is_some, unwrap_or, AllByRecursion}
-use Rattle.kit_words.proofs.Common.{false≢true, drop_more, reverse-reverse, get_or-reverse, length-reverse}
+use Rattle.kit_words.proofs.Common.{List, [], ◌∷◌, ◌++◌, arith, length, reverse, ◌<◌, take, drop, append_assoc, Option}
+use Rattle.kit_words.proofs.Common.{Some, None, ℤ, pos, negsuc, map, is_some, unwrap_or, AllByRecursion, drop_more}
+use Rattle.kit_words.proofs.Common.{reverse-reverse, get_or-reverse, length-reverse, and_parts, all_joined}
 use Rattle.grid_geometry.specs.Common.{Position, position, position_eq}
 use Rattle.ring_machine.specs.Common.{edge_eq}
-use Rattle.ring_machine.proofs.Common.{same_answer, and_both, edge_eq-refl, position_eq-true, IsPiece, same_piece, reversed}
+use Rattle.ring_machine.proofs.Common.{same_answer, edge_eq-refl, position_eq-true, IsPiece, same_piece, reversed}
 use Rattle.map_text.specs.Common.{begun, cut_round, pieces, led_from, cut_way, are_equal, index_from, is_arc}
 use Rattle.map_text.specs.Common.{with_piece, with_pieces, index_of}
-use Rattle.map_text.proofs.Common.{becomes_arc, each-append, are_equal-true, are_equal-refl}
+use Rattle.map_text.proofs.Common.{becomes_arc, are_equal-true, are_equal-refl}
 use Rattle.topo_writer.specs.Common.{first_edge, last_edge, found_from, found, with_found, Fits, at_place, cut_after}
 use Rattle.topo_writer.specs.Common.{all_found, indexes_found, FitAll}
 use Rattle.topo_writer.proofs.Later.{index_kept, with_pieces_new}
@@ -68,7 +68,7 @@ module _ (k : Position → Bool) (next : Position → Position → Position) whe
   same_first (p ∷ q ∷ as') [] la lp ia ip = absurd lp
   same_first (p ∷ q ∷ as') (r ∷ []) la lp ia ip = absurd lp
   same_first (p ∷ q ∷ as') (r ∷ s ∷ ps) la lp ia ip = same_answer _ _
-      (λ h. let e = and_both (position_eq p r) (position_eq q s) h in
+      (λ h. let e = and_parts (position_eq p r) (position_eq q s) h in
       let x = position_eq-true p r e.0 in
       let y = position_eq-true q s e.1 in
       let is : r ∷ s ∷ ps ≡ p ∷ q ∷ ps = ap₂ (λ u v. u ∷ v ∷ ps) (sym x) (sym y) in
@@ -122,7 +122,7 @@ module _ (k : Position → Bool) (next : Position → Position → Position) whe
   -- ---- all pieces, one after another
 
   borders_more : (arcs : List (List Position)) (ps : List Position) → AllByRecursion Border arcs → Border ps → AllByRecursion Border (with_piece arcs ps)
-  borders_more arcs ps h b = grind (arith, each-append Border arcs (ps ∷ []) h (b, tt))
+  borders_more arcs ps h b = grind (arith, all_joined Border arcs (ps ∷ []) h (b, tt))
 
   abbrev or_zero : Option ℤ → ℤ
   or_zero o = unwrap_or o (pos 0)

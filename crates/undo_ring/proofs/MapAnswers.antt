@@ -244,7 +244,7 @@ module _ (m : MapState) (n : ℕ) (c : Command) (a : machine.Answer)
     same = refl;
   }
 
-is_false : (b : Bool) → (IsTrue b → ⊥) → b ≡ false
+pub is_false : (b : Bool) → (IsTrue b → ⊥) → b ≡ false
 is_false true k = absurd (k refl)
 is_false false k = refl
 

@@ -8,9 +8,9 @@ use Rattle.ring_machine.specs.Common.{Refusal, first_of, remove_refusals, Thinni
 use Rattle.ring_machine.specs.Common.{thinned_over, thinned, Path, cut, is_cut_by, first_that, stays, parted, instead}
 use Rattle.ring_machine.specs.Common.{join, joined_feature, take_out, renamed}
 use Rattle.ring_machine.proofs.Common.{position_eq-true, is_of, canonical_parts, In, contains_in, in_contains, in_swap}
-use Rattle.ring_machine.proofs.Common.{in_mapped, in_flat, in_filter, edge_in, in-flat_map, segment_eq-true, same_ends}
+use Rattle.ring_machine.proofs.Common.{in_mapped, in_flat, edge_in, in-flat_map, segment_eq-true, same_ends}
 use Rattle.ring_machine.proofs.Common.{rings-in_rings, part_in, in-take_out, part-rings, rings-renamed, in-instead}
-use Rattle.ring_machine.proofs.Common.{new_feature}
+use Rattle.ring_machine.proofs.Common.{new_feature, in-filter}
 
 -- ---- what is said of a ring
 
@@ -83,7 +83,7 @@ of_ins a b q x ring i =
 -- a ring without p
 of_del : (p x : Position) (ring : List Position) → Contains (del_ring p ring) x → Contains ring x
 of_del p x ring i =
-    in_contains ring x (in_filter (λ r. not (position_eq r p)) x ring (of_turned x (filter (λ r. not (position_eq r p)) ring) i)).0
+    in_contains ring x (in-filter (λ r. not (position_eq r p)) x ring (of_turned x (filter (λ r. not (position_eq r p)) ring) i)).0
 
 -- ---- an edit of a vertex
 

@@ -7,6 +7,7 @@ use Rattle.kit_words.proofs.Common.{same_from_all_zip, ℕ_discrete}
 use Rattle.std.specs.FinMap as map
 use Rattle.slab.specs.Slab as slab
 use Rattle.grid_geometry.specs.Common.{Position, InRange, position_eq}
+use Rattle.grid_geometry.proofs.Common.{position_eq-same as position_eq-refl}
 use Rattle.vertex_index.specs.Common.{Placement, IsOccupied, AreDistinct, AreInRange, Slot, placement_of, in_slot}
 use Rattle.vertex_index.specs.Common.{key_in, Mirrors}
 use Rattle.vertex_index.proofs.PlacementLemmas.{get-placement_of}
@@ -23,9 +24,6 @@ position_eq-same p q h = by (int_eq p.x q.x) (int_eq p.y q.y) refl refl h
         λ i. record { x = ex i; y = ey i }
     by true false ea eb e = cc
     by false b ea eb e = cc
-
-position_eq-refl : (p : Position) → position_eq p p ≡ true
-position_eq-refl p = rw ((signed_Decides p.x p.x).1 refl, (signed_Decides p.y p.y).1 refl) refl
 
 -- a position is not told from itself
 not_apart : (p q : Position) → Some p ≡ Some q → position_eq p q ≢ false

@@ -1,6 +1,5 @@
 -- What is known of a key that stood at a position or was put there.
-use Rattle.kit_words.proofs.Common.{◌≡◌, ℕ, Bool, true, false, Some, None, Result, Ok, Err, OnErr, refl, sym, ap, ◌∙◌}
-use Rattle.kit_words.proofs.Common.{subst}
+use Rattle.kit_words.proofs.Common.{◌≡◌, ℕ, Bool, true, false, Some, None, refl, sym, ap, ◌∙◌, subst}
 use Rattle.std.specs.FinMap as map
 use Rattle.grid_geometry.specs.Common.{Position}
 use Rattle.vertex_index.specs.Common.{Placement, AreDistinct}
@@ -28,8 +27,3 @@ module _ (old new : Placement) (k : ℕ) (p : Position) where
 
   pub put_held : new ≡ map.insert old k p → map.get new k ≡ Some p
   put_held e = ap (λ m. map.get m k) e ∙ get-inserted old k p
-
--- what holds anyway holds where there was no room
-pub on_err : {T E : Type 0} {P : Type 0} (r : Result T E) → P → OnErr r P
-on_err (Ok x) h = tt
-on_err (Err e) h = h

@@ -1,10 +1,10 @@
 -- Ascending segments in an index: one after another, and what is given near a box.
 use Rattle.kit_words.proofs.Common.{◌≡◌, ◌<◌, ◌+◌, ℕ, Bool, true, false, refl, sym, ap, ◌∙◌, subst, List, [], ◌++◌}
 use Rattle.kit_words.proofs.Common.{length, take, get_or, ◌||◌, Contains, filter, list_any_more}
-use Rattle.kit_words.proofs.Common.{IsStrictlySortedBy-filter, IsStrictlySortedBy}
+use Rattle.kit_words.proofs.Common.{IsStrictlySortedBy-filter, IsStrictlySortedBy, or_comm}
 use Rattle.std.specs.FinSet as set
 use Rattle.grid_geometry.specs.Common.{Segment, Box, box_of, boxes_meet, segment_cmp}
-use Rattle.ring_machine.proofs.Common.{In, filter-in, contains_in, in_contains, in_filter}
+use Rattle.ring_machine.proofs.Common.{In, filter-in, contains_in, in_contains, in-filter}
 use Rattle.segment_index.specs.Common.{SegmentSet, Gives, has, segment_is}
 use Rattle.segment_index.proofs.Common.{segment_total}
 use Rattle.walk_faults.specs.Common.{ListsAll, AreHeld}
@@ -19,12 +19,6 @@ none_before ss i s h l e = by (has (take i ss) s) refl
     by : (b : Bool) → has (take i ss) s ≡ b → b ≡ false
     by false k = refl
     by true k = absurd (not_less segment_cmp segment_total s (before_it segment_cmp segment_total ss i s h l e s (in-has (take i ss) s k)))
-
-or_comm : (a b : Bool) → (a || b) ≡ (b || a)
-or_comm true true = refl
-or_comm true false = refl
-or_comm false true = refl
-or_comm false false = refl
 
 -- one segment more is held
 pub one_more : (held held' : SegmentSet) (ss : List Segment) (i : ℕ) (s t : Segment) → i < length ss → s ≡ get_or ss i s
@@ -50,13 +44,13 @@ near_is held times rect test old new kept sorted ss empty g keep all h meets =
 
     to : (t : Segment) → In t sorted → In t (filter test ss)
     to t i =
-        let k = in_filter test t new (subst (In t) keep (contains_in kept t ((all.all t).0 (in_contains sorted t i)))) in
+        let k = in-filter test t new (subst (In t) keep (contains_in kept t ((all.all t).0 (in_contains sorted t i)))) in
         let there = g.among t (has-in g.found t (subst (In t) found k.0)) in
         filter-in test t ss (in-has ss t (sym (h.same t) ∙ there)) k.1
 
     from : (t : Segment) → In t (filter test ss) → In t sorted
     from t i =
-        let k = in_filter test t ss i in
+        let k = in-filter test t ss i in
         let there = g.covers refl t (h.same t ∙ has-in ss t k.0) (meets t k.1) in
         let near = filter-in test t new (subst (In t) (sym found) (in-has g.found t there)) k.1 in
         contains_in sorted t ((all.all t).1 (in_contains kept t (subst (In t) (sym keep) near)))

@@ -1,10 +1,10 @@
 -- The elements of a list so far, and all of them.
 use Rattle.kit_words.proofs.Common.{◌≡◌, ◌<◌, ◌≤◌, ◌+◌, ℕ, true, refl, sym, ap, ◌∙◌, List, [], ◌∷◌, ◌++◌, map, length}
-use Rattle.kit_words.proofs.Common.{take, drop, get_or, inl, inr, ◌||◌, arith, flat_map, false≢true, drop_more, take_more}
-use Rattle.kit_words.proofs.Common.{length-flat_map-take}
+use Rattle.kit_words.proofs.Common.{take, get_or, inl, inr, ◌||◌, arith, flat_map, false≢true, take_more}
+use Rattle.kit_words.proofs.Common.{length-flat_map-take, or_cases, or_right}
 use Rattle.std.proofs.lemmas.List.{flat_map_more}
 use Rattle.grid_geometry.specs.Common.{Segment}
-use Rattle.ring_machine.proofs.Common.{In, or_true, or_right}
+use Rattle.ring_machine.proofs.Common.{In}
 use Rattle.segment_index.specs.Common.{has, segment_is}
 use Rattle.segment_index.proofs.Common.{same_segment, is-itself}
 
@@ -12,7 +12,7 @@ use Rattle.segment_index.proofs.Common.{same_segment, is-itself}
 
 pub in-has : (ss : List Segment) (t : Segment) → has ss t ≡ true → In t ss
 in-has [] t h = absurd (false≢true h)
-in-has (s ∷ ss) t h = elim (or_true (segment_is t s) (has ss t) h) [
+in-has (s ∷ ss) t h = elim (or_cases (segment_is t s) (has ss t) h) [
   | inl e ↦ inl (sym (same_segment t s e))
   | inr k ↦ inr (in-has ss t k)
 ]
@@ -52,7 +52,3 @@ pub flat_next : {X Y : Type 0} (f : X → List Y) (xs : List X) (i : ℕ) (x : X
 flat_next f xs i x before after l e so_far is =
     is ∙ ap (λ z. z ++ f x) so_far ∙ flat_map_more f [] (take i xs) x
     ∙ ap (flat_map f) (sym (take_more xs i x l ∙ ap (λ z. take i xs ++ z ∷ []) (sym e)))
-
--- what is left begins with the next one
-pub next_drop : {X : Type 0} (xs : List X) (i : ℕ) (x : X) → i < length xs → x ≡ get_or xs i x → drop i xs ≡ x ∷ drop (i + 1) xs
-next_drop xs i x l e = drop_more xs i x l ∙ ap (λ z. z ∷ drop (i + 1) xs) (sym e)

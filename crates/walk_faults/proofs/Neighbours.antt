@@ -1,14 +1,13 @@
 -- Equal neighbours of ascending positions, and the positions that stand more than once.
 use Rattle.kit_words.proofs.Common.{◌≡◌, ◌≤◌, ◌+◌, ℕ, suc, Bool, true, false, refl, sym, ap, ◌∙◌, subst, cond, List, []}
 use Rattle.kit_words.proofs.Common.{◌∷◌, map, get_or, inl, inr, Contains, arith, nat_le, AllByRecursion, filter, fold}
-use Rattle.kit_words.proofs.Common.{count_by, IsPermutation, IsSorted, IsStrictlySortedBy, is_lt, Ordering, Less, Equal}
-use Rattle.kit_words.proofs.Common.{Greater, false≢true, nat_tests, IsStrictlySortedBy-filter, sum_by-IsPermutation}
-use Rattle.kit_words.proofs.Common.{sum_by-cons}
+use Rattle.kit_words.proofs.Common.{count_by, IsPermutation, IsSorted, IsStrictlySortedBy, is_lt, Less, false≢true}
+use Rattle.kit_words.proofs.Common.{nat_tests, IsStrictlySortedBy-filter, sum_by-IsPermutation, sum_by-cons, less_is}
 use Rattle.grid_geometry.specs.Common.{Position, position_cmp, position_eq, position_lt, Edge, links}
 use Rattle.ring_machine.specs.Common.{add_position}
-use Rattle.ring_machine.proofs.Common.{In, filter-in, contains_in, in_contains, in_filter, position_eq-true}
-use Rattle.ring_machine.proofs.Common.{position_eq-refl, position_lt-trans, position_lt-total, Rising, all_rise}
-use Rattle.ring_machine.proofs.Common.{position_total}
+use Rattle.ring_machine.proofs.Common.{In, filter-in, contains_in, in_contains, position_eq-true, position_eq-refl}
+use Rattle.ring_machine.proofs.Common.{position_lt-trans, position_lt-total, Rising, all_rise, position_total}
+use Rattle.ring_machine.proofs.Common.{in-filter}
 use Rattle.ring_machine.proofs.SortedOnce.{all_in}
 use Rattle.walk_faults.specs.Common.{ListsAll, is_repeated, repeated}
 use Rattle.walk_faults.proofs.Ascending.{same_ascending}
@@ -78,13 +77,13 @@ twice_two p (a ∷ b ∷ ps) i = by (position_eq a b) refl (subst (In p) (twice-
     by true e (inr j) rest = omega (arith, rest j, times-le p a (b ∷ ps))
     by false e j rest = omega (arith, rest j, times-le p a (b ∷ ps))
 
-sorted_rest : (a : Position) (ps : List Position) → IsSorted position_cmp (a ∷ ps) → IsSorted position_cmp ps
+pub sorted_rest : (a : Position) (ps : List Position) → IsSorted position_cmp (a ∷ ps) → IsSorted position_cmp ps
 sorted_rest a ps h k d z l =
     let e : suc k + 1 ≡ suc (k + 1) = omega arith in
     subst (λ n. is_lt (position_cmp (get_or (a ∷ ps) n d) (get_or ps k d)) ≡ false) e (h (suc k) d (omega arith) (omega arith))
 
 -- none after the first is less than it
-none_less : (a : Position) (ps : List Position) → IsSorted position_cmp (a ∷ ps) → (q : Position) → In q ps → position_lt q a ≡ false
+pub none_less : (a : Position) (ps : List Position) → IsSorted position_cmp (a ∷ ps) → (q : Position) → In q ps → position_lt q a ≡ false
 none_less a [] h q i = absurd i
 none_less a (b ∷ ps) h q (inl e) = subst (λ z. position_lt z a ≡ false) e (h 0 a (omega arith) (omega arith))
 none_less a (b ∷ ps) h q (inr i) =
@@ -128,11 +127,6 @@ two_twice p (a ∷ b ∷ ps) h k = subst (In p) (sym (twice-cons a b ps)) (by (p
 
 -- ---- ascending ones
 
-less_is : (o : Ordering) → is_lt o ≡ true → o ≡ Less
-less_is Less h = refl
-less_is Equal h = absurd (false≢true h)
-less_is Greater h = absurd (false≢true h)
-
 all_less : (p : Position) (ps : List Position) → AllByRecursion (λ q. position_lt p q ≡ true) ps → AllByRecursion (λ q. position_cmp p q ≡ Less) ps
 all_less p [] h = tt
 all_less p (q ∷ ps) h = (less_is (position_cmp p q) h.0, all_less p ps h.1)
@@ -152,7 +146,7 @@ is_least : (n : ℕ) → 2 ≤ n → nat_le 2 n ≡ true
 is_least n h = grind (arith, nat_tests)
 
 pub in_repeated : (walk : List Position) (p : Position) → In p (repeated walk) → 2 ≤ times p walk
-in_repeated walk p i = at_least (times p walk) (in_filter (is_repeated walk) p (fold add_position [] walk) i).1
+in_repeated walk p i = at_least (times p walk) (in-filter (is_repeated walk) p (fold add_position [] walk) i).1
 
 pub repeated_in : (walk : List Position) (p : Position) → 2 ≤ times p walk → In p (repeated walk)
 repeated_in walk p h =

@@ -1,14 +1,14 @@
 -- The law that decides: nothing is found exactly where the map opens.
-use Rattle.kit_words.proofs.Common.{◌≡◌, ◌↔◌, ◌≤◌, ℕ, suc, Bool, true, false, refl, sym, ap, ap₂, ◌∙◌, subst, List, []}
-use Rattle.kit_words.proofs.Common.{◌∷◌, ◌++◌, map, length, inl, inr, ◌⊎◌, ◌&&◌, ◌||◌, None, arith, not, nat_le, nat_lt}
-use Rattle.kit_words.proofs.Common.{filter, flat_map, list_all, false≢true, nat_tests, map-append}
+use Rattle.kit_words.proofs.Common.{◌≡◌, ◌↔◌, ◌≤◌, ℕ, suc, true, false, refl, sym, ap, ap₂, ◌∙◌, subst, List, [], ◌∷◌}
+use Rattle.kit_words.proofs.Common.{◌++◌, map, length, inl, inr, ◌⊎◌, ◌&&◌, ◌||◌, None, arith, not, nat_le, nat_lt}
+use Rattle.kit_words.proofs.Common.{filter, flat_map, list_all, false≢true, nat_tests, map-append, and_parts, or_cases}
+use Rattle.kit_words.proofs.Common.{or_right, not-true, by_bool}
 use Rattle.grid_geometry.specs.Common.{conflict, cross, is_within, Position, position_eq, Segment, segment_lt}
 use Rattle.grid_geometry.proofs.Common.{conflict-comm, conflict-same}
 use Rattle.ring_machine.specs.Common.{least_conflict, has, is_distinct, segments, pair_lt}
 use Rattle.ring_machine.proofs.Common.{In, filter-in, least_conflict_is, least_conflict_unique, Bad, IsLeast}
-use Rattle.ring_machine.proofs.Common.{contains_in, in_contains, in_filter, in_mapped, in_flat, in-map, in-flat_map}
-use Rattle.ring_machine.proofs.Common.{in-has, has-in, all_in, and_both, or_true, or_right, position_eq-true}
-use Rattle.ring_machine.proofs.Common.{position_eq-refl, segment_ordered, not_true}
+use Rattle.ring_machine.proofs.Common.{contains_in, in_contains, in_mapped, in_flat, in-map, in-flat_map, in-filter}
+use Rattle.ring_machine.proofs.Common.{in-has, has-in, all_in, position_eq-true, position_eq-refl, segment_ordered}
 use Rattle.walk_faults.specs.declared.findings.Findings.{Findings}
 use Rattle.walk_faults.specs.Common.{Touch, Crossing, Placed, each_at, placed, walks_in_polygon, walks_in_feature}
 use Rattle.walk_faults.specs.Common.{walks_of, is_short, short_walks, repeated, repeat_at, all_repeats, all_positions}
@@ -26,13 +26,9 @@ none_if (x ∷ xs) h = absurd (h x (inl refl))
 none_in : {X : Type 0} (xs : List X) (x : X) → xs ≡ [] → In x xs → ⊥
 none_in xs x e i = subst (In x) e i
 
-by_bool : {X : Type 0} (p : Bool) → (p ≡ true → X) → (p ≡ false → X) → X
-by_bool true f g = f refl
-by_bool false f g = g refl
-
 -- ---- distinct positions
 
-distinct_if : (ps : List Position) → ((p : Position) → 2 ≤ times p ps → ⊥) → is_distinct ps ≡ true
+pub distinct_if : (ps : List Position) → ((p : Position) → 2 ≤ times p ps → ⊥) → is_distinct ps ≡ true
 distinct_if [] h = refl
 distinct_if (p ∷ ps) h = ap₂ (λ a b. not a && b) once (distinct_if ps (λ q k. h q (omega (arith, k, times-le q p ps))))
   where
@@ -41,14 +37,14 @@ distinct_if (p ∷ ps) h = ap₂ (λ a b. not a && b) once (distinct_if ps (λ q
         (λ e. absurd (h p (omega (arith, in_times p ps (has-in p ps e), times-same p p ps (position_eq-refl p)))))
         (λ e. e)
 
-distinct_once : (ps : List Position) → is_distinct ps ≡ true → (p : Position) → 2 ≤ times p ps → ⊥
+pub distinct_once : (ps : List Position) → is_distinct ps ≡ true → (p : Position) → 2 ≤ times p ps → ⊥
 distinct_once [] d p h = absurd (omega arith)
 distinct_once (q ∷ ps) d p h =
-    let both = and_both (not (has ps q)) (is_distinct ps) d in
+    let both = and_parts (not (has ps q)) (is_distinct ps) d in
     by_bool (position_eq p q)
     (λ e.
     let there : In p ps = times_in p ps (omega (arith, h, times-same p q ps e)) in
-    false≢true (sym (not_true (has ps q) both.0) ∙ ap (has ps) (sym (position_eq-true p q e)) ∙ in-has p ps there))
+    false≢true (sym (not-true (has ps q) both.0) ∙ ap (has ps) (sym (position_eq-true p q e)) ∙ in-has p ps there))
     (λ e. distinct_once ps both.1 p (omega (arith, h, times-other p q ps e)))
 
 -- ---- each walk
@@ -75,14 +71,14 @@ ring_if walks short repeats w i = ap₂ (λ a b. a && b) long distinct
 no_short : (walks : List Placed) → ((w : Placed) → In w walks → is_closed_ring w.1 ≡ true) → short_walks walks ≡ []
 no_short walks rings = none_if (short_walks walks) (λ r i.
     let w = in_mapped (λ (v : Placed). v.0) r (filter (λ v. is_short v.1) walks) i in
-    let k = in_filter (λ v. is_short v.1) w.0 walks w.1 in
-    not_short (length (w.0).1) (and_both (nat_le 3 (length (w.0).1)) (is_distinct (w.0).1) (rings w.0 k.0)).0 k.1)
+    let k = in-filter (λ v. is_short v.1) w.0 walks w.1 in
+    not_short (length (w.0).1) (and_parts (nat_le 3 (length (w.0).1)) (is_distinct (w.0).1) (rings w.0 k.0)).0 k.1)
 
 no_repeats : (walks : List Placed) → ((w : Placed) → In w walks → is_closed_ring w.1 ≡ true) → all_repeats walks ≡ []
 no_repeats walks rings = none_if (all_repeats walks) (λ r i.
     let w = in_flat (λ v. map (repeat_at v.0) (repeated v.1)) r walks i in
     let p = in_mapped (repeat_at (w.0).0) r (repeated (w.0).1) w.2 in
-    distinct_once (w.0).1 (and_both (nat_le 3 (length (w.0).1)) (is_distinct (w.0).1) (rings w.0 w.1)).1 p.0 (in_repeated (w.0).1 p.0 p.1))
+    distinct_once (w.0).1 (and_parts (nat_le 3 (length (w.0).1)) (is_distinct (w.0).1) (rings w.0 w.1)).1 p.0 (in_repeated (w.0).1 p.0 p.1))
 
 -- ---- segments
 
@@ -141,11 +137,11 @@ hi_conflict s t h =
 conflict_cases : (s t : Segment) → conflict s t ≡ true
     → (cross s t ≡ true) ⊎ ((is_within s.lo t ≡ true) ⊎ (is_within s.hi t ≡ true)) ⊎ ((is_within t.lo s ≡ true) ⊎ (is_within t.hi s ≡ true))
 unfolding conflict
-conflict_cases s t h = elim (or_true (cross s t) ((is_within s.lo t || is_within s.hi t) || (is_within t.lo s || is_within t.hi s)) h) [
+conflict_cases s t h = elim (or_cases (cross s t) ((is_within s.lo t || is_within s.hi t) || (is_within t.lo s || is_within t.hi s)) h) [
   | inl c ↦ inl c
-  | inr k ↦ elim (or_true (is_within s.lo t || is_within s.hi t) (is_within t.lo s || is_within t.hi s) k) [
-    | inl m ↦ inr (inl (or_true (is_within s.lo t) (is_within s.hi t) m))
-    | inr m ↦ inr (inr (or_true (is_within t.lo s) (is_within t.hi s) m))
+  | inr k ↦ elim (or_cases (is_within s.lo t || is_within s.hi t) (is_within t.lo s || is_within t.hi s) k) [
+    | inl m ↦ inr (inl (or_cases (is_within s.lo t) (is_within s.hi t) m))
+    | inr m ↦ inr (inr (or_cases (is_within t.lo s) (is_within t.hi s) m))
   ]
 ]
 

@@ -1,10 +1,10 @@
 -- Lists of pairs, by the first and then by the second: all touches, and all crossings.
 use Rattle.kit_words.proofs.Common.{◌≡◌, refl, ap, ap₂, subst, List, [], ◌∷◌, ◌++◌, ◌&&◌, map, inl, inr, Contains}
 use Rattle.kit_words.proofs.Common.{flat_map, IsStrictlySortedBy, ordering_then, IsTotalOrder, tied_itself, Ordering}
-use Rattle.kit_words.proofs.Common.{Less, IsStrictlySortedBy-filter}
+use Rattle.kit_words.proofs.Common.{Less, IsStrictlySortedBy-filter, and_parts}
 use Rattle.grid_geometry.specs.Common.{Position, position_cmp, Segment, segment_cmp, segment_lt, cross, is_within}
-use Rattle.ring_machine.proofs.Common.{In, in-append, filter-in, contains_in, in_contains, in_filter, in_mapped}
-use Rattle.ring_machine.proofs.Common.{in_flat, all_of, in-map, in-flat_map, and_both, in_recursion, position_total}
+use Rattle.ring_machine.proofs.Common.{In, in-append, filter-in, contains_in, in_contains, in_mapped}
+use Rattle.ring_machine.proofs.Common.{in_flat, all_of, in-map, in-flat_map, in_recursion, position_total, in-filter}
 use Rattle.segment_index.proofs.Common.{segment_total}
 use Rattle.walk_faults.specs.Common.{Placed, ListsAll, IsTouch, IsCrossing, touch_at, crossing_at, touch_cmp}
 use Rattle.walk_faults.specs.Common.{crossing_cmp, all_positions, all_segments, touching, crossing, touches_among}
@@ -77,7 +77,7 @@ touches_all walks ps ss h k = record {
   all = λ t. (
     λ c.
         let u = in_pairs position_cmp segment_cmp touch_cmp touch_at first second near ps t (contains_in (touches_among ps ss) t c) in
-        let there = in_filter (is_within u.0) u.1 ss u.3 in
+        let there = in-filter (is_within u.0) u.1 ss u.3 in
         subst (IsTouch walks) u.4 (record {
           vertex = (h.all u.0).0 (in_contains ps u.0 u.2);
           side = (k.all u.1).0 (in_contains ss u.1 there.0);
@@ -108,8 +108,8 @@ crossings_all walks ss k = record {
   all = λ c. (
     λ i.
         let u = in_pairs segment_cmp segment_cmp crossing_cmp crossing_at first second later ss c (contains_in (crossings_among ss ss) c i) in
-        let there = in_filter (λ t. segment_lt u.0 t && cross u.0 t) u.1 ss u.3 in
-        let passes = and_both (segment_lt u.0 u.1) (cross u.0 u.1) there.1 in
+        let there = in-filter (λ t. segment_lt u.0 t && cross u.0 t) u.1 ss u.3 in
+        let passes = and_parts (segment_lt u.0 u.1) (cross u.0 u.1) there.1 in
         subst (IsCrossing walks) u.4 (record {
           one = (k.all u.0).0 (in_contains ss u.0 u.2);
           other = (k.all u.1).0 (in_contains ss u.1 there.0);

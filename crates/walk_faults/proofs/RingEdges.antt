@@ -1,10 +1,11 @@
 -- The edges of a walk, and of one that is a ring.
-use Rattle.kit_words.proofs.Common.{◌≡◌, ◌≤◌, ℕ, Bool, true, false, refl, sym, ap, ap₂, ◌∙◌, subst, cond, List, [], ◌∷◌}
+use Rattle.kit_words.proofs.Common.{◌≡◌, ◌≤◌, ℕ, Bool, true, false, refl, sym, ap₂, ◌∙◌, subst, cond, List, [], ◌∷◌}
 use Rattle.kit_words.proofs.Common.{◌++◌, map, length, inl, inr, ◌⊎◌, arith, not, nat_le, flat_map, is_gt, nat_tests}
+use Rattle.kit_words.proofs.Common.{and_parts, or_parts, not-true}
 use Rattle.grid_geometry.specs.Common.{Position, position_eq, position_cmp, Edge, edges, Segment}
 use Rattle.ring_machine.specs.Common.{has, is_distinct, segment_of, segments}
-use Rattle.ring_machine.proofs.Common.{edges_to, edges_is, first_or, In, in_flat, in-flat_map, and_both, none_parts}
-use Rattle.ring_machine.proofs.Common.{not_true, position_eq-sym}
+use Rattle.ring_machine.proofs.Common.{edges_to, edges_is, first_or, In, in_flat, in-flat_map, position_eq-sym}
+use Rattle.ring_machine.proofs.Common.{edge_ends}
 use Rattle.walk_faults.specs.Common.{segment_at, walk_segments, is_closed_ring}
 
 -- ---- any walk
@@ -17,22 +18,6 @@ ends_are e = by (is_gt (position_cmp e.0 e.1))
         → (((cond {A = Segment} t (record { lo = e.1; hi = e.0 }) (record { lo = e.0; hi = e.1 })).lo ≡ e.0) × ((cond {A = Segment} t (record { lo = e.1; hi = e.0 }) (record { lo = e.0; hi = e.1 })).hi ≡ e.1)) ⊎ (((cond {A = Segment} t (record { lo = e.1; hi = e.0 }) (record { lo = e.0; hi = e.1 })).lo ≡ e.1) × ((cond {A = Segment} t (record { lo = e.1; hi = e.0 }) (record { lo = e.0; hi = e.1 })).hi ≡ e.0))
     by true = inr (refl, refl)
     by false = inl (refl, refl)
-
--- the ends of an edge of a way are among its positions, or the second is where it leads
-way_ends : (q : Position) (ps : List Position) (e : Edge) → In e (edges_to q ps) → In e.0 ps × (In e.1 ps ⊎ (q ≡ e.1))
-way_ends q [] e i = absurd i
-way_ends q (p ∷ []) e (inl f) = (inl (ap (λ z. z.0) f), inr (ap (λ z. z.1) f))
-way_ends q (p ∷ []) e (inr i) = absurd i
-way_ends q (p ∷ r ∷ ps) e (inl f) = (inl (ap (λ z. z.0) f), inl (inr (inl (ap (λ z. z.1) f))))
-way_ends q (p ∷ r ∷ ps) e (inr i) =
-    let k = way_ends q (r ∷ ps) e i in
-    (inr k.0, elim k.1 [ inl j ↦ inl (inr j) | inr f ↦ inr f ])
-
-edge_ends : (walk : List Position) (e : Edge) → In e (edges walk) → In e.0 walk × In e.1 walk
-edge_ends [] e i = absurd i
-edge_ends (p ∷ ps) e i =
-    let k = way_ends p (p ∷ ps) e (subst (In e) (edges_is p ps) i) in
-    (k.0, elim k.1 [ inl j ↦ j | inr f ↦ inl f ])
 
 -- what segment an edge with different ends gives
 edge_of : (s : Segment) (e : Edge) → In s (segment_at e) → segment_of e ≡ s
@@ -60,13 +45,13 @@ way_differs : (q : Position) (ps : List Position) → is_distinct ps ≡ true �
     → position_eq e.0 e.1 ≡ false
 way_differs q [] d h e i = absurd i
 way_differs q (p ∷ []) d h e (inl f) =
-    subst (λ z. position_eq z.0 z.1 ≡ false) f (position_eq-sym p q ∙ (none_parts (position_eq q p) (has [] q) h).0)
+    subst (λ z. position_eq z.0 z.1 ≡ false) f (position_eq-sym p q ∙ (or_parts (position_eq q p) (has [] q) h).0)
 way_differs q (p ∷ []) d h e (inr i) = absurd i
 way_differs q (p ∷ r ∷ ps) d h e (inl f) =
-    let away = not_true (has (r ∷ ps) p) (and_both (not (has (r ∷ ps) p)) (is_distinct (r ∷ ps)) d).0 in
-    subst (λ z. position_eq z.0 z.1 ≡ false) f (none_parts (position_eq p r) (has ps p) away).0
+    let away = not-true (has (r ∷ ps) p) (and_parts (not (has (r ∷ ps) p)) (is_distinct (r ∷ ps)) d).0 in
+    subst (λ z. position_eq z.0 z.1 ≡ false) f (or_parts (position_eq p r) (has ps p) away).0
 way_differs q (p ∷ r ∷ ps) d h e (inr i) =
-    way_differs q (r ∷ ps) (and_both (not (has (r ∷ ps) p)) (is_distinct (r ∷ ps)) d).1 (none_parts (position_eq q p) (has (r ∷ ps) q) h).1 e i
+    way_differs q (r ∷ ps) (and_parts (not (has (r ∷ ps) p)) (is_distinct (r ∷ ps)) d).1 (or_parts (position_eq q p) (has (r ∷ ps) q) h).1 e i
 
 too_few : (n : ℕ) → n ≤ 1 → nat_le 3 n ≡ true → ⊥
 too_few n h k = grind (arith, nat_tests)
@@ -74,15 +59,15 @@ too_few n h k = grind (arith, nat_tests)
 pub ring_differs : (walk : List Position) → is_closed_ring walk ≡ true → (e : Edge) → In e (edges walk) → position_eq e.0 e.1 ≡ false
 ring_differs [] r e i = absurd i
 ring_differs (p ∷ []) r e i =
-    absurd (too_few 1 (omega arith) (and_both (nat_le 3 1) (is_distinct (p ∷ [])) r).0)
+    absurd (too_few 1 (omega arith) (and_parts (nat_le 3 1) (is_distinct (p ∷ [])) r).0)
 ring_differs (p ∷ q ∷ ps) r e i =
-    let d = (and_both (nat_le 3 (length (p ∷ q ∷ ps))) (is_distinct (p ∷ q ∷ ps)) r).1 in
-    let away = not_true (has (q ∷ ps) p) (and_both (not (has (q ∷ ps) p)) (is_distinct (q ∷ ps)) d).0 in
+    let d = (and_parts (nat_le 3 (length (p ∷ q ∷ ps))) (is_distinct (p ∷ q ∷ ps)) r).1 in
+    let away = not-true (has (q ∷ ps) p) (and_parts (not (has (q ∷ ps) p)) (is_distinct (q ∷ ps)) d).0 in
     first_or_other d away (subst (In e) (edges_is p (q ∷ ps)) i)
   where
     first_or_other : is_distinct (p ∷ q ∷ ps) ≡ true → has (q ∷ ps) p ≡ false → In e (edges_to p (p ∷ q ∷ ps)) → position_eq e.0 e.1 ≡ false
-    first_or_other d away (inl f) = subst (λ z. position_eq z.0 z.1 ≡ false) f (none_parts (position_eq p q) (has ps p) away).0
-    first_or_other d away (inr j) = way_differs p (q ∷ ps) (and_both (not (has (q ∷ ps) p)) (is_distinct (q ∷ ps)) d).1 away e j
+    first_or_other d away (inl f) = subst (λ z. position_eq z.0 z.1 ≡ false) f (or_parts (position_eq p q) (has ps p) away).0
+    first_or_other d away (inr j) = way_differs p (q ∷ ps) (and_parts (not (has (q ∷ ps) p)) (is_distinct (q ∷ ps)) d).1 away e j
 
 -- all edges of a ring give segments
 segments_at : (es : List Edge) → ((e : Edge) → In e es → position_eq e.0 e.1 ≡ false) → flat_map segment_at es ≡ map segment_of es

@@ -13,7 +13,7 @@ use Rattle.walk_faults.proofs.Lists.{seen_among}
 
 -- ---- with their places
 
-each_at-append : {X Y : Type 0} (f : ℕ → X → List Y) (k : ℕ) (xs ys : List X) → each_at f k (xs ++ ys) ≡ each_at f k xs ++ each_at f (k + length xs) ys
+pub each_at-append : {X Y : Type 0} (f : ℕ → X → List Y) (k : ℕ) (xs ys : List X) → each_at f k (xs ++ ys) ≡ each_at f k xs ++ each_at f (k + length xs) ys
 each_at-append f k [] ys = let e : k ≡ k + 0 = omega arith in ap (λ n. each_at f n ys) e
 each_at-append f k (x ∷ xs) ys =
     let e : suc k + length xs ≡ k + suc (length xs) = omega arith in

@@ -1,9 +1,8 @@
 -- Which segments bound: all of rings, the odd ones of other walks, and those of one polygon more.
 use Rattle.kit_words.proofs.Common.{◌≡◌, ◌<◌, ◌+◌, ℕ, Bool, true, false, refl, sym, ap, ◌∙◌, cond, List, [], ◌∷◌, map}
-use Rattle.kit_words.proofs.Common.{get_or, length, take, ◌&&◌, ◌||◌, Contains, arith, nat_le, nat_lt, IsTrue, count_by, flat_map}
-use Rattle.kit_words.proofs.Common.{list_all, and_from}
-use Rattle.kit_words.proofs.Common.{list_any, IsPermutation, nat_tests, list_all-map, list_all_at, sum_by-IsPermutation}
-use Rattle.kit_words.proofs.Common.{sum_by-cons}
+use Rattle.kit_words.proofs.Common.{get_or, length, take, ◌&&◌, ◌||◌, Contains, arith, nat_le, nat_lt, IsTrue, count_by}
+use Rattle.kit_words.proofs.Common.{flat_map, list_all, and_from, list_any, IsPermutation, nat_tests, list_all-map}
+use Rattle.kit_words.proofs.Common.{list_all_at, sum_by-IsPermutation, sum_by-cons, and_none}
 use Rattle.std.proofs.lemmas.List.Folds.{list_all_more}
 use Rattle.grid_geometry.specs.Common.{Position, Segment, segment_cmp, segment_eq}
 use Rattle.ring_machine.specs.Common.{begins_least, is_distinct, is_ring}
@@ -84,10 +83,6 @@ reorder true false d = refl
 reorder false true true = refl
 reorder false true false = refl
 reorder false false d = refl
-
-and_none : (b : Bool) → (b && false) ≡ false
-and_none true = refl
-and_none false = refl
 
 pub is_ring_if : (ring : List Position) → begins_least ring ≡ true → is_simple ring ≡ true → is_ring ring ≡ true
 is_ring_if ring b s = sym (reorder (begins_least ring) (nat_le 3 (length ring)) (is_distinct ring)) ∙ and_from (begins_least ring) (is_simple ring) b s

@@ -5,17 +5,13 @@ use Rattle.kit_words.proofs.Common.{◌||◌, ◌&&◌, arith, not, ◌==◌, Is
 use Rattle.kit_words.proofs.Common.{IsStrictlySortedBy, is_lt, ordering_reverse, Ordering, Less, Equal, Greater}
 use Rattle.kit_words.proofs.Common.{false≢true, nat_tests, take_more, get_or-take, get_or_default, length-take-le}
 use Rattle.kit_words.proofs.Common.{length-append, get_or_at, take_at, list_any-append, ranks_by, sorted_far}
-use Rattle.kit_words.proofs.Common.{sum_by-append, sum_by-cons}
+use Rattle.kit_words.proofs.Common.{sum_by-append, sum_by-cons, by_bool}
 use Rattle.grid_geometry.specs.Common.{xor, Segment, segment_cmp, segment_eq, segment_lt}
 use Rattle.ring_machine.proofs.Common.{In, in-append, in_left, in_right, any_in, in_contains, position_eq-refl}
 use Rattle.ring_machine.proofs.Common.{segment_eq-true}
 use Rattle.segment_index.proofs.Common.{segment_total, segment_exact}
 use Rattle.walk_faults.proofs.Common.{not_less}
 use Rattle.walk_mending.specs.Common.{is_among, EndsIn, IsCancelled, taken, put}
-
-by_bool : {X : Type 0} (p : Bool) → (p ≡ true → X) → (p ≡ false → X) → X
-by_bool true f g = f refl
-by_bool false f g = g refl
 
 pub segment_eq-refl : (s : Segment) → segment_eq s s ≡ true
 segment_eq-refl s = ap₂ (λ a b. a && b) (position_eq-refl s.lo) (position_eq-refl s.hi)

@@ -1,53 +1,17 @@
 -- Of sorted positions equal ones are neighbours.
-use Rattle.kit_words.proofs.Common.{◌≡◌, ◌≤◌, ◌<◌, ◌+◌, ℕ, suc, Bool, true, false, refl, sym, ap, ap₂, ◌∙◌, subst, cond}
-use Rattle.kit_words.proofs.Common.{List, [], ◌∷◌, length, drop, zip, get_or, inl, nat_le, nat_tests, ◌&&◌, ◌||◌, arith, not, list_any}
-use Rattle.kit_words.proofs.Common.{IsPermutation, IsSorted, is_lt, false≢true, ranks_by, sorted_far}
-use Rattle.kit_words.proofs.Common.{sum_by-IsPermutation}
+use Rattle.kit_words.proofs.Common.{◌≡◌, ◌≤◌, ℕ, Bool, true, false, refl, sym, ap, ◌∙◌, cond, List, [], ◌∷◌, length}
+use Rattle.kit_words.proofs.Common.{drop, zip, inl, nat_le, nat_tests, ◌&&◌, ◌||◌, arith, not, list_any, IsPermutation}
+use Rattle.kit_words.proofs.Common.{IsSorted, false≢true, sum_by-IsPermutation, by_bool}
 use Rattle.grid_geometry.specs.Common.{Position, position_cmp, position_eq, position_lt, Edge, links}
 use Rattle.ring_machine.specs.Common.{has, is_distinct}
 use Rattle.topo_reader.specs.Common.{is_simple}
-use Rattle.ring_machine.proofs.Common.{In, in_contains, same_answer, in-has, has-in, and_both, position_eq-true}
-use Rattle.ring_machine.proofs.Common.{position_eq-refl, position_lt-total, not_true, position_total}
-use Rattle.walk_faults.proofs.Neighbours.{times, in_times, times_in, times-same, times-other, times-le}
-
-by_bool : {X : Type 0} (p : Bool) → (p ≡ true → X) → (p ≡ false → X) → X
-by_bool true f g = f refl
-by_bool false f g = g refl
-
-distinct_if : (ps : List Position) → ((p : Position) → 2 ≤ times p ps → ⊥) → is_distinct ps ≡ true
-distinct_if [] h = refl
-distinct_if (p ∷ ps) h = ap₂ (λ a b. not a && b) once (distinct_if ps (λ q k. h q (omega (arith, k, times-le q p ps))))
-  where
-    once : has ps p ≡ false
-    once = by_bool (has ps p)
-        (λ e. absurd (h p (omega (arith, in_times p ps (has-in p ps e), times-same p p ps (position_eq-refl p)))))
-        (λ e. e)
-
-distinct_once : (ps : List Position) → is_distinct ps ≡ true → (p : Position) → 2 ≤ times p ps → ⊥
-distinct_once [] d p h = absurd (omega arith)
-distinct_once (q ∷ ps) d p h =
-    let both = and_both (not (has ps q)) (is_distinct ps) d in
-    by_bool (position_eq p q)
-    (λ e.
-    let there : In p ps = times_in p ps (omega (arith, h, times-same p q ps e)) in
-    false≢true (sym (not_true (has ps q) both.0) ∙ ap (has ps) (sym (position_eq-true p q e)) ∙ in-has p ps there))
-    (λ e. distinct_once ps both.1 p (omega (arith, h, times-other p q ps e)))
+use Rattle.ring_machine.proofs.Common.{same_answer, has-in, position_eq-refl, position_lt-total}
+use Rattle.walk_faults.proofs.Neighbours.{times, none_less, sorted_rest}
+use Rattle.walk_faults.proofs.Opening.{distinct_once, distinct_if}
 
 -- both ends of an edge are one
 abbrev pub is_still : Edge → Bool
 is_still e = position_eq e.0 e.1
-
--- none of sorted positions is less than the first
-none_less : (b : Position) (ps : List Position) → IsSorted position_cmp (b ∷ ps) → (a : Position) → In a ps → position_lt a b ≡ false
-none_less b ps up a i =
-    let k = in_contains ps a i in
-    subst (λ z. position_lt z b ≡ false) (k.2)
-    (sorted_far (λ x y. is_lt (position_cmp x y)) (ranks_by position_total (λ x. x)) (b ∷ ps) up 0 (suc k.0) a (omega arith) (omega (arith, k.1)))
-
-sorted_rest : (a : Position) (ps : List Position) → IsSorted position_cmp (a ∷ ps) → IsSorted position_cmp ps
-sorted_rest a ps h k d z l =
-    let e : suc k + 1 ≡ suc (k + 1) = omega arith in
-    subst (λ n. is_lt (position_cmp (get_or (a ∷ ps) n d) (get_or ps k d)) ≡ false) e (h (suc k) d (omega arith) (omega arith))
 
 -- of sorted positions only the next one can be equal to one
 not_further : (a b : Position) (ps : List Position) → IsSorted position_cmp (a ∷ b ∷ ps) → position_eq a b ≡ false → has ps a ≡ false

@@ -4,7 +4,7 @@ use Rattle.kit_words.proofs.Common.{nat_lt, Result, Ok, Err, Option, Some, None,
 use Rattle.kit_words.proofs.Common.{MatchOption, nat_tests}
 use Rattle.grid_geometry.specs.Common.{Position, Segment, segment_eq}
 use Rattle.ring_machine.specs.Common.{canonical, has}
-use Rattle.ring_machine.proofs.Common.{canonical_parts, In, in_left, in_any, in_flat, in_swap, in-map, in-has}
+use Rattle.ring_machine.proofs.Common.{canonical_parts, In, in_left, in_any, in_flat, in-map, in-has, in_canonical}
 use Rattle.segment_paths.specs.Common.{Path}
 use Rattle.walk_faults.specs.Common.{walk_segments}
 use Rattle.walk_faults.proofs.Common.{segment_ends}
@@ -38,18 +38,13 @@ is_one rings ring p i j = in_any (λ r. has r p) ring rings i (in-has p ring j)
 pub odd_some : (n : ℕ) → is_odd n ≡ true → nat_lt 0 n ≡ true
 odd_some n h = grind (arith, nat_tests)
 
-turned_has : (walk : List Position) (p : Position) → In p walk → In p (canonical walk)
-turned_has walk p i =
-    let k = canonical_parts walk in
-    subst (In p) (sym k.3) (in_swap p k.0 k.1 (subst (In p) k.2 i))
-
 -- both ends of each odd segment stay
 pub odd_ends : (walks : List (List Position)) (parts : List (List (List Position))) → IsMended walks parts → KeepsOddEnds walks parts
 odd_ends walks _ (stays h) s odd =
     let k = ends_there walks s (odd_some (times_in walks s) odd) in
     let there : In (canonical k.0) (map canonical walks ++ []) = in_left (canonical k.0) (map canonical walks) [] (in-map canonical k.0 walks k.1) in (
-      is_one (map canonical walks ++ []) (canonical k.0) s.lo there (turned_has k.0 s.lo k.2),
-      is_one (map canonical walks ++ []) (canonical k.0) s.hi there (turned_has k.0 s.hi k.3),
+      is_one (map canonical walks ++ []) (canonical k.0) s.lo there (in_canonical k.0 s.lo k.2),
+      is_one (map canonical walks ++ []) (canonical k.0) s.hi there (in_canonical k.0 s.hi k.3),
     )
 odd_ends walks parts (parted h are) s odd =
     let once = are.odd s ∙ ap (λ b. cond {A = ℕ} b 1 0) odd in

@@ -2,7 +2,7 @@
 use Rattle.kit_words.proofs.Common.{◌≡◌, ◌<◌, ◌+◌, ℕ, zero, suc, ◌==◌, Bool, true, false, refl, sym, ap, ◌∙◌, subst}
 use Rattle.kit_words.proofs.Common.{cond, List, [], ◌∷◌, length, ◌&&◌, ◌||◌, arith, Decides, flat_map, list_all}
 use Rattle.kit_words.proofs.Common.{IsPermutation, IsStrictlySortedBy, Less, and_parts, and_from, nat_tests}
-use Rattle.kit_words.proofs.Common.{list_all-append, sum_by-cons, map, false≢true}
+use Rattle.kit_words.proofs.Common.{list_all-append, sum_by-cons, map, false≢true, by_bool, and_none}
 use Rattle.grid_geometry.specs.Common.{Position, Segment, segment_cmp, segment_eq}
 use Rattle.ring_machine.specs.Common.{is_ring}
 use Rattle.ring_machine.proofs.Common.{segment_eq-true, in_recursion}
@@ -31,10 +31,6 @@ filled_parts (part ∷ parts) h =
     )
 
 -- ---- each segment once
-
-by_bool : {X : Type 0} (p : Bool) → (p ≡ true → X) → (p ≡ false → X) → X
-by_bool true f g = f refl
-by_bool false f g = g refl
 
 -- of ascending segments none stands twice
 pub once : (ss : List Segment) (s : Segment) → IsStrictlySortedBy segment_cmp ss → times s ss ≡ cond (is_among ss s) 1 0
@@ -99,10 +95,6 @@ some_odd walks (s ∷ ss) l is = (s, sym (is s) ∙ ap (λ b. b || is_among ss s
 pub unfilled_empty : {X : Type 0} (seen : X → List Position) (xs : List X) (n : ℕ) (b : Bool) → n ≡ length xs → b ≡ (n == 0) → b ≡ true
     → is_filled (map seen xs) ≡ false
 unfilled_empty seen xs n b l e h = ap (λ z. is_filled (map seen z)) (none_left xs n b l e h)
-
-and_none : (b : Bool) → (b && false) ≡ false
-and_none true = refl
-and_none false = refl
 
 -- with a walk that is no ring
 pub unfilled_if : (part : List (List Position)) → list_all is_ring part ≡ false → is_filled part ≡ false

@@ -1,8 +1,8 @@
 use Rattle.kit_words.proofs.Common.{◌≡◌, to_z, of_z, ◌+◌, ◌-◌, sym, ap, ◌∙◌, length, map, take, drop, arith, ◌-ℤ◌, w128}
-use Rattle.kit_words.proofs.Common.{sum_by, fold, ints, take_all, sum_by-cons}
+use Rattle.kit_words.proofs.Common.{sum_by, fold, ints, take_all, sum_by-cons, list_is}
 use Rattle.ring_machine.specs.Query as query
 use Rattle.topo_reader.specs.Common.{positions_of}
-use Rattle.area_changes.proofs.Summing.{list_is, fold_more, sum_more, sum_front}
+use Rattle.area_changes.proofs.Summing.{fold_more, sum_more, sum_front}
 use Rattle.area_changes.proofs.areas.polygon_area.Goals as goal
 
 pub ring_area-part-requires : goal.ring_area-part-requires

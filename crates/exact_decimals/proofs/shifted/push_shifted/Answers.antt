@@ -1,6 +1,6 @@
-use Rattle.kit_words.proofs.Common.{rules, ◌++◌, ◌<◌, ◌^◌, length, pos, ◌-ℤ◌, codes, signed_decimal}
+use Rattle.kit_words.proofs.Common.{rules, ◌++◌, ◌<◌, ◌^◌, length, pos, ◌-ℤ◌, codes, signed_decimal, appended_two}
+use Rattle.kit_words.proofs.Common.{appended_three}
 use Rattle.exact_decimals.specs.Common.{sign_text, without_zeros, or_zero}
-use Rattle.exact_decimals.proofs.Appending.{two, three}
 use Rattle.exact_decimals.proofs.Power.{power_text}
 use Rattle.exact_decimals.proofs.shifted.push_shifted.Goals as goal
 
@@ -11,7 +11,7 @@ returns g c =
     let written = c.push_digits.new.text.items in
     let new = c.extend_from_slice-2.new.self.items in
     let short : length c.args.number.fraction.now < 2 ^ 64 = search rules in
-    three c.args.text.now.items (sign_text p.is_negative) (or_zero (without_zeros (p.integer.now ++ p.fraction.now)))
+    appended_three c.args.text.now.items (sign_text p.is_negative) (or_zero (without_zeros (p.integer.now ++ p.fraction.now)))
     (codes "e" ++ signed_decimal ((p.exponent -ℤ pos (length p.fraction.now)) -ℤ pos c.args.digits)) signed written new
     c.in_ok-push_sign.ensures c.in_ok-push_digits.ensures
-    (power_text p.exponent c.from.result (length p.fraction.now) c.args.digits written new c.from.ensures p.small_exponent short c.requires (two written (codes "e") _ c.extend_from_slice.new.self.items new c.in_ok-extend_from_slice.ensures.items (search rules)))
+    (power_text p.exponent c.from.result (length p.fraction.now) c.args.digits written new c.from.ensures p.small_exponent short c.requires (appended_two written (codes "e") _ c.extend_from_slice.new.self.items new c.in_ok-extend_from_slice.ensures.items (search rules)))

@@ -1,7 +1,6 @@
-use Rattle.kit_words.proofs.Common.{◌≡◌, true, map, take, refl, sym, subst, flat_map, list_all}
+use Rattle.kit_words.proofs.Common.{◌≡◌, true, map, take, refl, sym, subst, flat_map, list_all, mapped_more}
 use Rattle.ring_machine.specs.Common.{is_ring}
 use Rattle.map_frame.specs.Common.{feature_numbers}
-use Rattle.ring_store.proofs.Common.{map_more}
 use Rattle.feature_exchange.specs.Common.{asked, asked_rings}
 use Rattle.feature_exchange.proofs.LaidBeside.{laid_twice}
 use Rattle.feature_exchange.proofs.LaidSoFar.{so_far_first, so_far_more, feature_agree, all_here}
@@ -42,4 +41,4 @@ loop-change-preserved g c =
     c.in_ok-numbers.ensures.at
     _ _
     c.in_ok-push.ensures.items
-    (map_more asked c.args.changes.now c.loop-change.change-index c.change-item.result c.loop-change-test.true c.change-item.is)
+    (mapped_more asked c.args.changes.now c.loop-change.change-index c.change-item.result c.loop-change-test.true c.change-item.is)

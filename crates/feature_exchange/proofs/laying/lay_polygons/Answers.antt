@@ -1,7 +1,7 @@
 use Rattle.kit_words.proofs.Common.{◌≡◌, true, map, take, sym, ap, ◌∙◌, subst, list_all, map_push, flat_map-map}
+use Rattle.kit_words.proofs.Common.{mapped_more}
 use Rattle.ring_machine.specs.Common.{is_ring}
 use Rattle.map_frame.specs.Common.{polygon_numbers}
-use Rattle.ring_store.proofs.Common.{map_more}
 use Rattle.ring_parts.specs.Common.{rings_seen, polygons_seen}
 use Rattle.feature_exchange.proofs.LaidBeside.{laid_twice}
 use Rattle.feature_exchange.proofs.LaidSoFar.{so_far_more, polygon_agree, all_here}
@@ -38,4 +38,4 @@ loop-polygon-preserved g c =
     (c.in_ok-numbers.ensures.at ∙ ap rings_seen c.as_slice.ensures.value)
     _ _
     (ap (map polygon_numbers) c.in_ok-push.ensures.items ∙ map_push polygon_numbers c.loop-polygon.lists.items c.in_ok-numbers.numbers)
-    (map_more (λ polygon. rings_seen polygon.items) c.args.polygons.now c.loop-polygon.polygon-index c.polygon-item.result c.loop-polygon-test.true c.polygon-item.is)
+    (mapped_more (λ polygon. rings_seen polygon.items) c.args.polygons.now c.loop-polygon.polygon-index c.polygon-item.result c.loop-polygon-test.true c.polygon-item.is)

@@ -1,8 +1,8 @@
-use Rattle.kit_words.proofs.Common.{◌+◌, ◌∙◌, refl, ap, take, map, arith, take_all}
+use Rattle.kit_words.proofs.Common.{◌+◌, ◌∙◌, refl, ap, take, map, arith, take_all, mapped_more}
 use Rattle.vertex_index.specs.Common.{place}
 use Rattle.ring_machine.specs.Common.{is_ring}
 use Rattle.ring_machine.proofs.Common.{contains_in, all_in}
-use Rattle.ring_store.proofs.Common.{at_contains, map_more}
+use Rattle.ring_store.proofs.Common.{at_contains}
 use Rattle.feature_exchange.proofs.Series.{there_none, added_first, there_more, added_more, at_more}
 use Rattle.feature_exchange.proofs.ring_laying.lay_each.Goals as goal
 
@@ -33,7 +33,7 @@ loop-ring-preserved g c = record {
   at = at_more c.loop-ring.vertices c.lay_ring.new.vertices c.loop-ring.borders (g.I.SegIndex.held c.loop-ring.index) c.loop-ring.invariant.stands c.lay_ring.ensures.kept
       c.loop-ring.laid.items c.push_reserved.new.self.items c.in_ok-one.one c.push_reserved.ensures.items c.loop-ring.invariant.there
       (map (λ ring. ring.items) (take c.loop-ring.ring-index c.args.rings.now)) (map (λ ring. ring.items) (take (c.loop-ring.ring-index + 1) c.args.rings.now)) c.ring-item.result.items
-      (map_more (λ ring. ring.items) c.args.rings.now c.loop-ring.ring-index c.ring-item.result c.loop-ring-test.true c.ring-item.is)
+      (mapped_more (λ ring. ring.items) c.args.rings.now c.loop-ring.ring-index c.ring-item.result c.loop-ring-test.true c.ring-item.is)
       c.loop-ring.invariant.at (c.in_ok-one.ensures.at ∙ c.as_slice.ensures.value);
   kept = λ k p e. c.lay_ring.ensures.kept k p (c.loop-ring.invariant.kept k p e);
   room = omega (arith, c.loop-ring.invariant.room, c.push_reserved.ensures.len, c.push_reserved.ensures.capacity);

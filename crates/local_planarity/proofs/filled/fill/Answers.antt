@@ -1,10 +1,10 @@
-use Rattle.kit_words.proofs.Common.{◌≡◌, sym, ap, ◌∙◌, length, subst, true, arith, list_any}
+use Rattle.kit_words.proofs.Common.{◌≡◌, sym, ap, ◌∙◌, length, subst, true, arith, list_any, on_ok_weaker}
 use Rattle.grid_geometry.specs.Common.{segment_eq}
 use Rattle.segment_index.specs.Common.{Gives, times_by}
 use Rattle.local_planarity.specs.Common.{Nothing, first_against}
 use Rattle.local_planarity.proofs.Least.{first_with_is}
 use Rattle.local_planarity.proofs.Nearby.{stays_all, near_all, near_few, held_has}
-use Rattle.local_planarity.proofs.Filling.{held_near, filled_same, filled_more, on_ok}
+use Rattle.local_planarity.proofs.Filling.{held_near, filled_same, filled_more}
 use Rattle.local_planarity.proofs.filled.fill.Goals as goal
 
 pub returns-then-contains-clause-filled : goal.returns-then-contains-clause-filled
@@ -34,7 +34,7 @@ returns-clause-filled g c =
     let near = near_all held times c.args.s c.clear.new.self.items items c.clear.ensures.items
     (subst (λ r. Gives held times r c.clear.new.self.items items true) c.rect.ensures c.in_ok-candidates.ensures) in
     let found : c.first_against.result ≡ first_against c.args.s items c.args.first.now = c.first_against.ensures.first ∙ ap (λ z. first_against c.args.s z c.args.first.now) c.as_slice-2.ensures.value in
-    on_ok c.add.result
+    on_ok_weaker c.add.result
     (λ put ss f. filled_more held (g.I.SegIndex.held c.add.new.self) c.args.first.now c.first_against.result c.args.s ss put
     (first_with_is held times c.args.s items ss c.args.first.now c.first_against.result Nothing (stays_all held) near found) f)
     c.add.ensures.added

@@ -1,7 +1,7 @@
 use Rattle.kit_words.proofs.Common.{◌≡◌, ◌∙◌, ◌&&◌, ◌||◌, ap, Bool, false, List, not, sym, list_any_at, list_any_more}
+use Rattle.kit_words.proofs.Common.{or_right}
 use Rattle.grid_geometry.specs.Common.{is_held, Position, Segment}
 use Rattle.ring_machine.specs.Ring as machine
-use Rattle.ring_machine.proofs.Common.{or_right}
 use Rattle.local_planarity.specs.Spans.{lies_in}
 use Rattle.local_planarity.proofs.Spans.{none_held}
 use Rattle.local_planarity.proofs.sweeps.holds_end.Goals as goal

@@ -1,8 +1,7 @@
-use Rattle.kit_words.proofs.Common.{◌++◌, ap, ap₂, ◌∙◌, sym, map, take, append_assoc, take_all}
+use Rattle.kit_words.proofs.Common.{◌++◌, ap, ap₂, ◌∙◌, sym, map, take, append_assoc, take_all, flat_mapped_more}
 use Rattle.std.proofs.Common.{append-nil}
 use Rattle.topo_reader.specs.Common.{positions_of, polygon_positions}
 use Rattle.map_drawing.specs.Common.{rings_text, polygons_text}
-use Rattle.map_drawing.proofs.MappedLists.{flat_one_more}
 use Rattle.map_drawing.proofs.paths.push_polygons.Goals as goal
 
 pub loop-rings-init : goal.loop-rings-init
@@ -16,7 +15,7 @@ loop-rings-preserved g c =
     let i = c.loop-rings.rings-index in
     c.in_ok-push_rings.ensures ∙ ap₂ (λ t rs. t ++ rings_text w (map positions_of rs)) c.loop-rings.invariant c.as_slice.ensures.value
     ∙ append_assoc old (polygons_text w (map polygon_positions (take i polygons))) (rings_text w (polygon_positions c.rings-item.result))
-    ∙ ap (λ z. old ++ z) (sym (flat_one_more (rings_text w) polygon_positions polygons i c.rings-item.result c.loop-rings-test.true c.rings-item.is))
+    ∙ ap (λ z. old ++ z) (sym (flat_mapped_more (rings_text w) polygon_positions polygons i c.rings-item.result c.loop-rings-test.true c.rings-item.is))
 
 pub returns : goal.returns
 returns g c =

@@ -1,8 +1,7 @@
-use Rattle.kit_words.proofs.Common.{◌++◌, ap, ap₂, ◌∙◌, sym, map, take, append_assoc, take_all}
+use Rattle.kit_words.proofs.Common.{◌++◌, ap, ap₂, ◌∙◌, sym, map, take, append_assoc, take_all, flat_mapped_more}
 use Rattle.std.proofs.Common.{append-nil}
 use Rattle.topo_reader.specs.Common.{positions_of}
 use Rattle.map_drawing.specs.Common.{ring_text, rings_text}
-use Rattle.map_drawing.proofs.MappedLists.{flat_one_more}
 use Rattle.map_drawing.proofs.paths.push_rings.Goals as goal
 
 pub loop-ring-init : goal.loop-ring-init
@@ -16,7 +15,7 @@ loop-ring-preserved g c =
     let i = c.loop-ring.ring-index in
     c.in_ok-push_ring.ensures ∙ ap₂ (λ t ps. t ++ ring_text w ps) c.loop-ring.invariant c.as_slice.ensures.value
     ∙ append_assoc old (rings_text w (map positions_of (take i rings))) (ring_text w c.ring-item.result.items)
-    ∙ ap (λ z. old ++ z) (sym (flat_one_more (ring_text w) positions_of rings i c.ring-item.result c.loop-ring-test.true c.ring-item.is))
+    ∙ ap (λ z. old ++ z) (sym (flat_mapped_more (ring_text w) positions_of rings i c.ring-item.result c.loop-ring-test.true c.ring-item.is))
 
 pub returns : goal.returns
 returns g c =

@@ -1,6 +1,6 @@
-use Rattle.kit_words.proofs.Common.{◌∙◌, refl, sym, ap, subst, length, into_iter_items, into_iter_len}
+use Rattle.kit_words.proofs.Common.{◌∙◌, refl, sym, ap, subst, length, into_iter_items, into_iter_len, nothing_left}
 use Rattle.map_frame.specs.Common.{progress, CanTake, IsGeometry, AreSlots, AreLayers}
-use Rattle.map_frame.proofs.Built.{geometry_built, LayersSoFar, nothing_left, room_first, layers_begin, layers_more, layers_end, leaves_of, all_leaves, all_leaves-cons}
+use Rattle.map_frame.proofs.Built.{geometry_built, LayersSoFar, room_first, layers_begin, layers_more, layers_end, leaves_of, all_leaves, all_leaves-cons}
 use Rattle.map_frame.proofs.building.build_layers.Goals as goal
 
 pub loop-raw-init : goal.loop-raw-init

@@ -1,6 +1,6 @@
-use Rattle.kit_words.proofs.Common.{◌∙◌, sym, ap, subst, [], ◌∷◌, into_iter_items, into_iter_len}
+use Rattle.kit_words.proofs.Common.{◌∙◌, sym, ap, subst, [], ◌∷◌, into_iter_items, into_iter_len, nothing_left}
 use Rattle.map_frame.specs.Common.{progress, CanTake, IsSlot, AreSlots}
-use Rattle.map_frame.proofs.Built.{SlotsSoFar, nothing_left, room_first, slots_begin, slots_more, slots_end, leaves_of, leaves_of-cons}
+use Rattle.map_frame.proofs.Built.{SlotsSoFar, room_first, slots_begin, slots_more, slots_end, leaves_of, leaves_of-cons}
 use Rattle.map_frame.proofs.building.build_slots.Goals as goal
 
 pub loop-item-init : goal.loop-item-init

@@ -4,8 +4,7 @@ use Rattle.vertex_index.specs.Common.{place}
 use Rattle.grid_geometry.specs.Common.{segment}
 use Rattle.arc_tables.specs.Common.{edges, users_of}
 use Rattle.ring_store.specs.Common.{sides}
-use Rattle.ring_store.proofs.Common.{length-edges, edge_joins}
-use Rattle.ring_store.proofs.Used.{used_side}
+use Rattle.ring_store.proofs.Common.{length-edges, edge_joins, used_side}
 use Rattle.local_planarity.specs.Common.{IsFilled}
 use Rattle.map_opening.proofs.FilledLists.{sides_none, sides_more, sides_there, sides_all, still_held}
 use Rattle.map_opening.proofs.filling.fill_ring.Goals as goal

@@ -1,7 +1,7 @@
-use Rattle.kit_words.proofs.Common.{◌++◌, ◌∷◌, [], ◌∙◌, sym, ap, into_iter_items, into_iter_len, map_push}
+use Rattle.kit_words.proofs.Common.{◌++◌, ◌∷◌, [], ◌∙◌, sym, ap, into_iter_items, into_iter_len, map_push, nothing_left}
 use Rattle.ring_parts.specs.Common.{rings_seen, polygons_seen}
 use Rattle.map_opening.specs.Common.{joined, all_rings, shape_of, lists_seen, features_seen}
-use Rattle.map_opening.proofs.FlatLists.{nothing_left, moved, all_moved}
+use Rattle.map_opening.proofs.FlatLists.{moved, all_moved}
 use Rattle.map_opening.proofs.flat.flattened.Goals as goal
 
 pub loop-polygons-init : goal.loop-polygons-init

@@ -1,8 +1,8 @@
 use Rattle.kit_words.proofs.Common.{◌++◌, ◌∷◌, [], ◌∙◌, refl, sym, ap, map, length, into_iter_items, into_iter_len}
-use Rattle.kit_words.proofs.Common.{length-map, map-append}
+use Rattle.kit_words.proofs.Common.{length-map, map-append, nothing_left}
 use Rattle.ring_parts.specs.Common.{rings_seen, polygons_seen}
 use Rattle.map_opening.specs.Common.{joined}
-use Rattle.map_opening.proofs.FlatLists.{nothing_left, moved, all_moved}
+use Rattle.map_opening.proofs.FlatLists.{moved, all_moved}
 use Rattle.map_opening.proofs.flat.move_rings.Goals as goal
 
 pub loop-polygon-init : goal.loop-polygon-init

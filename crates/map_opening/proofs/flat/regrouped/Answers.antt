@@ -1,6 +1,6 @@
 use Rattle.kit_words.proofs.Common.{◌+◌, ◌++◌, ◌∷◌, [], ◌∙◌, refl, sym, ap, ap₂, map, length, take, drop, arith, sum}
-use Rattle.kit_words.proofs.Common.{map_push, take_all, drop_all, sum_by_more, sum_by_more_le}
-use Rattle.ring_store.proofs.Common.{map_more, sum_by-map}
+use Rattle.kit_words.proofs.Common.{map_push, take_all, drop_all, sum_by_more, sum_by_more_le, mapped_more}
+use Rattle.ring_store.proofs.Common.{sum_by-map}
 use Rattle.map_opening.specs.Common.{all_rings, shape_of, ring_count, lists_seen, numbers_seen}
 use Rattle.map_opening.proofs.FlatLists.{all_moved, all_next}
 use Rattle.map_opening.proofs.flat.regrouped.Goals as goal
@@ -34,7 +34,7 @@ loop-counts-preserved g c =
           pushed c.in_ok-next_lists.ensures.lists c.loop-counts.invariant.all;
       alike = ap shape_of pushed ∙ map_push (map length) (numbers_seen c.loop-counts.features.items) (lists_seen lists.items)
           ∙ ap₂ (λ y z. y ++ z ∷ []) c.loop-counts.invariant.alike (c.in_ok-next_lists.ensures.counts ∙ c.as_slice.ensures.value)
-          ∙ sym (map_more (λ list. list.items) c.args.shape.now c.loop-counts.counts-index c.counts-item.result c.loop-counts-test.true c.counts-item.is);
+          ∙ sym (mapped_more (λ list. list.items) c.args.shape.now c.loop-counts.counts-index c.counts-item.result c.loop-counts-test.true c.counts-item.is);
       next = omega (
         arith,
         c.loop-counts.invariant.next,

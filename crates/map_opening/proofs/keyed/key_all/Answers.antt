@@ -1,8 +1,8 @@
-use Rattle.kit_words.proofs.Common.{◌+◌, ◌∙◌, ap, subst, take, take_all}
+use Rattle.kit_words.proofs.Common.{◌+◌, ◌∙◌, ap, subst, take, take_all, mapped_more}
 use Rattle.ring_machine.specs.Common.{is_ring}
 use Rattle.ring_machine.proofs.Common.{contains_in, all_in, ring_distinct}
 use Rattle.ring_parts.specs.Common.{rings_seen}
-use Rattle.ring_store.proofs.Common.{read_next, keyed_at, ring_stays, at_contains, map_more, map_pushed}
+use Rattle.ring_store.proofs.Common.{read_next, keyed_at, ring_stays, at_contains, map_pushed}
 use Rattle.map_opening.specs.Common.{lists_seen, IsKeyed}
 use Rattle.map_opening.proofs.KeyedRings.{none_distinct, none_read, read_keyed}
 use Rattle.map_opening.proofs.keyed.key_all.Goals as goal
@@ -27,7 +27,7 @@ loop-ring-preserved g c = record {
       (rings_seen (take c.loop-ring.ring-index c.args.rings.now)) (rings_seen (take (c.loop-ring.ring-index + 1) c.args.rings.now))
       c.key_ring.new.keys.items c.ring-item.result.items
       (map_pushed (λ keys. keys.items) c.loop-ring.keyed.items c.push.new.self.items c.key_ring.new.keys c.in_ok-push.ensures.items)
-      (map_more (λ ring. ring.items) c.args.rings.now c.loop-ring.ring-index c.ring-item.result c.loop-ring-test.true c.ring-item.is)
+      (mapped_more (λ ring. ring.items) c.args.rings.now c.loop-ring.ring-index c.ring-item.result c.loop-ring-test.true c.ring-item.is)
       c.loop-ring.invariant.read (c.in_ok-key_ring.ensures.at ∙ c.as_slice.ensures.value) c.key_ring.ensures.put;
   distinct = c.key_ring.ensures.distinct;
 }

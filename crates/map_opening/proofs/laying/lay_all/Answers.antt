@@ -1,7 +1,7 @@
 use Rattle.kit_words.proofs.Common.{◌∙◌, ◌++◌, ◌∷◌, [], refl, sym, ap, subst, length, take, arith, take_all}
-use Rattle.kit_words.proofs.Common.{sum_by_more_le}
+use Rattle.kit_words.proofs.Common.{sum_by_more_le, mapped_more}
 use Rattle.ring_store.specs.Common.{IsRound}
-use Rattle.ring_store.proofs.Common.{at_contains, map_more, sum_by-map}
+use Rattle.ring_store.proofs.Common.{at_contains, sum_by-map}
 use Rattle.map_opening.specs.Common.{lists_seen, AreLaid}
 use Rattle.map_opening.proofs.laying.lay_all.Goals as goal
 
@@ -31,7 +31,7 @@ pub loop-keys-preserved : goal.loop-keys-preserved
 loop-keys-preserved g c = record {
   laid = subst (λ z. AreLaid z c.lay_ring.new.opened)
       (ap (λ z. lists_seen (take c.loop-keys.keys-index c.args.keyed.now) ++ z ∷ []) c.as_slice.ensures.value
-      ∙ sym (map_more (λ keys. keys.items) c.args.keyed.now c.loop-keys.keys-index c.keys-item.result c.loop-keys-test.true c.keys-item.is))
+      ∙ sym (mapped_more (λ keys. keys.items) c.args.keyed.now c.loop-keys.keys-index c.keys-item.result c.loop-keys-test.true c.keys-item.is))
       (c.in_ok-lay_ring.ensures.laid (lists_seen (take c.loop-keys.keys-index c.args.keyed.now)) c.loop-keys.invariant.laid);
   vertices = c.lay_ring.ensures.vertices ∙ c.loop-keys.invariant.vertices;
   cells = c.lay_ring.ensures.cells ∙ c.loop-keys.invariant.cells;

@@ -1,7 +1,7 @@
-use Rattle.kit_words.proofs.Common.{◌∙◌, sym, length, length-map, codes, decimal}
+use Rattle.kit_words.proofs.Common.{◌∙◌, sym, length, length-map, codes, decimal, appended_five}
 use Rattle.segment_paths.specs.Common.{path_seen, paths_seen}
 use Rattle.mend_report.specs.Common.{findings_text, lines, path_line, parts_line, area_line, found_text, all_counts_line}
-use Rattle.mend_report.proofs.Appending.{five, eight}
+use Rattle.mend_report.proofs.Appending.{eight}
 use Rattle.mend_report.proofs.ReportLemmas.{told, led, numbered}
 use Rattle.mend_report.proofs.report.push_mended.Goals as goal
 
@@ -15,7 +15,7 @@ returns g c =
     let found = found_text (length f.short.items) (length f.repeats.items) (length f.touches.items) (length f.crossings.items) in
     let counts = all_counts_line (length f.short.items) (length f.repeats.items) (length f.touches.items) (length f.crossings.items)
     (length (paths_seen paths)) (length parted) (length areas) in
-    five c.args.text.now.items (findings_text most c.args.report.now.grid c.args.report.now.dropped f.short.items f.repeats.items f.touches.items f.crossings.items)
+    appended_five c.args.text.now.items (findings_text most c.args.report.now.grid c.args.report.now.dropped f.short.items f.repeats.items f.touches.items f.crossings.items)
     (lines most path_line (paths_seen paths)) (lines most parts_line parted) (lines most area_line areas) counts
     c.push_findings.new.text.items c.push_first.new.text.items c.push_first-2.new.text.items c.push_first-3.new.text.items c.extend_from_slice-4.new.self.items
     c.in_ok-push_findings.ensures

@@ -1,8 +1,7 @@
 use Rattle.kit_words.proofs.Common.{arith, refl, sym, ap, ◌∙◌, ◌++◌, map, get_or, codes, decimal, take_all}
-use Rattle.kit_words.proofs.Common.{get_or_default}
+use Rattle.kit_words.proofs.Common.{get_or_default, appended_three}
 use Rattle.std.proofs.Common.{append-nil}
 use Rattle.map_text.specs.Common.{commas}
-use Rattle.place_text.proofs.Appending.{three}
 use Rattle.place_text.proofs.Listed.{map_step}
 use Rattle.place_text.proofs.objects.push_features.Goals as goal
 
@@ -20,6 +19,6 @@ loop-index-preserved g c =
 pub returns : goal.returns
 returns g c =
     let begun = c.args.text.now.items ++ codes ",\"features\":[" in
-    three c.args.text.now.items (codes ",\"features\":[") (commas (map decimal c.args.numbers.now)) (codes "]") begun c.loop-index.text.items _ refl
+    appended_three c.args.text.now.items (codes ",\"features\":[") (commas (map decimal c.args.numbers.now)) (codes "]") begun c.loop-index.text.items _ refl
     (c.loop-index.invariant ∙ ap (λ z. begun ++ commas (map decimal z)) (take_all c.loop-index.index c.args.numbers.now (omega arith)))
     c.in_ok-extend_from_slice-2.ensures.items

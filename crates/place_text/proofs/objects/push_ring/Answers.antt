@@ -1,12 +1,11 @@
-use Rattle.kit_words.proofs.Common.{sym, ap, ◌∙◌, ◌++◌, codes, decimal}
+use Rattle.kit_words.proofs.Common.{sym, ap, ◌∙◌, ◌++◌, codes, decimal, appended_six}
 use Rattle.place_text.specs.Common.{ring_text}
-use Rattle.place_text.proofs.Appending.{six}
 use Rattle.place_text.proofs.objects.push_ring.Goals as goal
 
 pub returns : goal.returns
 returns g c =
     let r = c.in-Some.ring in
-    six c.args.text.now.items (codes ",\"feature\":") (decimal r.feature) (codes ",\"polygon\":") (decimal r.polygon) (codes ",\"ring\":") (decimal r.ring)
+    appended_six c.args.text.now.items (codes ",\"feature\":") (decimal r.feature) (codes ",\"polygon\":") (decimal r.polygon) (codes ",\"ring\":") (decimal r.ring)
     c.extend_from_slice.new.self.items c.push_number.new.text.items c.extend_from_slice-2.new.self.items c.push_number-2.new.text.items
     c.extend_from_slice-3.new.self.items c.push_number-3.new.text.items
     c.in_ok-extend_from_slice.ensures.items c.in_ok-push_number.ensures c.in_ok-extend_from_slice-2.ensures.items c.in_ok-push_number-2.ensures

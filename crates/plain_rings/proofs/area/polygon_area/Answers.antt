@@ -1,8 +1,7 @@
 use Rattle.kit_words.proofs.Common.{◌≡◌, to_z, of_z, ◌+◌, ◌-◌, sym, ap, ◌∙◌, length, take, drop, arith, ◌-ℤ◌, w128}
-use Rattle.kit_words.proofs.Common.{sum_by, fold, ints, take_all, sum_by-cons}
+use Rattle.kit_words.proofs.Common.{sum_by, fold, ints, take_all, sum_by-cons, list_is}
 use Rattle.ring_machine.specs.Query as query
 use Rattle.plain_rings.specs.Common.{held_polygon}
-use Rattle.ring_parts.proofs.Common.{list_is}
 use Rattle.plain_rings.proofs.RingLists.{fold_more}
 use Rattle.plain_rings.proofs.Summing.{sum_more, sum_front}
 use Rattle.plain_rings.proofs.area.polygon_area.Goals as goal

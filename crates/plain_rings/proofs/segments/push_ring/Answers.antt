@@ -1,8 +1,7 @@
-use Rattle.kit_words.proofs.Common.{sym, ap, subst, ◌++◌, AllByRecursion}
+use Rattle.kit_words.proofs.Common.{sym, ap, subst, ◌++◌, AllByRecursion, list_is}
 use Rattle.grid_geometry.specs.Common.{edges}
 use Rattle.ring_machine.specs.Common.{segments}
 use Rattle.plain_rings.proofs.RingSteps.{Differ, ring_differs}
-use Rattle.ring_parts.proofs.Common.{list_is}
 use Rattle.plain_rings.proofs.segments.push_ring.Goals as goal
 
 pub loop-to-init : goal.loop-to-init

@@ -1,6 +1,7 @@
 use Rattle.kit_words.proofs.Common.{◌≡◌, ◌≤◌, ◌^◌, ap, ap₂, ◌∙◌, ℤ, pos, ◌*ℤ◌, to_z-of_z}
 use Rattle.exact_decimals.specs.Common.{rounded}
-use Rattle.point_rounding.proofs.Fits.{scaled_fits, scale_within, product_is, product_fits}
+use Rattle.exact_decimals.proofs.Common.{scale_fits}
+use Rattle.point_rounding.proofs.Fits.{scaled_fits, product_is, product_fits}
 use Rattle.point_rounding.proofs.rounding.on_axis.Goals as goal
 use mir.Syntax.{w128}
 
@@ -12,14 +13,14 @@ rounded-requires-clause-units c =
 pub overflow_mul-result : goal.overflow_mul-result
 overflow_mul-result c =
     let low : c.pow-scale.result ≤ 10 ^ 12 =
-    scale_within c.args.grid.finer c.pow-scale.result c.args.grid.little_finer c.pow-scale.ensures in
+    scale_fits c.args.grid.finer c.pow-scale.result c.args.grid.little_finer c.pow-scale.ensures in
     rw (product_is c.rounded.result c.from.result c.pow-scale.result c.rounded.ensures.bound low c.from.ensures)
     (product_fits c.rounded.result c.pow-scale.result c.rounded.ensures.bound low)
 
 pub returns : goal.returns
 returns c =
     let low : c.pow-scale.result ≤ 10 ^ 12 =
-    scale_within c.args.grid.finer c.pow-scale.result c.args.grid.little_finer c.pow-scale.ensures in
+    scale_fits c.args.grid.finer c.pow-scale.result c.args.grid.little_finer c.pow-scale.ensures in
     let is : c.rounded.result ≡ rounded c.args.grid.digits c.args.units =
     c.rounded.ensures.value ∙ ap (λ z. rounded c.args.grid.digits z) (to_z-of_z w128 c.args.units c.ranges.units) in
     rw (product_is c.rounded.result c.from.result c.pow-scale.result c.rounded.ensures.bound low c.from.ensures)

@@ -1,6 +1,5 @@
-use Rattle.kit_words.proofs.Common.{ap, ◌++◌, arith}
+use Rattle.kit_words.proofs.Common.{ap, ◌++◌, arith, list_is}
 use Rattle.grid_geometry.specs.Common.{edges}
-use Rattle.ring_parts.proofs.Lists.{list_is}
 use Rattle.ring_parts.proofs.edges.push_edges.Goals as goal
 
 pub loop-to-init : goal.loop-to-init

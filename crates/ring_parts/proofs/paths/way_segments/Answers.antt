@@ -1,6 +1,5 @@
-use Rattle.kit_words.proofs.Common.{refl, ap, ap₂, ◌∙◌, ◌++◌, ◌∷◌, []}
+use Rattle.kit_words.proofs.Common.{refl, ap, ap₂, ◌∙◌, ◌++◌, ◌∷◌, [], list_is}
 use Rattle.ring_machine.specs.Common.{is_distinct}
-use Rattle.ring_parts.proofs.Lists.{list_is}
 use Rattle.ring_parts.proofs.WaySegments.{segments_along, way_more, way_on, way_apart}
 use Rattle.ring_parts.proofs.paths.way_segments.Goals as goal
 use Rattle.ring_parts.proofs.paths.way_segments.Goals.{in-Some+in_ok-push, in_default-new}

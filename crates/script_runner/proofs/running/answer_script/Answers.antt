@@ -1,7 +1,6 @@
-use Rattle.kit_words.proofs.Common.{◌+◌, ◌++◌, [], ◌∙◌, ap, refl, take, drop, rules, arith, length, ◌≡◌, ◌≤◌, ℕ}
-use Rattle.kit_words.proofs.Common.{Consumes-nil, Appends-nil, length-take-le}
+use Rattle.kit_words.proofs.Common.{◌+◌, ◌++◌, [], ◌∙◌, ap, refl, take, drop, rules, arith, length, ◌≡◌, ◌≤◌}
+use Rattle.kit_words.proofs.Common.{Consumes-nil, Appends-nil, length-take-le, Appends-trans}
 use Rattle.script_runner.specs.Common.{reader_of, writer_of, devices, Progress}
-use Rattle.device_io.proofs.Common.{Appends-more}
 use Rattle.topo_writer.specs.Common.{of_device}
 use Rattle.script_runner.proofs.StepLemmas.{Feeds-append}
 use Rattle.script_runner.proofs.RunLemmas.{lines_kept, all_answered, end_read, part_at_end, part_in_piece, piece_came, whole_came, past_limit, fed_length, lines_in_piece, piece_fits, rest_fits}
@@ -102,7 +101,7 @@ loop-n-preserved g c =
         read ++ take c.min-taken.result c.get.new.room,
         text ++ new,
         whole_came _ _ _ read c.get.new.room c.in-Ok.n c.min-taken.result same came c.in-Ok.ensures.ok,
-        Appends-more _ _ _ _ _ put put_new,
+        Appends-trans _ _ _ _ _ put put_new,
         Feeds-append read _ _ _ _ text new fed fed_new,
         omega arith,
       );

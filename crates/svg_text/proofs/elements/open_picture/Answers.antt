@@ -1,6 +1,6 @@
-use Rattle.kit_words.proofs.Common.{codes}
+use Rattle.kit_words.proofs.Common.{codes, appended_five}
 use Rattle.svg_text.specs.Common.{attribute_text, box_text}
-use Rattle.svg_text.proofs.Appending.{five, whole, both_whole}
+use Rattle.svg_text.proofs.Appending.{whole, both_whole}
 use Rattle.svg_text.proofs.elements.open_picture.Goals as goal
 
 pub returns : goal.returns
@@ -9,7 +9,7 @@ returns g c =
     let wide = c.push_attribute.new.text.items in
     let high = c.push_attribute-2.new.text.items in
     let boxed = c.push_box.new.text.items in
-    five c.args.text.now.items (codes "<svg xmlns=\"http://www.w3.org/2000/svg\"") (attribute_text (codes "width") c.args.width)
+    appended_five c.args.text.now.items (codes "<svg xmlns=\"http://www.w3.org/2000/svg\"") (attribute_text (codes "width") c.args.width)
     (attribute_text (codes "height") c.args.height) (box_text c.args.width c.args.height) (codes ">\n")
     begun wide high boxed c.extend_from_slice-2.new.self.items
     c.in_ok-extend_from_slice.ensures.items

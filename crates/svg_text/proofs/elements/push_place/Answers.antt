@@ -1,8 +1,8 @@
 use mir.Syntax.{w64}
 use mir.Val.{SFits}
-use Rattle.kit_words.proofs.Common.{rules, codes}
+use Rattle.kit_words.proofs.Common.{rules, codes, appended_four}
 use Rattle.svg_text.specs.Common.{attribute_text}
-use Rattle.svg_text.proofs.Appending.{four, whole}
+use Rattle.svg_text.proofs.Appending.{whole}
 use Rattle.svg_text.proofs.elements.push_place.Goals as goal
 
 pub returns : goal.returns
@@ -17,7 +17,7 @@ returns g c =
     let y : SFits w64 c.args.place.y = search rules in
     let width : SFits w64 c.args.place.width = search rules in
     let height : SFits w64 c.args.place.height = search rules in
-    four old (attribute_text (codes "x") p.x) (attribute_text (codes "y") p.y) (attribute_text (codes "width") p.width) (attribute_text (codes "height") p.height) t u v new
+    appended_four old (attribute_text (codes "x") p.x) (attribute_text (codes "y") p.y) (attribute_text (codes "width") p.width) (attribute_text (codes "height") p.height) t u v new
     (whole (attribute_text (codes "x")) old t p.x x c.in_ok-push_attribute.ensures)
     (whole (attribute_text (codes "y")) t u p.y y c.in_ok-push_attribute-2.ensures)
     (whole (attribute_text (codes "width")) u v p.width width c.in_ok-push_attribute-3.ensures)

@@ -1,9 +1,8 @@
-use Rattle.kit_words.proofs.Common.{arith, ◌≡◌, ◌∷◌, [], ◌++◌, sym, ap, ◌∙◌, length}
-use Rattle.indexmap.specs.IndexMap.{get}
-use Rattle.ring_machine.specs.Common.{edge_eq, is_junction}
+use Rattle.kit_words.proofs.Common.{arith, ◌≡◌, ◌∷◌, [], ◌++◌, ap, ◌∙◌, length}
+use Rattle.ring_machine.specs.Common.{is_junction}
 use Rattle.map_text.specs.Common.{pieces, ring_text}
+use Rattle.map_text.proofs.Common.{pieces_length}
 use Rattle.topo_writer.specs.Common.{found, arcs_along, listed_arcs, named_ring}
-use Rattle.topo_writer.proofs.Later.{pieces_few}
 use Rattle.topo_writer.proofs.NamedRings.{named_fits, named_found, named_indexes, named_long}
 use Rattle.topo_writer.proofs.rings.push_ring_of.Goals as goal
 
@@ -21,7 +20,7 @@ index_all-requires-clause-few g c =
       c.requires.few,
       c.requires.table.finds.has.counts,
       ap length cut,
-      pieces_few (is_junction d) (named_ring d c.args.name),
+      pieces_length (is_junction d) (named_ring d c.args.name),
     )
 
 pub returns-clause-table : goal.returns-clause-table

@@ -1,8 +1,9 @@
 use Rattle.kit_words.proofs.Common.{arith, refl, ◌≡◌, sym, ap, ◌∙◌, subst, ◌<◌, [], length, get_or, Contains}
 use Rattle.kit_words.proofs.Common.{AllByRecursion, append-nil, get_or_default}
 use Rattle.ring_machine.specs.Common.{rings, is_junction}
+use Rattle.ring_machine.proofs.Common.{in_at}
 use Rattle.topo_writer.specs.Common.{rings_at, polygons_at, arcs_in, written_polygon}
-use Rattle.topo_writer.proofs.LaterParts.{each_part, in_place, polygon_same, rings_few, left_step, part_arcs, part_text}
+use Rattle.topo_writer.proofs.LaterParts.{each_part, polygon_same, rings_few, left_step, part_arcs, part_text}
 use Rattle.topo_writer.proofs.SeenParts.{polygon_is_at, seen_count, seen_ring_count}
 use Rattle.topo_writer.proofs.shapes.push_polygons_of.Goals as goal
 
@@ -16,7 +17,7 @@ push_polygon_of-requires-clause-there g c =
     let ps = polygons_at d c.args.n in
     let h : c.loop-polygon.polygon < length ps = omega (arith, seen_count d c.args.n c.args.view.now c.requires.seen) in
     subst (AllByRecursion (Contains (rings d))) (sym (polygon_is_at d c.args.n c.loop-polygon.polygon))
-    (each_part (Contains (rings d)) (λ polygon. polygon) ps (get_or ps c.loop-polygon.polygon []) (in_place ps c.loop-polygon.polygon [] h) c.requires.there)
+    (each_part (Contains (rings d)) (λ polygon. polygon) ps (get_or ps c.loop-polygon.polygon []) (in_at ps c.loop-polygon.polygon [] h) c.requires.there)
 
 pub push_polygon_of-requires-clause-table : goal.push_polygon_of-requires-clause-table
 push_polygon_of-requires-clause-table g c = c.loop-polygon.invariant.table

@@ -1,4 +1,5 @@
 use Rattle.kit_words.proofs.Common.{◌≡◌, ◌≢◌, ◌∙◌, ℕ, List, [], ◌∷◌, ◌++◌, Some, None, cond, sym, ap, refl, rules}
+use Rattle.kit_words.proofs.Common.{on_err}
 use Rattle.std.specs.FinMap as map
 use Rattle.indexmap.specs.Entry.{entry_value, map_with_value}
 use Rattle.grid_geometry.specs.Common.{Position, position_eq}
@@ -7,7 +8,6 @@ use Rattle.indexmap.proofs.CallerLemmas.{insert_entry-new}
 use Rattle.vertex_index.proofs.SlotLemmas.{pos_here, none_here, pos_kept}
 use Rattle.vertex_index.proofs.PlaceLemmas.{placed}
 use Rattle.vertex_index.proofs.PlacementLemmas.{placement-changed}
-use Rattle.vertex_index.proofs.PutLemmas.{on_err}
 use Rattle.vertex_index.proofs.EntryLemmas.{no_entry}
 use Rattle.vertex_index.proofs.MirrorLemmas.{slot_has, Mirrors-add, free, found_key, distinct}
 use Rattle.vertex_index.proofs.Vertices.put.Given.{Over}

@@ -1,9 +1,9 @@
-use Rattle.kit_words.proofs.Common.{◌≡◌, ◌∙◌, ◌++◌, ◌∷◌, [], ap, sym, refl, Some, option_copied_mut}
+use Rattle.kit_words.proofs.Common.{◌≡◌, ◌∙◌, ◌++◌, ◌∷◌, [], ap, sym, refl, Some, option_copied_mut, on_err}
 use Rattle.slab.specs.Slab.{get, with_value}
 use Rattle.arc_tables.specs.Common.{Use, uses_in}
 use Rattle.arc_tables.proofs.Growing.{known_goes_on}
 use Rattle.arc_tables.proofs.WholeLemmas.{listed_paths, whole_alike, whole_same}
-use Rattle.arc_tables.proofs.Writes.{at_err, went_on, same_uses, same_keys}
+use Rattle.arc_tables.proofs.Writes.{went_on, same_uses, same_keys}
 use Rattle.arc_tables.proofs.tables.Tables.go_along.Goals as goal
 
 pub returns-clause-ok : goal.returns-clause-ok
@@ -33,7 +33,7 @@ returns-clause-held g c = same_keys c.args.self.now.rings c.args.r (record { use
 pub returns-in_err-reserve-clause-err_rings : goal.returns-in_err-reserve-clause-err_rings
 returns-in_err-reserve-clause-err_rings g c =
     let is : Some c.unwrap-ring.result.now ≡ get c.args.self.now.rings c.args.r = sym (ap option_copied_mut c.unwrap-ring.ensures) ∙ c.get_mut.ensures.value in
-    at_err c.from_residual.result (same_uses c.args.self.now.rings c.args.r (record { uses = c.reserve.new.self }) c.requires.ring (c.reserve.ensures.items ∙ ap uses_in is))
+    on_err c.from_residual.result (same_uses c.args.self.now.rings c.args.r (record { uses = c.reserve.new.self }) c.requires.ring (c.reserve.ensures.items ∙ ap uses_in is))
 
 pub returns-in_err-reserve-clause-held : goal.returns-in_err-reserve-clause-held
 returns-in_err-reserve-clause-held g c = same_keys c.args.self.now.rings c.args.r (record { uses = c.reserve.new.self }) c.requires.ring
@@ -48,7 +48,7 @@ returns-in_err-reserve-clause-whole g c =
 pub returns-in_err-learn-clause-err_rings : goal.returns-in_err-learn-clause-err_rings
 returns-in_err-learn-clause-err_rings g c =
     let is : Some c.unwrap-ring.result.now ≡ get c.args.self.now.rings c.args.r = sym (ap option_copied_mut c.unwrap-ring.ensures) ∙ c.get_mut.ensures.value in
-    at_err c.from_residual-in_err-learn.result (same_uses c.args.self.now.rings c.args.r (record { uses = c.reserve.new.self }) c.requires.ring (c.reserve.ensures.items ∙ ap uses_in is))
+    on_err c.from_residual-in_err-learn.result (same_uses c.args.self.now.rings c.args.r (record { uses = c.reserve.new.self }) c.requires.ring (c.reserve.ensures.items ∙ ap uses_in is))
 
 pub returns-in_err-learn-clause-held : goal.returns-in_err-learn-clause-held
 returns-in_err-learn-clause-held g c = same_keys c.args.self.now.rings c.args.r (record { uses = c.reserve.new.self }) c.requires.ring

@@ -1,4 +1,4 @@
-use Rattle.kit_words.proofs.Common.{◌≡◌, ◌+◌, ◌∙◌, ap, refl, sym, subst, Contains, Some, option_copied_mut}
+use Rattle.kit_words.proofs.Common.{◌≡◌, ◌+◌, ◌∙◌, ap, refl, sym, subst, Contains, Some, option_copied_mut, on_err}
 use Rattle.std.specs.List.{insert}
 use Rattle.slab.specs.Slab.{get, with_value}
 use Rattle.slab.proofs.SlabLemmas.{Updates-with_value}
@@ -7,7 +7,7 @@ use Rattle.arc_tables.proofs.Growing.{known_alike}
 use Rattle.arc_tables.proofs.EditLemmas.{listed_edited}
 use Rattle.arc_tables.proofs.Inserting.{inserted_arcs, untouched, in_inserted}
 use Rattle.arc_tables.proofs.WholeLemmas.{whole_same}
-use Rattle.arc_tables.proofs.Writes.{at_err, listed_now, rekeyed_users, same_paths}
+use Rattle.arc_tables.proofs.Writes.{listed_now, rekeyed_users, same_paths}
 use Rattle.arc_tables.proofs.tables.Tables.insert.Goals as goal
 
 pub returns-clause-ok : goal.returns-clause-ok
@@ -50,7 +50,7 @@ returns-in_err-insert-clause-err g c =
     let s = c.args.self.now in
     let v : Arc g.row.A.Denot = record c.unwrap-arc.result.now { keys = c.insert.new.self } in
     let is : Some c.unwrap-arc.result.now ≡ get s.arcs p.arc = sym (ap option_copied_mut c.unwrap-arc.ensures) ∙ c.get_mut.ensures.value in
-    at_err c.from_residual-in_err-insert.result (same_paths s.arcs p.arc v c.in-Some.ensures.there (c.in_err-insert.ensures.items ∙ ap path_in is))
+    on_err c.from_residual-in_err-insert.result (same_paths s.arcs p.arc v c.in-Some.ensures.there (c.in_err-insert.ensures.items ∙ ap path_in is))
 
 pub returns-in_default-clause-ok : goal.returns-in_default-clause-ok
 returns-in_default-clause-ok g c = λ i. sym (untouched c.args.a c.args.b c.args.q (links (path_of c.args.self.now i)) (c.in_default.ensures.none i))

@@ -1,9 +1,9 @@
 use Rattle.kit_words.proofs.Common.{ℕ, ap, subst, Contains, ◌≡◌, sym, ◌∙◌, ◌++◌, ◌∷◌, [], Some, None, IsSome, false, refl}
-use Rattle.kit_words.proofs.Common.{false≢true, false_from_ne_true, option_copied_mut}
+use Rattle.kit_words.proofs.Common.{false≢true, false_from_ne_true, option_copied_mut, on_err}
 use Rattle.slab.specs.Slab.{get, Updates, with_value}
 use Rattle.arc_tables.specs.Common.{Use, Arc, Ring, path_in, users_in, uses_in, including, GoesOn}
 use Rattle.arc_tables.proofs.WholeLemmas.{whole_alike, listed_new}
-use Rattle.arc_tables.proofs.Writes.{at_err, went_on, same_uses, same_keys}
+use Rattle.arc_tables.proofs.Writes.{went_on, same_uses, same_keys}
 use Rattle.arc_tables.proofs.CutLemmas.{lacks_of}
 use Rattle.arc_tables.proofs.Growing.{known_goes_on, learns}
 use Rattle.arc_tables.proofs.tables.Tables.start.Given.{Over}
@@ -66,7 +66,7 @@ returns-in_err-note-clause-whole g c = whole_alike c.args.self.now (record c.arg
 pub returns-in_err-push-clause-err_rings : goal.returns-in_err-push-clause-err_rings
 returns-in_err-push-clause-err_rings g c =
     let is : Some c.unwrap-ring.result.now ≡ get c.args.self.now.rings c.args.r = sym (ap option_copied_mut c.unwrap-ring.ensures) ∙ c.get_mut.ensures.value in
-    at_err c.from_residual-in_err-push.result (same_uses c.args.self.now.rings c.args.r (record { uses = c.push.new.self }) c.requires.there (c.in_err-push.ensures.items ∙ ap uses_in is))
+    on_err c.from_residual-in_err-push.result (same_uses c.args.self.now.rings c.args.r (record { uses = c.push.new.self }) c.requires.there (c.in_err-push.ensures.items ∙ ap uses_in is))
 
 pub returns-in_err-push-clause-held : goal.returns-in_err-push-clause-held
 returns-in_err-push-clause-held g c = same_keys c.args.self.now.rings c.args.r (record { uses = c.push.new.self }) c.requires.there

@@ -1,11 +1,11 @@
-use Rattle.kit_words.proofs.Common.{subst}
+use Rattle.kit_words.proofs.Common.{subst, on_ok_weaker}
 use Rattle.segment_index.proofs.Common.{contains_inserted}
 use Rattle.ring_boxes.specs.Common.{StaysHeld}
-use Rattle.ring_boxes.proofs.Holding.{on_ok, added_stays}
+use Rattle.ring_boxes.proofs.Holding.{added_stays}
 use Rattle.ring_boxes.proofs.boxes.RingBoxes.hold.Goals as goal
 
 pub returns-clause-held : goal.returns-clause-held
-returns-clause-held g c = on_ok c.add.result (contains_inserted c.add.new.self c.self.inside.index c.args.d) c.add.ensures.added
+returns-clause-held g c = on_ok_weaker c.add.result (contains_inserted c.add.new.self c.self.inside.index c.args.d) c.add.ensures.added
 
 pub returns-clause-stays : goal.returns-clause-stays
 returns-clause-stays g c =

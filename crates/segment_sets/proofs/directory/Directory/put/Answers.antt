@@ -1,8 +1,7 @@
-use Rattle.kit_words.proofs.Common.{◌≡◌, ◌∙◌, get_or_default}
+use Rattle.kit_words.proofs.Common.{◌≡◌, ◌∙◌, get_or_default, on_ok_weaker, on_err_weaker}
 use Rattle.segment_sets.specs.Common.{column, every, lines_in}
 use Rattle.segment_sets.proofs.Branches.{gains-right, same-right}
 use Rattle.segment_sets.proofs.Homes.{home-put, gained-at_home, same-at_home}
-use Rattle.segment_sets.proofs.Singles.{ok_then, err_then}
 use Rattle.segment_sets.proofs.directory.Directory.put.Goals as goal
 
 pub invariant_of-self : goal.invariant_of-self
@@ -28,8 +27,8 @@ returns-in-Some-clause-unchanged g c =
 
 pub returns-in-None-clause-put : goal.returns-in-None-clause-put
 returns-in-None-clause-put g c =
-    rw (← c.self.view_is) (ok_then c.put-in-None.result (gains-right c.args.entry.now (every c.self.inside.strips.items) c.self.inside.rest c.put-in-None.new.self) c.put-in-None.ensures.put)
+    rw (← c.self.view_is) (on_ok_weaker c.put-in-None.result (gains-right c.args.entry.now (every c.self.inside.strips.items) c.self.inside.rest c.put-in-None.new.self) c.put-in-None.ensures.put)
 
 pub returns-in-None-clause-unchanged : goal.returns-in-None-clause-unchanged
 returns-in-None-clause-unchanged g c =
-    rw (← c.self.view_is) (err_then c.put-in-None.result (same-right (every c.self.inside.strips.items) c.self.inside.rest c.put-in-None.new.self) c.put-in-None.ensures.unchanged)
+    rw (← c.self.view_is) (on_err_weaker c.put-in-None.result (same-right (every c.self.inside.strips.items) c.self.inside.rest c.put-in-None.new.self) c.put-in-None.ensures.unchanged)

@@ -1,7 +1,6 @@
-use Rattle.kit_words.proofs.Common.{◌≡◌, ◌++◌, ap, ◌∙◌}
+use Rattle.kit_words.proofs.Common.{◌≡◌, ◌++◌, ap, ◌∙◌, on_ok_weaker, on_err_weaker}
 use Rattle.grid_geometry.specs.Common.{box_of}
 use Rattle.segment_sets.specs.Common.{box_around, listed}
-use Rattle.segment_sets.proofs.Singles.{ok_then, err_then}
 use Rattle.segment_sets.proofs.Branches.{put-lies, gains-cell, same-cell, gains-left, same-left, gains-right, same-right}
 use Rattle.segment_sets.proofs.tree.Tree.+put.Goals as goal
 
@@ -11,15 +10,15 @@ returns-in-None-clause-bounded g t c =
     let x = c.in-Leaf.cell in
     let y = c.put.new.self in
     let more : c.widen.new.bounds ≡ box_around c.in-Leaf.bounds (box_of c.args.entry.now) = c.widen.ensures ∙ ap (box_around c.in-Leaf.bounds) c.rect.ensures in
-    rw more (put-lies c.put.result c.in-Leaf.bounds c.args.entry.now x y lie (ok_then c.put.result (gains-cell c.args.entry.now x y) (rw c.segment-in-None.ensures at c.put.ensures.put)) (err_then c.put.result (same-cell x y) c.put.ensures.unchanged))
+    rw more (put-lies c.put.result c.in-Leaf.bounds c.args.entry.now x y lie (on_ok_weaker c.put.result (gains-cell c.args.entry.now x y) (rw c.segment-in-None.ensures at c.put.ensures.put)) (on_err_weaker c.put.result (same-cell x y) c.put.ensures.unchanged))
 
 pub returns-in-None-clause-put : goal.returns-in-None-clause-put
 returns-in-None-clause-put g t c =
-    rw c.in-Leaf.is (ok_then c.put.result (gains-cell c.args.entry.now c.in-Leaf.cell c.put.new.self) (rw c.segment-in-None.ensures at c.put.ensures.put))
+    rw c.in-Leaf.is (on_ok_weaker c.put.result (gains-cell c.args.entry.now c.in-Leaf.cell c.put.new.self) (rw c.segment-in-None.ensures at c.put.ensures.put))
 
 pub returns-in-None-clause-unchanged : goal.returns-in-None-clause-unchanged
 returns-in-None-clause-unchanged g t c =
-    rw c.in-Leaf.is (err_then c.put.result (same-cell c.in-Leaf.cell c.put.new.self) c.put.ensures.unchanged)
+    rw c.in-Leaf.is (on_err_weaker c.put.result (same-cell c.in-Leaf.cell c.put.new.self) c.put.ensures.unchanged)
 
 pub returns-then-goes_along-clause-bounded : goal.returns-then-goes_along-clause-bounded
 returns-then-goes_along-clause-bounded g t c =
@@ -31,15 +30,15 @@ returns-then-goes_along-clause-bounded g t c =
     let more : c.widen-in-Fork.new.bounds ≡ box_around c.in-Fork.bounds (box_of c.args.entry.now) = c.widen-in-Fork.ensures ∙ ap (box_around c.in-Fork.bounds) c.rect-in-Fork.ensures in
     let ok = rw c.deref_mut-sides.ensures.value at c.put-then-goes_along.ensures.put in
     let err = rw c.deref_mut-sides.ensures.value at c.put-then-goes_along.ensures.unchanged in
-    rw (more, c.deref_mut-sides.ensures.value) (put-lies q c.in-Fork.bounds c.args.entry.now (l ++ r) (m ++ r) b.0 (ok_then q (gains-left c.args.entry.now l m r) ok) (err_then q (same-left l m r) err), (c.put-then-goes_along.ensures.bounded, b.1.1))
+    rw (more, c.deref_mut-sides.ensures.value) (put-lies q c.in-Fork.bounds c.args.entry.now (l ++ r) (m ++ r) b.0 (on_ok_weaker q (gains-left c.args.entry.now l m r) ok) (on_err_weaker q (same-left l m r) err), (c.put-then-goes_along.ensures.bounded, b.1.1))
 
 pub returns-then-goes_along-clause-put : goal.returns-then-goes_along-clause-put
 returns-then-goes_along-clause-put g t c =
-    rw (c.in-Fork.is, c.deref_mut-sides.ensures.value) (ok_then c.put-then-goes_along.result (gains-left c.args.entry.now (listed c.in-Fork.sides.value.along) (listed c.put-then-goes_along.new.self) (listed c.in-Fork.sides.value.aside)) (rw c.deref_mut-sides.ensures.value at c.put-then-goes_along.ensures.put))
+    rw (c.in-Fork.is, c.deref_mut-sides.ensures.value) (on_ok_weaker c.put-then-goes_along.result (gains-left c.args.entry.now (listed c.in-Fork.sides.value.along) (listed c.put-then-goes_along.new.self) (listed c.in-Fork.sides.value.aside)) (rw c.deref_mut-sides.ensures.value at c.put-then-goes_along.ensures.put))
 
 pub returns-then-goes_along-clause-unchanged : goal.returns-then-goes_along-clause-unchanged
 returns-then-goes_along-clause-unchanged g t c =
-    rw (c.in-Fork.is, c.deref_mut-sides.ensures.value) (err_then c.put-then-goes_along.result (same-left (listed c.in-Fork.sides.value.along) (listed c.put-then-goes_along.new.self) (listed c.in-Fork.sides.value.aside)) (rw c.deref_mut-sides.ensures.value at c.put-then-goes_along.ensures.unchanged))
+    rw (c.in-Fork.is, c.deref_mut-sides.ensures.value) (on_err_weaker c.put-then-goes_along.result (same-left (listed c.in-Fork.sides.value.along) (listed c.put-then-goes_along.new.self) (listed c.in-Fork.sides.value.aside)) (rw c.deref_mut-sides.ensures.value at c.put-then-goes_along.ensures.unchanged))
 
 pub returns-else-goes_along-clause-bounded : goal.returns-else-goes_along-clause-bounded
 returns-else-goes_along-clause-bounded g t c =
@@ -51,12 +50,12 @@ returns-else-goes_along-clause-bounded g t c =
     let more : c.widen-in-Fork.new.bounds ≡ box_around c.in-Fork.bounds (box_of c.args.entry.now) = c.widen-in-Fork.ensures ∙ ap (box_around c.in-Fork.bounds) c.rect-in-Fork.ensures in
     let ok = rw c.deref_mut-sides.ensures.value at c.put-else-goes_along.ensures.put in
     let err = rw c.deref_mut-sides.ensures.value at c.put-else-goes_along.ensures.unchanged in
-    rw (more, c.deref_mut-sides.ensures.value) (put-lies q c.in-Fork.bounds c.args.entry.now (l ++ r) (l ++ m) b.0 (ok_then q (gains-right c.args.entry.now l r m) ok) (err_then q (same-right l r m) err), (b.1.0, c.put-else-goes_along.ensures.bounded))
+    rw (more, c.deref_mut-sides.ensures.value) (put-lies q c.in-Fork.bounds c.args.entry.now (l ++ r) (l ++ m) b.0 (on_ok_weaker q (gains-right c.args.entry.now l r m) ok) (on_err_weaker q (same-right l r m) err), (b.1.0, c.put-else-goes_along.ensures.bounded))
 
 pub returns-else-goes_along-clause-put : goal.returns-else-goes_along-clause-put
 returns-else-goes_along-clause-put g t c =
-    rw (c.in-Fork.is, c.deref_mut-sides.ensures.value) (ok_then c.put-else-goes_along.result (gains-right c.args.entry.now (listed c.in-Fork.sides.value.along) (listed c.in-Fork.sides.value.aside) (listed c.put-else-goes_along.new.self)) (rw c.deref_mut-sides.ensures.value at c.put-else-goes_along.ensures.put))
+    rw (c.in-Fork.is, c.deref_mut-sides.ensures.value) (on_ok_weaker c.put-else-goes_along.result (gains-right c.args.entry.now (listed c.in-Fork.sides.value.along) (listed c.in-Fork.sides.value.aside) (listed c.put-else-goes_along.new.self)) (rw c.deref_mut-sides.ensures.value at c.put-else-goes_along.ensures.put))
 
 pub returns-else-goes_along-clause-unchanged : goal.returns-else-goes_along-clause-unchanged
 returns-else-goes_along-clause-unchanged g t c =
-    rw (c.in-Fork.is, c.deref_mut-sides.ensures.value) (err_then c.put-else-goes_along.result (same-right (listed c.in-Fork.sides.value.along) (listed c.in-Fork.sides.value.aside) (listed c.put-else-goes_along.new.self)) (rw c.deref_mut-sides.ensures.value at c.put-else-goes_along.ensures.unchanged))
+    rw (c.in-Fork.is, c.deref_mut-sides.ensures.value) (on_err_weaker c.put-else-goes_along.result (same-right (listed c.in-Fork.sides.value.along) (listed c.in-Fork.sides.value.aside) (listed c.put-else-goes_along.new.self)) (rw c.deref_mut-sides.ensures.value at c.put-else-goes_along.ensures.unchanged))
