@@ -16,7 +16,7 @@ import threading
 import time
 
 # What `./run` starts the program with, if the caller has not set it: the C library asks the system for large pages.
-PAGES = {"GLIBC_TUNABLES": "glibc.malloc.hugetlb=1"}
+PAGES = {"GLIBC_TUNABLES": "glibc.malloc.hugetlb=1:glibc.malloc.mmap_threshold=33554432"}
 # How long to wait before asking again whether a program has read all that was written, in seconds.
 PAUSE = 0.0005
 
