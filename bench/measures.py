@@ -14,8 +14,9 @@ from running import Count, Counter, Failed, why
 PIECES_TIMED = 5
 LEAST_PIECE = 0.02
 MOST_LINES = 2_000_000
-# How many seconds of runs are enough where the least counts, how many runs there are at most, and what is no time.
-ENOUGH, MOST_RUNS, NEVER = 1, 40, float("inf")
+# Where the least counts: how many seconds of runs are enough, how many are spent at most on as many runs as are wanted, how
+# many these are, and how many there are at most; and what is no time.
+ENOUGH, PATIENCE, WANTED_RUNS, MOST_RUNS, NEVER = 1, 40, 9, 40, float("inf")
 # The seconds that maps are deleted for, and the most of them.
 DELETING, MOST_DELETED = 8, 100
 # How many splits and merges have their instructions counted.
@@ -74,11 +75,11 @@ def middle(rates):
 
 
 def least(runs):
-    """The least of the seconds that each of these gives: what is slow is done once or twice, what is short many times."""
+    """The least of the seconds that each of these gives: what is slow is done a few times, what is short many times."""
     best, start = [NEVER] * len(runs), time.perf_counter()
     for n in range(MOST_RUNS):
         best = [min(seconds, run()) for seconds, run in zip(best, runs)]
-        if time.perf_counter() - start > (ENOUGH if n + 1 >= PIECES_TIMED else 20 * ENOUGH):
+        if time.perf_counter() - start > (ENOUGH if n + 1 >= WANTED_RUNS else PATIENCE):
             break
     return best
 

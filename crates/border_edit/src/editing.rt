@@ -5,6 +5,7 @@ use device_io::{FromReader, Sink, Source, ToWriter};
 use edit_program::{KeptScript, NotedAnswers, Refusal, Words, ending_of_run, list_refused};
 use program_ends::{Ending, Stop, end, hash_seed, map_bytes};
 use script_runner::run;
+use std::alloc::Allocator;
 use std::fs;
 use std::fs::File;
 use std::hash::RandomState;
@@ -57,6 +58,14 @@ fn list<'a>(
     ending.once_listed(write_list(rt, path, script, refusals))
 }
 
+/// An empty list for the saved text, with room for one of a map's length and an eighth more where
+/// there is so much memory.
+fn room_for_saved<A: Allocator>(alloc: A, length: usize) -> Vec<u8, A> {
+    let mut text = Vec::new(alloc);
+    let _ = text.reserve(length.saturating_add(length / 8));
+    text
+}
+
 /// A map that was read, and what is asked of it.
 #[derive(Clone, Copy)]
 struct Editing<'a> {
@@ -78,7 +87,7 @@ impl Editing<'_> {
         requires writer { W.has_failed answers.old ≡ false }
     {
         let alloc = self.rt.alloc();
-        let mut saved = ToWriter::new(Vec::new(alloc));
+        let mut saved = ToWriter::new(room_for_saved(alloc, self.map.len()));
         let depth = self.words.depth;
         let outcome = run(
             alloc, alloc, self.seed, self.map, script, depth, answers, &mut saved,
@@ -101,7 +110,7 @@ impl Editing<'_> {
         let alloc = self.rt.alloc();
         let mut kept = KeptScript::new(alloc, script);
         let mut noted = NotedAnswers::new(alloc, answers);
-        let mut saved = ToWriter::new(Vec::new(alloc));
+        let mut saved = ToWriter::new(room_for_saved(alloc, self.map.len()));
         let depth = self.words.depth;
         let outcome = run(
             alloc, alloc, self.seed, self.map, &mut kept, depth, &mut noted, &mut saved,

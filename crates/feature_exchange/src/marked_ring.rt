@@ -6,6 +6,7 @@ ghost use Rattle.ring_machine.specs.Common.{canonical};
 ghost use Rattle.vertex_index.specs.Common.{place};
 ghost use Rattle.feature_exchange.specs.Common.{AlongVertices, MarksAlong, meets, ring_in};
 
+use crate::reading::ROOM;
 use crate::ring_iter::least_place;
 use grid_geometry::Pos;
 use ring_store::{Neighbours, RingKeys, RingTables};
@@ -99,7 +100,7 @@ pub fn push_marked_ring<I: SegIndex, A: Allocator + Copy>(
         → marks.new.items
         ≡ marks.old.items ++ map is (ring_in tables.now.vertices tables.now.borders r)) }
 {
-    let mut list = Vec::new(tables.alloc);
+    let mut list = Vec::with_capacity(tables.alloc, ROOM)?;
     tables.borders.push_keys(r, &mut list)?;
     let Some(walk) = tables.borders.keys(r) else {
         return Ok(());

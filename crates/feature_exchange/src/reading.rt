@@ -18,7 +18,7 @@ use std::alloc::{AllocError, Allocator};
 use vertex_index::{VertexKey, Vertices};
 
 /// Room for the keys of most rings.
-const ROOM: usize = 128;
+pub(crate) const ROOM: usize = 128;
 
 /// The positions under these keys. Fails for want of memory alone.
 pub(crate) fn positions_under<A: Allocator + Copy>(

@@ -83,15 +83,16 @@ fn see_ring<A: Allocator + Copy>(
     see(borders, around, a, k, *first)
 }
 
-/// Borders end at each vertex that has different neighbours in two rings. No ring changes.
+/// Borders end at each vertex, of so many, that has different neighbours in two rings. No ring changes.
 pub(crate) fn mark_junctions<A: Allocator + Copy>(
     alloc: A,
     borders: &mut Borders<A>,
+    vertices: usize,
     rings: &[Vec<VertexKey, A>],
 ) -> Result<(), AllocError>
     ensures { borders.new ≡ borders.old }
 {
-    let mut around = Vec::new(alloc);
+    let mut around = Vec::with_capacity(alloc, vertices)?;
     for ring in rings {
         see_ring(borders, &mut around, ring.as_slice())?;
     }

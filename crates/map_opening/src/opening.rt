@@ -17,6 +17,15 @@ use std::alloc::{AllocError, Allocator};
 use std::hash::RandomState;
 use vertex_index::Vertices;
 
+/// How many positions the rings have if each stands in two of them, as on most maps.
+fn shared_by_two<A: Allocator + Copy>(rings: &[Vec<Pos, A>]) -> usize {
+    let mut count = 0usize;
+    for ring in rings {
+        count = count.saturating_add(ring.len());
+    }
+    count / 2
+}
+
 /// Lays these rings, in an index that is empty; positions are hashed by a seed. Fails for want of
 /// memory alone.
 pub fn lay<I: SegIndex, A: Allocator + Copy>(
@@ -32,10 +41,10 @@ pub fn lay<I: SegIndex, A: Allocator + Copy>(
         o.first o.positions) }
     ensures cells { IfOk result (λ o. o.tables.index.cells ≡ I.cells index) }
 {
-    let mut vertices = Vertices::new(alloc, seed);
+    let mut vertices = Vertices::with_room(alloc, seed, shared_by_two(rings))?;
     let keyed = key_all(alloc, &mut vertices, rings)?;
-    let mut borders = Borders::new(alloc);
-    mark_junctions(alloc, &mut borders, keyed.as_slice())?;
+    let mut borders = Borders::with_room(alloc, vertices.len())?;
+    mark_junctions(alloc, &mut borders, vertices.len(), keyed.as_slice())?;
     index.prepare(vertices.len())?;
     let index = Counted::new(index, 0);
     let tables = RingTables {

@@ -23,5 +23,6 @@ pub mod Planned
 pub mod AroundPlan
 pub mod TableLemmas
 pub mod PuttingBack
+pub mod EmptyTables
 mod Examples
 pub mod Common

@@ -49,6 +49,21 @@ impl<A: Allocator + Copy> Borders<A> {
         }
     }
 
+    /// No ring, with room for what so many vertices stand in. Fails for want of memory alone.
+    pub fn with_room(alloc: A, vertices: usize) -> Result<Self, AllocError>
+        ensures { IfOk result (λ borders. borders ≡ map.empty) }
+    {
+        let stands = Vec::with_capacity(alloc, vertices)?;
+        Ok(Borders {
+            tables: Tables {
+                alloc,
+                arcs: Slab::new(alloc),
+                rings: Slab::new(alloc),
+                stands,
+            },
+        })
+    }
+
     /// Whether a ring is held under this number.
     pub fn holds(&self, r: usize) -> bool
         ensures { result ≡ map.contains_key self.now r }

@@ -61,20 +61,26 @@ fn backward(n: usize) -> i64
 }
 
 impl<A: Allocator + Copy> Arcs<A> {
-    /// No arc; the seed by which edges are hashed, and whether positions are to be written as
-    /// differences. Takes no memory.
-    pub fn new(alloc: A, seed: RandomState, delta: bool) -> Self
-        ensures rings { result.rings.items ≡ [] }
-        ensures arcs { Finds result [] }
-        ensures delta { result.delta ≡ delta }
+    /// No arc, with room for texts of so many bytes; the seed by which edges are hashed, and whether
+    /// positions are to be written as differences. Fails for want of memory alone.
+    pub fn with_room(
+        alloc: A,
+        room: usize,
+        seed: RandomState,
+        delta: bool,
+    ) -> Result<Self, AllocError>
+        ensures rings { IfOk result (λ arcs. arcs.rings.items ≡ []) }
+        ensures arcs { IfOk result (λ arcs. Finds arcs []) }
+        ensures delta { IfOk result (λ arcs. arcs.delta ≡ delta) }
     {
-        Arcs {
+        let listed = Vec::with_capacity(alloc, room)?;
+        Ok(Arcs {
             rings: Vec::new(alloc),
             count: 0,
             starts: IndexMap::with_hasher(alloc, seed),
             delta,
-            listed: Vec::new(alloc),
-        }
+            listed,
+        })
     }
 
     /// The index of the arc that begins with an edge.

@@ -14,6 +14,9 @@ use arc_store::MarkedMap;
 use segment_index::SegIndex;
 use std::alloc::{AllocError, Allocator};
 
+/// Room for the positions of most rings.
+const ROOM: usize = 128;
+
 /// A ring of the map, cut from its first junction on; no piece where there is no such ring.
 fn cut_named<'a, I: SegIndex, A: Allocator + Copy>(
     alloc: A,
@@ -22,8 +25,8 @@ fn cut_named<'a, I: SegIndex, A: Allocator + Copy>(
 ) -> Result<CutRing<A>, AllocError>
     ensures { IfOk result (λ cut. cut ≡ named_pieces map.now name) }
 {
-    let mut positions = Vec::new(alloc);
-    let mut marks = Vec::new(alloc);
+    let mut positions = Vec::with_capacity(alloc, ROOM)?;
+    let mut marks = Vec::with_capacity(alloc, ROOM)?;
     map.push_ring(
         name.feature,
         name.polygon,

@@ -1,12 +1,12 @@
 //! The pieces of a text (RFC 8259).
-ghost use Rattle.std.specs.Prelude.{◌≡◌, ◌<◌, ◌++◌, ◌-ℤ◌, length, OnOk};
+ghost use Rattle.std.specs.Prelude.{◌≡◌, ◌+◌, ◌<◌, ◌≤◌, ◌++◌, ◌-ℤ◌, drop, length, OnOk};
 ghost use Rattle.std.specs.Fmt.{signed_decimal};
 ghost use Rattle.grid_geometry.specs.Common.{position};
 ghost use Rattle.map_text.specs.Common.{comma_if, pair_text, pairs, arc_text, ring_text};
 ghost use Rattle.topo_writer.specs.Found.{at_place};
 
 use grid_geometry::Pos;
-use itoa::Buffer;
+use itoa::{Buffer, write_digits};
 use std::alloc::{AllocError, Allocator};
 
 /// Appends a number in decimal.
@@ -30,6 +30,25 @@ pub fn push_comma<A: Allocator + Copy>(text: &mut Vec<u8, A>, more: bool) -> Res
     Ok(())
 }
 
+/// The most bytes of a pair: two brackets, a comma, and twice a sign and 19 digits.
+const PAIR_ROOM: usize = 43;
+
+/// Writes a number in decimal so that it ends before a place, and answers where it begins.
+fn write_before(buffer: &mut [u8], end: usize, number: i64) -> usize
+    requires room { 20 ≤ end }
+    requires within { end ≤ length buffer.old }
+    ensures short { end ≤ result + 20 }
+    ensures some { result < end }
+    ensures written { drop result buffer.new ≡ signed_decimal number ++ drop end buffer.old }
+{
+    let start = write_digits(number.unsigned_abs(), buffer, end);
+    if number >= 0 {
+        return start;
+    }
+    buffer[start - 1] = b'-';
+    start - 1
+}
+
 /// Appends a pair of numbers.
 pub fn push_pair<A: Allocator + Copy>(
     text: &mut Vec<u8, A>,
@@ -38,12 +57,12 @@ pub fn push_pair<A: Allocator + Copy>(
 ) -> Result<(), AllocError>
     ensures { OnOk result (text.new.items ≡ text.old.items ++ pair_text (position x y)) }
 {
-    text.push(b'[')?;
-    push_number(text, x)?;
-    text.push(b',')?;
-    push_number(text, y)?;
-    text.push(b']')?;
-    Ok(())
+    let mut buffer = [b']'; PAIR_ROOM];
+    let second = write_before(&mut buffer, PAIR_ROOM - 1, y);
+    buffer[second - 1] = b',';
+    let first = write_before(&mut buffer, second - 1, x);
+    buffer[first - 1] = b'[';
+    text.extend_from_slice(&buffer[first - 1..])
 }
 
 /// How far a position lies to the right of another.

@@ -43,9 +43,13 @@ fn push_end<A: Allocator + Copy>(
     text.extend_from_slice(b"}")
 }
 
-/// Sends the text of a map that has this frame.
+/// How many bytes the pair of a vertex takes in most texts, at the most.
+const PAIR_BYTES: usize = 24;
+
+/// Sends the text of a map that has this frame; there is to be room for arcs of so many bytes.
 fn send_map<'m, 'a, I: SegIndex, A: Allocator + Copy, W: Sink>(
     alloc: A,
+    room: usize,
     map: &MarkedMap<'_, 'a, I, A>,
     frame: &FrameView<'m, 'a, A>,
     out: &mut W,
@@ -55,7 +59,8 @@ fn send_map<'m, 'a, I: SegIndex, A: Allocator + Copy, W: Sink>(
     ensures { Sends W.Sink of_device out.old out.new result (text_of map.now) }
 {
     let mut text = Vec::new(alloc);
-    let mut arcs = Arcs::new(alloc, map.seed(), frame.transform().is_some());
+    let delta = frame.transform().is_some();
+    let mut arcs = Arcs::with_room(alloc, room, map.seed(), delta)?;
     push_begin(&mut text, frame.transform())?;
     put_all(out, text.as_slice())?;
     send_layers(map, frame, &mut arcs, &mut text, out)?;
@@ -82,5 +87,6 @@ pub fn write<'a, I: SegIndex, A: Allocator + Copy, W: Sink>(
 {
     let frame = map.frame();
     let marked = map.marked()?;
-    send_map(alloc, &marked, &frame, out)
+    let room = map.vertex_count().saturating_mul(PAIR_BYTES);
+    send_map(alloc, room, &marked, &frame, out)
 }

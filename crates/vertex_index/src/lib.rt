@@ -71,6 +71,20 @@ impl<A: Allocator + Copy> Vertices<A> {
         }
     }
 
+    /// No vertex, with room for so many, and the seed by which positions are hashed. Fails for want
+    /// of memory alone.
+    pub fn with_room(alloc: A, seed: RandomState, count: usize) -> Result<Self, AllocError>
+        ensures { IfOk result (λ vertices. vertices ≡ map.empty) }
+    {
+        let slots = Slab::with_capacity(alloc, count)?;
+        let keys = IndexMap::with_capacity_and_hasher(alloc, count, seed)?;
+        Ok(Vertices {
+            slots,
+            keys,
+            last: 0,
+        })
+    }
+
     /// The seed by which positions are hashed.
     pub fn seed(&self) -> RandomState {
         *self.keys.hasher()

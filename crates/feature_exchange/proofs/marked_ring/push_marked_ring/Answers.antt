@@ -21,18 +21,18 @@ least_start-start-requires-clause-placed g c = λ k h.
 pub least_start-start-requires-clause-few : goal.least_start-start-requires-clause-few
 least_start-start-requires-clause-few g c =
     let m = c.args.tables.now.borders in
-    let same : c.in-Some.walk ≡ c.push_keys.new.out.items = walk_found m c.args.r c.in-Some.walk c.in-Some.ensures ∙ sym (keys_found m c.args.r c.requires.held c.new-list.result.items c.push_keys.new.out.items c.new-list.ensures.items c.in_ok-push_keys.ensures) in
+    let same : c.in-Some.walk ≡ c.push_keys.new.out.items = walk_found m c.args.r c.in-Some.walk c.in-Some.ensures ∙ sym (keys_found m c.args.r c.requires.held c.in_ok-list.list.items c.push_keys.new.out.items c.in_ok-list.ensures.items c.in_ok-push_keys.ensures) in
     omega (arith, ap length same, c.push_keys.new.out.ok.0, c.push_keys.new.out.small)
 
 pub push_turned-requires-clause-placed : goal.push_turned-requires-clause-placed
 push_turned-requires-clause-placed g c = λ k h.
     let m = c.args.tables.now.borders in
-    c.requires.along c.args.r k (subst (λ ks. Contains ks k) (c.as_slice.ensures.value ∙ keys_found m c.args.r c.requires.held c.new-list.result.items c.push_keys.new.out.items c.new-list.ensures.items c.in_ok-push_keys.ensures) h)
+    c.requires.along c.args.r k (subst (λ ks. Contains ks k) (c.as_slice.ensures.value ∙ keys_found m c.args.r c.requires.held c.in_ok-list.list.items c.push_keys.new.out.items c.in_ok-list.ensures.items c.in_ok-push_keys.ensures) h)
 
 pub push_turned-requires-clause-within : goal.push_turned-requires-clause-within
 push_turned-requires-clause-within g c =
     let m = c.args.tables.now.borders in
-    let same : c.in-Some.walk ≡ c.as_slice.result.now = walk_found m c.args.r c.in-Some.walk c.in-Some.ensures ∙ sym (c.as_slice.ensures.value ∙ keys_found m c.args.r c.requires.held c.new-list.result.items c.push_keys.new.out.items c.new-list.ensures.items c.in_ok-push_keys.ensures) in
+    let same : c.in-Some.walk ≡ c.as_slice.result.now = walk_found m c.args.r c.in-Some.walk c.in-Some.ensures ∙ sym (c.as_slice.ensures.value ∙ keys_found m c.args.r c.requires.held c.in_ok-list.list.items c.push_keys.new.out.items c.in_ok-list.ensures.items c.in_ok-push_keys.ensures) in
     omega (arith, ap length same, c.least_start-start.ensures.within)
 
 pub returns-clause-positions : goal.returns-clause-positions
@@ -40,7 +40,7 @@ returns-clause-positions g c =
     let m = c.args.tables.now.borders in
     let at = place c.args.tables.now.vertices in
     let start = c.least_start-start.result in
-    let list = c.as_slice.ensures.value ∙ keys_found m c.args.r c.requires.held c.new-list.result.items c.push_keys.new.out.items c.new-list.ensures.items c.in_ok-push_keys.ensures in
+    let list = c.as_slice.ensures.value ∙ keys_found m c.args.r c.requires.held c.in_ok-list.list.items c.push_keys.new.out.items c.in_ok-list.ensures.items c.in_ok-push_keys.ensures in
     let walk = walk_found m c.args.r c.in-Some.walk c.in-Some.ensures in
     c.in_ok-push_turned.ensures.positions
     ∙ ap (λ ks. c.args.positions.now.items ++ (drop start (map at ks) ++ take start (map at ks))) (list ∙ sym walk)
@@ -53,7 +53,7 @@ returns-clause-marks g c = λ such h.
     let at = place c.args.tables.now.vertices in
     let mark = meets c.args.around.now in
     let start = c.least_start-start.result in
-    let list = c.as_slice.ensures.value ∙ keys_found m c.args.r c.requires.held c.new-list.result.items c.push_keys.new.out.items c.new-list.ensures.items c.in_ok-push_keys.ensures in
+    let list = c.as_slice.ensures.value ∙ keys_found m c.args.r c.requires.held c.in_ok-list.list.items c.push_keys.new.out.items c.in_ok-list.ensures.items c.in_ok-push_keys.ensures in
     let walk = walk_found m c.args.r c.in-Some.walk c.in-Some.ensures in
     c.in_ok-push_turned.ensures.marks
     ∙ ap (λ ks. c.args.marks.now.items ++ (drop start (map mark ks) ++ take start (map mark ks))) (list ∙ sym walk)

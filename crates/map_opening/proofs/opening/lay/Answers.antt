@@ -33,7 +33,7 @@ pub lay_all-requires-clause-none : goal.lay_all-requires-clause-none
 lay_all-requires-clause-none g c = record {
   round = λ ks i. absurd (contains_in [] ks i);
   laid = subst (λ z. IsLaid c.mark_junctions.new.borders z []) (sym c.new.ensures.items)
-      (laid_none c.mark_junctions.new.borders (c.mark_junctions.ensures ∙ c.new-borders.ensures));
+      (laid_none c.mark_junctions.new.borders (c.mark_junctions.ensures ∙ c.in_ok-borders.ensures));
   filled = filled_none c.new-index.result.held (c.new-index.ensures.held ∙ c.prepare.ensures.empty);
   size = refl;
 }

@@ -9,14 +9,17 @@ pub send_layers-requires-clause-table : goal.send_layers-requires-clause-table
 send_layers-requires-clause-table g c =
     let d = c.args.map.now in
     record {
-      finds = subst (λ r. Finds c.new-arcs.result (arcs_along d r)) (sym c.new-arcs.ensures.rings) c.new-arcs.ensures.arcs;
+      finds = subst (λ r. Finds c.in_ok-arcs.arcs (arcs_along d r)) (sym c.in_ok-arcs.ensures.rings) c.in_ok-arcs.ensures.arcs;
       delta =
-          c.new-arcs.ensures.delta
-          ∙ delta_is d c.args.frame.now c.requires.frame (λ t. t.now) c.transform.result c.transform.ensures _ c.is_some.ensures;
+          c.in_ok-arcs.ensures.delta
+          ∙ delta_is d c.args.frame.now c.requires.frame (λ t. t.now) c.transform.result c.transform.ensures _ c.is_some-delta.ensures;
     }
 
+pub returns-in_err-arcs : goal.returns-in_err-arcs
+returns-in_err-arcs g c = sends_front of_device OutOfMemory _ c.from_residual.ensures.1 (took_none c.requires.working)
+
 pub returns-in_err-push_begin : goal.returns-in_err-push_begin
-returns-in_err-push_begin g c = sends_front of_device OutOfMemory _ c.from_residual.ensures.1 (took_none c.requires.working)
+returns-in_err-push_begin g c = sends_front of_device OutOfMemory _ c.from_residual-in_err-push_begin.ensures.1 (took_none c.requires.working)
 
 pub returns-in_err-put_all : goal.returns-in_err-put_all
 returns-in_err-put_all g c =
