@@ -20,7 +20,7 @@ use std::alloc::{AllocError, Allocator};
 use vertex_index::VertexKey;
 
 /// A new arc ends where it has so many keys.
-const LONGEST: usize = 256;
+const LONGEST: usize = 64;
 
 /// Whether some use is of arc `i`.
 fn has_use(uses: &[Use], i: usize) -> bool

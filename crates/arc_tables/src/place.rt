@@ -1,5 +1,5 @@
 //! Where a segment stands in the arcs.
-ghost use Rattle.std.specs.Prelude.{◌≡◌, ℕ, ◌≤◌, ◌==◌, ◌&&◌, IfSome, IfNone, IfOk};
+ghost use Rattle.std.specs.Prelude.{◌≡◌, ℕ, ◌≤◌, ◌==◌, ◌&&◌, ◌⊎◌, IfSome, IfNone, IfOk};
 ghost use Rattle.std.specs.Prelude.{Contains, take, length, reverse};
 ghost use Rattle.slab.specs.Slab.{get, ContainsKey};
 ghost use Rattle.arc_tables.specs.Ways.{times, links};
@@ -134,15 +134,32 @@ pub fn arcs_at<A: Allocator + Copy>(stands: &Vec<Stand<A>, A>, k: VertexKey) -> 
     }
 }
 
+/// The arcs that are listed for the one of two vertices that has fewer: none where it is new.
+fn fewer_arcs<A: Allocator + Copy>(
+    stands: &Vec<Stand<A>, A>,
+    a: VertexKey,
+    b: VertexKey,
+) -> &[usize]
+    ensures { (result.now ≡ stand_at stands.now.items a)
+        ⊎ (result.now ≡ stand_at stands.now.items b) }
+{
+    let (first, second) = (arcs_at(stands, a), arcs_at(stands, b));
+    if second.len() < first.len() {
+        second
+    } else {
+        first
+    }
+}
+
 impl<A: Allocator + Copy> Tables<A> {
-    /// The place of the segment of a and b, in the arcs of a.
+    /// The place of the segment of a and b, in the arcs of the one of them that has fewer.
     pub(crate) fn find(&self, a: VertexKey, b: VertexKey) -> Option<Place>
         requires { Whole self.now }
         ensures some { IfSome result (λ p. IsPlace (path_of self.now p.arc) p.at p.back a b) }
         ensures there { IfSome result (λ p. ContainsKey self.now.arcs p.arc) }
         ensures none { IfNone result ((j : ℕ) → times a b (links (path_of self.now j)) ≡ 0) }
     {
-        let among = arcs_at(&self.stands, a);
+        let among = fewer_arcs(&self.stands, a, b);
         if let Some(place) = find_at_end(&self.arcs, among, a, b) {
             return Some(place);
         }
@@ -173,7 +190,7 @@ impl<A: Allocator + Copy> Tables<A> {
     }
 
     /// The place of the segment of a and b, which is looked for beside the place before it is in the
-    /// arcs of a.
+    /// arcs of either.
     fn find_from(&self, near: Option<Place>, a: VertexKey, b: VertexKey) -> Option<Place>
         requires { Whole self.now }
         ensures some { IfSome result (λ p. IsPlace (path_of self.now p.arc) p.at p.back a b) }

@@ -1,5 +1,5 @@
 //! The files of the program: what is read, what is written, and in which order.
-ghost use Rattle.std.specs.Prelude.{◌≡◌, false};
+ghost use Rattle.std.specs.Prelude.{◌≡◌, false, []};
 
 use device_io::{FromReader, Sink, Source, ToWriter};
 use edit_program::{KeptScript, NotedAnswers, Refusal, Words, ending_of_run, list_refused};
@@ -60,7 +60,9 @@ fn list<'a>(
 
 /// An empty list for the saved text, with room for one of a map's length and an eighth more where
 /// there is so much memory.
-fn room_for_saved<A: Allocator>(alloc: A, length: usize) -> Vec<u8, A> {
+fn room_for_saved<A: Allocator>(alloc: A, length: usize) -> Vec<u8, A>
+    ensures { result.items ≡ [] }
+{
     let mut text = Vec::new(alloc);
     let _ = text.reserve(length.saturating_add(length / 8));
     text

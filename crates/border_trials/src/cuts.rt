@@ -90,7 +90,7 @@ fn new_arcs_end_at_junctions(rt: HostRuntime) {
     end_at_junctions(&rt, &mut no_tables(rt.alloc()), keys.as_slice());
 }
 
-/// An arc of 256 keys has 255 segments, so 600 segments make three arcs.
+/// An arc of 64 keys has 63 segments, so 600 segments make ten arcs.
 #[test]
 fn a_long_ring_is_some_arcs(rt: HostRuntime) {
     let keys = vertex_keys(&rt, rt.alloc(), 600);
@@ -102,5 +102,5 @@ fn a_long_ring_is_some_arcs(rt: HostRuntime) {
     lay(&rt, &mut tables, keys.as_slice(), which.as_slice());
     let count = tables.arcs.len();
     drop(tables);
-    assert!(rt; count == 3);
+    assert!(rt; count == 10);
 }
