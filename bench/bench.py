@@ -13,10 +13,11 @@ beside it one by Rattle's own compiler, which is not measured here.
 
 The reference is bench/reference, a plain C++ program that opens maps with the same tests, answers the same lines and
 saves the same text, written for speed, with nothing proved. It is built by `g++ -O2` into bench/out where the compiler is
-there; else a line says that it is not, and no ratio is told. It is given each script that the program was given, piece by
-piece, in the same run of this script; the ratio is the program's number over the reference's, of seconds, of rates or of
-memory. Both are started as ./run starts the program, so that the C library asks the system for large pages, unless
-GLIBC_TUNABLES is set already: with GLIBC_TUNABLES= before the command both have usual pages.
+there; else a line says that it is not, and no ratio is told. It is given each script that the program is given, each piece
+right behind it and on the same processor, so that what else the machine does is the same for both; whole runs of both take
+turns. The ratio is the program's number over the reference's, of seconds, of rates or of memory. Both are started as ./run starts the program, so that the C library asks
+the system for large pages, unless GLIBC_TUNABLES is set already: with GLIBC_TUNABLES= before the command both have usual
+pages.
 
 For each map there is one line a measure:
 
@@ -53,7 +54,8 @@ For each map there is one line a measure:
 
 Seconds are processor seconds of the program, its own and the system's for it (`bytes` alone is on the wall clock). Lines
 a second are timed inside one run, without opening and saving: the script comes through a pipe, and a piece of it is over
-once the program has read all of it and waits for more. The rate is the middle one of several pieces.
+once the program has read all of it and waits for more. The rate is that of the best of several pieces, since other work on
+the machine only takes from it; of deletions and of undos it is the middle one of several times.
 A measure that fails says `failed`, and why; a map or a program that is not there has a line that says so.
 
 At the end come maps that are hard for an index of segments, in a table for each size of --hard, each beside bricks of

@@ -10,13 +10,15 @@ from drawing import KEPT, Moves, Splits, accepted_of, changes_of, draw, mixed_li
 from maps import apart
 from running import Count, Counter, Failed, why
 
-# How many pieces of a script are timed, of which the middle one counts, and how long each takes at least, in seconds.
-PIECES_TIMED = 5
+# How many pieces of a script are timed, of which the best one counts, and how long each takes at least, in seconds.
+PIECES_TIMED = 15
 LEAST_PIECE = 0.02
+# How many times changes are made and taken back, and maps deleted at least, of which the middle one counts.
+TIMES = 5
 MOST_LINES = 2_000_000
 # Where the least counts: how many seconds of runs are enough, how many are spent at most on as many runs as are wanted, how
 # many these are, and how many there are at most; and what is no time.
-ENOUGH, PATIENCE, WANTED_RUNS, MOST_RUNS, NEVER = 1, 40, 9, 40, float("inf")
+ENOUGH, PATIENCE, WANTED_RUNS, MOST_RUNS, NEVER = 2, 40, 15, 40, float("inf")
 # The seconds that maps are deleted for, and the most of them.
 DELETING, MOST_DELETED = 8, 100
 # How many splits and merges have their instructions counted.
@@ -48,11 +50,12 @@ class Both:
 
     @contextlib.contextmanager
     def session(self, map_, *more):
-        """A session of the program, of which the reference is given the pieces too."""
+        """A session of the program, of which the reference is given the pieces too, each in turn."""
         with self.program.session(map_.path, *more) as session:
-            yield session
+            with self.reference.beside(map_.path, session, *more) if self.reference else contextlib.nullcontext():
+                yield session
         if self.reference:
-            session.own = self.reference.given(map_.path, session, *more)
+            self.reference.compare_ended(session)
 
     def each(self, take):
         """What `take` gives of the program and of the reference."""
@@ -156,7 +159,7 @@ def rate(both, map_, lines_of, seconds, answer=".*"):
     def rates(some):
         return [len(lines) / spent for lines, spent in zip(some.pieces[-PIECES_TIMED:], some.spent[-PIECES_TIMED:])]
 
-    value, own = of_both(session, lambda some: middle(rates(some)))
+    value, own = of_both(session, lambda some: max(rates(some)))
     each = rates(session)
     return Measured(value, "/s", own, f"{PIECES_TIMED} times {len(lines)} lines, {min(each):.1f} to {max(each):.1f} /s")
 
@@ -175,7 +178,7 @@ def measure_deletes(both, map_, numbers):
     if not numbers:
         raise Failed("the map has no feature to delete")
     lines, sessions, start = [f"delete {n}" for n in numbers], [], time.perf_counter()
-    while len(sessions) < PIECES_TIMED or time.perf_counter() - start < DELETING and len(sessions) < MOST_DELETED:
+    while len(sessions) < TIMES or time.perf_counter() - start < DELETING and len(sessions) < MOST_DELETED:
         with both.session(map_) as session:
             session.seconds(lines)
         sessions.append(session)
@@ -215,7 +218,7 @@ def measure_kept(both, map_, lines):
 def made_and_undone(both, map_, lines):
     """A session in which these changes are made, and then all of them taken back, several times."""
     with both.session(map_, *KEEPING) as session:
-        for _ in range(PIECES_TIMED):
+        for _ in range(TIMES):
             session.seconds(lines)
             session.seconds(["undo"] * len(lines))
     if min(map(middle, (session.spent[::2], session.spent[1::2]))) < SHORTEST:
@@ -228,7 +231,7 @@ def undone(session, count, what):
     made, own_made = of_both(session, lambda some: count / middle(some.spent[::2]))
     back, own = of_both(session, lambda some: count / middle(some.spent[1::2]))
     beside = f" (reference {own_made:.1f}, ratio {made / own_made:.2f})" if own else ""
-    return Measured(back, "/s", own, f"{made:.1f} /s made{beside}, {PIECES_TIMED} times {count} {what}")
+    return Measured(back, "/s", own, f"{made:.1f} /s made{beside}, {TIMES} times {count} {what}")
 
 
 def measure_undos(both, map_, lines):

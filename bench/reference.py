@@ -4,6 +4,7 @@ The reference (bench/reference) opens maps with all tests, answers all lines, an
 places. It is a yardstick for speed, and has to give the same answers and to save the same text: where it does not, the
 one or the other is wrong.
 """
+import contextlib
 import filecmp
 import pathlib
 import shutil
@@ -41,17 +42,27 @@ class Reference(Runner):
         self.scripts = self.answers = 0
         self.differing = []
 
-    def given(self, path, session, *more):
-        """A session of the reference with the pieces of one of the program; None where it fails."""
-        try:
-            with self.session(path, *more) as own:
-                for lines in session.pieces:
-                    own.seconds(lines)
-        except Failed as reason:
-            self.differing.append(str(reason))
-            return None
-        self.compare([line for lines in session.pieces for line in lines], session.answers, own.answers, session.saved)
-        return own
+    @contextlib.contextmanager
+    def beside(self, path, session, *more):
+        """A session of the reference that is given what one of the program is given, and ends before that; the program's
+        has none where it fails."""
+        with contextlib.ExitStack() as at_end:
+            try:
+                session.own = at_end.enter_context(self.session(path, *more))
+            except Failed as reason:
+                self.differing.append(str(reason))
+            yield
+            try:
+                at_end.close()
+            except Failed as reason:
+                self.differing.append(str(reason))
+                session.own = None
+
+    def compare_ended(self, session):
+        """Keeps what differs between a session of the program and the reference's, once both have ended."""
+        if session.own:
+            lines = [line for piece in session.pieces for line in piece]
+            self.compare(lines, session.answers, session.own.answers, session.saved)
 
     def tried(self, take):
         """The seconds that `take` gives of the reference; no time where it fails."""

@@ -17,6 +17,8 @@ import time
 
 # What `./run` starts the program with, if the caller has not set it: the C library asks the system for large pages.
 PAGES = {"GLIBC_TUNABLES": "glibc.malloc.hugetlb=1:glibc.malloc.mmap_threshold=33554432"}
+# The processor that sessions run on, the program's and the reference's alike: one may be slower than another.
+PROCESSOR = max(os.sched_getaffinity(0))
 # How long to wait before asking again whether a program has read all that was written, in seconds.
 PAUSE = 0.0005
 
@@ -89,8 +91,8 @@ def opened_for(child, pipe):
 
 class Session:
     """A run whose script is written piece by piece. What was written has been answered once a call has returned. It keeps
-    the pieces, the processor seconds of each, what was answered and saved at the end, and the reference's session of the
-    same pieces."""
+    the pieces, the processor seconds of each, what was answered and saved at the end, and the reference's session, which
+    is given each piece right behind it: so what else the machine does is the same for both."""
 
     def __init__(self, child, script):
         self.child, self.script, self.clock = child, script, clock_of(child.pid)
@@ -116,6 +118,9 @@ class Session:
         self.write(lines)
         self.pieces.append(lines)
         self.spent.append(max(time.clock_gettime(self.clock) - start, 1e-9))
+        if self.own:
+            with contextlib.suppress(Failed):  # its end tells of it
+                self.own.seconds(lines)
         return self.spent[-1]
 
     def peak(self):
@@ -180,6 +185,7 @@ class Runner:
             pipe = f"{own}/pipe"
             os.mkfifo(pipe)
             with self.started(path, pipe, own, *more) as child, opened_for(child, pipe) as script:
+                os.sched_setaffinity(child.pid, {PROCESSOR})
                 session = Session(child, script)
                 yield session
             done = self.told(child, own, 0)
