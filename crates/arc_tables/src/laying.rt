@@ -22,6 +22,9 @@ use vertex_index::VertexKey;
 /// A new arc ends where it has so many keys.
 const LONGEST: usize = 64;
 
+/// How many keys an arc of two gets room for when it goes on.
+const ROOM: usize = 14;
+
 /// Whether some use is of arc `i`.
 fn has_use(uses: &[Use], i: usize) -> bool
     ensures { result ≡ uses_arc i uses.now }
@@ -76,6 +79,22 @@ fn learn<A: Allocator + Copy>(
     arc.rings.push(alloc, r)
 }
 
+/// Appends the next key of an arc. Most arcs have two keys or several: so room for several is taken
+/// at once, behind the second.
+fn push_key<A: Allocator + Copy>(
+    keys: &mut Vec<VertexKey, A>,
+    k: VertexKey,
+) -> Result<(), AllocError>
+    ensures ok { OnOk result (keys.new.items ≡ keys.old.items ++ k ∷ []) }
+    ensures err { OnErr result (keys.new.items ≡ keys.old.items) }
+{
+    if keys.len() == 2 {
+        keys.reserve(ROOM)?;
+    }
+    keys.push(k)?;
+    Ok(())
+}
+
 /// How many keys a ring went on by, and the arc that is being made.
 #[derive(Clone, Copy, Debug)]
 pub(crate) struct Piece {
@@ -120,7 +139,7 @@ impl<A: Allocator + Copy> Tables<A> {
     {
         list_arc(self.alloc, &mut self.stands, b, n)?;
         let arc = self.arcs.get_mut(n).unwrap();
-        arc.keys.push(b)?;
+        push_key(&mut arc.keys, b)?;
         Ok(())
     }
 
