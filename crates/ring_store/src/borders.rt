@@ -88,7 +88,8 @@ impl<A: Allocator + Copy> Borders<A> {
         ensures ok { IfOk result (λ r. self.new ≡ map.insert self.old r (edges keys.now)) }
         ensures err { OnErr result (self.new ≡ self.old) }
     {
-        let mut around = Vec::from_slice(self.tables.alloc, keys)?;
+        let mut around = Vec::with_capacity(self.tables.alloc, keys.len().saturating_add(1))?;
+        around.extend_from_slice(keys)?;
         around.push(keys[0])?;
         match self.tables.add_ring(around.as_slice()) {
             Ok(r) => Ok(r),

@@ -11,7 +11,7 @@ pub returns-in-Ok-clause-ok : goal.returns-in-Ok-clause-ok
 returns-in-Ok-clause-ok g c =
     let keys = c.args.keys.now in
     let is : links c.as_slice.result.now ≡ edges keys =
-    around keys c.as_slice.result.now c.index-keys-0.result c.requires.some c.index-keys-0.is (c.as_slice.ensures.value ∙ c.in_ok-push.ensures.items ∙ ap (λ z. z ++ c.index-keys-0.result ∷ []) c.in_ok-around.ensures.items) in
+    around keys c.as_slice.result.now c.index-keys-0.result c.requires.some c.index-keys-0.is (c.as_slice.ensures.value ∙ c.in_ok-push.ensures.items ∙ ap (λ z. z ++ c.index-keys-0.result ∷ []) (c.in_ok-extend_from_slice.ensures.items ∙ ap (λ z. z ++ keys) c.in_ok-around.ensures.items)) in
     rings_grown c.self.inside.tables c.add_ring.new.self c.in-Ok.r (edges keys) c.in-Ok.ensures.vacant c.in-Ok.ensures.held
     (subst (λ es. Grows c.in-Ok.r es (store c.self.inside.tables) (store c.add_ring.new.self)) is c.in-Ok.ensures.ok)
     ∙ ap (λ m. map.insert m c.in-Ok.r (edges keys)) c.self.view_is
