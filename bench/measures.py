@@ -139,29 +139,52 @@ def measure_save(both, opening, whole):
 
 # ---- lines a second
 
-def rate(both, map_, lines_of, seconds, answer=".*"):
-    """Lines a second, all of them accepted and answered by a text of this form, of scripts that `lines_of` makes about
-    so long."""
-    with both.session(map_) as session:
-        session.seconds(lines_of(2))  # a first question may make what the others use
-        wanted, lines = max(seconds / PIECES_TIMED, LEAST_PIECE), lines_of(2)
+def paced(session, lines_of, seconds):
+    """How many lines of a script that `lines_of` makes are a piece, of which some take so long, once a first question may
+    have made what the others use."""
+    session.seconds(lines_of(2))
+    wanted, lines = max(seconds / PIECES_TIMED, LEAST_PIECE), lines_of(2)
+    spent = session.seconds(lines)
+    while spent < LEAST_PIECE and len(lines) < MOST_LINES:
+        lines = lines_of(4 * len(lines))
         spent = session.seconds(lines)
-        while spent < LEAST_PIECE and len(lines) < MOST_LINES:
-            lines = lines_of(4 * len(lines))
-            spent = session.seconds(lines)
-        count = min(MOST_LINES, max(2, int(len(lines) * wanted / spent)))
-        for _ in range(PIECES_TIMED):
-            lines = lines_of(count)
-            session.seconds(lines)
-    if not all(re.fullmatch(answer, text) for text in session.answers):
-        raise Failed("an answer has another form")
+    return min(MOST_LINES, max(2, int(len(lines) * wanted / spent)))
+
+
+def best(session):
+    """Lines a second, of the pieces that were timed at the end of a session: the best of them, with those of the reference,
+    the least, and how many lines a piece had."""
 
     def rates(some):
         return [len(lines) / spent for lines, spent in zip(some.pieces[-PIECES_TIMED:], some.spent[-PIECES_TIMED:])]
 
     value, own = of_both(session, lambda some: max(rates(some)))
     each = rates(session)
-    return Measured(value, "/s", own, f"{PIECES_TIMED} times {len(lines)} lines, {min(each):.1f} to {max(each):.1f} /s")
+    note = f"{PIECES_TIMED} times {len(session.pieces[-1])} lines, {min(each):.1f} to {max(each):.1f} /s"
+    return Measured(value, "/s", own, note)
+
+
+def rate(both, map_, lines_of, seconds, answer=".*"):
+    """Lines a second, all of them accepted and answered by a text of this form, of scripts that `lines_of` makes about
+    so long."""
+    with both.session(map_) as session:
+        count = paced(session, lines_of, seconds)
+        for _ in range(PIECES_TIMED):
+            session.seconds(lines_of(count))
+    if not all(re.fullmatch(answer, text) for text in session.answers):
+        raise Failed("an answer has another form")
+    return best(session)
+
+
+def rates_in_turn(both, maps, scripts, seconds):
+    """The same of several maps, whose pieces take turns."""
+    with contextlib.ExitStack() as at_end:
+        sessions = [at_end.enter_context(both.session(map_)) for map_ in maps]
+        counts = [paced(session, script, seconds) for session, script in zip(sessions, scripts)]
+        for _ in range(PIECES_TIMED):
+            for session, script, count in zip(sessions, scripts, counts):
+                session.seconds(script(count))
+    return [best(session) for session in sessions]
 
 
 def measure_moves(both, map_, vertices, seconds):

@@ -53,20 +53,33 @@ pub(crate) fn place_in(
     None
 }
 
-/// The place of the segment in a path, which is looked for where it ends in the first of two ranges,
-/// and then in the second.
-fn place_in_either(
+/// The place of the segment in a path, if it ends at this place of it.
+fn place_at(path: &[VertexKey], end: usize, a: VertexKey, b: VertexKey) -> Option<(usize, bool)>
+    ensures { IfSome result (λ p. IsPlace path.now p.0 p.1 a b) }
+{
+    if end == 0 || path.len() <= end {
+        return None;
+    }
+    let (here, next) = (path[end - 1], path[end]);
+    if leads(here, next, a, b) {
+        return Some((end - 1, false));
+    }
+    leads(here, next, b, a).then_some((end - 1, true))
+}
+
+/// The place of the segment in a path, if it ends at the first of two places of it, or at the second.
+fn place_at_either(
     path: &[VertexKey],
-    first: Range<usize>,
-    second: Range<usize>,
+    first: usize,
+    second: usize,
     a: VertexKey,
     b: VertexKey,
 ) -> Option<(usize, bool)>
     ensures { IfSome result (λ p. IsPlace path.now p.0 p.1 a b) }
 {
-    match place_in(path, first, a, b) {
+    match place_at(path, first, a, b) {
         Some(place) => Some(place),
-        None => place_in(path, second, a, b),
+        None => place_at(path, second, a, b),
     }
 }
 
@@ -84,8 +97,8 @@ fn find_at_end<A: Allocator + Copy>(
     for arc in among {
         if let Some(border) = arcs.get(*arc) {
             let path = border.keys.as_slice();
-            let last = path.len().saturating_sub(1)..path.len();
-            if let Some((at, back)) = place_in_either(path, 1..2, last, a, b) {
+            let last = path.len().saturating_sub(1);
+            if let Some((at, back)) = place_at_either(path, 1, last, a, b) {
                 return Some(Place {
                     arc: *arc,
                     at,
@@ -174,14 +187,13 @@ impl<A: Allocator + Copy> Tables<A> {
         ensures there { IfSome result (λ p. ContainsKey self.now.arcs p.arc) }
     {
         let path = self.arcs.get(near.arc)?.keys.as_slice();
-        let before = near.at..near.at.saturating_add(1);
-        let behind = near.at.saturating_add(2)..near.at.saturating_add(3);
+        let behind = near.at.saturating_add(2);
         let (first, second) = if near.back {
-            (before, behind)
+            (near.at, behind)
         } else {
-            (behind, before)
+            (behind, near.at)
         };
-        let (at, back) = place_in_either(path, first, second, a, b)?;
+        let (at, back) = place_at_either(path, first, second, a, b)?;
         Some(Place {
             arc: near.arc,
             at,
