@@ -61,6 +61,7 @@ A measure that fails says `failed`, and why; a map or a program that is not ther
 At the end come maps that are hard for an index of segments, in a table for each size of --hard, each beside bricks of
 about as many segments: the seconds to open it, how many times as long as bricks that is, how many times as long as a map of
 the same kind with half as many segments (`doubling`), the moves a second, and how many times as many as in bricks that is.
+Bricks are measured beside each of them anew, run by run and piece by piece in turn, and so is the map of half the size.
 
     outlier     bricks, and one triangle far from them
     clusters    rings in up to a thousand clusters with much room between them
