@@ -1,5 +1,5 @@
 // Rings in their canonical rotation.
-ghost use Rattle.std.specs.Prelude.{◌≡◌, ◌≤◌, IfOk, length};
+ghost use Rattle.std.specs.Prelude.{◌≡◌, ◌≤◌, IfOk, length, drop, take, ◌++◌};
 ghost use Rattle.ring_machine.specs.Common.{before, canonical};
 
 use grid_geometry::Pos;
@@ -21,6 +21,18 @@ pub(crate) fn count_before(pos: Pos, ring: &[Pos]) -> usize
     count
 }
 
+/// Turns a ring so that it begins at `place`, by three reversals, which need no room.
+fn turn_left(ring: &mut [Pos], place: usize)
+    requires { place ≤ length ring.old }
+    ensures { ring.new ≡ drop place ring.old ++ take place ring.old }
+{
+    if place > 0 {
+        ring[..place].reverse();
+        ring[place..].reverse();
+        ring.reverse();
+    }
+}
+
 /// Turns a ring so that it begins at its least position, with its direction kept.
 pub fn begin_at_least(ring: &mut [Pos])
     ensures { ring.new ≡ canonical ring.old }
@@ -31,7 +43,7 @@ pub fn begin_at_least(ring: &mut [Pos])
         .reduce(|q, p| if p < q { p } else { q })
     {
         let place = count_before(least, ring);
-        ring.rotate_left(place);
+        turn_left(ring, place);
     }
 }
 

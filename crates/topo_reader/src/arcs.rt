@@ -98,12 +98,13 @@ fn has_two(span: Span<'_>) -> bool
 #[tactic(auto, unfolding(crate::specs::Positions::arc))]
 fn arc<'a, A: Allocator + Copy>(
     alloc: A,
+    scratch: &mut Vec<Pos, A>,
     delta: bool,
     span: Span<'a>,
 ) -> Result<Vec<Pos, A>, OpenFault<'a>>
     ensures { Gives (λ v. v.items) result (arc delta (node span.entry)) }
 {
-    if let Some(found) = plain_arc(alloc, delta, span)? {
+    if let Some(found) = plain_arc(alloc, scratch, delta, span)? {
         return Ok(found);
     }
     if kind(span) != Kind::List || !has_two(span) {
@@ -121,12 +122,13 @@ pub(crate) fn arcs<'a, A: Allocator + Copy>(
 ) -> Result<Vec<Vec<Pos, A>, A>, OpenFault<'a>>
     ensures { Gives (λ v. map (λ a. a.items) v.items) result (arcs delta (node span.entry)) }
 {
-    if let Some(found) = plain_arcs(alloc, delta, span)? {
+    let mut scratch = Vec::new(alloc);
+    if let Some(found) = plain_arcs(alloc, &mut scratch, delta, span)? {
         return Ok(found);
     }
     let mut found = Vec::new(alloc);
     for part in items(span) {
-        found.push(or_return!(arc(alloc, delta, part)))?;
+        found.push(or_return!(arc(alloc, &mut scratch, delta, part)))?;
     }
     Ok(found)
 }

@@ -98,15 +98,16 @@ fn plain_step(before: Pos, bytes: &[u8]) -> Option<Step<'_>>
     Some(Step { to, more, left })
 }
 
-/// The positions of the pairs behind the bracket, and what follows the one that closes the list.
+/// Lists the positions of the pairs behind the bracket in `found`, in place of what it held, and
+/// gives what follows the bracket that closes the list.
 fn plain_positions<'a, A: Allocator + Copy>(
-    alloc: A,
+    found: &mut Vec<Pos, A>,
     delta: bool,
     inside: &'a [u8],
-) -> Result<Option<(Vec<Pos, A>, &'a [u8])>, AllocError>
-    ensures { IfOk result (λ r. IfSome r (λ v. PlainFront delta origin true inside.now v.0.items v.1.now)) }
+) -> Result<Option<&'a [u8]>, AllocError>
+    ensures { IfOk result (λ r. IfSome r (λ rest. PlainFront delta origin true inside.now found.new.items rest.now)) }
 {
-    let mut found = Vec::new(alloc);
+    found.clear();
     let mut before = origin();
     let mut more = true;
     let mut left = inside;
@@ -119,7 +120,7 @@ fn plain_positions<'a, A: Allocator + Copy>(
         more = step.more;
         left = step.left;
     }
-    Ok(Some((found, left)))
+    Ok(Some(left))
 }
 
 /// What follows the bracket in front, where another one does.
@@ -133,8 +134,12 @@ fn inside(text: &[u8]) -> Option<&[u8]>
 }
 
 /// The positions of the arc in front, and what follows it; `None` where none is written plainly.
+///
+/// They grow in `scratch`, whose room serves for one arc after the other, and are copied out at
+/// their exact length.
 pub(crate) fn arc_in_front<'a, A: Allocator + Copy>(
     alloc: A,
+    scratch: &mut Vec<Pos, A>,
     delta: bool,
     text: &'a [u8],
 ) -> Result<Option<(Vec<Pos, A>, &'a [u8])>, AllocError>
@@ -143,8 +148,10 @@ pub(crate) fn arc_in_front<'a, A: Allocator + Copy>(
     let Some(inside) = inside(text) else {
         return Ok(None);
     };
-    match plain_positions(alloc, delta, inside)? {
-        Some((found, rest)) if found.len() >= 2 => Ok(Some((found, rest))),
+    match plain_positions(scratch, delta, inside)? {
+        Some(rest) if scratch.len() >= 2 => {
+            Ok(Some((Vec::from_slice(alloc, scratch.as_slice())?, rest)))
+        }
         _ => Ok(None),
     }
 }
@@ -152,12 +159,13 @@ pub(crate) fn arc_in_front<'a, A: Allocator + Copy>(
 /// The positions of an arc that is written plainly; `None` for any other.
 pub(crate) fn plain_arc<A: Allocator + Copy>(
     alloc: A,
+    scratch: &mut Vec<Pos, A>,
     delta: bool,
     span: Span<'_>,
 ) -> Result<Option<Vec<Pos, A>>, AllocError>
     ensures { IfOk result (λ r. IfSome r (λ v. arc delta (node span.entry) ≡ Ok v.items)) }
 {
-    match arc_in_front(alloc, delta, bytes(span))? {
+    match arc_in_front(alloc, scratch, delta, bytes(span))? {
         Some((found, rest)) if rest.is_empty() => Ok(Some(found)),
         _ => Ok(None),
     }

@@ -31,12 +31,13 @@ fn after_space(bytes: &[u8]) -> &[u8]
 /// The positions of the arc in front, whether another one follows, and what is left.
 fn plain_item<'a, A: Allocator + Copy>(
     alloc: A,
+    scratch: &mut Vec<Pos, A>,
     delta: bool,
     bytes: &'a [u8],
 ) -> Result<Option<(Vec<Pos, A>, bool, &'a [u8])>, AllocError>
     ensures { IfOk result (λ r. IfSome r (λ v. PlainItem delta bytes.now v.0.items v.1 v.2.now)) }
 {
-    let Some((positions, behind)) = arc_in_front(alloc, delta, after_space(bytes))? else {
+    let Some((positions, behind)) = arc_in_front(alloc, scratch, delta, after_space(bytes))? else {
         return Ok(None);
     };
     match others(after_space(behind)) {
@@ -48,6 +49,7 @@ fn plain_item<'a, A: Allocator + Copy>(
 /// The arcs behind the bracket, up to the one at the end.
 fn plain_items<A: Allocator + Copy>(
     alloc: A,
+    scratch: &mut Vec<Pos, A>,
     delta: bool,
     inside: &[u8],
 ) -> Result<Option<Vec<Vec<Pos, A>, A>>, AllocError>
@@ -57,7 +59,7 @@ fn plain_items<A: Allocator + Copy>(
     let mut more = true;
     let mut left = inside;
     while more {
-        let Some((positions, is_more, rest)) = plain_item(alloc, delta, left)? else {
+        let Some((positions, is_more, rest)) = plain_item(alloc, scratch, delta, left)? else {
             return Ok(None);
         };
         found.push(positions)?;
@@ -74,13 +76,14 @@ fn plain_items<A: Allocator + Copy>(
 /// The positions of all arcs of a list that is written plainly; `None` for any other.
 pub(crate) fn plain_arcs<A: Allocator + Copy>(
     alloc: A,
+    scratch: &mut Vec<Pos, A>,
     delta: bool,
     span: Span<'_>,
 ) -> Result<Option<Vec<Vec<Pos, A>, A>>, AllocError>
     ensures { IfOk result (λ r. IfSome r (λ v. arcs delta (node span.entry) ≡ Ok (map (λ a. a.items) v.items))) }
 {
     match after(b'[', bytes(span)) {
-        Some(inside) => plain_items(alloc, delta, inside),
+        Some(inside) => plain_items(alloc, scratch, delta, inside),
         None => Ok(None),
     }
 }

@@ -8,7 +8,7 @@ pub returns-in-Some : goal.returns-in-Some
 returns-in-Some c =
     let ring = c.args.ring.now in
     let least : c.reduce.result ≡ reduce (λ q p. cond (position_lt p q) p q) ring = search (rules, chains) in
-    c.rotate_left.ensures.after
+    c.turn_left.ensures
     ∙ ap (λ n. drop n ring ++ take n ring) c.count_before-place.ensures.value
     ∙ turned_at c.in-Some.least ring
     ∙ canonical_by ring c.in-Some.least (sym least ∙ c.in-Some.is)
