@@ -71,8 +71,8 @@ pub from_place : (i : ℕ) (xs : List ℕ) → take (length xs - i) (drop i xs) 
 from_place i xs = take_all (length xs - i) (drop i xs) (omega (arith, length-drop i xs))
 
 -- behind bytes that are passed over, the whole is the same
-pub moved_on : (sep : ℕ) (s t : Skip) (level i k : ℕ) (xs : List ℕ) (whole : ℕ) → i + part_len sep s level (drop i xs) ≡ whole → part_len sep s level (take (length xs - i) (drop i xs)) ≡ k + part_len sep t level (drop k (take (length xs - i) (drop i xs))) → (i + k) + part_len sep t level (drop (i + k) xs) ≡ whole
-moved_on sep s t level i k xs whole e h =
-    let h' : part_len sep s level (drop i xs) ≡ k + part_len sep t level (drop k (drop i xs)) = rw (from_place i xs) at h in
-    let same : part_len sep s level (drop i xs) ≡ k + part_len sep t level (drop (i + k) xs) = h' ∙ ap (λ ys. k + part_len sep t level ys) (drop-drop k i xs) in
+pub moved_on : (sep : ℕ) (s t : Skip) (level level' i k : ℕ) (xs : List ℕ) (whole : ℕ) → i + part_len sep s level (drop i xs) ≡ whole → part_len sep s level (take (length xs - i) (drop i xs)) ≡ k + part_len sep t level' (drop k (take (length xs - i) (drop i xs))) → (i + k) + part_len sep t level' (drop (i + k) xs) ≡ whole
+moved_on sep s t level level' i k xs whole e h =
+    let h' : part_len sep s level (drop i xs) ≡ k + part_len sep t level' (drop k (drop i xs)) = rw (from_place i xs) at h in
+    let same : part_len sep s level (drop i xs) ≡ k + part_len sep t level' (drop (i + k) xs) = h' ∙ ap (λ ys. k + part_len sep t level' ys) (drop-drop k i xs) in
     omega (arith, e, same)

@@ -1,5 +1,5 @@
 -- Masks of the bytes of a block.
-use Rattle.kit_words.proofs.Common.{◌≡◌, ℕ, zero, suc, ◌+◌, ◌*◌, ◌/◌, ◌%◌, ◌^◌, ◌<◌, ◌≤◌, ltb, Bool, true, false, not}
+use Rattle.kit_words.proofs.Common.{◌≡◌, ℕ, zero, suc, ◌+◌, ◌*◌, ◌/◌, ◌%◌, ◌^◌, ◌<◌, ◌≤◌, ltb, eqb, Bool, true, false, not}
 use Rattle.kit_words.proofs.Common.{cond, List, [], ◌∷◌, map, length, take, replicate, refl, ap, ap₂, ◌∙◌, arith, w8}
 use Rattle.kit_words.proofs.Common.{Fits, mod-mul, one-le-pow, pow-succ', agree_below, agree_below_at, mask_l-mod}
 use Rattle.kit_words.proofs.Common.{trailing_mask_l, zip2_splat, map-map, length-map, prefix_len, count_trailing_zeros}
@@ -43,3 +43,6 @@ after_splat h f y n v long p = ap (λ a. zip2 h a (replicate n y)) p ∙ zip2_sp
 
 abbrev pub below : ℕ → ℕ → ℕ
 below a b = cond (ltb a b) 255 0
+
+abbrev pub alike : ℕ → ℕ → ℕ
+alike a b = cond (eqb a b) 255 0

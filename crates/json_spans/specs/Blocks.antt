@@ -14,6 +14,12 @@ is_calm x = not (is_stop x)
 abbrev pub is_quote : ℕ → Bool
 is_quote x = x == 34
 
+abbrev pub is_unquoted : ℕ → Bool
+is_unquoted x = not (is_quote x)
+
+abbrev pub is_unclosed : ℕ → Bool
+is_unclosed x = not (closes x)
+
 abbrev pub is_odd : ℕ → Bool
 is_odd n = n % 2 == 1
 

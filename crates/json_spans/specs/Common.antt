@@ -1,5 +1,5 @@
 -- The words of this crate that others cite most, passed on from one place. Declares nothing.
-pub use Rattle.json_spans.specs.Blocks.{is_calm, is_escaped, is_odd, is_quote, is_stop, turned}
+pub use Rattle.json_spans.specs.Blocks.{is_calm, is_escaped, is_odd, is_quote, is_stop, is_unclosed, is_unquoted, turned}
 pub use Rattle.json_spans.specs.Bytes.{is_ascii, is_digit, is_e, is_escape, is_four, is_hex, is_nonzero, is_sign}
 pub use Rattle.json_spans.specs.Bytes.{is_space, is_tail, is_tail_e0, is_tail_ed, is_tail_f0, is_tail_f4, is_three}
 pub use Rattle.json_spans.specs.Bytes.{is_two, is_unescaped}

@@ -1,9 +1,9 @@
 // Bytes of a part that are passed over a block at a time.
-ghost use Rattle.std.specs.Prelude.{◌≡◌, ◌≤◌, ◌+◌, ◌<◌, ℕ, map, take, drop, length, false};
+ghost use Rattle.std.specs.Prelude.{◌≡◌, ◌≤◌, ◌+◌, ◌<◌, ◌^◌, ℕ, map, take, drop, length, false};
 ghost use Rattle.std.specs.List.{prefix_len, count_by};
 ghost use Rattle.std.specs.Simd.Lanes.{mask_l};
-ghost use Rattle.json_spans.specs.Parts.{part_len};
-ghost use Rattle.json_spans.specs.Blocks.{is_stop, is_calm, is_quote, is_odd, turned, is_escaped};
+ghost use Rattle.json_spans.specs.Parts.{part_len, opens, closes};
+ghost use Rattle.json_spans.specs.Blocks.{is_stop, is_calm, is_quote, is_unquoted, is_unclosed, is_odd, turned, is_escaped};
 
 use crate::parts::Skip;
 use std::simd::prelude::*;
@@ -15,6 +15,7 @@ const LANES: usize = 32;
 pub(crate) struct Front {
     pub(crate) len: usize,
     pub(crate) skip: Skip,
+    pub(crate) level: usize,
 }
 
 // The lanes with a bracket, a backslash or a bar: with the bit of small letters these are the three
@@ -81,18 +82,160 @@ fn are_odd(v: u8x32, len: u32) -> bool
 /// The bytes in front that are neither brackets nor backslashes, at most a block of them, where
 /// these are passed over alike: inside brackets, and not behind a backslash.
 #[inline(always)]
-pub(crate) fn calm_front(skip: Skip, level: usize, bytes: &[u8]) -> Front
+fn calm_front(skip: Skip, level: usize, bytes: &[u8]) -> Front
     ensures same { (sep : ℕ) → part_len sep skip level bytes.now
         ≡ result.len + part_len sep result.skip level (drop result.len bytes.now) }
     ensures bound { result.len ≤ length bytes.now }
+    ensures level { result.level ≡ level }
 {
     if level == 0 || bytes.len() < LANES || is_escaped(skip) {
-        return Front { len: 0, skip };
+        return Front {
+            len: 0,
+            skip,
+            level,
+        };
     }
     let v = u8x32::from_slice(bytes);
     let len = calm_lanes(v);
     Front {
         len: len as usize,
         skip: turned(skip, are_odd(v, len)),
+        level,
     }
+}
+
+#[inline(always)]
+fn openings(v: u8x32) -> u64
+    ensures { result ≡ mask_l (map opens v) }
+{
+    (v | u8x32::splat(0x20))
+        .simd_eq(u8x32::splat(b'{'))
+        .to_bitmask()
+}
+
+#[inline(always)]
+fn closings(v: u8x32) -> u64
+    ensures { result ≡ mask_l (map closes v) }
+{
+    (v | u8x32::splat(0x20))
+        .simd_eq(u8x32::splat(b'}'))
+        .to_bitmask()
+}
+
+// How many brackets open among so many lanes.
+#[inline(always)]
+fn opened(v: u8x32, len: u32) -> u32
+    requires { len ≤ 32 }
+    ensures { result ≡ count_by opens (take len v) }
+{
+    (openings(v) % (1 << len)).count_ones()
+}
+
+// How many brackets close among so many lanes.
+#[inline(always)]
+fn closed(v: u8x32, len: u32) -> u32
+    requires { len ≤ 32 }
+    ensures { result ≡ count_by closes (take len v) }
+{
+    (closings(v) % (1 << len)).count_ones()
+}
+
+// How many lanes come before the first quote.
+#[inline(always)]
+fn unquoted_lanes(v: u8x32) -> u32
+    ensures { result ≡ prefix_len is_unquoted v }
+{
+    let mask = quotes(v);
+    if mask == 0 {
+        LANES as u32
+    } else {
+        mask.trailing_zeros()
+    }
+}
+
+// How many lanes come before the first closing bracket.
+#[inline(always)]
+fn unclosed_lanes(v: u8x32) -> u32
+    ensures { result ≡ prefix_len is_unclosed v }
+{
+    let mask = closings(v);
+    if mask == 0 {
+        LANES as u32
+    } else {
+        mask.trailing_zeros()
+    }
+}
+
+// How many lanes come before the first quote, and before the closing bracket that is the last
+// that there is room for, or the fourth.
+#[inline(always)]
+fn nested_lanes(v: u8x32, room: usize) -> u32
+    ensures { result ≤ prefix_len is_unquoted v }
+{
+    let first = closings(v);
+    let second = first & first.wrapping_sub(1);
+    let third = second & second.wrapping_sub(1);
+    let cut = match room {
+        1 => first,
+        2 => second,
+        3 => third,
+        _ => third & third.wrapping_sub(1),
+    };
+    unquoted_lanes(v).min(cut.trailing_zeros())
+}
+
+/// The bytes in front that are no quotes, at most a block of them, outside strings and inside
+/// brackets: fewer close among them than are open where the first of them closes.
+#[inline(always)]
+fn nested_front(level: usize, bytes: &[u8]) -> Front
+    requires { level + length bytes.now < 2 ^ 64 }
+    ensures same { (sep : ℕ) → part_len sep Skip.Plain level bytes.now
+        ≡ result.len + part_len sep result.skip result.level (drop result.len bytes.now) }
+    ensures bound { result.len ≤ length bytes.now }
+    ensures level { result.level ≤ level + result.len }
+{
+    let skip = Skip::Plain;
+    if level == 0 || bytes.len() < LANES {
+        return Front {
+            len: 0,
+            skip,
+            level,
+        };
+    }
+    let v = u8x32::from_slice(bytes);
+    let lead = unclosed_lanes(v);
+    let room = level + opened(v, lead) as usize;
+    let len = nested_lanes(v, room);
+    let closing = closed(v, len) as usize;
+    if closing >= room {
+        return Front {
+            len: 0,
+            skip,
+            level,
+        };
+    }
+    let opening = opened(v, len) as usize;
+    Front {
+        len: len as usize,
+        skip,
+        level: level + opening - closing,
+    }
+}
+
+/// Bytes in front that are passed over together, and where they lead.
+#[inline(always)]
+pub(crate) fn block_front(skip: Skip, level: usize, bytes: &[u8]) -> Front
+    requires { level + length bytes.now < 2 ^ 64 }
+    ensures same { (sep : ℕ) → part_len sep skip level bytes.now
+        ≡ result.len + part_len sep result.skip result.level (drop result.len bytes.now) }
+    ensures bound { result.len ≤ length bytes.now }
+    ensures level { result.level ≤ level + result.len }
+{
+    if let Skip::Plain = skip {
+        let nested = nested_front(level, bytes);
+        if !matches!(bytes.get(nested.len), Some(b'"')) {
+            return nested;
+        }
+    }
+    calm_front(skip, level, bytes)
 }
