@@ -222,6 +222,13 @@ fn nested_front(level: usize, bytes: &[u8]) -> Front
     }
 }
 
+// Whether a block in front has a quote: then what follows is likely names and texts, in which brackets
+// are few. No answer depends on it.
+#[inline(always)]
+fn has_quote(bytes: &[u8]) -> bool {
+    bytes.len() >= LANES && quotes(u8x32::from_slice(bytes)) != 0
+}
+
 /// Bytes in front that are passed over together, and where they lead.
 #[inline(always)]
 pub(crate) fn block_front(skip: Skip, level: usize, bytes: &[u8]) -> Front
@@ -232,9 +239,8 @@ pub(crate) fn block_front(skip: Skip, level: usize, bytes: &[u8]) -> Front
     ensures level { result.level ≤ level + result.len }
 {
     if let Skip::Plain = skip {
-        let nested = nested_front(level, bytes);
-        if !matches!(bytes.get(nested.len), Some(b'"')) {
-            return nested;
+        if !has_quote(bytes) {
+            return nested_front(level, bytes);
         }
     }
     calm_front(skip, level, bytes)
