@@ -1,5 +1,5 @@
 -- A ring of a kept map, and where borders meet along it.
-use Rattle.std.proofs.Common.{◌≡◌, ℕ, true, sym, ap, ◌∙◌, List, [], get_or, Some, option_map, None as Absent}
+use Rattle.std.proofs.Common.{◌≡◌, ℕ, Bool, true, sym, ap, ◌∙◌, List, [], Some, option_map, None as Absent}
 use Rattle.kit_words.proofs.Common.{unwrap_or}
 use Rattle.std.specs.FinMap as table
 use Rattle.grid_geometry.specs.Common.{Position}
@@ -8,9 +8,9 @@ use Rattle.ring_machine.proofs.Common.{in_contains}
 use Rattle.vertex_index.specs.Common.{place}
 use Rattle.ring_store.specs.declared.neighbours.Neighbours.{Neighbours}
 use Rattle.ring_store.specs.declared.neighbours.Neighbours.TheVariants.{None, One, Two, More}
-use Rattle.ring_store.specs.Common.{AreNeighbours, AreAllNeighbours}
+use Rattle.ring_store.specs.Common.{AreNeighbours}
 use Rattle.map_frame.specs.Common.{ring_at}
-use Rattle.feature_exchange.specs.Common.{Stored, document_of, ring_under, IsWhole, is_meeting, MarksAlong}
+use Rattle.feature_exchange.specs.Common.{Stored, document_of, ring_under, IsWhole, is_meeting, meets, MarksAlong}
 use Rattle.feature_exchange.proofs.Common.{along}
 use Rattle.ring_store.proofs.Common.{kept_place}
 use Rattle.arc_store.proofs.Around.{two_no_junction, neighbours_none, neighbours_one, neighbours_more}
@@ -48,7 +48,7 @@ module _ (s : Stored) (w : IsWhole s) where
   meeting k p here More h = sym (neighbours_more s w k p here h)
 
   -- so they meet along each ring where junctions are
-  pub junctions_along : (around : List Neighbours) → AreAllNeighbours s.rings around → (r : ℕ)
-      → MarksAlong s.places s.rings r around (is_junction (document_of s))
-  junctions_along around all r k h =
-      meeting k (place s.places k) (kept_place s.places k (along s w r k h)) (get_or around k None) (all k)
+  pub junctions_along : (marks : List Bool) → ((k : ℕ) → (o : Neighbours) × AreNeighbours s.rings k o × (meets marks k ≡ is_meeting o)) → (r : ℕ)
+      → MarksAlong s.places s.rings r marks (is_junction (document_of s))
+  junctions_along marks all r k h =
+      (all k).2 ∙ meeting k (place s.places k) (kept_place s.places k (along s w r k h)) (all k).0 (all k).1

@@ -1,5 +1,5 @@
 -- A map's tables as its callers see them, and what is true of them.
-use Rattle.std.specs.Prelude.{ℕ, ◌≡◌, List, Option}
+use Rattle.std.specs.Prelude.{ℕ, ◌≡◌, Bool, List, Option}
 use Rattle.edit_records.specs.Common.{Record}
 use Rattle.ring_machine.specs.Common.{size}
 use Rattle.segment_index.specs.Common.{SegmentSet}
@@ -7,9 +7,9 @@ use Rattle.segment_index.specs.Frames.{Frame as GridFrame}
 use Rattle.vertex_index.specs.Common.{Placement}
 use Rattle.arc_tables.specs.Common.{Rings}
 use Rattle.ring_store.specs.declared.neighbours.Neighbours.{Neighbours}
-use Rattle.ring_store.specs.Common.{AreAllNeighbours}
+use Rattle.ring_store.specs.Common.{AreNeighbours}
 use Rattle.map_frame.specs.Common.{Framed}
-use Rattle.feature_exchange.specs.Common.{Stored, stored, document_of, IsWhole, Holds}
+use Rattle.feature_exchange.specs.Common.{Stored, stored, document_of, is_meeting, meets, IsWhole, Holds}
 use Rattle.arc_store.specs.State.{State}
 
 -- the map as its callers see it
@@ -29,7 +29,7 @@ pub record IsKept (frame : Framed) (rings : Rings) (places : Placement) (held : 
   pub holds : Holds (stored frame rings places) held
   pub sized : positions ≡ size (document_of (stored frame rings places))
 
--- the tables belong together, and the list has what stands around each vertex
-pub record HasAround (s : Stored) (around : List Neighbours) : Type 0 where
+-- the tables belong together, and the list has at which vertices borders meet
+pub record HasMeetings (s : Stored) (meetings : List Bool) : Type 0 where
   pub whole : IsWhole s
-  pub neighbours : AreAllNeighbours s.rings around
+  pub told : (k : ℕ) → (o : Neighbours) × AreNeighbours s.rings k o × (meets meetings k ≡ is_meeting o)

@@ -3,10 +3,10 @@ ghost use Rattle.ring_machine.specs.Common.{feature, is_junction};
 ghost use Rattle.map_frame.specs.Common.{ring_at, shown};
 
 use crate::map::Map;
-use feature_exchange::push_marked_ring;
+use feature_exchange::{meetings, push_marked_ring};
 use grid_geometry::Pos;
 use map_frame::{FeatureView, Frame};
-use ring_store::{Neighbours, RingTables};
+use ring_store::RingTables;
 use segment_index::SegIndex;
 use std::alloc::{AllocError, Allocator, Global};
 use std::hash::RandomState;
@@ -17,20 +17,20 @@ use std::marker::Model;
 pub struct MarkedMap<'m, 'a, I: SegIndex, A: Allocator + Copy = Global> {
     frame: &'m Frame<'a, A>,
     rings: &'m RingTables<I, A>,
-    /// What stands around each vertex, by the index of its key.
-    around: Vec<Neighbours, A>,
+    /// Whether borders meet at each vertex, by the index of its key.
+    meetings: Vec<bool, A>,
 }
 
 impl<'m, 'a, I: SegIndex, A: Allocator + Copy> Model for MarkedMap<'m, 'a, I, A> {
     ghost use Rattle.ring_machine.specs.Document.{Document};
     ghost use Rattle.feature_exchange.specs.Stored.{stored_in, document_of};
-    ghost use Rattle.arc_store.specs.Kept.{HasAround};
+    ghost use Rattle.arc_store.specs.Kept.{HasMeetings};
 
     ghost Value = { Document };
 
     ghost view = { λ m. document_of (stored_in m.frame.now m.rings.now) };
 
-    ghost invariant = { λ m. HasAround (stored_in m.frame.now m.rings.now) m.around.items };
+    ghost invariant = { λ m. HasMeetings (stored_in m.frame.now m.rings.now) m.meetings.items };
 }
 
 impl<'m, 'a, I: SegIndex, A: Allocator + Copy> MarkedMap<'m, 'a, I, A> {
@@ -66,7 +66,13 @@ impl<'m, 'a, I: SegIndex, A: Allocator + Copy> MarkedMap<'m, 'a, I, A> {
         let Some(number) = self.frame.ring(feature, polygon, ring) else {
             return Ok(());
         };
-        push_marked_ring(self.rings, self.around.as_slice(), number, positions, marks)?;
+        push_marked_ring(
+            self.rings,
+            self.meetings.as_slice(),
+            number,
+            positions,
+            marks,
+        )?;
         Ok(())
     }
 }
@@ -77,10 +83,11 @@ impl<'a, I: SegIndex, A: Allocator + Copy> Map<'a, I, A> {
         ensures { IfOk result (λ m. m ≡ self.now.doc) }
     {
         let around = self.rings.borders.all_neighbours()?;
+        let meetings = meetings(self.rings.alloc, around.as_slice())?;
         Ok(MarkedMap {
             frame: &self.frame,
             rings: &self.rings,
-            around,
+            meetings,
         })
     }
 }

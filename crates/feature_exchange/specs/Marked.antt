@@ -14,11 +14,11 @@ is_meeting None = true
 is_meeting (One a) = true
 is_meeting More = true
 
--- the vertex of a key has not exactly two neighbours, by a list of what stands around each
-abbrev pub meets : List Neighbours → ℕ → Bool
-meets around k = is_meeting (get_or around k None)
+-- whether borders meet at the vertex of a key, by a list of where they do; behind its end they do
+abbrev pub meets : List Bool → ℕ → Bool
+meets meetings k = get_or meetings k true
 
 -- borders meet at the keys along a ring where their positions are such
-abbrev pub MarksAlong : Placement → Rings → ℕ → List Neighbours → (Position → Bool) → Type 0
-MarksAlong places m r around such =
-    (k : ℕ) → Contains (begins (edges_under m r)) k → meets around k ≡ such (place places k)
+abbrev pub MarksAlong : Placement → Rings → ℕ → List Bool → (Position → Bool) → Type 0
+MarksAlong places m r meetings such =
+    (k : ℕ) → Contains (begins (edges_under m r)) k → meets meetings k ≡ such (place places k)

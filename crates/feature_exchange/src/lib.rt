@@ -23,7 +23,7 @@ pub use change::{Change, WholeFeature, one_change, one_polygon, two_changes};
 pub use counting::count_changes;
 pub use exchanging::exchange_features;
 pub use laid::{LaidRing, gather_rings};
-pub use marked_ring::push_marked_ring;
+pub use marked_ring::{meetings, push_marked_ring};
 pub use reading::read_polygons;
 pub use ring_iter::RingIter;
 pub use ring_laying::lay_rings;

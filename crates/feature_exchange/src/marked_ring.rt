@@ -1,10 +1,10 @@
 // The positions of a ring, each with whether borders meet there.
-ghost use Rattle.std.specs.Prelude.{◌≡◌, ◌<◌, ◌≤◌, ◌^◌, ◌++◌, ℕ, Bool, true, map, take, drop, length, Contains, OnOk};
+ghost use Rattle.std.specs.Prelude.{◌≡◌, ◌<◌, ◌≤◌, ◌^◌, ◌++◌, ℕ, Bool, true, map, take, drop, length, Contains, OnOk, IfOk};
 ghost use Rattle.std.specs.FinMap as table;
 ghost use Rattle.grid_geometry.specs.Common.{Position};
 ghost use Rattle.ring_machine.specs.Common.{canonical};
 ghost use Rattle.vertex_index.specs.Common.{place};
-ghost use Rattle.feature_exchange.specs.Common.{AlongVertices, MarksAlong, meets, ring_in};
+ghost use Rattle.feature_exchange.specs.Common.{AlongVertices, MarksAlong, is_meeting, meets, ring_in};
 
 use crate::reading::ROOM;
 use crate::ring_iter::least_place;
@@ -14,14 +14,36 @@ use segment_index::SegIndex;
 use std::alloc::{AllocError, Allocator};
 use vertex_index::{VertexKey, Vertices};
 
-/// Whether borders meet at the vertex of this key, by what stands around each vertex.
-fn meets(around: &[Neighbours], k: VertexKey) -> bool
-    ensures { result ≡ meets around.now k }
+/// Whether borders meet at a vertex that has these neighbours.
+fn is_meeting(around: Neighbours) -> bool
+    ensures { result ≡ is_meeting around }
 {
-    match around.get(k.index()) {
-        Some(Neighbours::Two(_, _)) => false,
+    match around {
+        Neighbours::Two(_, _) => false,
         _ => true,
     }
+}
+
+/// For each vertex, by the index of its key, whether borders meet there, by what stands around each.
+/// Fails for want of memory alone.
+pub fn meetings<A: Allocator + Copy>(
+    alloc: A,
+    around: &[Neighbours],
+) -> Result<Vec<bool, A>, AllocError>
+    ensures { IfOk result (λ meetings. meetings.items ≡ map is_meeting around.now) }
+{
+    let mut meetings = Vec::with_capacity(alloc, around.len())?;
+    for each in around {
+        meetings.push(is_meeting(*each))?;
+    }
+    Ok(meetings)
+}
+
+/// Whether borders meet at the vertex of this key; they do where the list ends before it.
+fn meets(meetings: &[bool], k: VertexKey) -> bool
+    ensures { result ≡ meets meetings.now k }
+{
+    meetings.get(k.index()).copied().unwrap_or(true)
 }
 
 /// The place of the first key with the least position, 0 where there is no key.
@@ -42,7 +64,7 @@ fn least_start<A: Allocator + Copy>(vertices: &Vertices<A>, mut keys: RingKeys<'
 /// of memory alone.
 fn push_marked<A: Allocator + Copy>(
     vertices: &Vertices<A>,
-    around: &[Neighbours],
+    meetings: &[bool],
     keys: &[VertexKey],
     positions: &mut Vec<Pos, A>,
     marks: &mut Vec<bool, A>,
@@ -51,11 +73,11 @@ fn push_marked<A: Allocator + Copy>(
     ensures positions { OnOk result
         (positions.new.items ≡ positions.old.items ++ map (place vertices.now) keys.now) }
     ensures marks { OnOk result
-        (marks.new.items ≡ marks.old.items ++ map (meets around.now) keys.now) }
+        (marks.new.items ≡ marks.old.items ++ map (meets meetings.now) keys.now) }
 {
     for k in keys {
         positions.push(vertices.pos(*k))?;
-        marks.push(meets(around, *k))?;
+        marks.push(meets(meetings, *k))?;
     }
     Ok(())
 }
@@ -64,7 +86,7 @@ fn push_marked<A: Allocator + Copy>(
 /// whether borders meet there. Fails for want of memory alone.
 fn push_turned<A: Allocator + Copy>(
     vertices: &Vertices<A>,
-    around: &[Neighbours],
+    meetings: &[bool],
     keys: &[VertexKey],
     start: usize,
     positions: &mut Vec<Pos, A>,
@@ -74,19 +96,19 @@ fn push_turned<A: Allocator + Copy>(
     requires within { start ≤ length keys.now }
     ensures positions { let ps = map (place vertices.now) keys.now in OnOk result
         (positions.new.items ≡ positions.old.items ++ (drop start ps ++ take start ps)) }
-    ensures marks { let bs = map (meets around.now) keys.now in OnOk result
+    ensures marks { let bs = map (meets meetings.now) keys.now in OnOk result
         (marks.new.items ≡ marks.old.items ++ (drop start bs ++ take start bs)) }
 {
-    push_marked(vertices, around, &keys[start..], positions, marks)?;
-    push_marked(vertices, around, &keys[..start], positions, marks)?;
+    push_marked(vertices, meetings, &keys[start..], positions, marks)?;
+    push_marked(vertices, meetings, &keys[..start], positions, marks)?;
     Ok(())
 }
 
 /// Appends the positions of the ring with this number, from its least position on, and for each
-/// whether borders meet there, by what stands around each vertex. Fails for want of memory alone.
+/// whether borders meet there, by the list of where they do. Fails for want of memory alone.
 pub fn push_marked_ring<I: SegIndex, A: Allocator + Copy>(
     tables: &RingTables<I, A>,
-    around: &[Neighbours],
+    meetings: &[bool],
     r: usize,
     positions: &mut Vec<Pos, A>,
     marks: &mut Vec<bool, A>,
@@ -96,7 +118,7 @@ pub fn push_marked_ring<I: SegIndex, A: Allocator + Copy>(
     ensures positions { OnOk result (positions.new.items
         ≡ positions.old.items ++ ring_in tables.now.vertices tables.now.borders r) }
     ensures marks { OnOk result ((is : Position → Bool)
-        → MarksAlong tables.now.vertices tables.now.borders r around.now is
+        → MarksAlong tables.now.vertices tables.now.borders r meetings.now is
         → marks.new.items
         ≡ marks.old.items ++ map is (ring_in tables.now.vertices tables.now.borders r)) }
 {
@@ -108,7 +130,7 @@ pub fn push_marked_ring<I: SegIndex, A: Allocator + Copy>(
     let start = least_start(&tables.vertices, walk);
     push_turned(
         &tables.vertices,
-        around,
+        meetings,
         list.as_slice(),
         start,
         positions,

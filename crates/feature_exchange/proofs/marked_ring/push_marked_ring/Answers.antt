@@ -51,7 +51,7 @@ pub returns-clause-marks : goal.returns-clause-marks
 returns-clause-marks g c = λ such h.
     let m = c.args.tables.now.borders in
     let at = place c.args.tables.now.vertices in
-    let mark = meets c.args.around.now in
+    let mark = meets c.args.meetings.now in
     let start = c.least_start-start.result in
     let list = c.as_slice.ensures.value ∙ keys_found m c.args.r c.requires.held c.in_ok-list.list.items c.push_keys.new.out.items c.in_ok-list.ensures.items c.in_ok-push_keys.ensures in
     let walk = walk_found m c.args.r c.in-Some.walk c.in-Some.ensures in

@@ -9,4 +9,4 @@ returns-clause-positions g c =
 
 pub returns-clause-marks : goal.returns-clause-marks
 returns-clause-marks g c =
-    appended_parts (meets c.args.around.now) c.args.keys.now c.args.start c.args.marks.now.items c.push_marked.new.marks.items c.push_marked-2.new.marks.items c.in_ok-push_marked.ensures.marks c.in_ok-push_marked-2.ensures.marks
+    appended_parts (meets c.args.meetings.now) c.args.keys.now c.args.start c.args.marks.now.items c.push_marked.new.marks.items c.push_marked-2.new.marks.items c.in_ok-push_marked.ensures.marks c.in_ok-push_marked-2.ensures.marks

@@ -43,7 +43,7 @@ pub returns-clause-marks : goal.returns-clause-marks
 returns-clause-marks g c =
     let s = stored_in c.self.inside.frame.now c.self.inside.rings.now in
     let old = c.args.marks.now.items in
-    let here = junctions_along s c.self.invariant.whole c.self.inside.around.items c.self.invariant.neighbours c.in-Some.number in
-    c.in_ok-push_marked_ring.ensures.marks (is_junction (document_of s)) (subst (λ around. MarksAlong s.places s.rings c.in-Some.number around (is_junction (document_of s))) (sym c.as_slice.ensures.value) here)
+    let here = junctions_along s c.self.invariant.whole c.self.inside.meetings.items c.self.invariant.told c.in-Some.number in
+    c.in_ok-push_marked_ring.ensures.marks (is_junction (document_of s)) (subst (λ marks. MarksAlong s.places s.rings c.in-Some.number marks (is_junction (document_of s))) (sym c.as_slice.ensures.value) here)
     ∙ ap (λ ps. old ++ map (is_junction (document_of s)) ps) (ring_read s c.args.feature c.args.polygon c.args.ring c.in-Some.number c.in-Some.ensures)
     ∙ ap (λ d. old ++ map (is_junction d) (unwrap_or (ring_at d c.args.feature c.args.polygon c.args.ring) [])) c.self.view_is
