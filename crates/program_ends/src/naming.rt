@@ -8,6 +8,7 @@ use crate::stop::Stop;
 use std::alloc::AllocError;
 use std::fs::{self, Files};
 use std::io::{ErrorKind, Result as IoResult};
+use std::os::unix::fs::MetadataExt;
 
 /// How a program uses a file.
 #[derive(Clone, Copy, Debug)]
@@ -38,7 +39,7 @@ pub struct FileArgument<'a> {
 pub struct NamedFile {
     /// The argument, as a user knows it.
     pub argument: &'static str,
-    /// The path from the root, without symbolic links; none where no regular file is named.
+    /// What the system calls the file; none where it is no regular one.
     pub name: Option<String>,
     /// How the program uses the file.
     pub role: Role,
@@ -97,6 +98,7 @@ fn first_with(file: &NamedFile, rest: &[NamedFile]) -> Option<&'static str>
 
 /// The first two arguments that name one file, where one of them has it written and the other one needs
 /// it.
+#[tactic(auto, using(crate::proofs::ClashLemmas::clash_passed, crate::proofs::ClashLemmas::clash_found))]
 pub fn first_clash(files: &[NamedFile]) -> Option<(&'static str, &'static str)>
     ensures { result ≡ first_clash files.now }
 {
@@ -108,12 +110,24 @@ pub fn first_clash(files: &[NamedFile]) -> Option<(&'static str, &'static str)>
     None
 }
 
-/// A path from the root, without symbolic links, of a file that need not be there.
-fn rooted<R: Files + Alloc>(rt: &R, path: &str) -> IoResult<String<R::A>> {
+/// A file by the numbers of its folder, which has no path from the root that is UTF-8.
+fn numbered<R: Files + Alloc>(rt: &R, at: &str) -> IoResult<String<R::A>> {
+    let folder = fs::metadata(rt, folder_of(at))?;
+    let (device, number, name) = (folder.dev(), folder.ino(), name_in(at));
+    Ok(format!(in rt.alloc(); "{device} {number} {name}")?)
+}
+
+/// A file, which need not be there, by its folder and its name in it, without symbolic links.
+fn placed<R: Files + Alloc>(rt: &R, path: &str) -> IoResult<String<R::A>> {
     let at = followed(rt, path)?;
-    let mut rooted = fs::canonicalize(rt, folder_of(at.as_str()))?;
-    rooted.push(name_in(at.as_str()))?;
-    Ok(rooted.into_string())
+    match fs::canonicalize(rt, folder_of(at.as_str())) {
+        Ok(mut folder) => {
+            folder.push(name_in(at.as_str()))?;
+            Ok(folder.into_string())
+        }
+        Err(error) if error.kind() == ErrorKind::OutOfMemory => Err(error),
+        Err(_) => numbered(rt, at.as_str()),
+    }
 }
 
 /// What the system calls a file. What is no regular file, as a device or a pipe, has no such name, since
@@ -124,7 +138,7 @@ fn name_of<R: Files + AllocGlobal>(rt: &R, path: &str) -> Result<Option<String>,
             return Ok(None);
         }
     }
-    match rooted(rt, path) {
+    match placed(rt, path) {
         Ok(name) => Ok(Some(name)),
         Err(error) if error.kind() == ErrorKind::OutOfMemory => Err(AllocError),
         Err(_) => Ok(Some(String::from_str(rt.alloc(), path)?)),

@@ -1,6 +1,5 @@
 //! A file that is written is replaced whole: the bytes go to a new file beside it, which then takes its name.
 use std::alloc::{AllocError, Allocator};
-use std::fmt::Write as _;
 use std::fs::{self, Files, Metadata, OpenFile, OpenOptions};
 use std::io::{Error, ErrorKind, Result as IoResult, Write};
 use std::os::unix::fs::MetadataExt;
@@ -61,7 +60,9 @@ pub(crate) fn followed<R: Files + Alloc>(rt: &R, path: &str) -> IoResult<String<
                 let link = fs::read_link(rt, at.as_str())?;
                 at = led(rt.alloc(), at.as_str(), link.as_str())?;
             }
-            _ => return Ok(at),
+            Ok(_) => return Ok(at),
+            Err(error) if error.kind() == ErrorKind::NotFound => return Ok(at),
+            Err(error) => return Err(error),
         }
     }
     Err(Error::from(ErrorKind::FilesystemLoop))
@@ -70,13 +71,7 @@ pub(crate) fn followed<R: Files + Alloc>(rt: &R, path: &str) -> IoResult<String<
 /// The name of the new file beside one of this name. It tells whose it is.
 fn new_name<A: Allocator>(alloc: A, name: &str, number: u8) -> Result<String<A>, AllocError> {
     let kept = &name[..name.floor_char_boundary(MOST_NAME)];
-    let mut new = String::new(alloc);
-    new.push('.')?;
-    new.push_str(kept)?;
-    new.push_str(".border_edit-")?;
-    write!(new, "{number}").map_err(|_| AllocError)?;
-    new.push_str(".tmp")?;
-    Ok(new)
+    format!(in alloc; ".{kept}.border_edit-{number}.tmp")
 }
 
 /// A new file beside one, and its path. A number that another file has is passed over.
@@ -97,10 +92,11 @@ fn new_beside<R: Files + Alloc>(rt: &R, target: &str) -> IoResult<(R::File, Stri
     Err(Error::from(ErrorKind::AlreadyExists))
 }
 
-/// Gives a new file the owner and the mode of the one that it is to replace. Only a user whom the system
-/// lets give files away can give it another owner.
+/// Gives a new file the mode of the one that it is to replace, and its group and owner where the system
+/// lets the user give a file to them.
 fn dress<R: Files>(rt: &R, file: &R::File, path: &str, there: &Metadata) -> IoResult<()> {
-    let _ = rt.chown(path, Some(there.uid()), Some(there.gid()));
+    let _ = rt.chown(path, None, Some(there.gid()));
+    let _ = rt.chown(path, Some(there.uid()), None);
     file.set_permissions(there.permissions())
 }
 
@@ -140,7 +136,7 @@ fn sync_folder<R: Files>(rt: &R, target: &str) -> IoResult<()> {
 /// Whether a path names the file that was found, and not one that has lost its name.
 fn is_named<R: Files>(rt: &R, target: &str, there: &Metadata) -> bool {
     match fs::symlink_metadata(rt, target) {
-        Ok(named) => named.dev() == there.dev() && named.ino() == there.ino(),
+        Ok(named) => { named.is_file() && named.dev() == there.dev() && named.ino() == there.ino() }
         Err(_) => false,
     }
 }
