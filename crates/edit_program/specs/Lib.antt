@@ -2,4 +2,5 @@ pub mod Status
 pub mod Endings
 pub mod Asked
 pub mod Keeping
+pub mod Tail
 pub mod Common
