@@ -97,7 +97,7 @@ impl Display for Why {
 }
 
 /// What a row tells of a line with this answer.
-fn why(heap: Global, line: &ScriptLine, answer: &[u8]) -> Result<Why, AllocError> {
+fn why_of(heap: Global, line: &ScriptLine, answer: &[u8]) -> Result<Why, AllocError> {
     if line.is_over {
         return Ok(Why::Bad(Reason::TooLong));
     }
@@ -117,7 +117,7 @@ fn push_row(
     answer: &[u8],
 ) -> Result<(), NotListed> {
     let number = line.number;
-    let why = why(heap, line, answer)?;
+    let why = why_of(heap, line, answer)?;
     write!(rows, "{number}\t").map_err(|_| NotListed)?;
     rows.extend_from_slice(answer)?;
     rows.push(b'\t')?;
