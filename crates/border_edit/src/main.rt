@@ -10,9 +10,15 @@ use program_ends::{FileArgument, Role, Stop, check_apart, end_stopped, given_wor
 use std::io::IsTerminal;
 use std::process::ExitCode;
 
+/// The file that a SCRIPT of standard input comes from, where it comes from one.
+const STANDARD_INPUT_FILE: &str = "/dev/stdin";
+
 /// The files that the words name, those that are written first.
 fn files_of(words: &Words) -> [FileArgument<'_>; 4] {
-    let script = words.script.as_str();
+    let script = match words.script.as_str() {
+        STANDARD_INPUT => STANDARD_INPUT_FILE,
+        path => path,
+    };
     [
         FileArgument {
             argument: "--refused",
@@ -31,7 +37,7 @@ fn files_of(words: &Words) -> [FileArgument<'_>; 4] {
         },
         FileArgument {
             argument: "SCRIPT",
-            path: Some(script).filter(|path| *path != STANDARD_INPUT),
+            path: Some(script),
             role: Role::Read,
         },
     ]

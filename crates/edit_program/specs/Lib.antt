@@ -3,4 +3,5 @@ pub mod Endings
 pub mod Asked
 pub mod Keeping
 pub mod Tail
+pub mod Listing
 pub mod Common

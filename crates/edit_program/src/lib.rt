@@ -11,6 +11,8 @@ mod noted_script;
 mod notes;
 mod reasons;
 mod refused_lines;
+mod rows;
+mod script_line;
 mod script_tail;
 mod subjects;
 

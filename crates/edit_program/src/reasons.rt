@@ -42,6 +42,11 @@ pub enum Reason {
 }
 
 impl Display for Reason {
+    ghost use Rattle.std.specs.Prelude.{Some};
+    ghost use Rattle.edit_program.specs.Listing.{reason_text};
+
+    ghost output = { λ reason. Some (reason_text reason) };
+
     fn fmt<W: Write>(&self, f: &mut Formatter<W>) -> FmtResult {
         f.write_str(match self {
             Reason::TooLong => "too long",

@@ -12,6 +12,11 @@ pub enum Subject {
 }
 
 impl Display for Subject {
+    ghost use Rattle.std.specs.Prelude.{Some};
+    ghost use Rattle.edit_program.specs.Listing.{subject_text};
+
+    ghost output = { λ subject. Some (subject_text subject) };
+
     fn fmt<W: Write>(&self, f: &mut Formatter<W>) -> FmtResult {
         match self {
             Subject::Position(at) => write!(f, "{at}"),
