@@ -28,6 +28,10 @@ pub record IsWithoutReturn (old new : ScriptLine) : Type 0 where
   pub text : new.text.items ≡ (if old.is_over then old.text.items else without_return old.text.items)
   pub over : new.is_over ≡ old.is_over
 
+-- an empty line, or a comment, which has no answer
+abbrev pub IsSkipped : ScriptLine → Type 0
+IsSkipped line = (line.is_over ≡ false) × Says line.text.items None
+
 -- a line that says nothing, or is too long
 abbrev pub IsBad : ScriptLine → Type 0
 IsBad line = line.is_over ≡ false → (said : Option Command) → ¬ Says line.text.items said
@@ -82,16 +86,16 @@ waiting_of lines = lines.waiting.items
 abbrev pub rows_of : RefusedLines → List ℕ
 rows_of lines = lines.rows.items
 
--- more lines wait, and no row has come
-abbrev pub Awaits : RefusedLines → RefusedLines → Type 0
-Awaits old new =
-    (more : List ScriptLine) × (waiting_of new ≡ waiting_of old ++ more) × (rows_of new ≡ rows_of old)
+-- perhaps more lines wait, and no row has come
+pub record Awaits (old new : RefusedLines) : Type 0 where
+  pub more : List ScriptLine
+  pub waits : waiting_of new ≡ waiting_of old ++ more
+  pub rows : rows_of new ≡ rows_of old
 
 -- the open line waits too, but where it has no answer, and the next one is open
 pub record EndsLine (old new : RefusedLines) : Type 0 where
-  pub skipped : (old.open.is_over ≡ false) × Says old.open.text.items None → waiting_of new ≡ waiting_of old
-  pub waits : ¬ ((old.open.is_over ≡ false) × Says old.open.text.items None)
-      → waiting_of new ≡ waiting_of old ++ old.open ∷ []
+  pub waits : (IsSkipped old.open × (waiting_of new ≡ waiting_of old))
+      ⊎ ((¬ IsSkipped old.open) × (waiting_of new ≡ waiting_of old ++ old.open ∷ []))
   pub rows : rows_of new ≡ rows_of old
   pub empty : new.open.text.items ≡ []
 
@@ -99,11 +103,18 @@ pub record EndsLine (old new : RefusedLines) : Type 0 where
 abbrev pub IsRow : ScriptLine → List ℕ → Type 0
 IsRow line row = (row ≡ []) ⊎ ((answer : List ℕ) × AddsRow line answer [] row)
 
--- rows of these lines in order, at most one of each
+-- the text has perhaps the row of this line, and then the others
+pub record HasRow (line : ScriptLine) (text : List ℕ) (AreOthers : List ℕ → Type 0) : Type 0 where
+  pub row : List ℕ
+  pub others : List ℕ
+  pub all : text ≡ row ++ others
+  pub is_row : IsRow line row
+  pub are_others : AreOthers others
+
+-- the text has rows of these lines in order, at most one of each
 abbrev pub AreRows : List ScriptLine → List ℕ → Type 0
-AreRows [] rows = rows ≡ []
-AreRows (line ∷ lines) rows =
-    (row : List ℕ) × (others : List ℕ) × (rows ≡ row ++ others) × IsRow line row × AreRows lines others
+AreRows [] text = text ≡ []
+AreRows (line ∷ lines) text = HasRow line text (AreRows lines)
 
 -- the first lines that waited have their answers, and of some of them a row has come
 pub record Lists (old new : RefusedLines) : Type 0 where

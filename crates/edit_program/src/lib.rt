@@ -21,6 +21,5 @@ pub use command_line::words;
 pub use ending::{ending_of_run, strict_ending};
 pub use noted_answers::NotedAnswers;
 pub use noted_script::NotedScript;
-pub use reasons::{Reason, reason_of};
 pub use refused_lines::{NotListed, RefusedLines};
 pub use script_tail::ScriptTail;

@@ -16,7 +16,7 @@ const MAX_PATH: usize = 256;
 
 /// Why a line is a bad one: what is wrong with it first, from its start on.
 #[derive(Clone, Copy, Debug, PartialEq, Eq)]
-pub enum Reason {
+pub(crate) enum Reason {
     /// It has more than 8,192 bytes before its line feed.
     TooLong,
     /// It is not UTF-8.
@@ -197,7 +197,7 @@ fn fault_of(arguments: &[Argument], tail: &[u8]) -> Result<(), Reason> {
 }
 
 /// Why a line that says nothing is a bad one.
-pub fn reason_of(line: &[u8]) -> Reason {
+pub(crate) fn reason_of(line: &[u8]) -> Reason {
     if str::from_utf8(line).is_err() {
         return Reason::NotUtf8;
     }

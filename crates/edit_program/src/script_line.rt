@@ -21,9 +21,8 @@ pub(crate) struct ScriptLine {
 }
 
 impl ScriptLine {
-    ghost use Rattle.std.specs.Prelude.{◌≡◌, ◌↔◌, ◌×◌, [], false, IsTrue, None, OnOk};
-    ghost use Rattle.script_lines.specs.Common.{Says};
-    ghost use Rattle.edit_program.specs.Listing.{Gains, IsWithoutReturn};
+    ghost use Rattle.std.specs.Prelude.{◌≡◌, [], false, MatchBool, OnOk};
+    ghost use Rattle.edit_program.specs.Listing.{Gains, IsSkipped, IsWithoutReturn};
 
     /// A line of this number that has no bytes yet.
     pub(crate) fn new(alloc: Global, number: u64) -> ScriptLine
@@ -59,7 +58,7 @@ impl ScriptLine {
 
     /// Whether the line has no answer: it is empty, or a comment.
     pub(crate) fn is_skipped(&self) -> bool
-        ensures { IsTrue result ↔ ((self.now.is_over ≡ false) × Says self.now.text.items None) }
+        ensures { MatchBool result (IsSkipped self.now) (¬ IsSkipped self.now) }
     {
         if self.is_over {
             return false;

@@ -5,7 +5,7 @@ use std::fmt::{Display, Formatter, Result as FmtResult, Write};
 
 /// What a refusal is about.
 #[derive(Clone, Copy, Debug, PartialEq, Eq)]
-pub enum Subject {
+pub(crate) enum Subject {
     Position(Pos),
     Segment(Pos, Pos),
     Feature(u32),

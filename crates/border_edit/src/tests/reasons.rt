@@ -1,5 +1,5 @@
 //! What is told of a line that is bad, and of a refusal that names no place.
-use edit_program::{RefusedLines, reason_of};
+use edit_program::RefusedLines;
 use std::alloc::Global;
 use std::test::Fail;
 
@@ -102,8 +102,6 @@ fn each_bad_line_has_its_reason(rt: HostRuntime) -> Result<(), Fail> {
         let line = line.replace(rt.alloc(), ";", "\t")?;
         let why = why_of(rt.alloc(), line.as_str().as_bytes(), "bad line")?;
         assert_eq!(rt; why.as_slice(), want.as_bytes(), "{row}");
-        let reason = format!(in rt.alloc(); "{}", reason_of(line.as_str().as_bytes()))?;
-        assert_eq!(rt; reason.as_str(), want, "{row}");
     }
     Ok(())
 }
