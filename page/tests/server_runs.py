@@ -27,8 +27,10 @@ PATIENCE = 60
 
 
 def environment(**more):
-    """The environment of a server, which finds the programs that are tested here."""
-    return {**os.environ, **{name.upper(): path for name, path in PATHS.items()}, **{k: str(v) for k, v in more.items()}}
+    """The environment of a server, which finds the programs that are tested here, and this Python."""
+    path = os.pathsep.join([os.path.dirname(sys.executable), os.environ["PATH"]])
+    given = {"PATH": path, **{name.upper(): path for name, path in PATHS.items()}, **more}
+    return {**os.environ, **{name: str(value) for name, value in given.items()}}
 
 
 @contextlib.contextmanager

@@ -11,8 +11,10 @@ from server_check import Checks
 import server_asking
 import server_dying
 import server_editing
+import server_ending
+import server_saving
 
-GROUPS = [*server_asking.GROUPS, *server_editing.GROUPS, *server_dying.GROUPS]
+GROUPS = [*server_asking.GROUPS, *server_editing.GROUPS, *server_dying.GROUPS, *server_saving.GROUPS, *server_ending.GROUPS]
 
 
 def main():
