@@ -148,6 +148,7 @@ class Session:
 
     def edit(self, act, lines):
         """Does edits one after the other, all of them or none, and puts them in the log."""
+        self._must_be_open()
         if lines[0] == "undo":
             return self._take_back(act, lines)
         answers, undone = self._with_child(lambda: self._all_or_none(lines))
@@ -217,15 +218,18 @@ class Session:
     def _with_child(self, does):
         """What a call answers that talks with border_edit. Where the program ends meanwhile, the log is run again by a new
         one, and then the call is made once more: nothing that it did is in the log yet."""
-        if self.lost:
-            raise Lost(self.lost)
-        if self.child is None:
-            raise Refusal("the map does not open")
+        self._must_be_open()
         try:
             return does()
         except Ended:
             self._run_again()
             return does()
+
+    def _must_be_open(self):
+        if self.lost:
+            raise Lost(self.lost)
+        if self.child is None:
+            raise Refusal("the map does not open")
 
     def _run_again(self):
         self.child.end()

@@ -1,31 +1,31 @@
 """Checks: a line for each, and how many passed and failed."""
+import time
 import traceback
 
 
 class Checks:
-    """What was checked so far."""
+    """A group of checks that was run. Its lines are printed together, since groups run at once."""
 
-    def __init__(self):
+    def __init__(self, group):
         self.passed = self.failed = 0
+        self.lines = []
+        began = time.monotonic()
+        try:
+            group(self)
+        except Exception:
+            self.failed += 1
+            self.lines.append(f"FAIL  {group.__name__} ended early: {traceback.format_exc()}")
+        self.lines.insert(0, f"--    {group.__name__}, {time.monotonic() - began:.0f} s: {group.__doc__}")
+        print("\n".join(self.lines), flush=True)
 
     def same(self, name, got, expected):
         """One check: what was got is what the rules say."""
         if got == expected and type(got) is type(expected):
             self.passed += 1
-            print(f"ok    {name}", flush=True)
+            self.lines.append(f"ok    {name}")
         else:
             self.failed += 1
-            print(f"FAIL  {name}: {short(got)} is not {short(expected)}", flush=True)
-
-    def run(self, group):
-        """A group of checks; where it ends early, that is a failure too."""
-        print(f"--    {group.__doc__.splitlines()[0]}", flush=True)
-        try:
-            group(self)
-        except Exception:
-            self.failed += 1
-            print(f"FAIL  {group.__name__} ended early", flush=True)
-            traceback.print_exc()
+            self.lines.append(f"FAIL  {name}: {short(got)} is not {short(expected)}")
 
 
 def short(value):
