@@ -108,7 +108,7 @@ function without(xy, k) {
  * @param {number} num
  */
 function removeFeature(map, num) {
-  map.dropFeature(num);
+  map.dropFeature(map.feature(num).num);
   map.order = map.order.filter(each => each !== num);
 }
 

@@ -101,19 +101,29 @@ export function lengthOfFeature(model, feature) {
  * @returns {Measure}
  */
 export function areaOfFeature(model, feature) {
-  const { scale } = model.transform || { scale: [1, 1] }, unit = unitOf(model);
-  let grid = 0, sphere = 0;
+  let grid = 0, value = 0;
   for (const polygon of feature.polygons) polygon.forEach((ring, i) => {
-    const at = model.positions(ring), sign = i ? -1 : 1;
-    grid += sign * areaOnGrid(at);
-    if (unit === "km") sphere += sign * areaOnSphere(at, model.transform);
+    const area = areaOfRing(model, model.positions(ring)), sign = i ? -1 : 1;
+    grid += sign * area.grid;
+    value += sign * area.value;
   });
-  return { grid, value: unit === "km" ? sphere : grid * Math.abs(scale[0] * scale[1]), unit };
+  return { grid, value, unit: unitOf(model) };
+}
+
+/**
+ * The area within a ring.
+ * @param {Model} model
+ * @param {ArrayLike<number>} ring x, y, x, y, .. the last position not repeated
+ * @returns {Measure}
+ */
+export function areaOfRing(model, ring) {
+  const { scale } = model.transform || { scale: [1, 1] }, unit = unitOf(model), grid = areaOnGrid(ring);
+  return { grid, value: unit === "km" ? areaOnSphere(ring, model.transform) : grid * Math.abs(scale[0] * scale[1]), unit };
 }
 
 /**
  * The area within a ring, in squares of the grid.
- * @param {number[]} ring
+ * @param {ArrayLike<number>} ring
  */
 function areaOnGrid(ring) {
   let twice = 0;
@@ -126,10 +136,11 @@ function areaOnGrid(ring) {
 /**
  * The area within a ring on the sphere, in square kilometres: the sum over its sides of the difference of longitude times
  * the mean sine of the latitude along the side.
- * @param {number[]} ring
+ * @param {ArrayLike<number>} ring
  * @param {{scale: number[], translate: number[]}} transform
  */
 function areaOnSphere(ring, transform) {
+  if (ring.length < 6) return 0;
   let sum = 0;
   let [lon, lat] = toUnits(transform, ring[ring.length - 2], ring[ring.length - 1]);
   const base = Math.sin(lat * RADIAN);

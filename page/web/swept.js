@@ -16,10 +16,11 @@ export function sweptBy(model, line) {
   /** @type {Map<string, [number, number]>} */
   const found = new Map();
   for (const triangle of triangles) {
-    model.index.search(boxOf(Float64Array.from(triangle)), i => {
+    const box = boxOf(Float64Array.from(triangle));
+    model.index.search(box, i => {
       const { xy, users } = model.pieces[i];
       if (users.length) for (let k = 0; k < xy.length; k += 2) {
-        if (holds(triangle, xy[k], xy[k + 1])) found.set(`${xy[k]} ${xy[k + 1]}`, [xy[k], xy[k + 1]]);
+        if (isWithin(box, xy[k], xy[k + 1]) && holds(triangle, xy[k], xy[k + 1])) found.set(`${xy[k]} ${xy[k + 1]}`, [xy[k], xy[k + 1]]);
       }
     });
   }
@@ -39,7 +40,14 @@ function trianglesOf(model, line) {
 }
 
 /**
- * Whether a triangle has a position in it or on its border, and not at a corner.
+ * @param {import("./boxes.js").Box} box
+ * @param {number} x
+ * @param {number} y
+ */
+const isWithin = ([x0, y0, x1, y1], x, y) => x >= x0 && y >= y0 && x <= x1 && y <= y1;
+
+/**
+ * Whether a triangle has a position of its box in it or on its border, and not at a corner.
  * @param {number[]} triangle
  * @param {number} x
  * @param {number} y
