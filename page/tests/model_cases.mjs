@@ -141,6 +141,7 @@ const SQUARES = { type: "Topology", objects: { land: { type: "GeometryCollection
 arcs: [[[10, 0], [10, 10]], [[10, 10], [0, 10], [0, 0], [10, 0]], [[10, 0], [20, 0], [20, 10], [10, 10]]] };
 const SWEPT = [
   ["move 0 0 1 1", ""], ["move 0 0 15 4", ""], ["move 0 0 25 20", "10 10"], ["insert 10 0 10 10 30 15", "20 10"],
+  ["insert 10 0 10 10 30 10", "20 10"], ["move 0 0 30 0", "10 0, 20 0"], ["move 0 0 5 0", ""],
   ["insert 10 0 10 10 12 5", ""], ["insert 10 0 20 0 15 0", ""], ["remove 20 0", ""], ["remove 20 5", ""],
 ];
 
@@ -152,12 +153,11 @@ const squares = () => new Model(structuredClone(SQUARES));
 
 /** @param {(what: string, found: any, expected: any) => void} check */
 export function checkAll(check) {
-  checkMeasures(check);
-  checkNames(check);
-  checkColours(check);
-  checkLayers(check);
-  checkLines(check);
-  checkChanges(check);
+  for (const cases of [checkMeasures, checkNames, checkColours, checkLayers, checkLines, checkChanges]) {
+    let fault = "";
+    try { cases(check); } catch (error) { fault = error.stack; }
+    check(`${cases.name} comes to its end`, fault, "");
+  }
 }
 
 function checkMeasures(check) {

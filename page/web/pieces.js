@@ -11,7 +11,8 @@ import { countAll, recounted } from "./counts.js";
 /** @typedef {import("./topology.js").Way} Way */
 /** @typedef {import("./counts.js").Counts} Counts */
 /**
- * A part of a border. `users` has the number of a feature once for each ring that takes the piece.
+ * A part of a border. `users` has the number of a feature once for each ring that takes the piece. Positions are never
+ * written over: a change gives the piece another way.
  * @typedef {{xy: Way, users: number[]}} Piece
  */
 /**
@@ -110,29 +111,20 @@ export class Pieces {
     for (const way of waysOf(topology)) {
       firsts.push(this.pieces.length);
       const last = way.length / 2 - 1;
-      for (let i = 0; i < last; i += PIECE) this.pieces.push({ xy: way.slice(2 * i, 2 * Math.min(i + PIECE, last) + 2), users: [] });
+      for (let i = 0; i < last; i += PIECE) this.pieces.push({ xy: way.subarray(2 * i, 2 * Math.min(i + PIECE, last) + 2), users: [] });
     }
     firsts.push(this.pieces.length);
     return firsts;
   }
 
   loadIndexes() {
-    this.index = new Boxes(this.pieces.length, i => boxOf(this.pieces[i].xy));
-    for (const feature of this.features.values()) feature.box = this.boxOfFeature(feature);
+    const boxes = this.pieces.map(piece => boxOf(piece.xy));
+    this.index = new Boxes(boxes.length, i => boxes[i]);
+    for (const feature of this.features.values()) feature.box = boxOfRings(feature, i => boxes[i]);
     const all = [...this.features.values()].filter(feature => feature.polygons.length);
     this.slots = all.map(feature => feature.num);
     this.slotOf = new Map(this.slots.map((num, slot) => [num, slot]));
     this.areas = new Boxes(all.length, slot => all[slot].box);
-  }
-
-  /**
-   * @param {Feature} feature
-   * @returns {Box}
-   */
-  boxOfFeature(feature) {
-    let box = NOTHING;
-    for (const [outer] of feature.polygons) for (const ref of outer || []) box = union(box, boxOf(this.pieces[pieceOf(ref)].xy));
-    return box;
   }
 
   /** @returns {Box} the box of all features, of hidden layers too */
@@ -306,7 +298,7 @@ export class Pieces {
     this.dropFeature(feature.num);
     this.features.set(feature.num, feature);
     this.use(feature);
-    feature.box = this.boxOfFeature(feature);
+    feature.box = boxOfRings(feature, i => boxOf(this.pieces[i].xy));
     this.putArea(feature);
   }
 
@@ -361,6 +353,24 @@ export class Pieces {
     this.counts = counts;
     for (const i of pieces.keys()) this.widen(i);
   }
+}
+
+/**
+ * The box of the outer rings of a feature.
+ * @param {Feature} feature
+ * @param {(i: number) => Box} boxOfPiece
+ * @returns {Box}
+ */
+function boxOfRings(feature, boxOfPiece) {
+  let x0 = Infinity, y0 = Infinity, x1 = -Infinity, y1 = -Infinity;
+  for (const [outer] of feature.polygons) for (const ref of outer || []) {
+    const box = boxOfPiece(pieceOf(ref));
+    x0 = Math.min(x0, box[0]);
+    y0 = Math.min(y0, box[1]);
+    x1 = Math.max(x1, box[2]);
+    y1 = Math.max(y1, box[3]);
+  }
+  return [x0, y0, x1, y1];
 }
 
 /**
