@@ -96,7 +96,9 @@ function* fillFeatures(ctx, frame, { model, colouring }, seen) {
 function isMore(model, seen, most) {
   let left = most;
   for (const num of seen) {
-    for (const polygon of model.feature(num).polygons) for (const ring of polygon) for (const ref of ring) left -= model.pieces[pieceOf(ref)].xy.length / 2;
+    for (const polygon of model.feature(num).polygons) for (const ring of polygon) for (const ref of ring) {
+      left -= model.pieces[pieceOf(ref)].xy.length / 2;
+    }
     if (left < 0) return true;
   }
   return false;
@@ -251,7 +253,8 @@ function* writeNames(ctx, frame, model, seen) {
   for (const num of seen) {
     const feature = model.features.get(num), place = feature && widestPlace(model, feature, frame.box);
     if (!place) continue;
-    const name = nameOf(model, num), sx = across(frame, place.x), sy = down(frame, place.y), half = ctx.measureText(name).width / 2 + 2;
+    const name = nameOf(model, num), half = ctx.measureText(name).width / 2 + 2;
+    const sx = across(frame, place.x), sy = down(frame, place.y);
     /** @type {Box} */
     const room = [sx - half, sy - 8, sx + half, sy + 8];
     if (place.width * frame.kx < Math.min(2 * half, 60) || taken.some(other => meets(other, room))) continue;
@@ -292,7 +295,8 @@ function crossingsOf(model, feature, y) {
   for (const polygon of feature.polygons) for (const ring of polygon) for (const ref of ring) {
     const { xy } = model.pieces[pieceOf(ref)];
     for (let k = 2; k < xy.length; k += 2) {
-      if (xy[k - 1] > y !== xy[k + 1] > y) found.push(xy[k - 2] + ((y - xy[k - 1]) * (xy[k] - xy[k - 2])) / (xy[k + 1] - xy[k - 1]));
+      const ax = xy[k - 2], ay = xy[k - 1], bx = xy[k], by = xy[k + 1];
+      if (ay > y !== by > y) found.push(ax + ((y - ay) * (bx - ax)) / (by - ay));
     }
   }
   return found.sort((a, b) => a - b);

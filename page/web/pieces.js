@@ -21,12 +21,14 @@ import { countAll, recounted } from "./counts.js";
  */
 /**
  * `collection` is -1 where the feature is a layer by itself.
- * @typedef {{num: number, id: any, properties: any, polygons: Ring[][], collection: number, layer: number, box: Box}} Feature
+ * @typedef {{num: number, id: any, properties: any, polygons: Ring[][],
+ *   collection: number, layer: number, box: Box}} Feature
  */
 /** @typedef {{name: string, isShown: boolean}} Layer */
 /**
  * What was there before a change.
- * @typedef {{pieces: Map<number, Piece | undefined>, features: Map<number, Feature | undefined>, order: number[], counts: Counts}} Before
+ * @typedef {{pieces: Map<number, Piece | undefined>, features: Map<number, Feature | undefined>,
+ *   order: number[], counts: Counts}} Before
  */
 
 /** the most segments of a piece */
@@ -42,38 +44,39 @@ export const pieceOf = ref => ref < 0 ? ~ref : ref;
 export const piecesOf = ring => new Set(ring.map(pieceOf));
 
 export class Pieces {
+  /** @type {Piece[]} */
+  pieces = [];
+  /** @type {Map<number, Feature>} */
+  features = new Map();
+  /**
+   * numbers of the features in the order of the text
+   * @type {number[]}
+   */
+  order = [];
+  /** @type {Layer[]} */
+  layers = [];
+  /** @type {Counts} */
+  counts = { features: 0, vertices: 0, segments: 0 };
+  /** pieces by place */
+  index = new Boxes(0, () => NOTHING);
+  /** features by place: `slots` has the number of the feature in each slot, `slotOf` the slot of each feature */
+  areas = this.index;
+  /** @type {number[]} */
+  slots = [];
+  /** @type {Map<number, number>} */
+  slotOf = new Map();
+  /**
+   * what was there before the change under way
+   * @type {Before | null}
+   */
+  before = null;
+
   /**
    * @param {any} topology
    * @param {number[]=} numbers of its features, in the order of the text; 0, 1, 2, .. where none are given
    */
   constructor(topology, numbers) {
     this.transform = topology.transform;
-    /** @type {Piece[]} */
-    this.pieces = [];
-    /** @type {Map<number, Feature>} */
-    this.features = new Map();
-    /**
-     * numbers of the features in the order of the text
-     * @type {number[]}
-     */
-    this.order = [];
-    /** @type {Layer[]} */
-    this.layers = [];
-    /** @type {Counts} */
-    this.counts = { features: 0, vertices: 0, segments: 0 };
-    /** pieces by place */
-    this.index = new Boxes(0, () => NOTHING);
-    /** features by place: the number of the feature in each slot, and the slot of each feature */
-    this.areas = this.index;
-    /** @type {number[]} */
-    this.slots = [];
-    /** @type {Map<number, number>} */
-    this.slotOf = new Map();
-    /**
-     * what was there before the change under way
-     * @type {Before | null}
-     */
-    this.before = null;
     this.load(topology, numbers);
   }
 
@@ -111,7 +114,9 @@ export class Pieces {
     for (const way of waysOf(topology)) {
       firsts.push(this.pieces.length);
       const last = way.length / 2 - 1;
-      for (let i = 0; i < last; i += PIECE) this.pieces.push({ xy: way.subarray(2 * i, 2 * Math.min(i + PIECE, last) + 2), users: [] });
+      for (let i = 0; i < last; i += PIECE) {
+        this.pieces.push({ xy: way.subarray(2 * i, 2 * Math.min(i + PIECE, last) + 2), users: [] });
+      }
     }
     firsts.push(this.pieces.length);
     return firsts;

@@ -6,6 +6,8 @@
  * @typedef {Float64Array} Way
  */
 
+/** the types of geometries that are features */
+const FEATURES = new Set(["Polygon", "MultiPolygon", null]);
 /** where `parsed` keeps the names of the layers, in the order of the text */
 const LAYERS = Symbol("layers");
 
@@ -93,7 +95,7 @@ export function eachFeature(topology, found) {
     if (object.type === "GeometryCollection") {
       const inner = collections++;
       for (const part of object.geometries) visit(part, inner, layer);
-    } else if (object.type === "Polygon" || object.type === "MultiPolygon" || object.type === null) found(object, collection, layer);
+    } else if (FEATURES.has(object.type)) found(object, collection, layer);
   };
   layerNames(topology).forEach((name, layer) => visit(topology.objects[name], -1, layer));
 }
