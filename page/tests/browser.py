@@ -1,5 +1,4 @@
 """A page of ./edit in a headless Chromium, and what a user does there with mouse and keys."""
-import os
 import pathlib
 import shutil
 import subprocess
@@ -13,7 +12,7 @@ from selenium.webdriver.common.action_chains import ActionChains
 from selenium.webdriver.common.by import By
 from selenium.webdriver.common.keys import Keys
 
-TOP = pathlib.Path(os.environ.get("EDIT_TOP") or pathlib.Path(__file__).resolve().parents[2])
+TOP = pathlib.Path(__file__).resolve().parents[2]
 # Seconds that a page may take for what is waited for.
 PATIENCE = 20
 # What is true once the page has nothing to do any more.
