@@ -16,7 +16,7 @@ TOP = pathlib.Path(__file__).resolve().parents[2]
 # Seconds that a page may take for what is waited for.
 PATIENCE = 20
 # What is true once the page has nothing to do any more.
-STILL = ("!editor.pending && !editor.view.wanted && !editor.view.drawing && !editor.view.overWanted "
+STILL = ("!editor.pending && !editor.talk.waiting && !editor.view.wanted && !editor.view.drawing && !editor.view.overWanted "
          "&& !tools.isAsking && !tools.held")
 OPEN = "window.editor && document.getElementById('busy').hidden && document.getElementById('mending').hidden"
 

@@ -138,8 +138,10 @@ def test_vertices(page):
     ends = page.screen(566958, 383110), page.screen(620503, 383439)
     page.double_click(((ends[0][0] + ends[1][0]) // 2, (ends[0][1] + ends[1][1]) // 2))
     line, answer = page.last()
-    same("a double click on a border adds a vertex", (line.split()[:5], answer), ("insert 566958 383110 620503 383439".split(), "ok"))
-    x, y = map(int, line.split()[5:])
+    numbers = [int(word) for word in line.split()[1:]]
+    same("a double click on a border adds a vertex", (line.split()[0], {(*numbers[:2],), (*numbers[2:4],)}, answer),
+         ("insert", {(566958, 383110), (620503, 383439)}, "ok"))
+    x, y = numbers[4:]
     page.hover(page.screen(x, y))
     page.keys(Keys.DELETE)
     same("Delete removes the vertex", page.last(), (f"remove {x} {y}", "ok"))
@@ -193,9 +195,9 @@ def test_split_and_merge(page):
 
 def test_several_merges(page):
     before = document(page)
-    page.js("editor.select([39, 46, 40])")
+    page.js("editor.select([31, 46, 40])")
     page.keys("m")
-    same("merging three is one act, in an order that works", act_of(page), ["merge 39 40", "merge 39 46"])
+    same("merging three is one act, in an order that works", act_of(page), ["merge 31 40", "merge 31 46"])
     is_map(page, "merging three")
     page.keys(Keys.CONTROL, "z")
     true("one undo takes it back", document(page) == before)
@@ -423,7 +425,9 @@ def test_layers(page):
     page.js("const s = document.getElementById('nameBy'); s.value = '=name'; s.dispatchEvent(new Event('change'))")
     page.click(page.screen(150, 50))
     same("a property is the name", page.js("return document.querySelector('#info h3').textContent"), "East Zone")
+    page.keys("/")
     same("the search knows it", page.js("return [...document.querySelectorAll('#ids option')].map(o => o.value)"), ["West Zone", "East Zone", "#2"])
+    page.keys(Keys.ESCAPE)
     page.js("const s = document.getElementById('colourBy'); s.value = '=people'; s.dispatchEvent(new Event('change'))")
     page.settle()
     legend = page.js("return [...document.querySelectorAll('#legend li')].map(r => r.children[1].textContent)")
@@ -479,7 +483,7 @@ def test_mending(page, out):
     is_map(page, "mending")
     page.keys(Keys.CONTROL, "s")
     page.wait("!editor.isUnsaved")
-    done = subprocess.run([BORDER_EDIT, out, "-"], input="count\n", capture_output=True, text=True)
+    done = subprocess.run([BORDER_EDIT, out, "-", "--out", out.with_suffix(".end")], input="count\n", capture_output=True, text=True)
     true("the saved map opens", done.stdout.startswith("features 4 "), done.stderr)
 
 
@@ -584,8 +588,8 @@ def test_keys_merge(page):
     page.keys(Keys.SHIFT, Keys.ENTER)
     same("Shift+Enter selects one more", page.js("return editor.selected"), [first, other])
     page.keys("m")
-    if other in near:
-        same("M merges", page.last(), (f"merge {first} {other}", "ok"))
+    true("the other is its neighbour", other in near, (other, near))
+    same("M merges", page.last(), (f"merge {first} {other}", "ok"))
     is_map(page, "merging by keys")
 
 
@@ -687,7 +691,8 @@ def run_all(driver, folder, downloads):
         test_saving(page, columbus, out, folder)
         test_loading_again(page)
         test_downloads(page, downloads)
-        same("nothing is written on the console", page.errors(), [])
+        # saving was refused three times, which the browser writes there
+        same("nothing else is written on the console", [text for text in page.errors() if "/save" not in text], [])
         test_two_tabs(page)
         test_server_gone(page)
 

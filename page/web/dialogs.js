@@ -68,12 +68,15 @@ export const isAsking = () => by("ask").open || by("help").open;
 
 export function showHelp() {
   const body = by("helpBody");
-  if (!body.firstChild) for (const { title, rows } of HELP) body.append(make("h3", title), helpTable(rows));
+  if (!body.firstChild) body.append(...HELP.map(({ title, rows }) => make("section", [helpTable(title, rows)])));
   by("help").showModal();
 }
 
-/** @param {string[][]} rows */
-function helpTable(rows) {
-  const head = make("tr", HELP_HEAD.map(text => make("th", text)));
+/**
+ * @param {string} title
+ * @param {string[][]} rows
+ */
+function helpTable(title, rows) {
+  const head = make("tr", [title, ...HELP_HEAD].map(text => make("th", text)));
   return make("table", [head, ...rows.map(row => make("tr", row.map(text => make("td", text))))]);
 }

@@ -25,7 +25,7 @@ export class Keys {
     const zoom = (/** @type {number} */ by) => this.zoom(by);
     /**
      * keys that are taken wherever no field is in use
-     * @type {Record<string, () => void>}
+     * @type {Record<string, (e: KeyboardEvent) => void>}
      */
     this.anywhere = {
       s: () => sketch.toggle("cut"), r: () => sketch.toggle("reshape"), d: () => sketch.toggle("measure"),
@@ -35,6 +35,7 @@ export class Keys {
       f: () => view.fit(editor.model.extent()),
       "/": () => by("find").focus(), "?": () => showHelp(), "+": () => zoom(1.5), "=": () => zoom(1.5), "-": () => zoom(1 / 1.5),
       Escape: () => this.stop(),
+      Delete: e => { if (e.shiftKey) this.remove(); },
     };
     /**
      * keys that are taken on the map alone
@@ -45,7 +46,7 @@ export class Keys {
       " ": () => this.carry(),
       i: () => this.at(() => tools.insertHere()),
       v: () => this.jump("vertex"), b: () => this.jump("segment"),
-      Delete: e => e.shiftKey ? this.remove() : tools.removeHere(),
+      Delete: e => { if (e.shiftKey) this.remove(); else tools.removeHere(); },
       Backspace: () => { if (sketch.kind) sketch.dropPoint(); else tools.removeHere(); },
     };
     window.addEventListener("keydown", e => this.press(e));
@@ -119,8 +120,8 @@ export class Keys {
 
   /** Shows the cursor; at first in the middle, where the pointer was not on the map before. */
   show() {
-    const { tools } = this, { pointer, view } = tools;
-    if (!tools.isByKeys && pointer.x === 0 && pointer.y === 0) { pointer.x = Math.round(view.width / 2); pointer.y = Math.round(view.height / 2); }
+    const { tools } = this, { pointer } = tools;
+    if (!tools.isByKeys && pointer.x === 0 && pointer.y === 0) tools.centre();
     tools.isByKeys = true;
   }
 

@@ -45,12 +45,12 @@ async function open(began) {
   const thinning = new Thinning(editor, panel), files = new Files(editor, panel, began.name);
   editor.view.layers.push(ctx => paint(ctx, tools));
   wireEdits(tools, features, thinning);
-  wireView(panel, files);
+  wireView(files);
+  wireFind(panel, tools);
   const discard = () => { const { isOpen } = thinning; if (isOpen) thinning.discard(); return isOpen; };
   new Keys(tools, { save: () => files.save(), thin: () => thinning.open(), discard });
   // for tests
   Object.assign(window, { editor, tools });
-  panel.fillNames();
   panel.show();
   by("busy").hidden = true;
   by("map").focus();
@@ -63,14 +63,14 @@ async function open(began) {
  * @param {() => any} does
  */
 function on(id, does) {
-  by(id).addEventListener("click", async () => {
+  by(id).addEventListener("click", async (/** @type {MouseEvent} */ e) => {
     try {
       await does();
     } catch (fault) {
       editor.fail(fault);
     }
-    // not where a key pressed the button: then the focus stays
-    if (!isAsking() && !by(id).matches(":focus-visible")) by("map").focus();
+    // not where a key pressed the button: then the focus stays there
+    if (!isAsking() && e.detail > 0) by("map").focus();
   });
 }
 
@@ -91,11 +91,8 @@ function wireEdits(tools, features, thinning) {
   by("thin").addEventListener("click", () => thinning.open());
 }
 
-/**
- * @param {Panel} panel
- * @param {Files} files
- */
-function wireView(panel, files) {
+/** @param {Files} files */
+function wireView(files) {
   const { view } = editor, zoom = (/** @type {number} */ by) => view.zoom(by, view.width / 2, view.height / 2);
   on("fit", () => view.fit(editor.model.extent()));
   on("zoomIn", () => zoom(1.5));
@@ -109,8 +106,19 @@ function wireView(panel, files) {
   by("down").checked = view.down;
   by("down").addEventListener("change", () => view.turn());
   by("names").addEventListener("change", () => { view.showNames = by("names").checked; view.change(); });
-  by("find").addEventListener("change", () => panel.find(by("find").value));
   wireTabs();
+}
+
+/**
+ * @param {Panel} panel
+ * @param {Tools} tools
+ */
+function wireFind(panel, tools) {
+  const find = () => { if (panel.find(by("find").value)) tools.centre(); };
+  by("find").addEventListener("focus", () => { panel.fillNames(); by("find").select(); });
+  by("find").addEventListener("keydown", (/** @type {KeyboardEvent} */ e) => { if (e.key === "Enter") find(); });
+  // one of the names that the browser proposes
+  by("find").addEventListener("input", (/** @type {InputEvent} */ e) => { if (e.inputType === "insertReplacementText") find(); });
 }
 
 /** The lists beside the map: one is shown, arrows go from tab to tab. */

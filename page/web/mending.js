@@ -43,7 +43,7 @@ export class Mending {
     const box = by("picture"), image = by("pictureImage"), before = this.scale;
     this.scale = Math.min(LARGEST, Math.max(1, before * (e.deltaY < 0 ? STEP : 1 / STEP)));
     image.style.width = this.scale === 1 ? "" : `${100 * this.scale}%`;
-    image.classList.toggle("near", this.scale > 1);
+    box.classList.toggle("near", this.scale > 1);
     // the place under the pointer stays
     const { left, top } = box.getBoundingClientRect(), grown = this.scale / before;
     box.scrollLeft = (box.scrollLeft + e.clientX - left) * grown - (e.clientX - left);

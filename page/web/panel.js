@@ -7,8 +7,10 @@ import { answerText, TEXT } from "./words.js";
 /** @typedef {import("./editor.js").Editor} Editor */
 /** @typedef {import("./talk.js").LogEntry} LogEntry */
 
-/** milliseconds for which good news are shown, and how many edits and ids are listed at most */
-const GOOD_NEWS = 3000, MOST_LINES = 300, MOST_IDS = 5000, MOST_PROPERTIES = 200;
+/** milliseconds for which good news are shown */
+const GOOD_NEWS = 3000;
+/** how many acts, lines of one act, characters of a line, names and properties are listed at most */
+const MOST_LINES = 300, MOST_OF_ACT = 4, LONGEST_LINE = 160, MOST_IDS = 5000, MOST_PROPERTIES = 200;
 
 export class Panel {
   /**
@@ -23,6 +25,11 @@ export class Panel {
     this.units = units;
     this.measures = measures;
     this.infoKey = "";
+    /**
+     * the newest act in the list
+     * @type {LogEntry[]}
+     */
+    this.listed = [];
     /** @type {number | undefined} */
     this.timer = undefined;
     editor.watchers.push(entry => { if (entry) this.list(entry); else this.show(); });
@@ -104,17 +111,16 @@ export class Panel {
 
   // ---- the list of edits
 
-  /** @param {LogEntry} entry */
-  list({ line, answer, act }) {
-    const lines = by("lines"), isRefused = !answer.startsWith("ok");
-    const item = make("li", line.length > 160 ? `${line.slice(0, 160)} …` : line);
-    if (isRefused) item.append(make("span", answerText(answer)));
-    else if (answer !== "ok") item.append(` → ${answer}`);
-    if (isRefused) item.classList.add("no");
-    if (Number(lines.firstElementChild?.dataset.act) === act) item.classList.add("same");
-    item.dataset.act = String(act);
-    if (lines.firstElementChild && !lines.firstElementChild.dataset.act) lines.replaceChildren();
-    lines.prepend(item);
+  /**
+   * Lists an edit; those of one act stand together.
+   * @param {LogEntry} entry
+   */
+  list(entry) {
+    const lines = by("lines");
+    if (this.listed.length && this.listed[0].act === entry.act) lines.firstElementChild.remove(); else this.listed = [];
+    if (lines.firstElementChild?.className === "dim") lines.replaceChildren();
+    this.listed.push(entry);
+    lines.prepend(actItem(this.listed));
     while (lines.children.length > MOST_LINES) lines.lastElementChild.remove();
   }
 
@@ -210,18 +216,37 @@ export class Panel {
     by("ids").replaceChildren(...numbers.map(num => { const option = make("option"); option.value = this.nameOf(num); return option; }));
   }
 
-  /** @param {string} text */
+  /**
+   * Goes to the feature with a name, or with the text in its name; true where there is one.
+   * @param {string} text
+   */
   find(text) {
     const wanted = text.trim().toLowerCase(), { order } = this.editor.model;
-    if (!wanted) return;
+    if (!wanted) return false;
     const name = (/** @type {number} */ num) => this.nameOf(num).toLowerCase();
     const found = order.find(num => name(num) === wanted || `#${num}` === wanted) ?? order.find(num => name(num).includes(wanted));
-    if (found === undefined) { this.note("", TEXT.notFound(text.trim())); return; }
+    if (found === undefined) { this.note("", TEXT.notFound(text.trim())); return false; }
     this.hideNote();
     this.goTo(found);
     by("map").focus();
+    return true;
   }
 }
+
+/**
+ * An act in the list of edits. Of many lines the first and the last are shown.
+ * @param {LogEntry[]} entries
+ */
+function actItem(entries) {
+  const accepted = entries.filter(({ answer }) => answer.startsWith("ok")), refused = entries.filter(({ answer }) => !answer.startsWith("ok"));
+  const texts = accepted.map(({ line, answer }) => answer === "ok" ? shortened(line) : `${shortened(line)} → ${answer}`);
+  const few = texts.length > MOST_OF_ACT ? [TEXT.manyLines(texts[0], texts[texts.length - 1], texts.length)] : texts;
+  const no = refused.map(({ line, answer }) => make("div", [make("div", shortened(line)), make("span", answerText(answer))], "no"));
+  return make("li", [...few.map(text => make("div", text)), ...no]);
+}
+
+/** @param {string} line */
+const shortened = line => line.length > LONGEST_LINE ? `${line.slice(0, LONGEST_LINE)} …` : line;
 
 /** @param {(string | Node)[][]} rows */
 function table(rows) {

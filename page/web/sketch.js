@@ -25,6 +25,11 @@ export class Sketch {
     this.path = [];
     /** whether a measured way is closed */
     this.isClosed = false;
+    /**
+     * the newest point under way
+     * @type {Promise<any>}
+     */
+    this.turn = Promise.resolve();
   }
 
   /** @param {Kind} kind */
@@ -46,49 +51,37 @@ export class Sketch {
 
   stop() { this.begin(null); }
 
-  /** A point at the pointer. */
-  async click() {
-    this.tools.look();
+  /** A point at the pointer. Points follow each other as they were clicked, though border_edit is asked for some. */
+  click() {
+    const { tools } = this;
+    tools.look();
     if (this.kind === "measure") { this.measure(); return; }
-    const point = await this.pointHere();
-    if (!point) return;
-    this.path.push(point);
-    this.tools.view.redrawOver();
-    if (this.path.length > 1 && this.isOnBorder(point)) await this.end();
+    const { vertex, segment } = tools, [x, y] = vertex ?? (segment ? tools.onSegment(segment) : tools.grid());
+    const spot = { x, y, segment: vertex ? null : segment };
+    this.turn = this.turn.then(() => this.add(spot)).catch(fault => tools.editor.fail(fault));
+    return this.turn;
   }
 
-  /** @param {PathPoint} point */
-  isOnBorder({ x, y, segment }) { return segment !== null || this.tools.editor.model.places(x, y).length > 0; }
-
-  /**
-   * The position under the pointer as one of a cut, if it may be one.
-   * @returns {Promise<PathPoint | null>}
-   */
-  async pointHere() {
-    const { vertex, segment, editor, panel } = this.tools;
-    if (vertex) return { x: vertex[0], y: vertex[1], segment: null };
-    if (segment) {
-      const [x, y] = this.tools.onSegment(segment), isVertex = editor.model.places(x, y).length > 0;
-      if (isVertex) return { x, y, segment: null };
-      const answer = await editor.talk.attempt(`insert ${segment.join(" ")} ${x} ${y}`);
-      if (answer === "ok") return { x, y, segment };
-      panel.note(TEXT.refused, answerText(answer), answer);
-      return null;
+  /** @param {PathPoint} spot */
+  async add(spot) {
+    if (!this.kind) return;
+    const { editor, panel, view } = this.tools, isVertex = editor.model.places(spot.x, spot.y).length > 0;
+    const point = isVertex ? { ...spot, segment: null } : spot;
+    if (!this.path.length && !isVertex && !point.segment) { panel.hint(TEXT.hintBegin); return; }
+    if (point.segment) {
+      const answer = await editor.talk.attempt(`insert ${point.segment.join(" ")} ${point.x} ${point.y}`);
+      if (answer !== "ok") { panel.note(TEXT.refused, answerText(answer), answer); return; }
     }
-    if (!this.path.length) { panel.hint(TEXT.hintBegin); return null; }
-    const [x, y] = this.tools.grid();
-    return { x, y, segment: null };
+    this.path.push(point);
+    view.redrawOver();
+    if (this.path.length > 1 && (isVertex || point.segment)) await this.end();
   }
 
   /** The line is whole. */
   async end() {
     const { kind, path } = this, { features } = this.tools;
     this.stop();
-    try {
-      if (kind === "cut") await features.cut(path); else await features.reshape(path);
-    } catch (fault) {
-      this.tools.editor.fail(fault);
-    }
+    if (kind === "cut") await features.cut(path); else await features.reshape(path);
   }
 
   // ---- measuring

@@ -40,6 +40,8 @@ export class TalkFault extends Error {
 export class Talk {
   constructor() {
     this.owner = 0;
+    /** how many requests are under way */
+    this.waiting = 0;
     /** @type {Promise<any>} */
     this.last = Promise.resolve();
   }
@@ -50,7 +52,8 @@ export class Talk {
    * @returns {Promise<any>}
    */
   post(name, body) {
-    const turn = this.last.then(() => this.postNow(name, body));
+    this.waiting++;
+    const turn = this.last.then(() => this.postNow(name, body)).finally(() => { this.waiting--; });
     this.last = turn.catch(() => undefined);
     return turn;
   }

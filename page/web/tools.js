@@ -101,6 +101,12 @@ export class Tools {
     [this.pointer.x, this.pointer.y] = this.at(e);
   }
 
+  /** The pointer goes to the middle of the map. */
+  centre() {
+    this.pointer = { x: Math.round(this.view.width / 2), y: Math.round(this.view.height / 2) };
+    this.look();
+  }
+
   forget() {
     this.vertex = this.segment = this.feature = null;
     this.view.redrawOver();
@@ -144,7 +150,7 @@ export class Tools {
   tell() {
     const { units, layers } = this.panel, [x, y] = this.vertex || this.grid();
     const where = `${units.coordinate(x, 0)}, ${units.coordinate(y, 1)}`;
-    by("where").textContent = units.hasUnit ? `${where}   ${TEXT.grid(x, y)}` : where;
+    by("where").textContent = units.hasUnit ? TEXT.where(where, x, y) : where;
     const on = this.vertex ? TEXT.vertexAt : this.segment ? TEXT.borderAt : "";
     const name = this.feature === null ? "" : TEXT.numbered(layers.nameOf(this.feature), this.feature);
     by("what").textContent = [on, name].filter(Boolean).join(", ");

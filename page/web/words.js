@@ -59,7 +59,7 @@ const FAULTS = [
   [/^arcs do not meet (\d+) (\d+) (\d+)/, "The arcs of a ring of feature $1 do not meet."],
   [/^ring short (\d+) (\d+) (\d+)/, "A ring of feature $1 has fewer than three positions."],
   [/^ring repeats (\d+) (\d+) (\d+) at (\S+ \S+)/, "A ring of feature $1 passes twice through $4."],
-  [/^conflict (.+)/, "Two borders cross or lie on each other: $1."],
+  [/^conflict (\S+ \S+) (\S+ \S+) \/ (\S+ \S+) (\S+ \S+)/, "Two borders cross or lie on each other: the one from $1 to $2, and the one from $3 to $4."],
 ];
 
 /**
@@ -176,7 +176,7 @@ export const TEXT = {
   counts: (/** @type {number} */ features, /** @type {number} */ vertices) => `${grouped(features)} features, ${grouped(vertices)} vertices`,
   vertexAt: "vertex",
   borderAt: "border",
-  grid: (/** @type {number} */ x, /** @type {number} */ y) => `grid ${x} ${y}`,
+  where: (/** @type {string} */ own, /** @type {number} */ x, /** @type {number} */ y) => `${own}  ·  grid ${x} ${y}`,
   numbered: (/** @type {string} */ name, /** @type {number} */ num) => name === `#${num}` ? name : `${name} (#${num})`,
   nothingSelected: "Click a feature to see it here. Shift+click selects more than one.",
   howToEdit: "Drag a vertex to move it in every feature that has it. Double-click a border to add a vertex. Point at a vertex and press Delete to remove it.",
@@ -192,8 +192,7 @@ export const TEXT = {
   properties: "Properties",
   noProperties: "No properties.",
   noEdits: "No edits yet.",
-  undone: "undo",
-  lineRefused: "refused",
+  manyLines: (/** @type {string} */ first, /** @type {string} */ last, /** @type {number} */ count) => first === last ? `${first} (${count} times)` : `${first} … ${last} (${count} lines)`,
   layerShown: "Show",
   layerHit: "Point at",
   layerNamed: "Names",
@@ -256,4 +255,4 @@ export const HELP = [
 ];
 
 /** Heads of the columns of the help. */
-export const HELP_HEAD = ["", "Mouse", "Key"];
+export const HELP_HEAD = ["Mouse", "Key"];
