@@ -128,7 +128,7 @@ def main():
     words.add_argument("--no-runs", action="store_true", help="links and sizes alone")
     options = words.parse_args()
     faults = [f"{page.relative_to(TOP)}:{fault}" for page in pages() for fault in link_faults(page)]
-    faults += [f"{page.relative_to(TOP)}:{fault}" for page in pages() if page.parent.name == "docs" for fault in size_faults(page)]
+    faults += [f"{page.relative_to(TOP)}:{fault}" for page in pages() if page.parent == TOP / "docs" for fault in size_faults(page)]
     faults += line_faults()
     runs = 0
     if not options.no_runs:
