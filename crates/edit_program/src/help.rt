@@ -24,6 +24,8 @@ Lines of SCRIPT (f and g are features, numbered from 0; id is a JSON string):
   document               The text of the map
   # ..                   A comment; it has no answer, nor has an empty line
 
+Answers are sent on before more of SCRIPT is read, so with SCRIPT - a program can ask line by line.
+
 Example: border_edit map.json script.txt --out saved.json
 with these lines in script.txt:
   # both squares have this corner
