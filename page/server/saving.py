@@ -26,7 +26,7 @@ def pieces(path, most=None):
 
 def fingerprint(path):
     """What tells whether a file was changed: nothing where there is no file."""
-    digest = hashlib.sha256()
+    digest = hashlib.blake2b()
     try:
         for piece in pieces(path):
             digest.update(piece)

@@ -81,7 +81,7 @@ class Session:
 
     def _copy(self, map_path):
         """Copies the map, or as much of it as shows that it is too large. What tells later whether it was changed."""
-        digest = hashlib.sha256()
+        digest = hashlib.blake2b()
         with open(self.base, "wb") as file:
             for piece in saving.pieces(map_path, MOST_BYTES + 1):
                 digest.update(piece)
@@ -252,7 +252,7 @@ class Session:
             if now is not None and now != self.written:
                 saving.keep_original(self.out)
             saving.replace(self.out, [text])
-            self.seen = self.written = hashlib.sha256(text).hexdigest()
+            self.seen = self.written = hashlib.blake2b(text).hexdigest()
             saving.sync_folder(self.out.parent)
         except OSError as fault:
             raise Refusal(f"{self.file} can't be written: {fault.strerror}") from None
