@@ -56,8 +56,9 @@ def copy_rights(path, handle):
     except FileNotFoundError:
         os.fchmod(handle, 0o666 & ~UMASK)
         return
-    with contextlib.suppress(PermissionError):
-        os.fchown(handle, old.st_uid, old.st_gid)
+    for owner, group in ((-1, old.st_gid), (old.st_uid, -1)):
+        with contextlib.suppress(PermissionError):
+            os.fchown(handle, owner, group)
     os.fchmod(handle, stat.S_IMODE(old.st_mode))
 
 

@@ -7,8 +7,9 @@ import subprocess
 from unittest import mock
 
 from server_maps import SQUARES, of_squares
-from server_runs import PATHS, Served, folder
+from server_runs import Served, folder
 
+import finding
 import saving
 import session
 
@@ -106,7 +107,7 @@ def too_large(checks):
     with folder() as files, mock.patch("session.MOST_BYTES", len(SQUARES)):
         path = files / "map.json"
         path.write_text(SQUARES)
-        edited = session.Session(PATHS, path, path)
+        edited = session.Session(finding.Programs(), path, path)
         edited.edit(1, ['rename 0 "x"'])
         checks.same("as large as may be", edited.save(False), len(SQUARES))
         edited.edit(2, ['rename 0 "xy"'])
