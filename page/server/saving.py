@@ -26,7 +26,7 @@ def pieces(path, most=None):
 
 def fingerprint(path):
     """What tells whether a file was changed: nothing where there is no file."""
-    digest = hashlib.sha256()
+    digest = hashlib.blake2b()
     try:
         for piece in pieces(path):
             digest.update(piece)
@@ -56,8 +56,9 @@ def copy_rights(path, handle):
     except FileNotFoundError:
         os.fchmod(handle, 0o666 & ~UMASK)
         return
-    with contextlib.suppress(PermissionError):
-        os.fchown(handle, old.st_uid, old.st_gid)
+    for owner, group in ((-1, old.st_gid), (old.st_uid, -1)):
+        with contextlib.suppress(PermissionError):
+            os.fchown(handle, owner, group)
     os.fchmod(handle, stat.S_IMODE(old.st_mode))
 
 

@@ -6,7 +6,9 @@ Everything is below /TOKEN/, on the loopback address alone.
 |---|---|---|
 | GET, no name; each file of the page | | the page |
 | GET `document`, `script`, `picture` | | the text of the map; the log as a script; a map that does not open as SVG |
-| `begin` | | `owner`, `name`, `out`, `proved`, `opens`, and then `log`, `counts` (when the map was opened), `undos`, `unsaved`, or `fault`, `findings`, `mendable` |
+| `begin` | | `owner`, `name`, `out`, `proved`, `opens`; then either what is edited or what stops it |
+| of a map that opens | | `log`, `counts` (when it was opened), `undos` (how many are possible), `unsaved` |
+| of one that does not | | `fault`, `findings`, `mendable` |
 | `edit` | `owner`, `act`, `lines` | `answers` up to the first refusal, `accepted`, `entries` of the log, `undos`, `unsaved` |
 | `try` | `owner`, `line` | `answer` |
 | `ask` | `owner`, `lines` | `answers` |
@@ -14,9 +16,9 @@ Everything is below /TOKEN/, on the loopback address alone.
 | `mend` | `owner`, perhaps `digits` | `report`, `opens` |
 | `alive`, `leave` | `owner` | nothing |
 
-All but the first two are POST with JSON. What is not done is answered with `reason`: 400 for what makes no sense, 403 for
-who may not ask, 404 for a name that there is not, 409 where it can't be done now, with `force` if it can be forced and
-`closed` if a newer page has the map, and 500 where border_edit has ended.
+The others are POST with JSON. What is not done is answered with `reason`: 400 for what makes no sense, 403 for
+who may not ask, 404 for a name that there is not, 409 for what can't be done now, with `force` if it can be forced and
+`closed` if a newer page has the map, and 500 after border_edit has ended.
 """
 import http.server
 import json
@@ -109,9 +111,9 @@ class Server(http.server.ThreadingHTTPServer):
 
     daemon_threads = True
 
-    def __init__(self, port, session, is_proved):
+    def __init__(self, port, session):
         super().__init__(("127.0.0.1", port), Handler)
-        self.session, self.is_proved = session, is_proved
+        self.session = session
         self.token = secrets.token_urlsafe(24)
         self.files = static_files(WEB)
         self.hosts = tuple(f"{host}:{self.server_port}" for host in ("127.0.0.1", "localhost"))
@@ -132,18 +134,20 @@ class Server(http.server.ThreadingHTTPServer):
         self.has_warned = False
         if owner == 1:
             self.on_first_page()
-        return {"owner": owner, "proved": self.is_proved, **self.session.begin()}
+        return {"owner": owner, **self.session.begin()}
 
     def service_actions(self):
         """Ends the server where no page is there any more. It is called twice a second."""
         # while a request is under way its page is there, even if it was not heard for long
-        if self.visits.is_over() and self.lock.acquire(blocking=False):
+        if self.lock.acquire(blocking=False):
             try:
                 self._end_or_stay()
             finally:
                 self.lock.release()
 
     def _end_or_stay(self):
+        if not self.visits.is_over():
+            return
         if not self.session.is_unsaved:
             raise NoPage
         if not self.has_warned:
@@ -241,6 +245,9 @@ class Handler(http.server.BaseHTTPRequestHandler):
             raise
         except OSError as fault:
             self.send_error(500, f"this was not done: {fault.strerror}")
+        except Exception:
+            traceback.print_exc()
+            self.send_error(500, "this was not done, by a mistake in the server; its terminal has more")
 
     def _get(self):
         name, server = self.name(), self.server

@@ -182,7 +182,7 @@ def other_machines(checks):
 def constant_time(checks):
     """The token is compared in constant time."""
     with mock.patch("secrets.compare_digest", return_value=False) as compared, tempfile.TemporaryDirectory():
-        server = served.Server(0, mock.Mock(is_unsaved=False), False)
+        server = served.Server(0, mock.Mock(is_unsaved=False))
         threading.Thread(target=server.serve_forever, args=[0.05], daemon=True).start()
         with socket.create_connection(("127.0.0.1", server.server_port)) as page:
             page.sendall(f"GET /guess/ HTTP/1.1\r\nHost: 127.0.0.1:{server.server_port}\r\n\r\n".encode())

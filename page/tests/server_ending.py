@@ -40,7 +40,7 @@ def when_to_end(checks):
     """The server ends where no page is there, nothing is unsaved, and no request is under way."""
     for is_over, is_unsaved, is_busy, ends in [(True, False, False, True), (False, False, False, False), (True, True, False, False),
                                                (True, False, True, False)]:
-        server = served.Server(0, mock.Mock(is_unsaved=is_unsaved), False)
+        server = served.Server(0, mock.Mock(is_unsaved=is_unsaved))
         server.visits = mock.Mock(is_over=lambda: is_over)
         if is_busy:
             server.lock.acquire()

@@ -6,8 +6,8 @@ from server_runs import Served, folder
 
 # Bytes of a map that opens, at most.
 MOST = 67_108_864
-# Seconds that opening, asking for the text and saving may take, each.
-PATIENCE = 60
+# Seconds that all of it may take on a busy machine; on one with nothing else to do it takes some five.
+PATIENCE = 180
 
 
 def of_bytes(size, rows):
@@ -32,14 +32,7 @@ def as_large_as_may_be(checks):
             checks.same("saved", page.post("save"), (200, {"bytes": MOST, "file": str(path)}))
             checks.same("what is saved", path.read_bytes() == text.replace(b'"id":"A"', b'"id":"B"'), True)
             checks.same("what was there", (files / "map.json.orig").read_bytes() == text, True)
-            page.edit('rename 0 "longer"')
-            status, said = page.post("save")
-            checks.same("too large to open again: asks first", (status, said["force"], path.stat().st_size), (409, True, MOST))
-            checks.same("saved with force", page.post("save", force=True), (200, {"bytes": MOST + 5, "file": str(path)}))
-        checks.same("in time", time.monotonic() - began < 3 * PATIENCE, True)
-        with Served(path) as page:
-            began = page.begin()
-            checks.same("and does not open", (began["opens"], began["fault"], began["mendable"]), (False, "too large bytes", False))
+        checks.same("in time", time.monotonic() - began < PATIENCE, True)
 
 
 def larger(checks):

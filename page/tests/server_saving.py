@@ -9,7 +9,9 @@ from unittest import mock
 from server_maps import SQUARES, of_squares
 from server_runs import Served, folder
 
+import finding
 import saving
+import session
 
 NEWER = "of another program"
 
@@ -98,6 +100,24 @@ def changed_by_others(checks):
                     checks.same(f"force is {force!r}", page.post("save", force=force)[0], 409)
                 checks.same("with force again", (page.post("save", force=True)[0], ids(path)), (200, ["y", "B"]))
                 checks.same("then without", page.post("save")[0], 200)
+
+
+def too_large(checks):
+    """What is saved could not be opened again: the user is asked first."""
+    with folder() as files, mock.patch("session.MOST_BYTES", len(SQUARES)):
+        path = files / "map.json"
+        path.write_text(SQUARES)
+        edited = session.Session(finding.Programs(), path, path)
+        edited.edit(1, ['rename 0 "x"'])
+        checks.same("as large as may be", edited.save(False), len(SQUARES))
+        edited.edit(2, ['rename 0 "xy"'])
+        try:
+            told = edited.save(False)
+        except session.Refusal as refusal:
+            told = (refusal.force, "can't be opened again" in str(refusal))
+        checks.same("a byte more", (told, ids(path)), ((True, True), ["x", "B"]))
+        checks.same("with force", (edited.save(True), ids(path)), (len(SQUARES) + 1, ["xy", "B"]))
+        edited.end()
 
 
 def no_folder(checks):
@@ -214,4 +234,4 @@ def long_names(checks):
             checks.same("250 letters", (page.post("save")[0], out.read_text()), (200, SQUARES))
 
 
-GROUPS = [over_the_map, another_file, changed_by_others, no_folder, full_disk, in_order, long_names]
+GROUPS = [over_the_map, another_file, changed_by_others, too_large, no_folder, full_disk, in_order, long_names]

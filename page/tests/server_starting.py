@@ -1,4 +1,5 @@
 """The words of ./edit, what it says of files, and how the browser finds the page."""
+import concurrent.futures
 import os
 import pathlib
 import shutil
@@ -49,14 +50,13 @@ def ends(checks):
         (files / "loop.json").symlink_to("loop.json")
         (files / "tmp").mkdir()
         fill = {"here": files, "port": taken.getsockname()[1]}
-        for words, status, line in ENDS:
-            words = [word.format(**fill) for word in words]
-            done = run_edit(files, *words, TMPDIR=files / "tmp")
-            said = done.stderr.decode().splitlines()
-            checks.same(f"edit {' '.join(words)}", (done.returncode, done.stdout, said[-1:]), (status, b"", [line.format(**fill)]))
-            if status == 3:
-                checks.same("one line", len(said), 1)
-            checks.same("nothing is left", list((files / "tmp").iterdir()), [])
+        with concurrent.futures.ThreadPoolExecutor(4) as at_once:
+            done = list(at_once.map(lambda row: run_edit(files, *[word.format(**fill) for word in row[0]], TMPDIR=files / "tmp"), ENDS))
+        for (words, status, line), end in zip(ENDS, done):
+            said = end.stderr.decode().splitlines()
+            checks.same(f"edit {words}", (end.returncode, end.stdout, said[-1:]), (status, b"", [line.format(**fill)]))
+            checks.same("one line, but for the usage", len(said) == 1, status == 3)
+        checks.same("nothing is left", list((files / "tmp").iterdir()), [])
 
 
 def run_edit(files, *words, **more):
