@@ -70,7 +70,7 @@ const timed = work => { const begun = performance.now(); work(); return performa
 function edits() {
   const { x, y } = whole, feature = model.features.get(model.featuresIn([x, y, x, y])[0]);
   const at = model.positions(feature.polygons[0][0]), half = 2 * (at.length >> 2), ends = [at[0], at[1], at[half], at[half + 1]];
-  const hundred = () => { for (let i = 0; i < 100; i++) model.nearestVertex(at[0] + i, at[1], 9 / view.kx, 9 / view.ky); };
+  const [dx, dy] = [9 / view.kx, 9 / view.ky], hundred = () => { for (let i = 0; i < 100; i++) model.nearestVertex(at[0] + i, at[1], dx, dy); };
   return {
     split: timed(() => model.apply(`split ${feature.num} "part" ${ends.join(" ")}`, `ok ${model.next}`)),
     merge: timed(() => model.apply(`merge ${feature.num} ${model.next - 1}`, "ok")),
