@@ -1,29 +1,43 @@
-// Measures a view of a map in the browser that frames.py starts.
+// Shows a map in the browser that frames.py or test_drawing.py starts, and measures it.
 import { Model, parsed } from "./web/model.js";
 import { View } from "./web/view.js";
 import { colouring } from "./web/colours.js";
 const by = id => document.getElementById(id), start = performance.now();
 const text = await (await fetch("map.json")).text(), fetched = performance.now();
 const topology = parsed(text), read = performance.now();
-const model = new Model(topology), made = performance.now(), view = new View(by("base"), by("over"));
+let model = new Model(topology);
+const made = performance.now(), view = new View(by("base"), by("over"));
 view.resize();
-view.setModel(model);
-view.fit(model.extent());
+
+/** Shows the whole map, as it is. */
+function show() {
+  Object.assign(window, { model, view });
+  view.setModel(model);
+  view.fit(model.extent());
+}
+
+show();
 const whole = { x: view.x, y: view.y, ky: view.ky };
-const isStill = () => !view.isAsked && !view.wanted && !view.drawing;
+const isStill = () => !view.wanted && !view.drawing && !view.overWanted;
 const frame = () => new Promise(done => requestAnimationFrame(done));
 const settled = async () => { while (!isStill()) await frame(); };
 await settled();
 const drawn = performance.now();
-const spread = list => { const s = list.slice().sort((a, b) => a - b); return { median: s[s.length >> 1], worst: s[Math.floor(0.95 * s.length)] }; };
 
-/** Milliseconds from frame to frame while something moves, and of the drawings meanwhile. */
+function spread(list) {
+  const sorted = list.slice().sort((a, b) => a - b);
+  return { median: sorted[sorted.length >> 1], worst: sorted[Math.floor(0.95 * sorted.length)] };
+}
+
+/** Frames while something moves, how many a second, milliseconds from one to the next, and those of the drawings meanwhile. */
 async function moving(step, milliseconds) {
   view.stats.draws = [];
   const times = [await frame()];
   for (let i = 0; times[times.length - 1] - times[0] < milliseconds; i++) { step(i); times.push(await frame()); }
   await settled();
-  return { frames: times.length - 1, ...spread(times.slice(1).map((time, i) => time - times[i])), drawing: spread(view.stats.draws).median };
+  const frames = times.length - 1, between = times.slice(1).map((time, i) => time - times[i]);
+  const second = (1000 * frames) / (times[frames] - times[0]);
+  return { frames, second, ...spread(between), drawing: spread(view.stats.draws).median };
 }
 
 async function go(nearness) {
@@ -54,17 +68,26 @@ const timed = work => { const begun = performance.now(); work(); return performa
 
 /** Milliseconds of edits of a feature in the middle. */
 function edits() {
-  const found = model.featuresIn([whole.x, whole.y, whole.x, whole.y]), feature = model.features.get(found[0]);
-  const at = model.positions(feature.polygons[0][0]), half = 2 * (at.length >> 2);
-  const split = timed(() => model.apply(`split ${feature.num} "part" ${at[0]} ${at[1]} ${at[half]} ${at[half + 1]}`, `ok ${model.next}`));
-  const merge = timed(() => model.apply(`merge ${feature.num} ${model.next - 1}`, "ok"));
-  const move = timed(() => model.apply(`move ${at[0]} ${at[1]} ${at[0] + 1} ${at[1]}`, "ok"));
-  const undo = timed(() => { model.undo(); model.undo(); model.undo(); });
-  const hover = timed(() => { for (let i = 0; i < 100; i++) model.nearestVertex(at[0] + i, at[1], 9 / view.kx, 9 / view.ky); }) / 100;
-  const remade = timed(() => model.replace(topology, model.order));
-  return { split, merge, move, undo, hover, remade };
+  const { x, y } = whole, feature = model.features.get(model.featuresIn([x, y, x, y])[0]);
+  const at = model.positions(feature.polygons[0][0]), half = 2 * (at.length >> 2), ends = [at[0], at[1], at[half], at[half + 1]];
+  const [dx, dy] = [9 / view.kx, 9 / view.ky], hundred = () => { for (let i = 0; i < 100; i++) model.nearestVertex(at[0] + i, at[1], dx, dy); };
+  return {
+    split: timed(() => model.apply(`split ${feature.num} "part" ${ends.join(" ")}`, `ok ${model.next}`)),
+    merge: timed(() => model.apply(`merge ${feature.num} ${model.next - 1}`, "ok")),
+    move: timed(() => model.apply(`move ${at[0]} ${at[1]} ${at[0] + 1} ${at[1]}`, "ok")),
+    undo: timed(() => { for (let i = 0; i < 3; i++) model.undo(); }),
+    hover: timed(hundred) / 100,
+    replace: timed(() => model.replace(topology, model.order)),
+  };
 }
 
+/** Shows the map anew, as it was at first. */
+window.reset = () => {
+  model = new Model(parsed(text));
+  Object.assign(view, { underlay: [], without: null, colouring: null, layers: [], moved: null });
+  show();
+};
+window.settled = settled;
 window.measure = {
   ready: { fetch: fetched - start, parse: read - fetched, model: made - read, drawn: drawn - made },
   size: { features: model.counts.features, vertices: model.counts.vertices, pieces: model.pieces.length },

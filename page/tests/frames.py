@@ -6,8 +6,8 @@ frames while it is panned and zoomed, as a whole and from near, the time of one 
 memory. `busy` is the processor time that the page's thread takes for a frame, which other work of the machine does not change.
 
 It fails where panning has fewer than 30 frames a second, where a frame is asked for while nothing changes, or where the page
-reports an error. Where the machine is so busy that a page that moves a picture and draws nothing has fewer than 30 frames a
-second, `busy` alone tells it. The last line is `N passed, M failed`, and the status 1 where something failed.
+reports an error. `busy` tells the first, and the clock too, unless the machine is so busy that a page that moves a picture
+and draws nothing has not its 60 frames a second. The last line is `N passed, M failed`, the status 1 where something failed.
 """
 import argparse
 import http.server
@@ -26,8 +26,8 @@ SCRIPT = TOP / "page" / "tests" / "frames.js"
 sys.path.insert(0, str(TOP / "bench"))
 import maps  # noqa: E402
 
-# Milliseconds of a frame at 30 frames a second, and what the clock of the browser may add.
-SLOWEST, CLOCK = 1000 / 30, 1
+# Frames a second that are wanted, and those that a browser has where nothing is drawn, less what a clock may take.
+WANTED, FREE = 30, 57
 OPTIONS = (
     "--headless=new", "--no-sandbox", "--window-size=1600,1000", "--disable-dev-shm-usage", "--hide-scrollbars",
     "--no-first-run", "--disable-background-networking", "--disable-component-update", "--no-proxy-server",
@@ -70,6 +70,14 @@ class Handler(http.server.BaseHTTPRequestHandler):
         pass
 
 
+def serve():
+    """A server of the page on a port of its own; `map` is the path of its map."""
+    server = http.server.ThreadingHTTPServer(("127.0.0.1", 0), Handler)
+    server.map = None
+    threading.Thread(target=server.serve_forever, daemon=True).start()
+    return server
+
+
 class Browser:
     """Chromium without a window, with the page of the measures."""
 
@@ -87,8 +95,10 @@ class Browser:
         metrics = self.driver.execute_cdp_cmd("Performance.getMetrics", {})["metrics"]
         return 1000 * next(metric["value"] for metric in metrics if metric["name"] == "TaskDuration")
 
-    def open(self, url):
-        self.driver.get(url)
+    def open(self, server, path):
+        """Opens the page of a map, and waits until it is drawn."""
+        server.map = path
+        self.driver.get(f"http://127.0.0.1:{server.server_port}/")
         self.driver.execute_async_script(
             "const done = arguments[0], wait = () => window.measure ? done() : setTimeout(wait, 20); wait();")
 
@@ -128,18 +138,19 @@ def rounded(numbers):
 
 
 def is_quick(found, picture):
-    """Whether a movement has 30 frames a second: by its processor time, and by the clock where the machine is not too busy."""
-    can_tell = picture["median"] <= SLOWEST + CLOCK
-    return found["frames"] > 0 and found["busy"] <= SLOWEST and (not can_tell or found["median"] <= SLOWEST + CLOCK)
+    """Whether a movement has the frames that are wanted: by its processor time, and by the clock where that can tell it."""
+    can_tell = picture["second"] >= FREE
+    return found["busy"] <= 1000 / WANTED and (not can_tell or found["second"] >= WANTED)
 
 
-def measure_map(browser, url, path, milliseconds, checks, shots):
-    browser.open(url)
+def measure_map(browser, server, path, milliseconds, checks, shots):
+    browser.open(server, path)
     print(f"{path.name}: {json.dumps(browser.ask('size'))}, load of the machine {os.getloadavg()[0]:.1f}")
     print(f"  ready, ms: {rounded(browser.ask('ready'))}; heap {browser.ask('heap'):.0f} MB")
     checks.check(f"{path.name}: no frame is asked for where nothing changes", browser.ask("idle", 1000) == 0)
     picture = browser.move("picture", milliseconds)
-    print(f"  a picture that is moved, and nothing drawn, ms: {rounded(picture)}")
+    told = "busy and the clock tell" if picture["second"] >= FREE else "the machine is busy, so busy alone tells"
+    print(f"  a picture that is moved, and nothing drawn, ms: {rounded(picture)}: {told}")
     for nearness in NEARNESS:
         browser.ask("go", nearness)
         print(f"  {nearness} times as near: one drawing, ms: {rounded(browser.move('drawing'))}")
@@ -147,7 +158,7 @@ def measure_map(browser, url, path, milliseconds, checks, shots):
             found = browser.move(kind, milliseconds)
             print(f"    {kind}, ms: {rounded(found)}")
             if kind == "pan":
-                checks.check(f"{path.name}, {nearness} times as near: 30 frames a second", is_quick(found, picture))
+                checks.check(f"{path.name}, {nearness} times as near: {WANTED} frames a second", is_quick(found, picture))
         if shots:
             browser.driver.save_screenshot(str(shots / f"{path.stem}-{nearness}.png"))
     browser.ask("go", 1)
@@ -167,13 +178,10 @@ def main():
     made = [maps.made_map("bricks", size, 1).path for size in given.sizes]
     if given.shots:
         given.shots.mkdir(parents=True, exist_ok=True)
-    server = http.server.ThreadingHTTPServer(("127.0.0.1", 0), Handler)
-    threading.Thread(target=server.serve_forever, daemon=True).start()
-    checks, browser = Checks(), Browser()
+    server, checks, browser = serve(), Checks(), Browser()
     try:
         for path in [*made, *given.maps]:
-            server.map = path
-            measure_map(browser, f"http://127.0.0.1:{server.server_port}/", path, given.milliseconds, checks, given.shots)
+            measure_map(browser, server, path, given.milliseconds, checks, given.shots)
     finally:
         browser.close()
         server.shutdown()
