@@ -579,8 +579,7 @@ def test_keys_merge(page):
     page.keys(Keys.ENTER)
     first = page.js("return editor.selected[0]")
     near = page.later(f"editor.neighboursOf({first})")
-    steps(page, Keys.ARROW_RIGHT, 30)
-    for _ in range(30):
+    for _ in range(40):
         page.keys(Keys.ARROW_RIGHT)
         if page.js("return tools.feature !== null && tools.feature !== arguments[0]", first):
             break

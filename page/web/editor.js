@@ -272,7 +272,54 @@ export class Editor {
     this.changed();
   }
 
+  // ---- an act that becomes longer and shorter until it is kept
+
+  /**
+   * @param {Run} run
+   * @param {string} line
+   */
+  extend(run, line) { return this.queue(() => this.send(run, [line])); }
+
+  /**
+   * Takes the newest changes of an act back, which is not kept yet.
+   * @param {Run} run
+   * @param {number} count
+   */
+  shorten(run, count) {
+    return this.queue(async () => {
+      if (!count) return;
+      await this.sendUndo(count);
+      run.entries.length -= count;
+      run.isStale = true;
+    });
+  }
+
+  /**
+   * Draws what the act has made so far.
+   * @param {Run} run
+   */
+  showRun(run) {
+    return this.queue(async () => {
+      if (!run.isStale) return;
+      if (run.records) this.model.undo();
+      run.records = 0;
+      if (run.entries.length) await this.settle(run);
+      else { await this.recount(); this.view.change(); }
+      run.isStale = false;
+    });
+  }
+
+  /** @param {Run} run */
+  keepRun(run) { if (run.entries.length) this.history.add(run); }
+
   // ---- taking back, and making again
+
+  /** @param {number} count */
+  async sendUndo(count) {
+    const said = await this.talk.edit(this.nextAct++, Array(count).fill("undo"));
+    this.enter(said);
+    if (!said.accepted) throw new Refusal("undo", said.answers[said.answers.length - 1]);
+  }
 
   /**
    * Takes the changes of an act back.
@@ -281,9 +328,7 @@ export class Editor {
   async takeBack(act) {
     const count = act.entries.length;
     if (!count) return;
-    const said = await this.talk.edit(this.nextAct++, Array(count).fill("undo"));
-    this.enter(said);
-    if (!said.accepted) throw new Refusal("undo", said.answers[said.answers.length - 1]);
+    await this.sendUndo(count);
     const isKnown = !act.isStale && act.records > 0 && this.model.past.length >= act.records;
     if (isKnown) for (let i = 0; i < act.records; i++) this.model.undo();
     else await this.reload(false);
