@@ -252,9 +252,7 @@ def test_names_and_deleting(page):
 
 
 def slide_to(page, share):
-    """Moves the slider of the thinning with keys, and waits for the map."""
-    slider = page.element("thinShare")
-    slider.send_keys(Keys.END if share == 100 else Keys.HOME)
+    """Moves the slider of the thinning, and waits for the map."""
     page.js("const s = document.getElementById('thinShare'); s.value = arguments[0]; s.dispatchEvent(new Event('input')); "
             "s.dispatchEvent(new Event('change'))", share)
     page.wait("document.getElementById('thinBusy').hidden")
