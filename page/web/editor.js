@@ -121,7 +121,7 @@ export class Editor {
     return this.queue(async () => {
       const run = this.newRun();
       const isKept = await this.finish(run, () => steps((...lines) => this.send(run, lines)));
-      if (isKept && run.entries.length) this.history.add(run);
+      this.keepRun(run);
       return isKept;
     });
   }
@@ -149,7 +149,7 @@ export class Editor {
   edit(line) { return this.perform(send => send(line)); }
 
   /**
-   * Does the steps of an act, and takes all back where one is refused.
+   * Does the steps of an act, and takes all back where one is refused. After a fault of the server what was done before it stays.
    * @param {Run} run
    * @param {() => Promise<any>} steps
    */
@@ -160,9 +160,12 @@ export class Editor {
       await this.settle(run);
       return true;
     } catch (fault) {
-      if (!(fault instanceof Refusal || fault instanceof Stopped)) { this.fail(fault); return false; }
-      await this.takeBack(run).catch(other => this.fail(other));
-      if (fault instanceof Refusal) this.refuse(fault); else this.onFault(fault);
+      try {
+        if (fault instanceof Refusal || fault instanceof Stopped) await this.takeBackAll(run); else await this.settle(run);
+      } catch (other) {
+        this.fail(other);
+      }
+      if (fault instanceof Refusal) this.refuse(fault); else if (fault instanceof Stopped) this.onFault(fault); else this.fail(fault);
       return false;
     }
   }
@@ -335,6 +338,15 @@ export class Editor {
     await this.recount();
     this.selected = this.selected.filter(num => this.model.features.has(num));
     this.view.change();
+  }
+
+  /**
+   * Takes all back that an act has done so far.
+   * @param {Run} run
+   */
+  async takeBackAll(run) {
+    await this.takeBack(run);
+    run.entries = [];
   }
 
   /** @returns {Promise<boolean>} */
