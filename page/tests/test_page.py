@@ -252,9 +252,7 @@ def test_names_and_deleting(page):
 
 
 def slide_to(page, share):
-    """Moves the slider of the thinning with keys, and waits for the map."""
-    slider = page.element("thinShare")
-    slider.send_keys(Keys.END if share == 100 else Keys.HOME)
+    """Moves the slider of the thinning, and waits for the map."""
     page.js("const s = document.getElementById('thinShare'); s.value = arguments[0]; s.dispatchEvent(new Event('input')); "
             "s.dispatchEvent(new Event('change'))", share)
     page.wait("document.getElementById('thinBusy').hidden")
@@ -474,7 +472,8 @@ def test_mending(page, out):
     same("all findings are listed", lines, ["on 770 1130 / 760 860 780 1400", "cross 760 860 1400 840 / 960 870 1180 830"])
     true("in words too", "The vertex 770 1130 lies on the border" in page.text("findings"))
     true("a picture is shown", page.js("return document.getElementById('pictureImage').naturalWidth") > 0)
-    page.element("mend").click()
+    same("Mend has the focus", page.js("return document.activeElement.id"), "mend")
+    page.chain().send_keys(Keys.ENTER).perform()
     page.wait("document.getElementById('ask').open")
     true("the report says what mending did", "has new vertices" in page.text("askReport"), page.text("askReport"))
     page.element("askYes").click()
@@ -548,10 +547,9 @@ def test_keys_features(page):
     page.keys(Keys.ENTER)
     first = page.js("return tools.sketch.path.length")
     same("S, then Enter on a border begins a cut", first, 1)
-    box = page.js("const b = editor.model.features.get(8).box; return [...editor.view.screen((b[0] + b[2]) / 2, (b[1] + b[3]) / 2), tools.pointer.x, tools.pointer.y]")
-    for key, distance in ((Keys.ARROW_RIGHT, box[0] - box[2]), (Keys.ARROW_DOWN, box[1] - box[3])):
-        opposite = Keys.ARROW_LEFT if key == Keys.ARROW_RIGHT else Keys.ARROW_UP
-        steps(page, key if distance > 0 else opposite, round(abs(2 * distance) / 12))
+    x, y, u, v = page.js("const b = editor.model.features.get(8).box, p = tools.pointer; "
+                         "return [(b[0] + b[2]) / 2, (b[1] + b[3]) / 2, ...editor.view.place(p.x, p.y)]")
+    cursor_to(page, (2 * x - u, 2 * y - v))
     page.keys("b")
     page.keys(Keys.ENTER)
     if page.js("return tools.sketch.kind") == "cut":
@@ -567,11 +565,39 @@ def test_keys_features(page):
     page.keys(Keys.SHIFT, Keys.DELETE)
     same("Shift+Delete deletes", verbs(act_of(page)), ["delete"])
     page.keys(Keys.CONTROL, "z")
-    page.js("editor.select([8])")
+    go_to(page, "4")
     page.keys(Keys.F2)
-    page.answer("eight")
-    same("F2 gives an id", page.last(), ('rename 8 "eight"', "ok"))
+    page.answer("four")
+    same("F2 gives an id", page.last(), ('rename 4 "four"', "ok"))
     is_map(page, "features by keys")
+
+
+def test_keys_reshape(page):
+    """From one end of the border between 40 and 46, over a place in 46, to the other end."""
+    go_to(page, "46")
+    page.keys("r")
+    ring = json.loads(page.later("editor.talk.ask('rings 46').then(a => a[0])"))[0][0]
+    other = json.loads(page.later("editor.talk.ask('rings 40').then(a => a[0])"))[0][0]
+    common = [at for at in ring if at in other]
+    for at in (common[0], common[-1]):
+        cursor_to(page, at)
+        page.keys("v")
+        page.keys(Keys.ENTER)
+        if at == common[0]:
+            go = page.js("const b = editor.model.features.get(46).box; return [(b[0] + b[2]) / 2, (b[1] + b[3]) / 2]")
+            cursor_to(page, go)
+            page.keys(Keys.ENTER)
+    same("R, Enter, Enter, Enter give a piece away", verbs(act_of(page)), ["split", "merge"])
+    is_map(page, "a reshape by keys")
+    page.keys(Keys.CONTROL, "z")
+    same("Ctrl+Z takes it back", verbs(act_of(page)), ["undo", "undo"])
+
+
+def cursor_to(page, at):
+    """Moves the cursor near a position of the grid with arrows."""
+    x, y = page.js("const [x, y] = editor.view.screen(...arguments); return [x - tools.pointer.x, y - tools.pointer.y]", *at)
+    steps(page, Keys.ARROW_RIGHT if x > 0 else Keys.ARROW_LEFT, round(abs(x) / 12))
+    steps(page, Keys.ARROW_DOWN if y > 0 else Keys.ARROW_UP, round(abs(y) / 12))
 
 
 def test_keys_merge(page):
@@ -579,8 +605,7 @@ def test_keys_merge(page):
     page.keys(Keys.ENTER)
     first = page.js("return editor.selected[0]")
     near = page.later(f"editor.neighboursOf({first})")
-    steps(page, Keys.ARROW_RIGHT, 30)
-    for _ in range(30):
+    for _ in range(40):
         page.keys(Keys.ARROW_RIGHT)
         if page.js("return tools.feature !== null && tools.feature !== arguments[0]", first):
             break
@@ -700,6 +725,7 @@ def run_all(driver, folder, downloads):
         page.load()
         test_keys_vertices(page)
         test_keys_features(page)
+        test_keys_reshape(page)
         test_keys_merge(page)
         test_keys_rest(page)
         test_focus(page)

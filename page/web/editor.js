@@ -121,7 +121,7 @@ export class Editor {
     return this.queue(async () => {
       const run = this.newRun();
       const isKept = await this.finish(run, () => steps((...lines) => this.send(run, lines)));
-      if (isKept && run.entries.length) this.history.add(run);
+      this.keepRun(run);
       return isKept;
     });
   }
@@ -149,7 +149,7 @@ export class Editor {
   edit(line) { return this.perform(send => send(line)); }
 
   /**
-   * Does the steps of an act, and takes all back where one is refused.
+   * Does the steps of an act, and takes all back where one is refused. After a fault of the server what was done before it stays.
    * @param {Run} run
    * @param {() => Promise<any>} steps
    */
@@ -160,9 +160,12 @@ export class Editor {
       await this.settle(run);
       return true;
     } catch (fault) {
-      if (!(fault instanceof Refusal || fault instanceof Stopped)) { this.fail(fault); return false; }
-      await this.takeBack(run).catch(other => this.fail(other));
-      if (fault instanceof Refusal) this.refuse(fault); else this.onFault(fault);
+      try {
+        if (fault instanceof Refusal || fault instanceof Stopped) await this.takeBackAll(run); else await this.settle(run);
+      } catch (other) {
+        this.fail(other);
+      }
+      if (fault instanceof Refusal) this.refuse(fault); else if (fault instanceof Stopped) this.onFault(fault); else this.fail(fault);
       return false;
     }
   }
@@ -272,7 +275,54 @@ export class Editor {
     this.changed();
   }
 
+  // ---- an act that becomes longer and shorter until it is kept
+
+  /**
+   * @param {Run} run
+   * @param {string} line
+   */
+  extend(run, line) { return this.queue(() => this.send(run, [line])); }
+
+  /**
+   * Takes the newest changes of an act back, which is not kept yet.
+   * @param {Run} run
+   * @param {number} count
+   */
+  shorten(run, count) {
+    return this.queue(async () => {
+      if (!count) return;
+      await this.sendUndo(count);
+      run.entries.length -= count;
+      run.isStale = true;
+    });
+  }
+
+  /**
+   * Draws what the act has made so far.
+   * @param {Run} run
+   */
+  showRun(run) {
+    return this.queue(async () => {
+      if (!run.isStale) return;
+      if (run.records) this.model.undo();
+      run.records = 0;
+      if (run.entries.length) await this.settle(run);
+      else { await this.recount(); this.view.change(); }
+      run.isStale = false;
+    });
+  }
+
+  /** @param {Run} run */
+  keepRun(run) { if (run.entries.length) this.history.add(run); }
+
   // ---- taking back, and making again
+
+  /** @param {number} count */
+  async sendUndo(count) {
+    const said = await this.talk.edit(this.nextAct++, Array(count).fill("undo"));
+    this.enter(said);
+    if (!said.accepted) throw new Refusal("undo", said.answers[said.answers.length - 1]);
+  }
 
   /**
    * Takes the changes of an act back.
@@ -281,15 +331,22 @@ export class Editor {
   async takeBack(act) {
     const count = act.entries.length;
     if (!count) return;
-    const said = await this.talk.edit(this.nextAct++, Array(count).fill("undo"));
-    this.enter(said);
-    if (!said.accepted) throw new Refusal("undo", said.answers[said.answers.length - 1]);
+    await this.sendUndo(count);
     const isKnown = !act.isStale && act.records > 0 && this.model.past.length >= act.records;
     if (isKnown) for (let i = 0; i < act.records; i++) this.model.undo();
     else await this.reload(false);
     await this.recount();
     this.selected = this.selected.filter(num => this.model.features.has(num));
     this.view.change();
+  }
+
+  /**
+   * Takes all back that an act has done so far.
+   * @param {Run} run
+   */
+  async takeBackAll(run) {
+    await this.takeBack(run);
+    run.entries = [];
   }
 
   /** @returns {Promise<boolean>} */

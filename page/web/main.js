@@ -54,7 +54,6 @@ async function open(began) {
   panel.show();
   by("busy").hidden = true;
   by("map").focus();
-  setInterval(() => { if (!editor.isClosed) talk.alive().catch(fault => editor.fail(fault)); }, ALIVE);
 }
 
 /**
@@ -139,6 +138,7 @@ function wireTabs() {
   });
 }
 
+setInterval(() => { if (!editor.isClosed) talk.alive().catch(fault => editor.fail(fault)); }, ALIVE);
 window.addEventListener("beforeunload", e => { if (!editor.isClosed && editor.isUnsaved) e.preventDefault(); });
 window.addEventListener("pagehide", () => talk.leave());
 // a page that comes back as it was does not know what happened meanwhile

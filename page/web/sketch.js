@@ -25,6 +25,8 @@ export class Sketch {
     this.path = [];
     /** whether a measured way is closed */
     this.isClosed = false;
+    /** when a line became whole */
+    this.endedAt = -Infinity;
     /**
      * the newest point under way
      * @type {Promise<any>}
@@ -64,7 +66,9 @@ export class Sketch {
 
   /** @param {PathPoint} spot */
   async add(spot) {
-    if (!this.kind) return;
+    const last = this.path[this.path.length - 1];
+    // the second click of a double click
+    if (!this.kind || (last && last.x === spot.x && last.y === spot.y)) return;
     const { editor, panel, view } = this.tools, isVertex = editor.model.places(spot.x, spot.y).length > 0;
     const point = isVertex ? { ...spot, segment: null } : spot;
     if (!this.path.length && !isVertex && !point.segment) { panel.hint(TEXT.hintBegin); return; }
@@ -81,6 +85,7 @@ export class Sketch {
   async end() {
     const { kind, path } = this, { features } = this.tools;
     this.stop();
+    this.endedAt = performance.now();
     if (kind === "cut") await features.cut(path); else await features.reshape(path);
   }
 
@@ -89,8 +94,9 @@ export class Sketch {
   measure() {
     if (this.isClosed) { this.path = []; this.isClosed = false; }
     const [x, y] = this.tools.vertex || this.tools.grid(), [first] = this.path;
-    const isFirst = first && this.path.length > 2 && this.isNear(first);
-    if (isFirst) this.isClosed = true; else this.path.push({ x, y, segment: null });
+    const last = this.path[this.path.length - 1];
+    if (first && this.path.length > 2 && this.isNear(first)) this.isClosed = true;
+    else if (!last || last.x !== x || last.y !== y) this.path.push({ x, y, segment: null });
     this.tellMeasure();
   }
 

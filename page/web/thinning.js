@@ -1,5 +1,7 @@
 // @ts-check
 /** Thinning to a share of the vertices: flat vertices are left out with rising bounds until so many are left. */
+import { by } from "./dom.js";
+import { isChange } from "./lines.js";
 import { TEXT } from "./words.js";
 
 /** @typedef {import("./editor.js").Editor} Editor */
@@ -18,26 +20,40 @@ export class Thinning {
   constructor(editor, panel) {
     this.editor = editor;
     this.panel = panel;
-    this.box = element("thinning");
-    this.slider = /** @type {HTMLInputElement} */ (element("thinShare"));
+    this.box = by("thinning");
+    this.slider = /** @type {HTMLInputElement} */ (by("thinShare"));
     /** vertices before */
     this.before = 0;
-    this.isShown = false;
-    /** the share that was asked for last, and whether it is under way */
+    /** the share that is wanted */
     this.wanted = 1;
+    /**
+     * the act that is shown, not kept yet; of each of its steps whether it changed the map, and the vertices left after it
+     * @type {import("./editor.js").Run | null}
+     */
+    this.run = null;
+    /** @type {{isChange: boolean, left: number}[]} */
+    this.steps = [];
+    /**
+     * what is under way
+     * @type {Promise<any>}
+     */
+    this.turn = Promise.resolve();
     this.isBusy = false;
     this.slider.addEventListener("input", () => this.tell());
     this.slider.addEventListener("change", () => { this.wanted = Number(this.slider.value) / 100; this.follow(); });
-    element("thinKeep").addEventListener("click", () => this.keep());
-    element("thinDiscard").addEventListener("click", () => this.discard());
+    by("thinKeep").addEventListener("click", () => this.keep());
+    by("thinDiscard").addEventListener("click", () => this.discard());
   }
 
   get isOpen() { return !this.box.hidden; }
 
+  get left() { return this.steps.length ? this.steps[this.steps.length - 1].left : this.before; }
+
   open() {
     if (this.isOpen) { this.slider.focus(); return; }
     this.before = this.editor.vertices;
-    this.isShown = false;
+    this.run = this.editor.newRun();
+    this.steps = [];
     this.wanted = 1;
     this.slider.value = "100";
     this.box.hidden = false;
@@ -49,72 +65,81 @@ export class Thinning {
 
   /** What the slider says, and what is left. */
   tell() {
-    const left = this.editor.vertices, share = this.before ? Math.round((100 * left) / this.before) : 100;
-    element("thinWanted").textContent = TEXT.thinWanted(Number(this.slider.value));
-    this.slider.setAttribute("aria-valuetext", TEXT.thinWanted(Number(this.slider.value)));
-    element("thinLeft").textContent = TEXT.thinLeft(left, this.before, share);
+    const wanted = TEXT.thinWanted(Number(this.slider.value)), share = this.before ? Math.round((100 * this.left) / this.before) : 100;
+    by("thinWanted").textContent = wanted;
+    this.slider.setAttribute("aria-valuetext", wanted);
+    by("thinLeft").textContent = TEXT.thinLeft(this.left, this.before, share);
+    by("thinBusy").hidden = !this.isBusy;
   }
 
-  /** Thins to the share that is wanted now, until the slider stays. */
-  async follow() {
+  /** Thins to the share that is wanted. */
+  follow() {
     if (this.isBusy) return;
     this.isBusy = true;
-    element("thinBusy").hidden = false;
-    try {
-      for (let done = NaN; done !== this.wanted;) {
-        done = this.wanted;
-        if (this.isShown && !(await this.editor.undo())) break;
-        this.isShown = done < 1 && (await this.thin(done));
-        this.tell();
+    this.tell();
+    this.turn = this.toWanted().catch(fault => this.editor.fail(fault)).finally(() => { this.isBusy = false; this.tell(); });
+  }
+
+  /** Makes steps, or takes some back, until the map is as the slider wants it, which may move meanwhile. */
+  async toWanted() {
+    const run = /** @type {import("./editor.js").Run} */ (this.run), [x0, y0, x1, y1] = this.editor.model.extent();
+    const all = [...bounds()].filter(bound => Number(bound) <= (x1 - x0) * (y1 - y0));
+    while (!this.editor.isClosed) {
+      const made = this.steps.length, target = Math.min(this.target(), all.length);
+      if (target > made) await this.step(run, all[made]);
+      else if (target < made) await this.shorten(run, target);
+      else {
+        await this.editor.showRun(run);
+        if (Math.min(this.target(), all.length) === target) return;
       }
-    } finally {
-      this.isBusy = false;
-      element("thinBusy").hidden = true;
-      this.editor.changed();
+      this.tell();
     }
   }
 
+  /** How many steps are wanted: one more, where those that are made leave too many vertices. */
+  target() {
+    if (this.wanted === 1) return 0;
+    const enough = this.steps.findIndex(step => step.left <= this.wanted * this.before);
+    return enough < 0 ? this.steps.length + 1 : enough + 1;
+  }
+
   /**
-   * True where the map was thinned.
-   * @param {number} wanted
+   * @param {import("./editor.js").Run} run
+   * @param {bigint} bound
    */
-  async thin(wanted) {
-    const [x0, y0, x1, y1] = this.editor.model.extent(), most = (x1 - x0) * (y1 - y0);
-    let left = this.before;
-    await this.editor.perform(async send => {
-      for (const bound of bounds()) {
-        if (left <= wanted * this.before || Number(bound) > 2 * most) break;
-        const [answer] = await send(`thin ${bound}`);
-        left -= Number(answer.split(" ")[1]);
-      }
-    });
-    return left < this.before;
+  async step(run, bound) {
+    const [answer] = await this.editor.extend(run, `thin ${bound}`);
+    this.steps.push({ isChange: isChange(answer), left: this.left - Number(answer.split(" ")[1]) });
+  }
+
+  /**
+   * Takes the newest steps back, until so many are left.
+   * @param {import("./editor.js").Run} run
+   * @param {number} count
+   */
+  async shorten(run, count) {
+    await this.editor.shorten(run, this.steps.slice(count).filter(step => step.isChange).length);
+    this.steps.length = count;
   }
 
   async keep() {
-    await this.rest();
-    if (this.isShown) this.panel.said(TEXT.thinKept(this.editor.vertices, this.before));
+    await this.turn;
+    if (this.run) this.editor.keepRun(this.run);
+    if (this.steps.length) this.panel.said(TEXT.thinKept(this.left, this.before));
     this.close();
   }
 
   async discard() {
-    await this.rest();
-    if (this.isShown) await this.editor.undo();
+    this.wanted = 1;
+    this.follow();
+    await this.turn;
     this.close();
-  }
-
-  /** Waits for what is under way. */
-  async rest() {
-    while (this.isBusy) await new Promise(done => setTimeout(done, 20));
   }
 
   close() {
     this.box.hidden = true;
     this.editor.isLocked = false;
     this.editor.changed();
-    element("map").focus();
+    by("map").focus();
   }
 }
-
-/** @param {string} id */
-const element = id => /** @type {HTMLElement} */ (document.getElementById(id));

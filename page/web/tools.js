@@ -25,6 +25,8 @@ import { TEXT } from "./words.js";
 
 /** pixels within which a vertex and a border are taken, and from which on a press is a drag */
 const NEAR_VERTEX = 9, NEAR_BORDER = 7, DRAG = 4;
+/** milliseconds within which two clicks may be a double click */
+const DOUBLE = 600;
 
 export class Tools {
   /**
@@ -300,7 +302,8 @@ export class Tools {
 
   /** @param {MouseEvent} e */
   async twice(e) {
-    if (this.sketch.kind) return;
+    // not where the first of the two clicks ended a line
+    if (this.sketch.kind || performance.now() - this.sketch.endedAt < DOUBLE) return;
     this.pointAt(e);
     this.look();
     await this.insertHere();
