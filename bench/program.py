@@ -40,8 +40,8 @@ HELP = (TOP / "crates/edit_program/src/help.rt").read_text()
 SHARED = (TOP / "crates/program_ends/src/lib.rt").read_text()
 VERSION = "border_edit " + re.search('VERSION: &str = "(.*)"', SHARED).group(1) + "\n"
 
-# What stands on standard error, or standard output, where its text is not fixed: something, or one line.
-SOME, A_LINE = object(), object()
+# What stands on standard error, or standard output, where its text is not fixed: something.
+SOME = object()
 
 FIELDS = "what words status answers said file output memory given listed terminal unseeded"
 Row = collections.namedtuple("Row", FIELDS, defaults=(None,) * 6)
@@ -144,29 +144,29 @@ def strict_ends(words):
         return words("squares.json", script, out, "--strict", *more)
 
     moved, refused = "ok\n240\n", "refused no vertex\n200\n"
-    for script, answers, status in (
-        ("cut.txt", moved, 0), ("cut_refused.txt", "ok\nrefused no vertex\n", 1),
-        ("cut_comment.txt", "ok\n", 0), ("cut_return.txt", "ok\nbad line\n", 1),
+    one, cut = "not saved: 1 line was refused\n", "not saved: the last line of the script has no line feed\n"
+    for script, answers, status, said in (
+        ("cut.txt", moved, 0, cut), ("cut_refused.txt", "ok\nrefused no vertex\n", 1, one),
+        ("cut_comment.txt", "ok\n", 0, cut), ("cut_return.txt", "ok\nbad line\n", 1, one),
+        ("refused.txt", refused, 1, one), ("bad.txt", "bad line\n", 1, one),
     ):
-        yield Row(f"loose, {script}", words("squares.json", script), status, answers, "", SAVED)
-        yield Row(f"strict, {script}", strict(script), 1, answers, A_LINE, KEPT)
-        yield Row(f"strict, piped {script}", strict("-"), 1, answers, A_LINE, KEPT, given=script)
+        yield Row(f"not strict, {script}", words("squares.json", script), status, answers, "", SAVED)
+        yield Row(f"strict, {script}", strict(script), 1, answers, said, KEPT)
+        yield Row(f"strict, piped {script}", strict("-"), 1, answers, said, KEPT, given=script)
+        yield Row(f"strict, {script}, no FILE", strict(script, out="."), 1, answers, said, KEPT)
+        yield Row(f"strict, {script}, with progress", strict(script, "--progress"), 1, answers, said, KEPT)
     for script, answers in ("accepted.txt", moved), ("empty.txt", ""):
         yield Row(f"strict, {script}", strict(script), 0, answers, "", SAVED)
         yield Row(f"strict, piped {script}", strict("-"), 0, answers, "", SAVED, given=script)
         yield Row(f"strict, {script}, no FILE", strict(script, out="."), 3, answers, "save fault\n", KEPT)
-    for script, answers in ("refused.txt", refused), ("bad.txt", "bad line\n"):
-        yield Row(f"strict, {script}", strict(script), 1, answers, A_LINE, KEPT)
-        yield Row(f"strict, piped {script}", strict("-"), 1, answers, A_LINE, KEPT, given=script)
-        yield Row(f"strict, {script}, no FILE", strict(script, out="."), 1, answers, A_LINE, KEPT)
     yield Row("strict, not opened", ["cut.json", *strict("refused.txt")[1:]], 2, "", "open: not json at 1\n", KEPT)
     yield Row("strict, no script", strict("none.txt"), 3, "", "script fault\n", KEPT)
     yield Row("strict, full output", strict("refused.txt"), 3, None, "write fault\n", KEPT, output="/dev/full")
     listing = "--refused", "list.txt"
-    yield Row("strict, listed", strict("mixed.txt", *listing), 1, SOME, A_LINE, KEPT, listed=LISTED)
+    many = "not saved: 3 lines were refused\n"
+    yield Row("strict, listed", strict("mixed.txt", *listing), 1, SOME, many, KEPT, listed=LISTED)
     yield Row("strict, nothing to list", strict("accepted.txt", *listing), 0, moved, "", SAVED, listed="")
     yield Row("strict, no list", strict("refused.txt", "--refused", "."), 3, refused, "refused fault\n", KEPT)
-    yield Row("strict, with progress", strict("refused.txt", "--progress"), 1, refused, A_LINE, KEPT)
 
 
 def compiler():
@@ -190,8 +190,6 @@ def put_files(folder):
 
 
 def differs(wanted, text):
-    if wanted is A_LINE:
-        return not re.fullmatch(r"[^\n]+\n", text)
     return not text if wanted is SOME else wanted is not None and text != wanted
 
 
