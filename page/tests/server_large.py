@@ -42,7 +42,7 @@ def larger(checks):
         with open(path, "wb") as file:
             file.truncate(1 << 40)
         with Served(path, "--out", files / "out.json") as page:
-            checks.same("told", page.begin()["fault"], "too large bytes")
+            checks.same("the fault", page.begin()["fault"], "too large bytes")
 
 
 GROUPS = [as_large_as_may_be, larger]
