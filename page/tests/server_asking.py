@@ -210,7 +210,8 @@ def constant_time(checks):
 
 # Texts that would be something else in a page, or in a header.
 HOSTILE = ['"</script><script>alert(1)</script>"', '"<img src=x onerror=alert(1)>"', '"\\u2028\\u2029\u2028"',
-           '"\\u0000"', '"\\r\\nSet-Cookie: a=b"', '"\\nfeatures 9 vertices 9 segments 9"', '"\U0001d11e\u202e"', '"\\ud800"']
+           '"\\u0000"', '"\\r\\nSet-Cookie: a=b"', '"\\nfeatures 9 vertices 9 segments 9"',
+           '"\U0001d11e\u202e"', '"\\ud800"']
 KEPT = ['{"a":"</style>","<b>":[1,{"__proto__":null}]}',
         '{\n"features 1 vertices 4 segments 4":\n"features 2 vertices 4 segments 4"\n,\n"x":\nfalse}',
         '{"constructor":{"toString":1},"10":1,"2":2}', '{ "deep" : [[[[[[1e400]]]]]] }']
