@@ -48,8 +48,8 @@ class Child:
     def __init__(self, program, map_path):
         command = [program, map_path, "-", "--out", f"{map_path}.end", "--undo", str(DEPTH)]
         # in a session of its own, so that Ctrl+C in the terminal does not reach it before the log is kept
-        self.process = subprocess.Popen(command, stdin=subprocess.PIPE, stdout=subprocess.PIPE, stderr=subprocess.PIPE,
-                                        bufsize=BUFFER, env=environment(), start_new_session=True)
+        pipes = {name: subprocess.PIPE for name in ("stdin", "stdout", "stderr")}
+        self.process = subprocess.Popen(command, **pipes, bufsize=BUFFER, env=environment(), start_new_session=True)
         with contextlib.suppress(OSError):
             fcntl.fcntl(self.process.stdout, SET_PIPE_SIZE, BUFFER)
         # status and text of its end, once it has ended by itself
@@ -58,8 +58,8 @@ class Child:
     def ask(self, lines):
         """The answers to lines that have an answer of one line each.
 
-        border_edit sends its answers on before it reads more of the script. While it waits until its answers are read,
-        it reads no lines; so no more lines are sent than the pipe holds until theirs are read.
+        border_edit sends its answers on before it reads more of the script. While it waits until its answers are
+        read, it reads no lines; so no more lines are sent than the pipe holds until theirs are read.
         """
         answers = []
         for batch in batches(line.encode() + b"\n" for line in lines):
@@ -70,8 +70,8 @@ class Child:
     def document(self):
         """The text of the map.
 
-        It may have line feeds, which stand between tokens of JSON. No token begins with `features`, so the first line that
-        does is the answer to the question behind it.
+        It may have line feeds, which stand between tokens of JSON. No token begins with `features`, so the first line
+        that does is the answer to the question behind it.
         """
         self._send(b"document\ncount\n")
         text, last = bytearray(), 0
@@ -89,6 +89,7 @@ class Child:
                 pipe.close()
 
     def _send(self, text):
+        """Gives the program lines of its script."""
         if self.ended:
             raise Ended(*self.ended)
         try:
@@ -98,12 +99,14 @@ class Child:
             raise self._end_told() from None
 
     def _line(self):
+        """The next line of its answers, without its line feed."""
         row = self.process.stdout.readline()
         if not row.endswith(b"\n"):
             raise self._end_told()
         return row[:-1]
 
     def _piece(self):
+        """What there is of its answers; it waits for some."""
         piece = self.process.stdout.read1(BUFFER)
         if not piece:
             raise self._end_told()

@@ -1,4 +1,4 @@
-"""The three programs, each of which is found when it is needed first: one that is not proved takes minutes to build."""
+"""The three programs. Each is found when it is needed first, since one that is not proved takes minutes to build."""
 import programs
 
 

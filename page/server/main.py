@@ -51,7 +51,8 @@ def port(word):
 
 def options():
     """What the user asks for."""
-    parser = Parser(prog="edit", description=TEXT, formatter_class=argparse.RawDescriptionHelpFormatter, allow_abbrev=False)
+    parser = Parser(prog="edit", description=TEXT, allow_abbrev=False,
+                    formatter_class=argparse.RawDescriptionHelpFormatter)
     add = parser.add_argument
     add("map", metavar="MAP", type=pathlib.Path, help="a map as TopoJSON, such as examples/columbus.json")
     add("--out", metavar="FILE", type=pathlib.Path, help="the file that Save writes; MAP if it is not given")
@@ -90,8 +91,8 @@ def begun(given):
 
 
 def leading_file(address):
-    """A file that only the user may read, and that leads on to the page. The browser gets its name as an argument, which
-    all users of the machine can see. Nothing if the home folder can't hold it."""
+    """A file that only the user may read, and that leads on to the page. The browser gets its name as an argument,
+    which all users of the machine can see. Nothing if the home folder can't hold it."""
     text = ('<!doctype html><meta charset="utf-8">'
             f'<meta http-equiv="refresh" content="0;url={address}"><a href="{address}">the map</a>\n')
     try:
@@ -104,13 +105,19 @@ def leading_file(address):
     return pathlib.Path(path)
 
 
+def remove(path):
+    """Removes a file, if it is there."""
+    with contextlib.suppress(OSError):
+        path.unlink()
+
+
 def open_browser(server, leave):
     """Opens the page. `leave` has what is done at the end at the latest."""
     leading = leading_file(server.address)
     if leading is None:
         return
-    leave.callback(leading.unlink, missing_ok=True)
-    server.on_first_page = lambda: leading.unlink(missing_ok=True)
+    leave.callback(remove, leading)
+    server.on_first_page = lambda: remove(leading)
     # some browsers return only when they are closed
     threading.Thread(target=webbrowser.open, args=[leading.as_uri()], daemon=True).start()
 

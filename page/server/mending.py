@@ -6,7 +6,8 @@ from child import environment
 
 def run(program, *arguments):
     """A program that has run to its end; its status, standard output, and what it left on standard error."""
-    done = subprocess.run([program, *map(str, arguments)], stdin=subprocess.DEVNULL, capture_output=True, env=environment())
+    command = [program, *map(str, arguments)]
+    done = subprocess.run(command, stdin=subprocess.DEVNULL, capture_output=True, env=environment())
     return done.returncode, done.stdout, done.stderr.decode(errors="replace").strip()
 
 

@@ -10,7 +10,8 @@ import tempfile
 PIECE = 1 << 20
 # What fsync of a folder answers where a file system does not have it.
 NO_SYNC = (errno.EINVAL, errno.ENOTSUP)
-# What no file that is made anew lets others do. It can only be read by setting it, so this is done before there are threads.
+# What no file that is made anew lets others do. It can only be read by setting it, which is done before there are
+# threads.
 UMASK = os.umask(0o077)
 os.umask(UMASK)
 
@@ -75,7 +76,7 @@ def sync_folder(folder):
 
 
 def replace(path, rows, rights=None):
-    """Writes a file whole: a new file beside it, sent to the disk, is put in its place. After a fault the file is as it was.
+    """Writes a file whole: a new file beside it, sent to the disk, takes its place. After a fault it is as it was.
 
     `rights` is the file whose mode the new one gets, if it is another one.
     """

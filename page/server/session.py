@@ -31,7 +31,7 @@ class Refusal(Exception):
 
 
 class Lost(Exception):
-    """border_edit has not the map that the log says; nothing is edited or saved any more."""
+    """border_edit does not have the map of the log; nothing is edited or saved any more."""
 
 
 def is_accepted(answer):
@@ -117,10 +117,15 @@ class Session:
 
     def begin(self):
         """What a page needs to know at first."""
-        known = {"name": self.name, "out": self.file, "proved": self.programs.are_proved, "opens": self.child is not None}
+        known = {"name": self.name, "out": self.file, "proved": self.programs.are_proved}
         if self.child is None:
-            return {**known, "fault": self.fault, "findings": self.findings, "mendable": self.is_mendable}
-        return {**known, "log": self.log, "counts": self.counts, "unsaved": self.is_unsaved, "undos": self.undos}
+            stops = {"fault": self.fault, "findings": self.findings, "mendable": self.is_mendable}
+            return {**known, "opens": False, **stops}
+        return {**known, "opens": True, "log": self.log, "counts": self.counts, **self._state()}
+
+    def _state(self):
+        """What changes with each edit."""
+        return {"undos": self.undos, "unsaved": self.is_unsaved}
 
     def ask(self, lines):
         """The answers to questions."""
@@ -200,6 +205,7 @@ class Session:
         return self._with_child(lambda: self._attempt(line))
 
     def _attempt(self, line):
+        """The answer to an edit, which is taken back if it was accepted."""
         answer, = self.child.ask([line])
         if is_accepted(answer):
             self._undo(1)
@@ -216,13 +222,13 @@ class Session:
 
     def _logged(self, entries, answers, accepted):
         self.log += entries
-        return {"answers": answers, "accepted": accepted, "entries": entries, "undos": self.undos, "unsaved": self.is_unsaved}
+        return {"answers": answers, "accepted": accepted, "entries": entries, **self._state()}
 
     # ---- after border_edit has ended
 
     def _with_child(self, does):
-        """What a call answers that talks with border_edit. Where the program ends meanwhile, the log is run again by a new
-        one, and then the call is made once more: nothing that it did is in the log yet."""
+        """What a call answers that talks with border_edit. If the program ends meanwhile, a new one runs the log
+        again, and the call is made once more: nothing that it did is in the log yet."""
         self._must_be_open()
         try:
             return does()
@@ -231,17 +237,19 @@ class Session:
             return does()
 
     def _must_be_open(self):
+        """Refuses what can't be done without a map that opens."""
         if self.lost:
             raise Lost(self.lost)
         if self.child is None:
             raise Refusal("the map does not open")
 
     def _run_again(self):
+        """Starts border_edit again, with the edits of the log."""
         self.child.end()
         self.child = Child(self.programs.path("border_edit"), self.base)
         done = [entry for entry in self.log if is_accepted(entry["answer"])]
         if self.child.ask([entry["line"] for entry in done]) != [entry["answer"] for entry in done]:
-            raise self._lose("border_edit ended, and its answers to the same edits were other ones when it was started again")
+            raise self._lose("border_edit ended, and when it was started again its answers were other ones")
 
     def _lose(self, reason):
         self.lost = reason
@@ -272,7 +280,7 @@ class Session:
         if now != self.seen and not force:
             raise Refusal(f"{self.file} was changed by another program since it was opened or saved here", True)
         if size > MOST_BYTES and not force:
-            raise Refusal(f"the map has {size:,} bytes, and a file of more than {MOST_BYTES:,} can't be opened again", True)
+            raise Refusal(f"the map has {size:,} bytes; of more than {MOST_BYTES:,} it can't be opened again", True)
         return now
 
     def mend(self, digits):
@@ -290,7 +298,7 @@ class Session:
     # ---- the end
 
     def leave_script(self):
-        """Where edits are not saved, the log is left as a script, in the folder of FILE if that is possible. Its path."""
+        """Leaves the log as a script, in the folder of FILE if that is possible. Its path."""
         name = os.fsdecode(os.fsencode(self.out.name)[:200]) + time.strftime(".unsaved-%Y%m%d-%H%M%S.txt")
         for folder in (self.out.parent, os.path.expanduser("~"), tempfile.gettempdir()):
             left = pathlib.Path(folder, name)

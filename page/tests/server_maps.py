@@ -11,7 +11,8 @@ def of_rings(*rings):
     """A map with a feature for each ring."""
     shapes = [{"type": "Polygon", "id": str(number), "arcs": [[number]]} for number in range(len(rings))]
     arcs = [[*ring, ring[0]] for ring in rings]
-    topology = {"type": "Topology", "objects": {"land": {"type": "GeometryCollection", "geometries": shapes}}, "arcs": arcs}
+    topology = {"type": "Topology", "objects": {"land": {"type": "GeometryCollection", "geometries": shapes}},
+                "arcs": arcs}
     return json.dumps(topology, separators=(",", ":"))
 
 
@@ -21,10 +22,11 @@ def square(least, most):
 
 
 def of_squares(texts):
-    """A map of squares apart from each other, with these texts of ids and properties. It is written as it is saved, so that
-    after opening it is its own text."""
+    """A map of squares apart from each other, with these texts of ids and properties. It is written as it is saved, so
+    that after opening it is its own text."""
     shapes = ",".join(f'{{"type":"Polygon","id":{identity},"properties":{properties},"arcs":[[{number}]]}}'
                       for number, (identity, properties) in enumerate(texts))
     arcs = [[*square(20 * number, 20 * number + 10), [20 * number, 20 * number]] for number in range(len(texts))]
-    return ('{"type":"Topology","objects":{"land":{"type":"GeometryCollection","geometries":[' + shapes + ']}},"arcs":'
-            + json.dumps(arcs, separators=(",", ":")) + "}")
+    arcs = json.dumps(arcs, separators=(",", ":"))
+    land = '{"type":"GeometryCollection","geometries":[' + shapes + "]}"
+    return '{"type":"Topology","objects":{"land":' + land + '},"arcs":' + arcs + "}"

@@ -40,19 +40,20 @@ def folder():
         yield pathlib.Path(name).resolve()
 
 
-def run(name, *words):
+def run(name, *arguments):
     """One of the programs, run to its end."""
-    return subprocess.run([PATHS[name], *map(str, words)], capture_output=True)
+    return subprocess.run([PATHS[name], *map(str, arguments)], capture_output=True)
 
 
 class Served:
     """A running ./edit, with its files in a folder."""
 
-    def __init__(self, map_path, *words, **more):
-        command = [EDIT, map_path, *map(str, words)]
+    def __init__(self, map_path, *arguments, **more):
+        command = [EDIT, map_path, *map(str, arguments)]
         if not more.pop("opens_browser", False):
             command.append("--no-open")
-        self.process = subprocess.Popen(command, stdout=subprocess.PIPE, stderr=subprocess.PIPE, env=environment(**more))
+        self.process = subprocess.Popen(command, stdout=subprocess.PIPE, stderr=subprocess.PIPE,
+                                        env=environment(**more))
         self.owner = 0
         if not select.select([self.process.stdout], [], [], PATIENCE)[0]:
             self.process.kill()
@@ -72,7 +73,8 @@ class Served:
 
     def ask(self, method, path, body=None, **headers):
         """A request as it is given: status, text, and the answer itself. A header that is None is left out."""
-        given = {"Host": f"127.0.0.1:{self.port}", **{name.replace("_", "-"): value for name, value in headers.items()}}
+        given = {"Host": f"127.0.0.1:{self.port}", **{name.replace("_", "-"): value for name,
+                                                      value in headers.items()}}
         if body is not None:
             given.setdefault("Content-Type", "application/json")
             given.setdefault("Content-Length", str(len(body)))

@@ -39,11 +39,14 @@ def over_the_map(checks):
             status, said = page.post("save")
             checks.same("saved", (status, said), (200, {"bytes": len(SQUARES), "file": str(path)}))
             checks.same("what it holds", path.read_text(), SQUARES.replace('"A"', '"x"'))
-            checks.same("beside it", (others(path), (files / "map.json.orig").read_text()), (["map.json.orig"], SQUARES))
-            checks.same("modes", [oct(each.stat().st_mode & 0o777) for each in (path, files / "map.json.orig")], ["0o640", "0o640"])
+            checks.same("beside it", (others(path), (files / "map.json.orig").read_text()),
+                        (["map.json.orig"], SQUARES))
+            checks.same("modes", [oct(each.stat().st_mode & 0o777) for each in (path, files / "map.json.orig")],
+                        ["0o640", "0o640"])
             page.edit('rename 0 "y"')
             checks.same("saved again", page.post("save")[0], 200)
-            checks.same("the first one stays", (ids(path), (files / "map.json.orig").read_text()), (["y", "B"], SQUARES))
+            checks.same("the first one stays", (ids(path), (files / "map.json.orig").read_text()),
+                        (["y", "B"], SQUARES))
             page.edit("undo", "undo")
             page.post("save")
             checks.same("all undone", path.read_text(), SQUARES)
@@ -51,7 +54,8 @@ def over_the_map(checks):
             page.begin()
             page.edit('rename 1 "z"')
             page.post("save")
-            checks.same("of a second session too", (ids(path), (files / "map.json.orig").read_text()), (["A", "z"], SQUARES))
+            checks.same("of a second session too", (ids(path), (files / "map.json.orig").read_text()),
+                        (["A", "z"], SQUARES))
 
 
 def another_file(checks):
@@ -64,7 +68,8 @@ def another_file(checks):
             page.begin()
             for identity in ("x", "y"):
                 page.edit(f'rename 0 "{identity}"')
-                checks.same(f"saved {identity}", (page.post("save")[0], ids(out), others(out)), (200, [identity, "B"], []))
+                checks.same(f"saved {identity}", (page.post("save")[0], ids(out), others(out)),
+                            (200, [identity, "B"], []))
             checks.same("its mode", oct(out.stat().st_mode & 0o777), oct(0o666 & ~saving.UMASK))
             checks.same("MAP is as it was", (files / "map.json").read_text(), SQUARES)
         out.write_text("before")
@@ -73,7 +78,8 @@ def another_file(checks):
             checks.same("the file behind a link", page.begin()["out"], str(out))
             page.edit('rename 0 "x"')
             page.post("save")
-            checks.same("is written", ((files / "link.json").is_symlink(), ids(out), (files / "out/new.json.orig").read_text()),
+            checks.same("is written", ((files / "link.json").is_symlink(), ids(out),
+                                       (files / "out/new.json.orig").read_text()),
                         (True, ["x", "B"], "before"))
 
 
@@ -89,7 +95,8 @@ def changed_by_others(checks):
                 page.edit('rename 0 "x"')
                 change()
                 status, said = page.post("save")
-                checks.same(f"{name} before the first save", (status, said["force"], path.exists() and path.read_text()),
+                checks.same(f"{name} before the first save",
+                            (status, said["force"], path.exists() and path.read_text()),
                             (409, True, NEWER if name == "written" else False))
                 checks.same("with force", (page.post("save", force=True)[0], ids(path)), (200, ["x", "B"]))
                 checks.same("what it held is kept", others(path), ["map.json.orig"] if name == "written" else [])
@@ -121,7 +128,7 @@ def too_large(checks):
 
 
 def no_folder(checks):
-    """The folder of FILE is gone, or FILE is a folder: that is told, and work goes on."""
+    """The folder of FILE is gone, or FILE is a folder: saving is refused, and work goes on."""
     with folder() as files:
         (files / "map.json").write_text(SQUARES)
         (files / "out").mkdir()
@@ -133,13 +140,15 @@ def no_folder(checks):
             page.edit('rename 0 "y"')
             (files / "out").rename(files / "gone")
             status, said = page.post("save", force=True)
-            checks.same("no folder", (status, said), (409, {"reason": f"there is no folder {out.parent}", "force": False}))
+            checks.same("no folder", (status, said), (409,
+                                                      {"reason": f"there is no folder {out.parent}", "force": False}))
             checks.same("unsaved", page.begin()["unsaved"], True)
             (files / "gone").rename(files / "out")
             checks.same("FILE is as it was", ids(out), ["x", "B"])
             out.unlink()
             out.mkdir()
-            checks.same("a folder", page.post("save", force=True), (409, {"reason": f"{out} is no file", "force": False}))
+            checks.same("a folder", page.post("save", force=True),
+                        (409, {"reason": f"{out} is no file", "force": False}))
             out.rmdir()
             checks.same("then saved", (page.post("save", force=True)[0], ids(out)), (200, ["y", "B"]))
 
@@ -148,7 +157,8 @@ def no_folder(checks):
 def small_disk(path):
     """A disk of 64 KiB; false where the system lets us mount none."""
     path.mkdir()
-    mounted = subprocess.run(["mount", "-t", "tmpfs", "-o", "size=64k", "tmpfs", path], capture_output=True).returncode == 0
+    mounted = subprocess.run(["mount", "-t", "tmpfs", "-o", "size=64k", "tmpfs", path],
+                             capture_output=True).returncode == 0
     try:
         yield mounted
     finally:
@@ -157,7 +167,7 @@ def small_disk(path):
 
 
 def full_disk(checks):
-    """The disk of FILE is full: that is told, FILE is as it was, and work goes on."""
+    """The disk of FILE is full: saving is refused, FILE is as it was, and work goes on."""
     big = of_squares([('"A"', '"' + "x" * 30_000 + '"')])
     with folder() as files, small_disk(files / "disk") as is_mounted:
         path, kept = files / "disk/map.json", files / "disk/map.json.orig"
@@ -173,7 +183,8 @@ def full_disk(checks):
                     kept.write_text(big)
                 for force in (False, True):
                     status, said = page.post("save", force=force)
-                    checks.same(f"no room for {name}", (status, said), (409, {"reason": f"{path} can't be written: {reason}", "force": False}))
+                    checks.same(f"no room for {name}", (status, said),
+                                (409, {"reason": f"{path} can't be written: {reason}", "force": False}))
                     checks.same("FILE is as it was", path.read_text(), big)
                     checks.same("nothing is left beside it", sorted(set(others(path)) - {"full", kept.name}), [])
             checks.same("FILE.orig is there, whole", kept.read_text(), big)
@@ -181,7 +192,8 @@ def full_disk(checks):
             if is_mounted:
                 subprocess.run(["mount", "-o", "remount,size=256k", files / "disk"], check=True)
             else:
-                resource.prlimit(page.process.pid, resource.RLIMIT_FSIZE, (resource.RLIM_INFINITY, resource.RLIM_INFINITY))
+                resource.prlimit(page.process.pid, resource.RLIMIT_FSIZE,
+                                 (resource.RLIM_INFINITY, resource.RLIM_INFINITY))
             checks.same("then saved", (page.post("save")[0], ids(path), kept.read_text()), (200, ["z"], big))
 
 
@@ -200,7 +212,8 @@ def in_order(checks):
         path, done = files / "out.json", []
         path.write_text("before")
         tell = lambda name: lambda handle, *_: done.append((name, path.read_text()))
-        with mock.patch("os.fsync", side_effect=tell("fsync")), mock.patch("os.replace", wraps=os.replace, side_effect=None) as replaced:
+        with mock.patch("os.fsync", side_effect=tell("fsync")), mock.patch("os.replace", wraps=os.replace,
+                                                                           side_effect=None) as replaced:
             saving.replace(path, [b"af", b"ter"])
             done.append(("replaced", path.read_text(), replaced.call_count))
             saving.sync_folder(files)

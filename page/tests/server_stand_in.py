@@ -1,8 +1,8 @@
 #!/usr/bin/env python3
 """border_edit, but for what the file CUES says: a test makes it end, or answer wrongly, at a line of its choice.
 
-Each line of CUES is COUNT<TAB>WHAT<TAB>LINE: for COUNT times at LINE the program ends before it answers, where WHAT is `end`,
-or its answer is WHAT. The program itself, in REAL_BORDER_EDIT, answers all else.
+Each line of CUES is COUNT<TAB>WHAT<TAB>LINE. For COUNT times at LINE the program ends before it answers, if WHAT is
+`end`, or its answer is WHAT. The program itself, in REAL_BORDER_EDIT, answers all other lines.
 """
 import os
 import pathlib

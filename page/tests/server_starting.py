@@ -1,4 +1,4 @@
-"""The words of ./edit, what it says of files, and how the browser finds the page."""
+"""The arguments of ./edit, what it says of files, and how the browser finds the page."""
 import concurrent.futures
 import os
 import pathlib
@@ -11,13 +11,17 @@ import subprocess
 from server_maps import SQUARES
 from server_runs import EDIT, PATIENCE, Served, environment, folder, until
 
-# Words, the status, and the last line on standard error. {here} is the folder, {port} a port that is taken.
+# Arguments, the status, and the last line on standard error. {here} is the folder, {port} a port that is taken.
 ENDS = [
     ([], 64, "edit: the following arguments are required: MAP"),
-    (["map.json", "--port", "x"], 64, "edit: argument --port: a port is from 1024 to 65535, or 0 for any that is free"),
-    (["map.json", "--port", "80"], 64, "edit: argument --port: a port is from 1024 to 65535, or 0 for any that is free"),
-    (["map.json", "--port", "65536"], 64, "edit: argument --port: a port is from 1024 to 65535, or 0 for any that is free"),
-    (["map.json", "--port", "-1"], 64, "edit: argument --port: a port is from 1024 to 65535, or 0 for any that is free"),
+    (["map.json", "--port", "x"], 64,
+     "edit: argument --port: a port is from 1024 to 65535, or 0 for any that is free"),
+    (["map.json", "--port", "80"], 64,
+     "edit: argument --port: a port is from 1024 to 65535, or 0 for any that is free"),
+    (["map.json", "--port", "65536"], 64,
+     "edit: argument --port: a port is from 1024 to 65535, or 0 for any that is free"),
+    (["map.json", "--port", "-1"], 64,
+     "edit: argument --port: a port is from 1024 to 65535, or 0 for any that is free"),
     (["map.json", "--port"], 64, "edit: argument --port: expected one argument"),
     (["map.json", "--out"], 64, "edit: argument --out: expected one argument"),
     (["map.json", "--no"], 64, "edit: unrecognized arguments: --no"),
@@ -37,35 +41,37 @@ ENDS = [
 ]
 BROWSER = """#!/bin/sh
 # what a browser is given, what its file is, and who may read it
-printf '%s\\n' "$*" > "$0.words"
+printf '%s\\n' "$*" > "$0.arguments"
 cp "${1#file://}" "$0.page"
 stat -c '%a' "${1#file://}" > "$0.mode"
 """
 
 
 def ends(checks):
-    """Words and files that do not do: one line says why, and the status is that of the programs."""
+    """Arguments and files that do not do: one line says why, and the status is that of the programs."""
     with folder() as files, socket.create_server(("127.0.0.1", 0)) as taken:
         (files / "map.json").write_text(SQUARES)
         (files / "loop.json").symlink_to("loop.json")
         (files / "tmp").mkdir()
         fill = {"here": files, "port": taken.getsockname()[1]}
         with concurrent.futures.ThreadPoolExecutor(4) as at_once:
-            done = list(at_once.map(lambda row: run_edit(files, *[word.format(**fill) for word in row[0]], TMPDIR=files / "tmp"), ENDS))
-        for (words, status, line), end in zip(ENDS, done):
+            done = list(at_once.map(lambda row: run_edit(files, *[word.format(**fill) for word in row[0]],
+                                                         TMPDIR=files / "tmp"), ENDS))
+        for (arguments, status, line), end in zip(ENDS, done):
             said = end.stderr.decode().splitlines()
-            checks.same(f"edit {words}", (end.returncode, end.stdout, said[-1:]), (status, b"", [line.format(**fill)]))
+            checks.same(f"edit {arguments}", (end.returncode, end.stdout, said[-1:]),
+                        (status, b"", [line.format(**fill)]))
             checks.same("one line, but for the usage", len(said) == 1, status == 3)
         checks.same("nothing is left", list((files / "tmp").iterdir()), [])
 
 
-def run_edit(files, *words, **more):
+def run_edit(files, *arguments, **more):
     """./edit in a folder, run to its end."""
-    return subprocess.run([EDIT, *words], cwd=files, env=environment(**more), capture_output=True, timeout=PATIENCE)
+    return subprocess.run([EDIT, *arguments], cwd=files, env=environment(**more), capture_output=True, timeout=PATIENCE)
 
 
 def programs_fail(checks):
-    """border_edit can't be run, or ends at once for want of memory."""
+    """border_edit can't be run, or ends at once, since memory runs out."""
     with folder() as files:
         (files / "map.json").write_text(SQUARES)
         (files / "starved").write_text("#!/bin/sh\necho 'out of memory' >&2\nexit 3\n")
@@ -79,7 +85,8 @@ def programs_fail(checks):
         for name in ("sh", "dirname"):
             (files / "bin" / name).symlink_to(shutil.which(name))
         done = subprocess.run([EDIT, "map.json"], cwd=files, env={"PATH": str(files / "bin")}, capture_output=True)
-        checks.same("no python3", (done.returncode, done.stderr), (3, b"edit: python3 is not there, which serves the page\n"))
+        checks.same("no python3", (done.returncode, done.stderr),
+                    (3, b"edit: python3 is not there, which serves the page\n"))
 
 
 def help_text(checks):
@@ -91,22 +98,28 @@ def help_text(checks):
 
 
 def browser(checks):
-    """The browser is led to the page by a file that nobody else may read; its words do not have the token."""
+    """The browser is led to the page by a file that nobody else may read; its arguments do not have the token."""
     for name, comes in [("the page comes", True), ("it does not", False)]:
         with folder() as files:
             (files / "home").mkdir()
             (files / "map.json").write_text(SQUARES)
             (files / "browser").write_text(BROWSER)
             (files / "browser").chmod(0o755)
-            with Served(files / "map.json", opens_browser=True, HOME=files / "home", BROWSER=files / "browser") as page:
+            with Served(files / "map.json", opens_browser=True, HOME=files / "home",
+                        BROWSER=files / "browser") as page:
                 token = page.base.strip("/")
-                checks.same("the browser was started", until((files / "browser.mode").exists) and until((files / "browser.mode").read_text), True)
-                words = (files / "browser.words").read_text()
-                checks.same("its words", (words.startswith(f"file://{files}/home/border_edit-"), token in words), (True, False))
-                checks.same("no dot before the name", pathlib.Path(words.strip()).name.startswith("."), False)
+                checks.same("the browser was started",
+                            until((files / "browser.mode").exists) and until((files / "browser.mode").read_text),
+                            True)
+                arguments = (files / "browser.arguments").read_text()
+                checks.same("its arguments",
+                            (arguments.startswith(f"file://{files}/home/border_edit-"), token in arguments),
+                            (True, False))
+                checks.same("no dot before the name", pathlib.Path(arguments.strip()).name.startswith("."), False)
                 checks.same("who may read the file", (files / "browser.mode").read_text(), "600\n")
                 checks.same("it leads on", page.address.geturl() in (files / "browser.page").read_text(), True)
-                checks.same("no process has the token among its words", [words for words in command_lines() if token in words], [])
+                checks.same("no process has the token among its arguments",
+                            [line for line in command_lines() if token in line], [])
                 checks.same("the file is there", len(list((files / "home").iterdir())), 1)
                 if comes:
                     page.begin()
@@ -116,7 +129,7 @@ def browser(checks):
 
 
 def command_lines():
-    """The words of all processes."""
+    """The arguments of all processes."""
     for path in pathlib.Path("/proc").glob("[0-9]*/cmdline"):
         try:
             yield path.read_bytes().replace(b"\0", b" ").decode(errors="replace")
