@@ -109,7 +109,9 @@ class Browser:
         """What a movement takes, with the processor time of each frame."""
         begun = self.processor()
         found = self.ask(kind, *given)
-        return {**found, "busy": (self.processor() - begun) / found["frames"]}
+        busy = (self.processor() - begun) / found["frames"]
+        self.ask("settled")
+        return {**found, "busy": busy}
 
     def errors(self):
         logged = self.driver.get_log("browser")
