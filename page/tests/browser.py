@@ -25,7 +25,7 @@ def start_browser(downloads, size=(1280, 800)):
     """A headless Chromium with a window of this size, that saves files in a folder."""
     options = webdriver.ChromeOptions()
     for word in ("--headless=new", "--no-sandbox", f"--window-size={size[0]},{size[1]}", "--disable-dev-shm-usage", "--hide-scrollbars",
-                 "--no-first-run", "--disable-background-networking", "--disable-component-update", "--no-proxy-server"):
+                 "--disable-gpu", "--no-first-run", "--disable-background-networking", "--disable-component-update", "--no-proxy-server"):
         options.add_argument(word)
     options.set_capability("goog:loggingPrefs", {"browser": "ALL"})
     options.set_capability("unhandledPromptBehavior", "ignore")
