@@ -84,14 +84,16 @@ function vertexLine(rand, kind, at) {
   const k = 2 * rand(at.length / 2), x = at[k], y = at[k + 1], u = at[(k + 2) % at.length], v = at[(k + 3) % at.length];
   const off = s => rand(2 * s + 1) - s, near = Math.max(2, Math.round(Math.hypot(u - x, v - y) / (rand(4) ? 3 : 0.4)));
   if (kind < MOVE) return `move ${x} ${y} ${x + off(near)} ${y + off(near)}`;
-  if (kind < INSERT) return `insert ${x} ${y} ${u} ${v} ${Math.round((x + u) / 2) + off(near >> 2)} ${Math.round((y + v) / 2) + off(near >> 2)}`;
+  const between = [Math.round((x + u) / 2) + off(near >> 2), Math.round((y + v) / 2) + off(near >> 2)];
+  if (kind < INSERT) return `insert ${x} ${y} ${u} ${v} ${between.join(" ")}`;
   return `remove ${x} ${y}`;
 }
 
 function splitLine(rand, num, at) {
   const n = at.length / 2, k = rand(n), j = (k + 2 + rand(Math.max(1, n - 3))) % n;
-  const middle = rand(2) ? ` ${Math.round((at[2 * k] + at[2 * j]) / 2) + rand(7) - 3} ${Math.round((at[2 * k + 1] + at[2 * j + 1]) / 2) + rand(7) - 3}` : "";
-  return `split ${num} "s ${rand(99)}" ${at[2 * k]} ${at[2 * k + 1]}${middle} ${at[2 * j]} ${at[2 * j + 1]}`;
+  const [from, to] = [k, j].map(place => [at[2 * place], at[2 * place + 1]]);
+  const middle = from.map((value, axis) => Math.round((value + to[axis]) / 2) + rand(7) - 3);
+  return `split ${num} "s ${rand(99)}" ${[...from, ...(rand(2) ? middle : []), ...to].join(" ")}`;
 }
 
 /** A cut from the middle of a side to that of another one, as a user draws it. */
@@ -113,7 +115,8 @@ function merges(model, rand, num, kind) {
 /** All that is done to one map. */
 class Run {
   constructor(program, map, { edits, every, seed }) {
-    Object.assign(this, { edits, every, rand: source(seed), child: new Child(program, map), log: [], tally: {}, done: 0, compared: 0 });
+    Object.assign(this, { edits, every, rand: source(seed), child: new Child(program, map) });
+    Object.assign(this, { log: [], tally: {}, done: 0, compared: 0 });
   }
 
   async go() {
@@ -161,7 +164,8 @@ class Run {
   }
 
   async edit(line) {
-    const { model, child } = this, verb = line.split(" ")[0], swept = model.swept(line).vertices, answer = await child.ask(line);
+    const { model, child } = this, [verb, num] = line.split(" "), swept = model.swept(line).vertices;
+    const answer = await child.ask(line);
     this.note(verb, line, answer);
     if (answer === "bad line") throw new Error(`bad line: ${line}`);
     if (/^(move|insert|remove)/.test(line)) this.checkSwept(line, answer, swept.length);
@@ -171,9 +175,9 @@ class Run {
       model.replace(topology, orderAfter(this.first, this.log));
       return answer;
     }
-    const old = verb === "split" ? model.features.get(Number(line.split(" ")[1])) : null, hasHoles = old && old.polygons.some(polygon => polygon.length > 1);
-    if (old && answer !== `ok ${model.next}`) throw new Error(`${line}: ${answer}, and not ok ${model.next}`);
-    model.apply(line, answer, hasHoles ? JSON.parse(await child.ask(`rings ${answer.split(" ")[1]}`)) : null);
+    if (verb === "split" && answer !== `ok ${model.next}`) throw new Error(`${line}: ${answer}, and not ok ${model.next}`);
+    const hasHoles = verb === "split" && model.feature(Number(num)).polygons.some(polygon => polygon.length > 1);
+    model.apply(line, answer, hasHoles ? JSON.parse(await child.ask(`rings ${model.next}`)) : null);
     return answer;
   }
 
@@ -183,14 +187,15 @@ class Run {
    */
   checkSwept(line, answer, count) {
     if (answer === "ok" && count) throw new Error(`${line} is accepted, and passes over ${count}`);
-    if (answer === "refused sweeps" && !count && !line.startsWith("move")) throw new Error(`${line} is refused, and passes over none`);
+    const isMove = line.startsWith("move");
+    if (answer === "refused sweeps" && !count && !isMove) throw new Error(`${line} is refused, and passes over none`);
   }
 
   async compare() {
     const { model, child } = this, { topology, count } = await child.document(), { features, vertices, segments } = model.counts;
+    const counts = `features ${features} vertices ${vertices} segments ${segments}`;
     const fault = model.differs(topology) || (String(orderAfter(this.first, this.log)) !== String(model.order) && "order")
-      || (count !== `features ${features} vertices ${vertices} segments ${segments}` && `counts: ${count}; ${JSON.stringify(model.counts)}`)
-      || await this.differentArea() || this.differentHit(topology);
+      || (count !== counts && `${counts}, and not ${count}`) || await this.differentArea() || this.differentHit(topology);
     if (fault) throw new Error(`${fault}, after ${JSON.stringify(this.log.slice(-4))}`);
     this.compared++;
   }
@@ -199,20 +204,27 @@ class Run {
   async differentArea() {
     const { model, rand, child } = this;
     if (!model.order.length) return null;
-    const num = model.order[rand(model.order.length)], twice = Number(await child.ask(`area ${num}`)), found = 2 * areaOfFeature(model, model.features.get(num)).grid;
+    const num = model.order[rand(model.order.length)], twice = Number(await child.ask(`area ${num}`));
+    const found = 2 * areaOfFeature(model, model.feature(num)).grid;
     return Math.abs(found - twice) <= 1e-9 * Math.abs(twice) ? null : `area of ${num}: ${found}, ${twice}`;
   }
 
-  /** The nearest vertex to a position, and its features, beside all rings of the text. */
-  differentHit(topology) {
-    const { model, rand } = this, plain = new Model(topology, model.order), [x0, y0, x1, y1] = plain.extent();
-    if (x0 > x1) return null;
-    const x = x0 + rand(1000) * (x1 - x0) / 1000, y = y0 + rand(1000) * (y1 - y0) / 1000, reach = (x1 - x0 + y1 - y0) / (2 << rand(6));
+  /** How far the nearest vertex of a layer that is shown is, by a look at all of them. */
+  leastDistance(plain, x, y) {
     let least = Infinity;
-    for (const feature of plain.features.values()) for (const ring of model.isShown(feature.num) ? feature.polygons.flat() : []) {
+    for (const { num, polygons } of plain.features.values()) for (const ring of this.model.isShown(num) ? polygons.flat() : []) {
       const at = plain.positions(ring);
       for (let k = 0; k < at.length; k += 2) least = Math.min(least, Math.hypot(at[k] - x, at[k + 1] - y));
     }
+    return least;
+  }
+
+  /** The nearest vertex to a position, and the features in a box, beside all rings of the text. */
+  differentHit(topology) {
+    const { model, rand } = this, plain = new Model(topology, model.order), [x0, y0, x1, y1] = plain.extent();
+    if (x0 > x1) return null;
+    const x = x0 + rand(1000) * (x1 - x0) / 1000, y = y0 + rand(1000) * (y1 - y0) / 1000;
+    const reach = (x1 - x0 + y1 - y0) / (2 << rand(6)), least = this.leastDistance(plain, x, y);
     const found = model.nearestVertex(x, y, reach, reach), distance = found ? Math.hypot(found[0] - x, found[1] - y) : Infinity;
     if (distance !== (least < reach ? least : Infinity)) return `vertex near ${x} ${y}: ${distance}, ${least}`;
     const seen = new Set(model.featuresIn([x, y, x + reach, y + reach]));

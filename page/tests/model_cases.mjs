@@ -11,9 +11,10 @@ const hole = ring => ring.slice().reverse();
 
 /** A text with one feature of these polygons, each ring an arc of its own. */
 function oneFeature(polygons, transform) {
-  const arcs = [], differences = ring => ring.map(([x, y], i) => !transform || !i ? [x, y] : [x - ring[i - 1][0], y - ring[i - 1][1]]);
-  const indexes = polygons.map(polygon => polygon.map(ring => [arcs.push(differences([...ring, ring[0]])) - 1]));
-  return { type: "Topology", transform, objects: { a: { type: "GeometryCollection", geometries: [{ type: "MultiPolygon", arcs: indexes }] } }, arcs };
+  const arcs = [], from = (ring, i) => transform && i ? ring[i - 1] : [0, 0];
+  const arcOf = ring => ring.map(([x, y], i) => [x - from(ring, i)[0], y - from(ring, i)[1]]);
+  const indexes = polygons.map(polygon => polygon.map(ring => [arcs.push(arcOf([...ring, ring[0]])) - 1]));
+  return { type: "Topology", transform, objects: { a: { type: "MultiPolygon", arcs: indexes } }, arcs };
 }
 
 // 1 degree of a great circle is 111.19508 km, a quarter of one 10,007.557 km, R^2 is 40,589,753 km2. A box has the area
@@ -141,6 +142,7 @@ const SQUARES = { type: "Topology", objects: { land: { type: "GeometryCollection
 arcs: [[[10, 0], [10, 10]], [[10, 10], [0, 10], [0, 0], [10, 0]], [[10, 0], [20, 0], [20, 10], [10, 10]]] };
 const SWEPT = [
   ["move 0 0 1 1", ""], ["move 0 0 15 4", ""], ["move 0 0 25 20", "10 10"], ["insert 10 0 10 10 30 15", "20 10"],
+  ["insert 10 0 10 10 30 10", "20 10"], ["move 0 0 30 0", "10 0, 20 0"], ["move 0 0 5 0", ""],
   ["insert 10 0 10 10 12 5", ""], ["insert 10 0 20 0 15 0", ""], ["remove 20 0", ""], ["remove 20 5", ""],
 ];
 
@@ -152,12 +154,11 @@ const squares = () => new Model(structuredClone(SQUARES));
 
 /** @param {(what: string, found: any, expected: any) => void} check */
 export function checkAll(check) {
-  checkMeasures(check);
-  checkNames(check);
-  checkColours(check);
-  checkLayers(check);
-  checkLines(check);
-  checkChanges(check);
+  for (const cases of [checkMeasures, checkNames, checkColours, checkLayers, checkLines, checkChanges]) {
+    let fault = "";
+    try { cases(check); } catch (error) { fault = error.stack; }
+    check(`${cases.name} comes to its end`, fault, "");
+  }
 }
 
 function checkMeasures(check) {
@@ -194,9 +195,11 @@ function checkNames(check) {
 
 function checkColours(check) {
   for (const [values, choice, legend] of LEGENDS) {
-    const what = JSON.stringify(values), features = values.map((value, num) => ({ num, properties: value === undefined ? {} : { p: value } }));
+    const what = JSON.stringify(values);
+    const features = values.map((value, num) => ({ num, properties: value === undefined ? {} : { p: value } }));
     const found = colouring(features, "p", choice), colours = found.kind === "numbers" ? SEQUENCES[choice.classes || 5] : CATEGORIES;
-    const text = ({ kind, colour, label, count }) => `${kind === "none" || kind === "other" ? kind : `${colours.indexOf(colour)} ${label}`} (${count})`;
+    const named = ({ kind, colour, label }) => kind === "none" || kind === "other" ? kind : `${colours.indexOf(colour)} ${label}`;
+    const text = entry => `${named(entry)} (${entry.count})`;
     check(`legend of ${what}`, `${found.kind}: ${found.legend.map(text).join(", ")}`, legend);
     const counts = found.legend.map(({ colour }) => features.filter(feature => found.colourOf(feature) === colour).length);
     check(`colours of ${what}`, String(counts), String(found.legend.map(entry => entry.count)));
@@ -210,7 +213,8 @@ function checkColours(check) {
 
 /** The relative luminance of a colour (WCAG 2.1). */
 function luminance(colour) {
-  const [red, green, blue] = [1, 3, 5].map(at => parseInt(colour.slice(at, at + 2), 16) / 255).map(v => v <= 0.04045 ? v / 12.92 : ((v + 0.055) / 1.055) ** 2.4);
+  const parts = [1, 3, 5].map(at => parseInt(colour.slice(at, at + 2), 16) / 255);
+  const [red, green, blue] = parts.map(part => part <= 0.04045 ? part / 12.92 : ((part + 0.055) / 1.055) ** 2.4);
   return 0.2126 * red + 0.7152 * green + 0.0722 * blue;
 }
 
@@ -254,7 +258,8 @@ function checkChanges(check) {
   }
   const model = squares(), counts = () => Object.values(model.counts).join(" ");
   check("counts of two squares", counts(), "2 6 7");
-  model.act([{ line: "insert 0 0 0 10 0 5", answer: "ok" }, { line: "insert 10 0 10 10 10 5", answer: "ok" }, { line: 'split 0 "C" 0 5 5 5 10 5', answer: "ok 2" }]);
+  const inserts = ["insert 0 0 0 10 0 5", "insert 10 0 10 10 10 5"].map(line => ({ line, answer: "ok" }));
+  model.act([...inserts, { line: 'split 0 "C" 0 5 5 5 10 5', answer: "ok 2" }]);
   check("counts after a cut", counts(), "3 9 11");
   check("changes of the cut", model.changesOfAct(), 3);
   check("how many vertices a thinning leaves", verticesLeft(model.counts, "ok 2"), 7);

@@ -30,10 +30,10 @@ checkAll(check);
 check(`${given.program} is there`, existsSync(given.program), true);
 let edits = 0;
 for (const map of existsSync(given.program) ? maps : []) {
-  const start = performance.now(), { done, compared, tally, fault } = await drawEdits(given.program, map, given);
+  const { done, compared, tally, fault } = await drawEdits(given.program, map, given);
   check(map, fault, "");
   edits += done;
-  console.log(`${map.split("/").pop()}: ${done} edits, compared ${compared} times, ${Math.round(performance.now() - start)} ms; ${JSON.stringify(tally)}`);
+  console.log(`${map.split("/").pop()}: ${done} edits, compared ${compared} times; ${JSON.stringify(tally)}`);
 }
 console.log(`${edits} drawn edits`);
 console.log(`${passed} passed, ${failed} failed`);

@@ -5,7 +5,8 @@ import { propertyOf } from "./names.js";
 /** @typedef {import("./pieces.js").Feature} Feature */
 /**
  * A line of a legend. `least` and `greatest` are the numbers of a class.
- * @typedef {{colour: string, kind: "class" | "category" | "other" | "none", label: string, count: number, least?: number, greatest?: number}} Entry
+ * @typedef {{colour: string, kind: "class" | "category" | "other" | "none", label: string, count: number,
+ *   least?: number, greatest?: number}} Entry
  */
 /** @typedef {{property: string, kind: "numbers" | "texts", legend: Entry[], colourOf: (feature: Feature) => string}} Colouring */
 
@@ -18,8 +19,8 @@ export const SEQUENCES = {
   7: ["#f7f0c6", "#b9da91", "#55c588", "#00a898", "#00809d", "#005686", "#233066"],
 };
 /** neighbours in this list differ in lightness too */
-export const CATEGORIES = ["#ffafae", "#48a4cd", "#efc379", "#49ad8e", "#e9b4f5", "#9c9e4c", "#6cdfe5", "#cc845b", "#a6dc9a", "#978dd5",
-  "#a2ccff", "#c97da1"];
+export const CATEGORIES = ["#ffafae", "#48a4cd", "#efc379", "#49ad8e", "#e9b4f5", "#9c9e4c",
+  "#6cdfe5", "#cc845b", "#a6dc9a", "#978dd5", "#a2ccff", "#c97da1"];
 const OTHER = "#b8b8b8", NONE = "#f4efe3";
 
 /**
@@ -39,7 +40,8 @@ export function colouring(features, property, choice = {}) {
   const coloured = colours.legend.reduce((sum, entry) => sum + entry.count, 0);
   /** @type {Entry} */
   const none = { colour: NONE, kind: "none", label: "", count: all.length - coloured };
-  return { property, kind: isNumbers ? "numbers" : "texts", legend: none.count ? [...colours.legend, none] : colours.legend, colourOf };
+  const legend = none.count ? [...colours.legend, none] : colours.legend;
+  return { property, kind: isNumbers ? "numbers" : "texts", legend, colourOf };
 }
 
 /** @param {any} value */
@@ -75,7 +77,8 @@ function byNumbers(values, colours) {
     let end = first + 1;
     while (end < numbers.length && classOf(numbers[end]) === own) end++;
     const least = numbers[first], greatest = numbers[end - 1];
-    legend.push({ colour: colours[own], kind: "class", label: least === greatest ? `${least}` : `${least} – ${greatest}`, count: end - first, least, greatest });
+    const label = least === greatest ? `${least}` : `${least} – ${greatest}`;
+    legend.push({ colour: colours[own], kind: "class", label, count: end - first, least, greatest });
     first = end;
   }
   const colourOf = (/** @type {any} */ value) => {
@@ -96,8 +99,8 @@ function byTexts(values) {
   const sorted = [...counts].sort((a, b) => b[1] - a[1] || (a[0] < b[0] ? -1 : 1)), chosen = sorted.slice(0, CATEGORIES.length);
   /** @type {Entry[]} */
   const legend = chosen.map(([label, count], i) => ({ colour: CATEGORIES[i], kind: "category", label, count }));
-  const others = sorted.slice(chosen.length);
-  if (others.length) legend.push({ colour: OTHER, kind: "other", label: "other", count: others.reduce((sum, [, count]) => sum + count, 0) });
+  const others = sorted.slice(chosen.length).reduce((sum, [, count]) => sum + count, 0);
+  if (others) legend.push({ colour: OTHER, kind: "other", label: "other", count: others });
   const colours = new Map(chosen.map(([label], i) => [label, CATEGORIES[i]]));
   const colourOf = (/** @type {any} */ value) => isValue(value) ? colours.get(textOf(value)) || OTHER : NONE;
   return { legend, colourOf };

@@ -71,32 +71,37 @@ export function* drawMap(ctx, frame, contents) {
  * @returns {Steps}
  */
 function* fillFeatures(ctx, frame, { model, colouring }, seen) {
-  const sizes = seen.map(num => sizeOf(model, model.feature(num))), all = sizes.reduce((sum, size) => sum + size, 0);
-  if (all > MOST_FILLED && !colouring) return;
-  const step = all > MOST_FILLED ? 2.2 : 0.7;
+  const isMuch = seen.length > MOST_FILLED / 4 || isMore(model, seen, MOST_FILLED);
+  if (isMuch && !colouring) return;
+  const step = isMuch ? 2.2 : 0.7;
   ctx.fillStyle = LAND;
   let filled = 0;
-  for (let i = 0; i < seen.length; i++) {
-    const feature = model.features.get(seen[i]);
+  for (const num of seen) {
+    const feature = model.features.get(num);
     if (!feature) continue;
     if (colouring) ctx.fillStyle = colouring.colourOf(feature);
     ctx.beginPath();
-    tracePath(ctx, frame, model, feature, step, null);
+    filled += tracePath(ctx, frame, model, feature, step, null) + 100;
     ctx.fill("evenodd");
-    filled += sizes[i] + 100;
     if (filled > FILL_STEP) { filled = 0; yield; }
   }
 }
 
 /**
- * How many positions the pieces of a feature have.
+ * Whether features have more positions than so many.
  * @param {Model} model
- * @param {Feature} feature
+ * @param {number[]} seen
+ * @param {number} most
  */
-function sizeOf(model, feature) {
-  let size = 0;
-  for (const polygon of feature.polygons) for (const ring of polygon) for (const ref of ring) size += model.pieces[pieceOf(ref)].xy.length / 2;
-  return size;
+function isMore(model, seen, most) {
+  let left = most;
+  for (const num of seen) {
+    for (const polygon of model.feature(num).polygons) for (const ring of polygon) for (const ref of ring) {
+      left -= model.pieces[pieceOf(ref)].xy.length / 2;
+    }
+    if (left < 0) return true;
+  }
+  return false;
 }
 
 /**
@@ -107,12 +112,15 @@ function sizeOf(model, feature) {
  * @param {Feature} feature
  * @param {number} step pixels: a position that is nearer to the last one is passed over
  * @param {{x: number, y: number, u: number, v: number} | null} moved a vertex that is shown elsewhere
+ * @returns {number} how many positions were looked at
  */
 export function tracePath(ctx, frame, model, feature, step, moved) {
+  let size = 0;
   for (const polygon of feature.polygons) for (const ring of polygon) {
     let isFirst = true, lastX = 0, lastY = 0;
     for (const ref of ring) {
       const { xy } = model.pieces[pieceOf(ref)], n = xy.length, by = ref < 0 ? -2 : 2;
+      size += n / 2;
       for (let k = 0, at = ref < 0 ? n - 2 : 0; k < n; k += 2, at += by) {
         const isMoved = moved !== null && moved.x === xy[at] && moved.y === xy[at + 1];
         const sx = across(frame, isMoved ? moved.u : xy[at]), sy = down(frame, isMoved ? moved.v : xy[at + 1]);
@@ -125,6 +133,7 @@ export function tracePath(ctx, frame, model, feature, step, moved) {
     }
     ctx.closePath();
   }
+  return size;
 }
 
 /**
@@ -244,7 +253,8 @@ function* writeNames(ctx, frame, model, seen) {
   for (const num of seen) {
     const feature = model.features.get(num), place = feature && widestPlace(model, feature, frame.box);
     if (!place) continue;
-    const name = nameOf(model, num), sx = across(frame, place.x), sy = down(frame, place.y), half = ctx.measureText(name).width / 2 + 2;
+    const name = nameOf(model, num), half = ctx.measureText(name).width / 2 + 2;
+    const sx = across(frame, place.x), sy = down(frame, place.y);
     /** @type {Box} */
     const room = [sx - half, sy - 8, sx + half, sy + 8];
     if (place.width * frame.kx < Math.min(2 * half, 60) || taken.some(other => meets(other, room))) continue;
@@ -285,7 +295,8 @@ function crossingsOf(model, feature, y) {
   for (const polygon of feature.polygons) for (const ring of polygon) for (const ref of ring) {
     const { xy } = model.pieces[pieceOf(ref)];
     for (let k = 2; k < xy.length; k += 2) {
-      if (xy[k - 1] > y !== xy[k + 1] > y) found.push(xy[k - 2] + ((y - xy[k - 1]) * (xy[k] - xy[k - 2])) / (xy[k + 1] - xy[k - 1]));
+      const ax = xy[k - 2], ay = xy[k - 1], bx = xy[k], by = xy[k + 1];
+      if (ay > y !== by > y) found.push(ax + ((y - ay) * (bx - ax)) / (by - ay));
     }
   }
   return found.sort((a, b) => a - b);

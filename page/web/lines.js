@@ -45,4 +45,7 @@ export function orderAfter(count, log) {
  * @param {number} num
  * @param {number} added
  */
-export const orderWith = (order, num, added) => order.flatMap(each => each === num ? [num, added] : [each]);
+export function orderWith(order, num, added) {
+  const end = order.indexOf(num) + 1;
+  return [...order.slice(0, end), added, ...order.slice(end)];
+}

@@ -11,7 +11,8 @@ import { countAll, recounted } from "./counts.js";
 /** @typedef {import("./topology.js").Way} Way */
 /** @typedef {import("./counts.js").Counts} Counts */
 /**
- * A part of a border. `users` has the number of a feature once for each ring that takes the piece.
+ * A part of a border. `users` has the number of a feature once for each ring that takes the piece. Positions are never
+ * written over: a change gives the piece another way.
  * @typedef {{xy: Way, users: number[]}} Piece
  */
 /**
@@ -20,12 +21,14 @@ import { countAll, recounted } from "./counts.js";
  */
 /**
  * `collection` is -1 where the feature is a layer by itself.
- * @typedef {{num: number, id: any, properties: any, polygons: Ring[][], collection: number, layer: number, box: Box}} Feature
+ * @typedef {{num: number, id: any, properties: any, polygons: Ring[][],
+ *   collection: number, layer: number, box: Box}} Feature
  */
 /** @typedef {{name: string, isShown: boolean}} Layer */
 /**
  * What was there before a change.
- * @typedef {{pieces: Map<number, Piece | undefined>, features: Map<number, Feature | undefined>, order: number[], counts: Counts}} Before
+ * @typedef {{pieces: Map<number, Piece | undefined>, features: Map<number, Feature | undefined>,
+ *   order: number[], counts: Counts}} Before
  */
 
 /** the most segments of a piece */
@@ -41,38 +44,39 @@ export const pieceOf = ref => ref < 0 ? ~ref : ref;
 export const piecesOf = ring => new Set(ring.map(pieceOf));
 
 export class Pieces {
+  /** @type {Piece[]} */
+  pieces = [];
+  /** @type {Map<number, Feature>} */
+  features = new Map();
+  /**
+   * numbers of the features in the order of the text
+   * @type {number[]}
+   */
+  order = [];
+  /** @type {Layer[]} */
+  layers = [];
+  /** @type {Counts} */
+  counts = { features: 0, vertices: 0, segments: 0 };
+  /** pieces by place */
+  index = new Boxes(0, () => NOTHING);
+  /** features by place: `slots` has the number of the feature in each slot, `slotOf` the slot of each feature */
+  areas = this.index;
+  /** @type {number[]} */
+  slots = [];
+  /** @type {Map<number, number>} */
+  slotOf = new Map();
+  /**
+   * what was there before the change under way
+   * @type {Before | null}
+   */
+  before = null;
+
   /**
    * @param {any} topology
    * @param {number[]=} numbers of its features, in the order of the text; 0, 1, 2, .. where none are given
    */
   constructor(topology, numbers) {
     this.transform = topology.transform;
-    /** @type {Piece[]} */
-    this.pieces = [];
-    /** @type {Map<number, Feature>} */
-    this.features = new Map();
-    /**
-     * numbers of the features in the order of the text
-     * @type {number[]}
-     */
-    this.order = [];
-    /** @type {Layer[]} */
-    this.layers = [];
-    /** @type {Counts} */
-    this.counts = { features: 0, vertices: 0, segments: 0 };
-    /** pieces by place */
-    this.index = new Boxes(0, () => NOTHING);
-    /** features by place: the number of the feature in each slot, and the slot of each feature */
-    this.areas = this.index;
-    /** @type {number[]} */
-    this.slots = [];
-    /** @type {Map<number, number>} */
-    this.slotOf = new Map();
-    /**
-     * what was there before the change under way
-     * @type {Before | null}
-     */
-    this.before = null;
     this.load(topology, numbers);
   }
 
@@ -110,29 +114,22 @@ export class Pieces {
     for (const way of waysOf(topology)) {
       firsts.push(this.pieces.length);
       const last = way.length / 2 - 1;
-      for (let i = 0; i < last; i += PIECE) this.pieces.push({ xy: way.slice(2 * i, 2 * Math.min(i + PIECE, last) + 2), users: [] });
+      for (let i = 0; i < last; i += PIECE) {
+        this.pieces.push({ xy: way.subarray(2 * i, 2 * Math.min(i + PIECE, last) + 2), users: [] });
+      }
     }
     firsts.push(this.pieces.length);
     return firsts;
   }
 
   loadIndexes() {
-    this.index = new Boxes(this.pieces.length, i => boxOf(this.pieces[i].xy));
-    for (const feature of this.features.values()) feature.box = this.boxOfFeature(feature);
+    const boxes = this.pieces.map(piece => boxOf(piece.xy));
+    this.index = new Boxes(boxes.length, i => boxes[i]);
+    for (const feature of this.features.values()) feature.box = boxOfRings(feature, i => boxes[i]);
     const all = [...this.features.values()].filter(feature => feature.polygons.length);
     this.slots = all.map(feature => feature.num);
     this.slotOf = new Map(this.slots.map((num, slot) => [num, slot]));
     this.areas = new Boxes(all.length, slot => all[slot].box);
-  }
-
-  /**
-   * @param {Feature} feature
-   * @returns {Box}
-   */
-  boxOfFeature(feature) {
-    let box = NOTHING;
-    for (const [outer] of feature.polygons) for (const ref of outer || []) box = union(box, boxOf(this.pieces[pieceOf(ref)].xy));
-    return box;
   }
 
   /** @returns {Box} the box of all features, of hidden layers too */
@@ -306,7 +303,7 @@ export class Pieces {
     this.dropFeature(feature.num);
     this.features.set(feature.num, feature);
     this.use(feature);
-    feature.box = this.boxOfFeature(feature);
+    feature.box = boxOfRings(feature, i => boxOf(this.pieces[i].xy));
     this.putArea(feature);
   }
 
@@ -361,6 +358,24 @@ export class Pieces {
     this.counts = counts;
     for (const i of pieces.keys()) this.widen(i);
   }
+}
+
+/**
+ * The box of the outer rings of a feature.
+ * @param {Feature} feature
+ * @param {(i: number) => Box} boxOfPiece
+ * @returns {Box}
+ */
+function boxOfRings(feature, boxOfPiece) {
+  let x0 = Infinity, y0 = Infinity, x1 = -Infinity, y1 = -Infinity;
+  for (const [outer] of feature.polygons) for (const ref of outer || []) {
+    const box = boxOfPiece(pieceOf(ref));
+    x0 = Math.min(x0, box[0]);
+    y0 = Math.min(y0, box[1]);
+    x1 = Math.max(x1, box[2]);
+    y1 = Math.max(y1, box[3]);
+  }
+  return [x0, y0, x1, y1];
 }
 
 /**

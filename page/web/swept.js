@@ -19,8 +19,9 @@ export function sweptBy(model, line) {
     const box = boxOf(Float64Array.from(triangle));
     model.index.search(box, i => {
       const { xy, users } = model.pieces[i];
-      if (users.length) for (let k = 0; k < xy.length; k += 2) {
-        if (isWithin(box, xy[k], xy[k + 1]) && holds(triangle, xy[k], xy[k + 1])) found.set(`${xy[k]} ${xy[k + 1]}`, [xy[k], xy[k + 1]]);
+      for (let k = 0; users.length && k < xy.length; k += 2) {
+        const x = xy[k], y = xy[k + 1];
+        if (isWithin(box, x, y) && holds(triangle, x, y)) found.set(`${x} ${y}`, [x, y]);
       }
     });
   }

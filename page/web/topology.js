@@ -6,6 +6,8 @@
  * @typedef {Float64Array} Way
  */
 
+/** the types of geometries that are features */
+const FEATURES = new Set(["Polygon", "MultiPolygon", null]);
 /** where `parsed` keeps the names of the layers, in the order of the text */
 const LAYERS = Symbol("layers");
 
@@ -52,22 +54,27 @@ function namesIn(text) {
 export const layerNames = topology => topology[LAYERS] || Object.keys(topology.objects);
 
 /**
- * The arcs of a topology as positions of the grid.
+ * The arcs of a topology as positions of the grid. They are parts of one list, which is quicker than a list for each; nobody
+ * writes into them.
  * @param {any} topology
  * @returns {Way[]}
  */
 export function waysOf(topology) {
-  const isRelative = topology.transform !== undefined;
-  return topology.arcs.map((/** @type {number[][]} */ arc) => {
-    const xy = new Float64Array(2 * arc.length);
+  const isRelative = topology.transform !== undefined, { arcs } = topology;
+  let size = 0;
+  for (const arc of arcs) size += 2 * arc.length;
+  const all = new Float64Array(size);
+  let end = 0;
+  return arcs.map((/** @type {number[][]} */ arc) => {
+    const first = end;
     let x = 0, y = 0;
-    for (let i = 0; i < arc.length; i++) {
-      x = isRelative ? x + arc[i][0] : arc[i][0];
-      y = isRelative ? y + arc[i][1] : arc[i][1];
-      xy[2 * i] = x;
-      xy[2 * i + 1] = y;
+    for (const [a, b] of arc) {
+      x = isRelative ? x + a : a;
+      y = isRelative ? y + b : b;
+      all[end++] = x;
+      all[end++] = y;
     }
-    return xy;
+    return all.subarray(first, end);
   });
 }
 
@@ -88,7 +95,7 @@ export function eachFeature(topology, found) {
     if (object.type === "GeometryCollection") {
       const inner = collections++;
       for (const part of object.geometries) visit(part, inner, layer);
-    } else if (object.type === "Polygon" || object.type === "MultiPolygon" || object.type === null) found(object, collection, layer);
+    } else if (FEATURES.has(object.type)) found(object, collection, layer);
   };
   layerNames(topology).forEach((name, layer) => visit(topology.objects[name], -1, layer));
 }

@@ -26,15 +26,24 @@ export function linesOf(given, transform) {
   const add = (positions, from) => {
     const xy = new Float64Array(2 * positions.length);
     positions.forEach((position, i) => {
-      for (const axis of [0, 1]) xy[2 * i + axis] = (position[axis] * from.scale[axis] + from.translate[axis] - to.translate[axis]) / to.scale[axis];
+      for (const axis of [0, 1]) {
+        const value = position[axis] * from.scale[axis] + from.translate[axis];
+        xy[2 * i + axis] = (value - to.translate[axis]) / to.scale[axis];
+      }
     });
     lines.push({ xy, box: boxOf(xy) });
   };
   if (given && given.type === "Topology") {
-    for (const way of waysOf(given)) add(Array.from({ length: way.length / 2 }, (_, i) => way.subarray(2 * i, 2 * i + 2)), given.transform || SAME);
+    for (const way of waysOf(given)) add(pairsOf(way), given.transform || SAME);
   } else eachLine(given, positions => add(positions, SAME));
   return lines;
 }
+
+/**
+ * @param {Float64Array} way
+ * @returns {Float64Array[]} of each position its two numbers
+ */
+const pairsOf = way => Array.from({ length: way.length / 2 }, (_, i) => way.subarray(2 * i, 2 * i + 2));
 
 /**
  * Calls for each list of positions in a GeoJSON object.
