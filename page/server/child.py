@@ -1,5 +1,6 @@
 """A running border_edit: lines of a script in, answers out."""
 import contextlib
+import fcntl
 import os
 import subprocess
 
@@ -7,8 +8,11 @@ import subprocess
 DEPTH = 1000
 # Bytes that every pipe holds while nobody reads it.
 BATCH = 4096
-# Bytes that are read of a pipe at once.
-BUFFER = 1 << 18
+# Bytes that are read of a pipe at once, and that it holds where the system lets it: of a long answer fewer pieces are
+# waited for.
+BUFFER = 1 << 20
+# The number of fcntl's F_SETPIPE_SZ, which Python has a name for since 3.10.
+SET_PIPE_SIZE = 1031
 
 
 class Ended(Exception):
@@ -44,16 +48,18 @@ class Child:
     def __init__(self, program, map_path):
         command = [program, map_path, "-", "--out", f"{map_path}.end", "--undo", str(DEPTH)]
         # in a session of its own, so that Ctrl+C in the terminal does not reach it before the log is kept
-        self.process = subprocess.Popen(command, stdin=subprocess.PIPE, stdout=subprocess.PIPE, stderr=subprocess.PIPE,
-                                        bufsize=BUFFER, env=environment(), start_new_session=True)
+        pipes = {name: subprocess.PIPE for name in ("stdin", "stdout", "stderr")}
+        self.process = subprocess.Popen(command, **pipes, bufsize=BUFFER, env=environment(), start_new_session=True)
+        with contextlib.suppress(OSError):
+            fcntl.fcntl(self.process.stdout, SET_PIPE_SIZE, BUFFER)
         # status and text of its end, once it has ended by itself
         self.ended = None
 
     def ask(self, lines):
         """The answers to lines that have an answer of one line each.
 
-        border_edit sends its answers on before it reads more of the script. While it waits until its answers are read,
-        it reads no lines; so no more lines are sent than the pipe holds until theirs are read.
+        border_edit sends its answers on before it reads more of the script. While it waits until its answers are
+        read, it reads no lines; so no more lines are sent than the pipe holds until theirs are read.
         """
         answers = []
         for batch in batches(line.encode() + b"\n" for line in lines):
@@ -64,14 +70,15 @@ class Child:
     def document(self):
         """The text of the map.
 
-        It may have line feeds, which stand between tokens of JSON. No token begins with `features`, so the first line that
-        does is the answer to the question behind it.
+        It may have line feeds, which stand between tokens of JSON. No token begins with `features`, so the first line
+        that does is the answer to the question behind it.
         """
         self._send(b"document\ncount\n")
-        rows = []
-        while not (row := self._line()).startswith(b"features "):
-            rows.append(row)
-        return b"\n".join(rows)
+        text, last = bytearray(), 0
+        while not (text.endswith(b"\n") and text.startswith(b"features ", last)):
+            text += self._piece()
+            last = text.rfind(b"\n", 0, -1) + 1 if text.endswith(b"\n") else 0
+        return bytes(text[:last - 1])
 
     def end(self):
         """Ends the program. It is not let read the end of the script, at which it would write FILE."""
@@ -95,6 +102,12 @@ class Child:
         if not row.endswith(b"\n"):
             raise self._end_told()
         return row[:-1]
+
+    def _piece(self):
+        piece = self.process.stdout.read1(BUFFER)
+        if not piece:
+            raise self._end_told()
+        return piece
 
     def _end_told(self):
         """What the program, which has ended by itself, says of that."""

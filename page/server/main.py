@@ -11,9 +11,10 @@ import webbrowser
 
 sys.path.append(str(pathlib.Path(__file__).resolve().parent.parent))
 
-import programs
 import saving
 from child import Ended
+from finding import Programs
+from programs import NotFound
 from server import NoPage, Server
 from session import Session, shown
 
@@ -21,10 +22,12 @@ from session import Session, shown
 FAULT, USAGE = 3, 64
 # Seconds that a request under way has to end, when the server is stopped.
 ENDING = 30
+# Signals that end the program.
+SIGNALS = (signal.SIGINT, signal.SIGTERM, signal.SIGHUP)
 TEXT = """Edits a boundary map in the browser.
 
 The page is served on this machine alone, and only to this browser. Each edit made in it is a line of a script, which
-border_edit answers. Save writes FILE whole; what FILE held before stays as FILE.orig."""
+border_edit accepts or refuses. Save writes FILE whole; what FILE held before stays as FILE.orig."""
 
 
 class Stop(Exception):
@@ -32,7 +35,7 @@ class Stop(Exception):
 
 
 class Parser(argparse.ArgumentParser):
-    """Words that make no sense end with the status that the programs have for that."""
+    """Arguments that make no sense end with the status that the programs have for that."""
 
     def error(self, message):
         self.print_usage(sys.stderr)
@@ -48,11 +51,13 @@ def port(word):
 
 def options():
     """What the user asks for."""
-    parser = Parser(prog="edit", description=TEXT, formatter_class=argparse.RawDescriptionHelpFormatter, allow_abbrev=False)
-    parser.add_argument("map", metavar="MAP", type=pathlib.Path, help="a map as TopoJSON, such as examples/columbus.json")
-    parser.add_argument("--out", metavar="FILE", type=pathlib.Path, help="the file that Save writes; MAP if it is not given")
-    parser.add_argument("--port", metavar="N", type=port, default=0, help="the port of the page; any free one if it is not given")
-    parser.add_argument("--no-open", action="store_true", help="prints the address alone, and opens no browser")
+    parser = Parser(prog="edit", description=TEXT, allow_abbrev=False,
+                    formatter_class=argparse.RawDescriptionHelpFormatter)
+    add = parser.add_argument
+    add("map", metavar="MAP", type=pathlib.Path, help="a map as TopoJSON, such as examples/columbus.json")
+    add("--out", metavar="FILE", type=pathlib.Path, help="the file that Save writes; MAP if it is not given")
+    add("--port", metavar="N", type=port, default=0, help="the port of the page; any free one if it is not given")
+    add("--no-open", action="store_true", help="prints the address of the page, and opens no browser")
     return parser.parse_args()
 
 
@@ -70,36 +75,26 @@ def checked(given):
     return given.map.resolve(), out
 
 
-def found():
-    """The paths of the three programs, and whether all of them are proved."""
-    try:
-        paths = {name: programs.find(name) for name in ("border_edit", "border_show", "border_mend")}
-    except programs.NotFound as fault:
-        raise Stop(str(fault)) from None
-    return {name: path for name, (path, _) in paths.items()}, all(is_proved for _, is_proved in paths.values())
-
-
 def begun(given):
     """The server of a map, which waits for its page."""
     try:
-        map_path, out = checked(given)
-        paths, is_proved = found()
-        session = Session(paths, map_path, out)
-    except (Ended, RuntimeError) as fault:
+        session = Session(Programs(), *checked(given))
+    except (Ended, NotFound, RuntimeError) as fault:
         raise Stop(str(fault)) from None
     except OSError as fault:
-        raise Stop(f"{shown(given.map)}: {fault.strerror}") from None
+        raise Stop(f"{shown(fault.filename or given.map)}: {fault.strerror}") from None
     try:
-        return Server(given.port, session, is_proved)
+        return Server(given.port, session)
     except OSError as fault:
         session.end()
         raise Stop(f"port {given.port}: {fault.strerror}") from None
 
 
 def leading_file(address):
-    """A file that only the user may read, and that leads on to the page: the browser is given its name, since all users
-    of the machine see the words of a command. Nothing where the home folder can't hold it."""
-    text = f'<!doctype html><meta charset="utf-8"><meta http-equiv="refresh" content="0;url={address}"><a href="{address}">the map</a>\n'
+    """A file that only the user may read, and that leads on to the page. The browser gets its name as an argument,
+    which all users of the machine can see. Nothing if the home folder can't hold it."""
+    text = ('<!doctype html><meta charset="utf-8">'
+            f'<meta http-equiv="refresh" content="0;url={address}"><a href="{address}">the map</a>\n')
     try:
         # some browsers read no file in /tmp, and none whose name begins with a dot
         handle, path = tempfile.mkstemp(prefix="border_edit-", suffix=".html", dir=pathlib.Path.home())
@@ -121,14 +116,11 @@ def open_browser(server, leave):
     threading.Thread(target=webbrowser.open, args=[leading.as_uri()], daemon=True).start()
 
 
-def interrupt(number, _):
-    """A signal that ends the program ends it once; what is unsaved is kept meanwhile."""
+def interrupt(*_):
+    """A signal that ends the program ends it once: a second one does not stop it from keeping what is unsaved."""
     for sign in SIGNALS:
         signal.signal(sign, signal.SIG_IGN)
     raise KeyboardInterrupt
-
-
-SIGNALS = (signal.SIGINT, signal.SIGTERM, signal.SIGHUP)
 
 
 def finish(server):

@@ -4,9 +4,10 @@ import subprocess
 from child import environment
 
 
-def run(program, *words):
+def run(program, *arguments):
     """A program that has run to its end; its status, standard output, and what it left on standard error."""
-    done = subprocess.run([program, *map(str, words)], stdin=subprocess.DEVNULL, capture_output=True, env=environment())
+    command = [program, *map(str, arguments)]
+    done = subprocess.run(command, stdin=subprocess.DEVNULL, capture_output=True, env=environment())
     return done.returncode, done.stdout, done.stderr.decode(errors="replace").strip()
 
 
@@ -30,8 +31,8 @@ def picture(border_show, map_path):
 
 def mend(border_mend, map_path, mended_path, digits):
     """Mends a map. The report, and why it can't be mended: nothing where it was."""
-    words = [] if digits is None else ["--digits", digits]
-    status, report, why = run(border_mend, map_path, "--out", mended_path, *words)
+    arguments = [] if digits is None else ["--digits", digits]
+    status, report, why = run(border_mend, map_path, "--out", mended_path, *arguments)
     return lines_of(report), None if status == 0 else without_open(why) or f"border_mend ended with status {status}"
 
 

@@ -10,7 +10,8 @@ import tempfile
 PIECE = 1 << 20
 # What fsync of a folder answers where a file system does not have it.
 NO_SYNC = (errno.EINVAL, errno.ENOTSUP)
-# What no file that is made anew lets others do. It can only be read by setting it, so this is done before there are threads.
+# What no file that is made anew lets others do. It can only be read by setting it, which is done before there are
+# threads.
 UMASK = os.umask(0o077)
 os.umask(UMASK)
 
@@ -26,7 +27,7 @@ def pieces(path, most=None):
 
 def fingerprint(path):
     """What tells whether a file was changed: nothing where there is no file."""
-    digest = hashlib.sha256()
+    digest = hashlib.blake2b()
     try:
         for piece in pieces(path):
             digest.update(piece)
@@ -56,8 +57,9 @@ def copy_rights(path, handle):
     except FileNotFoundError:
         os.fchmod(handle, 0o666 & ~UMASK)
         return
-    with contextlib.suppress(PermissionError):
-        os.fchown(handle, old.st_uid, old.st_gid)
+    for owner, group in ((-1, old.st_gid), (old.st_uid, -1)):
+        with contextlib.suppress(PermissionError):
+            os.fchown(handle, owner, group)
     os.fchmod(handle, stat.S_IMODE(old.st_mode))
 
 
@@ -74,7 +76,7 @@ def sync_folder(folder):
 
 
 def replace(path, rows, rights=None):
-    """Writes a file whole: a new file beside it, sent to the disk, is put in its place. After a fault the file is as it was.
+    """Writes a file whole: a new file beside it, sent to the disk, takes its place. After a fault it is as it was.
 
     `rights` is the file whose mode the new one gets, if it is another one.
     """

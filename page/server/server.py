@@ -6,17 +6,19 @@ Everything is below /TOKEN/, on the loopback address alone.
 |---|---|---|
 | GET, no name; each file of the page | | the page |
 | GET `document`, `script`, `picture` | | the text of the map; the log as a script; a map that does not open as SVG |
-| `begin` | | `owner`, `name`, `out`, `proved`, `opens`, and then `log`, `counts` (when the map was opened), `undos`, `unsaved`, or `fault`, `findings`, `mendable` |
-| `edit` | `owner`, `act`, `lines` | `answers` up to the first refusal, `accepted`, `entries` of the log, `undos`, `unsaved` |
+| `begin` | | `owner`, `name`, `out`, `proved`, `opens`; then either what is edited or what stops it |
+| of a map that opens | | `log`, `counts` (when it was opened), `undos` (how many are possible), `unsaved` |
+| of one that does not | | `fault`, `findings`, `mendable` |
+| `edit` | `owner`, `act`, `lines` | `answers` up to a refusal, `accepted`, `entries` of the log, `undos`, `unsaved` |
 | `try` | `owner`, `line` | `answer` |
 | `ask` | `owner`, `lines` | `answers` |
 | `save` | `owner`, `force` | `file`, `bytes` |
 | `mend` | `owner`, perhaps `digits` | `report`, `opens` |
 | `alive`, `leave` | `owner` | nothing |
 
-All but the first two are POST with JSON. What is not done is answered with `reason`: 400 for what makes no sense, 403 for
-who may not ask, 404 for a name that there is not, 409 where it can't be done now, with `force` if it can be forced and
-`closed` if a newer page has the map, and 500 where border_edit has ended.
+The others are POST with JSON. What is not done is answered with `reason`: 400 for what makes no sense, 403 for
+who may not ask, 404 for a name that there is not, 409 for what can't be done now, with `force` if it can be forced
+and `closed` if a newer page has the map, and 500 after border_edit has ended.
 """
 import http.server
 import json
@@ -32,9 +34,12 @@ from session import MOST_EDITS, MOST_LINE, Lost, Refusal
 from visits import Visits
 
 WEB = pathlib.Path(__file__).resolve().parent.parent / "web"
-KINDS = {".html": "text/html; charset=utf-8", ".css": "text/css; charset=utf-8", ".js": "text/javascript; charset=utf-8"}
+KINDS = {".html": "text/html; charset=utf-8", ".css": "text/css; charset=utf-8",
+         ".js": "text/javascript; charset=utf-8"}
 POLICY = ("default-src 'none'; script-src 'self'; style-src 'self'; img-src 'self' blob: data:; "
           "connect-src 'self'; base-uri 'none'; form-action 'none'; frame-ancestors 'none'")
+HEADERS = {"Cache-Control": "no-store", "X-Content-Type-Options": "nosniff", "Referrer-Policy": "no-referrer",
+           "Cross-Origin-Opener-Policy": "same-origin", "Cross-Origin-Resource-Policy": "same-origin"}
 # A picture may have a style of its own, and nothing more.
 PICTURE_POLICY = "default-src 'none'; style-src 'unsafe-inline'; frame-ancestors 'none'; sandbox"
 
@@ -108,10 +113,12 @@ class Server(http.server.ThreadingHTTPServer):
     """The session, who may see it, and when it is over."""
 
     daemon_threads = True
+    # connections that may wait to be taken: a page loads its files by many at once
+    request_queue_size = 64
 
-    def __init__(self, port, session, is_proved):
+    def __init__(self, port, session):
         super().__init__(("127.0.0.1", port), Handler)
-        self.session, self.is_proved = session, is_proved
+        self.session = session
         self.token = secrets.token_urlsafe(24)
         self.files = static_files(WEB)
         self.hosts = tuple(f"{host}:{self.server_port}" for host in ("127.0.0.1", "localhost"))
@@ -132,18 +139,20 @@ class Server(http.server.ThreadingHTTPServer):
         self.has_warned = False
         if owner == 1:
             self.on_first_page()
-        return {"owner": owner, "proved": self.is_proved, **self.session.begin()}
+        return {"owner": owner, **self.session.begin()}
 
     def service_actions(self):
         """Ends the server where no page is there any more. It is called twice a second."""
         # while a request is under way its page is there, even if it was not heard for long
-        if self.visits.is_over() and self.lock.acquire(blocking=False):
+        if self.lock.acquire(blocking=False):
             try:
                 self._end_or_stay()
             finally:
                 self.lock.release()
 
     def _end_or_stay(self):
+        if not self.visits.is_over():
+            return
         if not self.session.is_unsaved:
             raise NoPage
         if not self.has_warned:
@@ -176,11 +185,9 @@ class Handler(http.server.BaseHTTPRequestHandler):
         if not isinstance(body, bytes):
             body = json.dumps(body).encode()
         self.send_response(status)
-        for name, value in (("Content-Type", kind), ("Content-Length", len(body)), ("Cache-Control", "no-store"),
-                            ("X-Content-Type-Options", "nosniff"), ("Referrer-Policy", "no-referrer"),
-                            ("Cross-Origin-Opener-Policy", "same-origin"), ("Cross-Origin-Resource-Policy", "same-origin"),
-                            ("Content-Security-Policy", policy)):
-            self.send_header(name, str(value))
+        own = {"Content-Type": kind, "Content-Length": str(len(body)), "Content-Security-Policy": policy}
+        for name, value in {**own, **HEADERS}.items():
+            self.send_header(name, value)
         if self.close_connection:
             self.send_header("Connection", "close")
         self.end_headers()
@@ -213,7 +220,8 @@ class Handler(http.server.BaseHTTPRequestHandler):
         if self.headers.get("Sec-Fetch-Site", "none") in ("none", "same-origin"):
             return True
         # the file that leads to the page is another site, and may do no more than that
-        leads = (self.command, name, self.headers.get("Sec-Fetch-Mode"), self.headers.get("Sec-Fetch-Dest", "document"))
+        leads = (self.command, name, self.headers.get("Sec-Fetch-Mode"),
+                 self.headers.get("Sec-Fetch-Dest", "document"))
         return leads == ("GET", "", "navigate", "document")
 
     # ---- what is answered
@@ -241,6 +249,9 @@ class Handler(http.server.BaseHTTPRequestHandler):
             raise
         except OSError as fault:
             self.send_error(500, f"this was not done: {fault.strerror}")
+        except Exception:
+            traceback.print_exc()
+            self.send_error(500, "this was not done, by a mistake in the server; its terminal has more")
 
     def _get(self):
         name, server = self.name(), self.server
@@ -272,21 +283,28 @@ class Handler(http.server.BaseHTTPRequestHandler):
     def _post(self):
         name = self.name()
         given = self._body(name)
+        with self.server.lock:
+            # written as JSON here, since the next request may change the log
+            status, body = self._answer(name, given)
+            body = json.dumps(body).encode()
+        self.send(status, body)
+
+    def _answer(self, name, given):
+        """Status and answer of a POST."""
+        visits = self.server.visits
+        if name == "begin":
+            return 200, self.server.begin()
+        if name == "leave":
+            visits.leave(given.get("owner"))
+            return 200, {}
         if name not in ANSWERS:
             raise BadRequest(404, "no such name")
-        with self.server.lock:
-            if name == "begin":
-                body = json.dumps(self.server.begin()).encode()
-            elif name == "leave":
-                self.server.visits.leave(given.get("owner"))
-                body = b"{}"
-            elif given.get("owner") != self.server.visits.owner:
-                return self.send(409, {"reason": "this map was opened in another page", "closed": True})
-            else:
-                body = json.dumps(ANSWERS[name](self.server.session, given)).encode()
-                # after what may have taken long, so that its page is not taken for one that is gone
-                self.server.visits.hear()
-        return self.send(200, body)
+        if given.get("owner") != visits.owner:
+            return 409, {"reason": "this map was opened in another page", "closed": True}
+        answer = ANSWERS[name](self.server.session, given)
+        # after what may have taken long, so that its page is not taken for one that is gone
+        visits.hear()
+        return 200, answer
 
     def _body(self, name):
         """What the body of a request says."""
@@ -343,5 +361,5 @@ def alive(session, given):
     return {}
 
 
-# What can be asked by POST. The first two are answered by the server itself.
-ANSWERS = {"begin": None, "leave": None, "edit": edit, "try": attempt, "ask": ask, "save": save, "mend": mend, "alive": alive}
+# What the page that has the map can ask by POST.
+ANSWERS = {"edit": edit, "try": attempt, "ask": ask, "save": save, "mend": mend, "alive": alive}

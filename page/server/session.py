@@ -1,6 +1,8 @@
 """A map that is edited: the log of its edits, saving it, and opening it again after border_edit has ended."""
 import collections
+import contextlib
 import hashlib
+import os
 import pathlib
 import shutil
 import tempfile
@@ -29,7 +31,7 @@ class Refusal(Exception):
 
 
 class Lost(Exception):
-    """border_edit has not the map that the log says; nothing is edited or saved any more."""
+    """border_edit does not have the map of the log; nothing is edited or saved any more."""
 
 
 def is_accepted(answer):
@@ -56,7 +58,7 @@ class Session:
     """A map, what was done to it, and the file that it is saved in."""
 
     def __init__(self, programs, map_path, out):
-        """`programs` has the paths of the three programs by their names."""
+        """`programs` finds the three programs."""
         self.programs, self.out = programs, out
         # as they are shown
         self.name, self.file = shown(map_path.name), shown(out)
@@ -81,7 +83,7 @@ class Session:
 
     def _copy(self, map_path):
         """Copies the map, or as much of it as shows that it is too large. What tells later whether it was changed."""
-        digest = hashlib.sha256()
+        digest = hashlib.blake2b()
         with open(self.base, "wb") as file:
             for piece in saving.pieces(map_path, MOST_BYTES + 1):
                 digest.update(piece)
@@ -90,14 +92,14 @@ class Session:
 
     def _open(self, base):
         """Opens a map; where it does not open, tells what stops it."""
-        child = Child(self.programs["border_edit"], base)
+        child = Child(self.programs.path("border_edit"), base)
         try:
             self.counts = child.ask(["count"])[0]
         except Ended as ended:
             if ended.status != 2:
                 raise
             self.fault = mending.without_open(str(ended))
-            self.findings, self.is_mendable = mending.findings(self.programs["border_mend"], base)
+            self.findings, self.is_mendable = mending.findings(self.programs.path("border_mend"), base)
         else:
             self.base, self.child = base, child
 
@@ -115,10 +117,14 @@ class Session:
 
     def begin(self):
         """What a page needs to know at first."""
-        known = {"name": self.name, "out": self.file, "opens": self.child is not None}
+        known = {"name": self.name, "out": self.file, "proved": self.programs.are_proved}
         if self.child is None:
-            return {**known, "fault": self.fault, "findings": self.findings, "mendable": self.is_mendable}
-        return {**known, "log": self.log, "counts": self.counts, "unsaved": self.is_unsaved, "undos": self.undos}
+            stops = {"fault": self.fault, "findings": self.findings, "mendable": self.is_mendable}
+            return {**known, "opens": False, **stops}
+        return {**known, "opens": True, "log": self.log, "counts": self.counts, **self._state()}
+
+    def _state(self):
+        return {"undos": self.undos, "unsaved": self.is_unsaved}
 
     def ask(self, lines):
         """The answers to questions."""
@@ -130,7 +136,7 @@ class Session:
 
     def picture(self):
         """A map that does not open as SVG; nothing where it opens, or can't be drawn."""
-        return mending.picture(self.programs["border_show"], self.base) if self.child is None else None
+        return mending.picture(self.programs.path("border_show"), self.base) if self.child is None else None
 
     def script(self):
         """The log as a script: what was refused is a comment."""
@@ -148,16 +154,14 @@ class Session:
 
     def edit(self, act, lines):
         """Does edits one after the other, all of them or none, and puts them in the log."""
+        self._must_be_open()
         if lines[0] == "undo":
             return self._take_back(act, lines)
         answers, undone = self._with_child(lambda: self._all_or_none(lines))
         accepted = is_accepted(answers[-1])
         entries = self._entries(act, lines, answers)
         if accepted:
-            for line, answer in zip(lines, answers):
-                if is_change(line, answer):
-                    self.newest_state += 1
-                    self.states.append(self.newest_state)
+            self._count(sum(map(is_change, lines, answers)))
         elif any(line.startswith("split") for line in lines[:len(answers) - 1]):
             # the number of the new feature is used up, so whoever runs the log again must make that feature too
             entries += self._entries(act, ["undo"] * undone, ["ok"] * undone)
@@ -177,6 +181,12 @@ class Session:
         undone = sum(map(is_change, lines, answers))
         self._undo(undone)
         return answers, undone
+
+    def _count(self, changes):
+        """Each change leads to a state that there was not yet."""
+        for _ in range(changes):
+            self.newest_state += 1
+            self.states.append(self.newest_state)
 
     def _take_back(self, act, lines):
         """As many changes are taken back as there are lines `undo`; none where fewer are kept."""
@@ -210,29 +220,32 @@ class Session:
 
     def _logged(self, entries, answers, accepted):
         self.log += entries
-        return {"answers": answers, "accepted": accepted, "entries": entries, "undos": self.undos, "unsaved": self.is_unsaved}
+        return {"answers": answers, "accepted": accepted, "entries": entries, **self._state()}
 
     # ---- after border_edit has ended
 
     def _with_child(self, does):
-        """What a call answers that talks with border_edit. Where the program ends meanwhile, the log is run again by a new
-        one, and then the call is made once more: nothing that it did is in the log yet."""
-        if self.lost:
-            raise Lost(self.lost)
-        if self.child is None:
-            raise Refusal("the map does not open")
+        """What a call answers that talks with border_edit. If the program ends meanwhile, a new one runs the log
+        again, and the call is made once more: nothing that it did is in the log yet."""
+        self._must_be_open()
         try:
             return does()
         except Ended:
             self._run_again()
             return does()
 
+    def _must_be_open(self):
+        if self.lost:
+            raise Lost(self.lost)
+        if self.child is None:
+            raise Refusal("the map does not open")
+
     def _run_again(self):
         self.child.end()
-        self.child = Child(self.programs["border_edit"], self.base)
+        self.child = Child(self.programs.path("border_edit"), self.base)
         done = [entry for entry in self.log if is_accepted(entry["answer"])]
         if self.child.ask([entry["line"] for entry in done]) != [entry["answer"] for entry in done]:
-            raise self._lose("border_edit ended, and its answers to the same edits were other ones when it was started again")
+            raise self._lose("border_edit ended, and when it was started again its answers were other ones")
 
     def _lose(self, reason):
         self.lost = reason
@@ -248,7 +261,7 @@ class Session:
             if now is not None and now != self.written:
                 saving.keep_original(self.out)
             saving.replace(self.out, [text])
-            self.seen = self.written = hashlib.sha256(text).hexdigest()
+            self.seen = self.written = hashlib.blake2b(text).hexdigest()
             saving.sync_folder(self.out.parent)
         except OSError as fault:
             raise Refusal(f"{self.file} can't be written: {fault.strerror}") from None
@@ -263,7 +276,7 @@ class Session:
         if now != self.seen and not force:
             raise Refusal(f"{self.file} was changed by another program since it was opened or saved here", True)
         if size > MOST_BYTES and not force:
-            raise Refusal(f"the map has {size:,} bytes, and a file of more than {MOST_BYTES:,} can't be opened again", True)
+            raise Refusal(f"the map has {size:,} bytes; of more than {MOST_BYTES:,} it can't be opened again", True)
         return now
 
     def mend(self, digits):
@@ -271,7 +284,7 @@ class Session:
         if self.child is not None:
             raise Refusal("the map opens")
         mended = self.scratch / "mended.json"
-        report, why = mending.mend(self.programs["border_mend"], self.base, mended, digits)
+        report, why = mending.mend(self.programs.path("border_mend"), self.base, mended, digits)
         if why:
             raise Refusal(f"the map can't be mended: {why}")
         self._open(mended)
@@ -281,14 +294,13 @@ class Session:
     # ---- the end
 
     def leave_script(self):
-        """Where edits are not saved, the log is left as a script, in the folder of FILE if that is possible. Its path."""
-        name = f"{self.out.name}.unsaved-{time.strftime('%Y%m%d-%H%M%S')}.txt"
-        for folder in (self.out.parent, pathlib.Path.home(), pathlib.Path(tempfile.gettempdir())):
-            try:
-                (folder / name).write_bytes(self.script())
-                return folder / name
-            except OSError:
-                continue
+        """Leaves the log as a script, in the folder of FILE if that is possible. Its path."""
+        name = os.fsdecode(os.fsencode(self.out.name)[:200]) + time.strftime(".unsaved-%Y%m%d-%H%M%S.txt")
+        for folder in (self.out.parent, os.path.expanduser("~"), tempfile.gettempdir()):
+            left = pathlib.Path(folder, name)
+            with contextlib.suppress(OSError):
+                saving.replace(left, [self.script()])
+                return left
         return None
 
     def end(self):

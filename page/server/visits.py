@@ -3,8 +3,8 @@ import time
 
 # Seconds after which a page that said goodbye does not come back: one that is loaded again does so sooner.
 LEAVING = 5
-# Seconds after which a page that was not heard is gone. Pages call every 20 seconds; a browser lets those that are not
-# seen do so once a minute.
+# Seconds after which a page that was not heard is gone. Pages call every 20 seconds; a browser lets those that are
+# hidden do so once a minute.
 SILENCE = 180
 
 
