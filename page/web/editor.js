@@ -149,7 +149,8 @@ export class Editor {
   edit(line) { return this.perform(send => send(line)); }
 
   /**
-   * Does the steps of an act, and takes all back where one is refused. After a fault of the server what was done before it stays.
+   * Does the steps of an act, and takes all back where one is refused. After a fault of the server what was done before it
+   * stays.
    * @param {Run} run
    * @param {() => Promise<any>} steps
    */
@@ -165,7 +166,9 @@ export class Editor {
       } catch (other) {
         this.fail(other);
       }
-      if (fault instanceof Refusal) this.refuse(fault); else if (fault instanceof Stopped) this.onFault(fault); else this.fail(fault);
+      if (fault instanceof Refusal) this.refuse(fault);
+      else if (fault instanceof Stopped) this.onFault(fault);
+      else this.fail(fault);
       return false;
     }
   }
@@ -181,7 +184,9 @@ export class Editor {
     this.enter(said);
     const { answers, accepted } = said;
     if (!accepted) throw new Refusal(lines[answers.length - 1], answers[answers.length - 1]);
-    for (let i = 0; i < lines.length; i++) if (isChange(answers[i])) await this.follow(run, { line: lines[i], answer: answers[i] });
+    for (let i = 0; i < lines.length; i++) {
+      if (isChange(answers[i])) await this.follow(run, { line: lines[i], answer: answers[i] });
+    }
     return answers;
   }
 
@@ -203,19 +208,24 @@ export class Editor {
   async follow(run, entry) {
     run.entries.push(entry);
     if (run.isStale || entry.line.startsWith("thin ")) { run.isStale = true; return; }
-    const part = partOf(entry);
-    let rings = null;
-    if (part !== null) {
-      const old = this.model.features.get(splitWords(entry.line).num);
-      if (old && old.polygons.some(polygon => polygon.length > 1)) rings = JSON.parse((await this.talk.ask(`rings ${part}`))[0]);
-    }
     try {
-      this.model.apply(entry.line, entry.answer, rings);
+      this.model.apply(entry.line, entry.answer, await this.ringsOfPart(entry));
       run.records++;
     } catch (fault) {
       console.error(fault);
       run.isStale = true;
     }
+  }
+
+  /**
+   * What the model needs to know of a part that was cut off: its rings, where the feature had holes.
+   * @param {Entry} entry
+   * @returns {Promise<number[][][][] | null>}
+   */
+  async ringsOfPart(entry) {
+    const part = partOf(entry), old = part === null ? undefined : this.model.features.get(splitWords(entry.line).num);
+    if (!old || !old.polygons.some(polygon => polygon.length > 1)) return null;
+    return JSON.parse((await this.talk.ask(`rings ${part}`))[0]);
   }
 
   /**
@@ -233,7 +243,7 @@ export class Editor {
     this.view.change();
   }
 
-  /** Asks for the counts, and loads the text where they are not those of the model: a mistake of the page would show here. */
+  /** Asks for the counts, and loads the text where they are not those of the model: a mistake of the page shows here. */
   async recount() {
     const [features, vertices, segments] = (await this.talk.ask("count"))[0].split(" ").filter((_, i) => i % 2).map(Number);
     this.vertices = vertices;
