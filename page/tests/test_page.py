@@ -2,7 +2,6 @@
 """The page in a real browser: each act by mouse and by keys, what is shown, and that the saved file is right."""
 import json
 import math
-import os
 import pathlib
 import shutil
 import subprocess
@@ -12,7 +11,7 @@ import traceback
 sys.path.insert(0, str(pathlib.Path(__file__).resolve().parent))
 sys.path.insert(1, str(pathlib.Path(__file__).resolve().parents[1]))
 
-from browser import By, Keys, Page, TOP, new_folder, start_browser
+from browser import By, Keys, Page, new_folder, start_browser
 import programs
 
 EXAMPLES = pathlib.Path(__file__).resolve().parents[2] / "examples"
@@ -177,7 +176,7 @@ def test_split_and_merge(page):
     page.button("undo")
     same("Undo takes the whole cut back", (verbs(act_of(page)), document(page) == before), (["undo", "undo"], True))
     page.button("redo")
-    same("Redo makes it again, with a new number", (verbs(act_of(page)), page.last()[1]), (["insert", "split"], "ok 50"))
+    same("Redo makes it again, with a new number", [verbs(act_of(page)), page.last()[1]], [["insert", "split"], "ok 50"])
     is_map(page, "a cut made again")
     centre = "const b = editor.model.features.get(arguments[0]).box; return [(b[0] + b[2]) / 2, (b[1] + b[3]) / 2]"
     page.js("tools.panel.goTo(50)")
@@ -214,7 +213,7 @@ def test_several_merges(page):
 
 
 def test_reshape(page):
-    """A cut through feature 20 at its border with feature 30, given to it."""
+    """A piece of feature 19 at its border with feature 22 is given to that one."""
     before = document(page)
     ring = json.loads(page.later("editor.talk.ask('rings 19').then(a => a[0])"))[0][0]
     other = json.loads(page.later("editor.talk.ask('rings 22').then(a => a[0])"))[0][0]
@@ -232,7 +231,8 @@ def test_reshape(page):
         page.click(page.screen(*at))
     lines = act_of(page)
     same("a reshape is a cut and a merge in one act", verbs(lines), ["split", "merge"])
-    same("the part goes to the neighbour at that border", (lines[0].split()[1], lines[1].split()[:2]), ("19", ["merge", "22"]))
+    same("it is cut from the feature in which the line runs", lines[0].split()[:2], ["split", "19"])
+    same("the part goes to the neighbour at that border", lines[1].split()[:2], ["merge", "22"])
     is_map(page, "a reshape")
     area = [int(text) for text in page.later("editor.talk.ask('area 19', 'area 22')")]
     page.keys(Keys.CONTROL, "z")
@@ -328,6 +328,10 @@ def test_saving(page, map_path, out, folder):
     same("the script runs without a refusal", (done.returncode, "refused" in done.stdout), (0, False))
     true("the saved file is byte for byte what border_edit makes of the script", out.read_bytes() == text)
     true("closing the tab does not ask any more", not unload_asks(page))
+
+
+def test_saving_troubles(page, out):
+    """Another program changes the file, and the folder is gone."""
     out.write_bytes(out.read_bytes() + b"\n")
     page.js("editor.select([3])")
     page.later("editor.edit('rename 3 \"three\"')")
@@ -418,6 +422,7 @@ def choose(page, name, value):
 
 
 def test_layers(page):
+    page.load()
     rows = page.js("return [...document.querySelectorAll('#layerList tr')].slice(1).map(r => r.cells[0].textContent)")
     same("the layers stand in a list", rows, ["zones2 features", "fields1 feature"])
     at = page.screen(50, 50)
@@ -460,6 +465,7 @@ def test_layers(page):
 
 
 def test_hostile(page):
+    page.load()
     page.click(page.screen(50, 50))
     page.click(page.screen(150, 50), Keys.SHIFT)
     page.js("editor.select([0])")
@@ -488,7 +494,8 @@ def test_mending(page, out):
     page.wait("document.getElementById('pictureImage').complete")
     true("the fault is said in words", "cross or lie on each other" in page.text("mendFault"), page.text("mendFault"))
     lines = page.js("return [...document.querySelectorAll('#findings code')].map(c => c.textContent)")
-    same("all findings are listed", lines, ["on 770 1130 / 760 860 780 1400", "cross 760 860 1400 840 / 960 870 1180 830"])
+    findings = ["on 770 1130 / 760 860 780 1400", "cross 760 860 1400 840 / 960 870 1180 830"]
+    same("all findings are listed", lines, findings)
     true("in words too", "The vertex 770 1130 lies on the border" in page.text("findings"))
     true("a picture is shown", page.js("return document.getElementById('pictureImage').naturalWidth") > 0)
     same("Mend has the focus", page.js("return document.activeElement.id"), "mend")
@@ -497,7 +504,8 @@ def test_mending(page, out):
     true("the report says what mending did", "has new vertices" in page.text("askReport"), page.text("askReport"))
     page.element("askYes").click()
     page.settle()
-    same("the map is open, with unsaved changes", page.js("return [editor.model.features.size, editor.isUnsaved]"), [4, True])
+    state = page.js("return [editor.model.features.size, editor.isUnsaved]")
+    same("the map is open, with unsaved changes", state, [4, True])
     is_map(page, "mending")
     page.keys(Keys.CONTROL, "s")
     page.wait("!editor.isUnsaved")
@@ -724,52 +732,53 @@ def put(folder, name, text):
 
 def run_all(driver, folder, downloads):
     columbus = shutil.copy(EXAMPLES / "columbus.json", folder / "columbus.json")
-    (folder / "saved").mkdir()
-    out = folder / "saved/out.json"
+    saved, mended = folder / "saved/out.json", folder / "mended.json"
+    saved.parent.mkdir()
 
     def by_mouse(page):
-        page.load()
-        test_refused(page, *test_dragging(page))
-        test_vertices(page)
-        test_split_and_merge(page)
-        test_several_merges(page)
-        test_reshape(page)
-        test_names_and_deleting(page)
-        test_thinning(page)
-        test_measuring(page)
-        test_saving(page, columbus, out, folder)
-        test_loading_again(page)
-        test_downloads(page, downloads)
-        # saving was refused three times, which the browser writes there
-        same("nothing else is written on the console", [text for text in page.errors() if "/save" not in text], [])
-        test_two_tabs(page)
-        test_server_gone(page)
+        edits_by_mouse(page)
+        files_and_tabs(page, columbus, saved, folder, downloads)
 
-    def by_keys(page):
-        page.load()
-        test_keys_vertices(page)
-        test_keys_features(page)
-        test_keys_reshape(page)
-        test_keys_merge(page)
-        test_keys_rest(page)
-        test_focus(page)
-
-    def layers(page):
-        page.load()
-        test_layers(page)
-
-    def hostile(page):
-        page.load()
-        test_hostile(page)
-
-    with_page(driver, columbus, ["--out", out], by_mouse)
+    with_page(driver, columbus, ["--out", saved], by_mouse)
     with_page(driver, columbus, ["--out", folder / "keys.json"], by_keys)
-    with_page(driver, put(folder, "layers.json", TWO_LAYERS), [], layers)
-    with_page(driver, put(folder, "hostile.json", HOSTILE), [], hostile)
+    with_page(driver, put(folder, "layers.json", TWO_LAYERS), [], test_layers)
+    with_page(driver, put(folder, "hostile.json", HOSTILE), [], test_hostile)
     wards = shutil.copy(EXAMPLES / "wards.json", folder / "wards.json")
-    mended = folder / "mended.json"
     with_page(driver, wards, ["--out", mended], lambda page: test_mending(page, mended))
     with_page(driver, put(folder, "broken.json", '{"type":"Topology",'), [], test_not_mendable)
+
+
+def edits_by_mouse(page):
+    page.load()
+    test_refused(page, *test_dragging(page))
+    test_vertices(page)
+    test_split_and_merge(page)
+    test_several_merges(page)
+    test_reshape(page)
+    test_names_and_deleting(page)
+    test_thinning(page)
+    test_measuring(page)
+
+
+def files_and_tabs(page, map_path, out, folder, downloads):
+    test_saving(page, map_path, out, folder)
+    test_saving_troubles(page, out)
+    test_loading_again(page)
+    test_downloads(page, downloads)
+    # saving was refused three times, which the browser writes there
+    same("nothing else is written on the console", [text for text in page.errors() if "/save" not in text], [])
+    test_two_tabs(page)
+    test_server_gone(page)
+
+
+def by_keys(page):
+    page.load()
+    test_keys_vertices(page)
+    test_keys_features(page)
+    test_keys_reshape(page)
+    test_keys_merge(page)
+    test_keys_rest(page)
+    test_focus(page)
 
 
 if __name__ == "__main__":

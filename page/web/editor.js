@@ -32,6 +32,51 @@ export class Refusal extends Error {
 export class Stopped extends Error {}
 
 export class Editor {
+  /** @type {Model} */
+  model = /** @type {any} */ (null);
+  history = new History();
+  /** @type {LogEntry[]} */
+  log = [];
+  /**
+   * numbers of selected features, in order
+   * @type {number[]}
+   */
+  selected = [];
+  /**
+   * two segments in conflict
+   * @type {number[][] | null}
+   */
+  conflict = null;
+  /**
+   * triangles that a refused edit would pass over, and the vertices in them
+   * @type {import("./swept.js").Swept | null}
+   */
+  swept = null;
+  isUnsaved = false;
+  isClosed = false;
+  /** whether edits wait, since a thinning is shown that is not kept yet */
+  isLocked = false;
+  /** features at the start of the session, and vertices now */
+  count = 0;
+  vertices = 0;
+  nextAct = 1;
+  /**
+   * the newest act under way, and how many there are
+   * @type {Promise<any>}
+   */
+  turn = Promise.resolve();
+  pending = 0;
+  /**
+   * called when the state is another one, with an entry of the log where there is a new one
+   * @type {((entry?: LogEntry) => void)[]}
+   */
+  watchers = [];
+  /**
+   * called with a refusal, an act that was stopped, or a fault of the server
+   * @type {(fault: Refusal | Stopped | TalkFault) => void}
+   */
+  onFault = () => undefined;
+
   /**
    * @param {import("./talk.js").Talk} talk
    * @param {import("./view.js").View} view
@@ -39,50 +84,6 @@ export class Editor {
   constructor(talk, view) {
     this.talk = talk;
     this.view = view;
-    /** @type {Model} */
-    this.model = /** @type {any} */ (null);
-    this.history = new History();
-    /** @type {LogEntry[]} */
-    this.log = [];
-    /**
-     * numbers of selected features, in order
-     * @type {number[]}
-     */
-    this.selected = [];
-    /**
-     * two segments in conflict
-     * @type {number[][] | null}
-     */
-    this.conflict = null;
-    /**
-     * triangles that a refused edit would pass over, and the vertices in them
-     * @type {{triangles: number[][], vertices: [number, number][]} | null}
-     */
-    this.swept = null;
-    this.isUnsaved = false;
-    this.isClosed = false;
-    /** whether edits wait, since a thinning is shown that is not kept yet */
-    this.isLocked = false;
-    /** features at the start of the session */
-    this.count = 0;
-    this.vertices = 0;
-    this.nextAct = 1;
-    /**
-     * the newest act under way, and how many there are
-     * @type {Promise<any>}
-     */
-    this.turn = Promise.resolve();
-    this.pending = 0;
-    /**
-     * calls when the state is another one, with an entry of the log where there is a new one
-     * @type {((entry?: LogEntry) => void)[]}
-     */
-    this.watchers = [];
-    /**
-     * calls with a refusal, an act that was stopped, or a fault of the server
-     * @type {(fault: Refusal | Stopped | TalkFault) => void}
-     */
-    this.onFault = () => undefined;
   }
 
   get canEdit() { return !this.isClosed && !this.isLocked; }
