@@ -6,6 +6,9 @@ import sys
 import tempfile
 import time
 
+# where Debian has selenium, for a Python that is not Debian's
+sys.path.append("/usr/lib/python3/dist-packages")
+
 from selenium import webdriver
 from selenium.webdriver.chrome.service import Service
 from selenium.webdriver.common.action_chains import ActionChains
@@ -16,16 +19,17 @@ TOP = pathlib.Path(__file__).resolve().parents[2]
 # Seconds that a page may take for what is waited for.
 PATIENCE = 20
 # What is true once the page has nothing to do any more.
-STILL = ("!editor.pending && !editor.talk.waiting && !editor.view.wanted && !editor.view.drawing && !editor.view.overWanted "
-         "&& !tools.isAsking && !tools.held")
+STILL = ("!editor.pending && !editor.talk.waiting && !editor.view.wanted && !editor.view.drawing "
+         "&& !editor.view.overWanted && !tools.isAsking && !tools.held")
 OPEN = "window.editor && document.getElementById('busy').hidden && document.getElementById('mending').hidden"
 
 
 def start_browser(downloads, size=(1280, 800)):
     """A headless Chromium with a window of this size, that saves files in a folder."""
     options = webdriver.ChromeOptions()
-    for word in ("--headless=new", "--no-sandbox", f"--window-size={size[0]},{size[1]}", "--disable-dev-shm-usage", "--hide-scrollbars",
-                 "--no-first-run", "--disable-background-networking", "--disable-component-update", "--no-proxy-server"):
+    for word in ("--headless=new", "--no-sandbox", f"--window-size={size[0]},{size[1]}", "--disable-dev-shm-usage",
+                 "--hide-scrollbars", "--disable-gpu", "--no-first-run", "--disable-background-networking",
+                 "--disable-component-update", "--no-proxy-server"):
         options.add_argument(word)
     options.set_capability("goog:loggingPrefs", {"browser": "ALL"})
     options.set_capability("unhandledPromptBehavior", "ignore")
@@ -69,7 +73,8 @@ class Page:
 
     def later(self, promise):
         """What a promise of the page gives."""
-        return self.driver.execute_async_script(f"const done = arguments[0]; Promise.resolve({promise}).then(done, e => done('failed: ' + e))")
+        return self.driver.execute_async_script(
+            f"const done = arguments[0]; Promise.resolve({promise}).then(done, fault => done('failed: ' + fault))")
 
     def wait(self, test):
         end = time.monotonic() + PATIENCE
@@ -116,13 +121,9 @@ class Page:
 
     def screen(self, x, y):
         """Where a position of the grid is in the window."""
-        return self.js("const r = document.getElementById('map').getBoundingClientRect(), [x, y] = editor.view.screen(...arguments); "
-                       "return [Math.round(x + r.left), Math.round(y + r.top)]", x, y)
-
-    def place(self, at):
-        """The position of the grid at a pixel of the window."""
         return self.js("const r = document.getElementById('map').getBoundingClientRect(); "
-                       "return editor.view.place(arguments[0] - r.left, arguments[1] - r.top).map(Math.round)", *at)
+                       "const [x, y] = editor.view.screen(...arguments); "
+                       "return [Math.round(x + r.left), Math.round(y + r.top)]", x, y)
 
     # ---- mouse
 

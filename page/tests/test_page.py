@@ -1,8 +1,7 @@
 #!/usr/bin/env python3
-"""The page in a real browser: each act by mouse and by keys, what is shown, and that the saved file is what border_edit makes."""
+"""The page in a real browser: each act by mouse and by keys, what is shown, and that the saved file is right."""
 import json
 import math
-import os
 import pathlib
 import shutil
 import subprocess
@@ -12,7 +11,7 @@ import traceback
 sys.path.insert(0, str(pathlib.Path(__file__).resolve().parent))
 sys.path.insert(1, str(pathlib.Path(__file__).resolve().parents[1]))
 
-from browser import By, Keys, Page, TOP, new_folder, start_browser
+from browser import By, Keys, Page, new_folder, start_browser
 import programs
 
 EXAMPLES = pathlib.Path(__file__).resolve().parents[2] / "examples"
@@ -27,16 +26,18 @@ TWO_LAYERS = {
         "fields": {"type": "GeometryCollection", "geometries": [
             {"type": "Polygon", "id": "field", "properties": {"kind": "meadow"}, "arcs": [[0, 3, 1]]}]},
     },
-    "arcs": [[[0, 0], [100, 0]], [[100, 100], [0, 100], [0, 0]], [[100, 0], [200, 0], [200, 100], [100, 100]], [[100, 0], [100, 100]]],
+    "arcs": [[[0, 0], [100, 0]], [[100, 100], [0, 100], [0, 0]], [[100, 0], [200, 0], [200, 100], [100, 100]],
+             [[100, 0], [100, 100]]],
 }
 # Texts that a page which takes them for HTML would run.
-ATTACK = "<img src=x onerror=\"window.hit=1\">"
+ATTACK, SCRIPT = "<img src=x onerror=\"window.hit=1\">", "<script>window.hit=2</script>"
 HOSTILE = {
     "type": "Topology",
     "objects": {ATTACK: {"type": "GeometryCollection", "geometries": [
-        {"type": "Polygon", "id": ATTACK, "properties": {ATTACK: ATTACK, "b": "<script>window.hit=2</script>"}, "arcs": [[0, 1]]},
-        {"type": "Polygon", "id": "\"></option><b>", "properties": {ATTACK: "</li><script>window.hit=3</script>"}, "arcs": [[2, -2]]}]}},
-    "arcs": [[[100, 100], [0, 100], [0, 0], [100, 0]], [[100, 0], [100, 100]], [[100, 0], [200, 0], [200, 100], [100, 100]]],
+        {"type": "Polygon", "id": ATTACK, "properties": {ATTACK: ATTACK, "b": SCRIPT}, "arcs": [[0, 1]]},
+        {"type": "Polygon", "id": "\"></option><b>", "properties": {ATTACK: "</li>" + SCRIPT}, "arcs": [[2, -2]]}]}},
+    "arcs": [[[100, 100], [0, 100], [0, 0], [100, 0]], [[100, 0], [100, 100]],
+             [[100, 0], [200, 0], [200, 100], [100, 100]]],
 }
 COUNTS = {"passed": 0, "failed": 0}
 
@@ -78,7 +79,8 @@ def saved_by_program(page, map_path, folder):
     script = folder / "script.txt"
     script.write_text(page.later("editor.talk.text('script')"))
     out = folder / "again.json"
-    done = subprocess.run([BORDER_EDIT, map_path, script, "--out", out, "--undo", "1000"], capture_output=True, text=True)
+    command = [BORDER_EDIT, map_path, script, "--out", out, "--undo", "1000"]
+    done = subprocess.run(command, capture_output=True, text=True)
     return done, out.read_bytes() if out.exists() else None
 
 
@@ -121,12 +123,15 @@ def test_refused(page, x, y):
     page.button("noteShow")
     xs = [page.screen(*pair[i:i + 2]) for i in range(0, 8, 2)]
     width, height = page.js("return [editor.view.width, editor.view.height]")
-    true("“Show the place” shows the whole pair", all(0 <= sx <= width and 80 <= sy <= 90 + height for sx, sy in xs), xs)
+    is_seen = all(0 <= sx <= width and 80 <= sy <= 90 + height for sx, sy in xs)
+    true("“Show the place” shows the whole pair", is_seen, xs)
     page.keys(Keys.ESCAPE)
-    true("Esc hides the note and the red pair", not page.is_shown("note") and page.js("return editor.conflict === null"))
+    is_gone = not page.is_shown("note") and page.js("return editor.conflict === null")
+    true("Esc hides the note and the red pair", is_gone)
     page.go(564300, 121700, 0.05)
     page.later("editor.edit('move 563153 119296 565600 124100')")
-    true("a border that would pass over a vertex is refused", page.last()[1].startswith("refused sweeps"), page.last())
+    answer = page.last()[1]
+    true("a border that would pass over a vertex is refused", answer.startswith("refused sweeps"), answer)
     same("the vertex that it would pass over is marked", page.js("return editor.swept.vertices"), [[565554, 124096]])
     true("and the reason is said", "pass over another vertex" in page.text("note"))
     page.button("noteClose")
@@ -171,15 +176,13 @@ def test_split_and_merge(page):
     page.button("undo")
     same("Undo takes the whole cut back", (verbs(act_of(page)), document(page) == before), (["undo", "undo"], True))
     page.button("redo")
-    same("Redo makes it again, with a new number", (verbs(act_of(page)), page.last()[1]), (["insert", "split"], "ok 50"))
+    same("Redo makes it again, with a new number", [verbs(act_of(page)), page.last()[1]], [["insert", "split"], "ok 50"])
     is_map(page, "a cut made again")
-    centre = "const f = editor.model.features.get(arguments[0]).box; return editor.view.screen((f[0] + f[2]) / 2, (f[1] + f[3]) / 2)"
+    centre = "const b = editor.model.features.get(arguments[0]).box; return [(b[0] + b[2]) / 2, (b[1] + b[3]) / 2]"
     page.js("tools.panel.goTo(50)")
     page.settle()
     page.js("editor.select([8])")
-    left, top = page.js("const r = document.getElementById('map').getBoundingClientRect(); return [r.left, r.top]")
-    x, y = page.js(centre, 50)
-    page.click((round(x + left), round(y + top)), Keys.SHIFT)
+    page.click(page.screen(*page.js(centre, 50)), Keys.SHIFT)
     same("Shift+click selects one more", page.js("return editor.selected"), [8, 50])
     page.button("merge")
     same("Merge joins it to the first one", page.last(), ("merge 8 50", "ok"))
@@ -203,13 +206,14 @@ def test_several_merges(page):
     true("one undo takes it back", document(page) == before)
     page.js("editor.select([39, 40, 0])")
     page.keys("m")
-    true("where one can't be joined nothing is", document(page) == before and "no border in common" in page.text("note"), page.text("note"))
+    true("where one can't be joined nothing is", document(page) == before)
+    true("and the reason is said", "no border in common" in page.text("note"), page.text("note"))
     is_map(page, "a merge that fails half way")
     page.keys(Keys.ESCAPE)
 
 
 def test_reshape(page):
-    """A cut through feature 20 at its border with feature 30, given to it."""
+    """A piece of feature 19 at its border with feature 22 is given to that one."""
     before = document(page)
     ring = json.loads(page.later("editor.talk.ask('rings 19').then(a => a[0])"))[0][0]
     other = json.loads(page.later("editor.talk.ask('rings 22').then(a => a[0])"))[0][0]
@@ -227,7 +231,8 @@ def test_reshape(page):
         page.click(page.screen(*at))
     lines = act_of(page)
     same("a reshape is a cut and a merge in one act", verbs(lines), ["split", "merge"])
-    same("the part goes to the neighbour at that border", (lines[0].split()[1], lines[1].split()[:2]), ("19", ["merge", "22"]))
+    same("it is cut from the feature in which the line runs", lines[0].split()[:2], ["split", "19"])
+    same("the part goes to the neighbour at that border", lines[1].split()[:2], ["merge", "22"])
     is_map(page, "a reshape")
     area = [int(text) for text in page.later("editor.talk.ask('area 19', 'area 22')")]
     page.keys(Keys.CONTROL, "z")
@@ -245,7 +250,8 @@ def test_names_and_deleting(page):
     same("Rename", page.last(), ('rename 10 "ten"', "ok"))
     page.js("editor.select([20])")
     page.keys(Keys.SHIFT, Keys.DELETE)
-    same("Shift+Delete deletes the feature", (page.last(), page.js("return editor.model.features.has(20)")), (("delete 20", "ok"), False))
+    same("Shift+Delete deletes the feature", page.last(), ("delete 20", "ok"))
+    same("it is not drawn any more", page.js("return editor.model.features.has(20)"), False)
     page.keys(Keys.CONTROL, "z")
     true("Undo brings it back", page.js("return editor.model.features.has(20)"))
     is_map(page, "deleting")
@@ -253,8 +259,8 @@ def test_names_and_deleting(page):
 
 def slide_to(page, share):
     """Moves the slider of the thinning, and waits for the map."""
-    page.js("const s = document.getElementById('thinShare'); s.value = arguments[0]; s.dispatchEvent(new Event('input')); "
-            "s.dispatchEvent(new Event('change'))", share)
+    page.js("const s = document.getElementById('thinShare'); s.value = arguments[0]; "
+            "s.dispatchEvent(new Event('input')); s.dispatchEvent(new Event('change'))", share)
     page.wait("document.getElementById('thinBusy').hidden")
     page.settle()
 
@@ -267,7 +273,8 @@ def test_thinning(page):
     left = page.js("return editor.vertices")
     true("half of the vertices are left, or a few less", 0.3 * vertices < left <= 0.5 * vertices, (left, vertices))
     same("the bounds rise", act_of(page)[:8], [f"thin {t}" for t in (0, 1, 2, 3, 4, 6, 8, 12)])
-    true("the page says how many are left", f"{left:,} of {vertices:,}" in page.text("thinLeft"), page.text("thinLeft"))
+    said = page.text("thinLeft")
+    true("the page says how many are left", f"{left:,} of {vertices:,}" in said, said)
     is_map(page, "thinning")
     slide_to(page, 80)
     true("the slider goes back too", 0.5 * vertices < page.js("return editor.vertices") <= 0.8 * vertices)
@@ -308,7 +315,8 @@ def test_measuring(page):
 
 
 def unload_asks(page):
-    return page.js("const e = new Event('beforeunload', {cancelable: true}); window.dispatchEvent(e); return e.defaultPrevented")
+    return page.js("const event = new Event('beforeunload', {cancelable: true}); "
+                   "window.dispatchEvent(event); return event.defaultPrevented")
 
 
 def test_saving(page, map_path, out, folder):
@@ -320,12 +328,17 @@ def test_saving(page, map_path, out, folder):
     same("the script runs without a refusal", (done.returncode, "refused" in done.stdout), (0, False))
     true("the saved file is byte for byte what border_edit makes of the script", out.read_bytes() == text)
     true("closing the tab does not ask any more", not unload_asks(page))
+
+
+def test_saving_troubles(page, out):
+    """Another program changes the file, and the folder is gone."""
     out.write_bytes(out.read_bytes() + b"\n")
     page.js("editor.select([3])")
     page.later("editor.edit('rename 3 \"three\"')")
     page.button("save")
     page.wait("document.getElementById('ask').open")
-    true("a file that another program changed is asked for", "changed by another program" in page.text("askText"), page.text("askText"))
+    said = page.text("askText")
+    true("a file that another program changed is asked for", "changed by another program" in said, said)
     page.button("askNo")
     true("“Cancel” leaves it", out.read_bytes().endswith(b"\n") and page.js("return editor.isUnsaved"))
     page.button("save")
@@ -338,7 +351,9 @@ def test_saving(page, map_path, out, folder):
     out.parent.rename(away)
     page.button("save")
     page.wait("document.getElementById('note').className === ''")
-    true("no folder: the page says why it is not saved", "Not saved" in page.text("note") and page.js("return editor.isUnsaved"), page.text("note"))
+    true("no folder: the page says that it is not saved", "Not saved" in page.text("note"), page.text("note"))
+    true("and why", "there is no folder" in page.text("note"), page.text("note"))
+    true("the changes stay unsaved", page.js("return editor.isUnsaved"))
     away.rename(out.parent)
     page.button("save")
     page.wait("!editor.isUnsaved")
@@ -399,7 +414,15 @@ def test_server_gone(page):
 
 # ---- layers, colours, names, hostile texts
 
+def choose(page, name, value):
+    """Takes one of the choices of a list."""
+    page.js("const list = document.getElementById(arguments[0]); list.value = arguments[1]; "
+            "list.dispatchEvent(new Event('change'))", name, value)
+    page.settle()
+
+
 def test_layers(page):
+    page.load()
     rows = page.js("return [...document.querySelectorAll('#layerList tr')].slice(1).map(r => r.cells[0].textContent)")
     same("the layers stand in a list", rows, ["zones2 features", "fields1 feature"])
     at = page.screen(50, 50)
@@ -420,27 +443,29 @@ def test_layers(page):
     same("and not drawn", page.js("return editor.model.featuresIn(editor.model.extent())"), [2])
     boxes[0].click()
     page.settle()
-    page.js("const s = document.getElementById('nameBy'); s.value = '=name'; s.dispatchEvent(new Event('change'))")
+    choose(page, "nameBy", "=name")
     page.click(page.screen(150, 50))
     same("a property is the name", page.js("return document.querySelector('#info h3').textContent"), "East Zone")
     page.keys("/")
-    same("the search knows it", page.js("return [...document.querySelectorAll('#ids option')].map(o => o.value)"), ["West Zone", "East Zone", "#2"])
+    names = page.js("return [...document.querySelectorAll('#ids option')].map(o => o.value)")
+    same("the search knows it", names, ["West Zone", "East Zone", "#2"])
     page.keys(Keys.ESCAPE)
-    page.js("const s = document.getElementById('colourBy'); s.value = '=people'; s.dispatchEvent(new Event('change'))")
+    choose(page, "colourBy", "=people")
     page.settle()
     legend = page.js("return [...document.querySelectorAll('#legend li')].map(r => r.children[1].textContent)")
     same("a legend of numbers, and of those without", legend, ["10", "200", "no value"])
     colours = page.js("return [...document.querySelectorAll('#legend i')].map(i => i.style.backgroundColor)")
     same("as many colours", len(set(colours)), 3)
-    pixel = "const v = editor.view, [x, y] = v.screen(...arguments), d = v.ctx.getImageData(x * v.ratio, y * v.ratio, 1, 1).data; " \
-            "return `rgb(${d[0]}, ${d[1]}, ${d[2]})`"
+    pixel = ("const v = editor.view, [x, y] = v.screen(...arguments); "
+             "const d = v.ctx.getImageData(x * v.ratio, y * v.ratio, 1, 1).data; return `rgb(${d[0]}, ${d[1]}, ${d[2]})`")
     same("the feature has the colour of the legend", page.js(pixel, 170, 80), colours[1])
-    page.js("const s = document.getElementById('colourBy'); s.value = ''; s.dispatchEvent(new Event('change'))")
+    choose(page, "colourBy", "")
     page.settle()
     same("no colours: no legend", page.js("return document.getElementById('legend').children.length"), 0)
 
 
 def test_hostile(page):
+    page.load()
     page.click(page.screen(50, 50))
     page.click(page.screen(150, 50), Keys.SHIFT)
     page.js("editor.select([0])")
@@ -448,7 +473,7 @@ def test_hostile(page):
     page.wait("document.querySelector('#info h3')")
     same("an id is shown as text", page.js("return document.querySelector('#info h3').textContent"), ATTACK)
     for choice in ("nameBy", "colourBy"):
-        page.js("const s = document.getElementById(arguments[0]); s.value = '=' + arguments[1]; s.dispatchEvent(new Event('change'))", choice, ATTACK)
+        choose(page, choice, "=" + ATTACK)
     page.settle()
     page.js("editor.select([1])")
     page.keys(Keys.F2)
@@ -457,7 +482,7 @@ def test_hostile(page):
     page.keys("/")
     page.type(ATTACK + Keys.ENTER)
     page.settle()
-    found = page.js("return document.querySelectorAll('aside img, aside script, aside b, datalist img, select img, dialog img, footer img').length")
+    found = page.js("return document.querySelectorAll('img:not(#pictureImage), body script, aside b').length")
     same("no text becomes an element", found, 0)
     same("nothing runs", page.js("return window.hit || 0"), 0)
 
@@ -469,7 +494,8 @@ def test_mending(page, out):
     page.wait("document.getElementById('pictureImage').complete")
     true("the fault is said in words", "cross or lie on each other" in page.text("mendFault"), page.text("mendFault"))
     lines = page.js("return [...document.querySelectorAll('#findings code')].map(c => c.textContent)")
-    same("all findings are listed", lines, ["on 770 1130 / 760 860 780 1400", "cross 760 860 1400 840 / 960 870 1180 830"])
+    findings = ["on 770 1130 / 760 860 780 1400", "cross 760 860 1400 840 / 960 870 1180 830"]
+    same("all findings are listed", lines, findings)
     true("in words too", "The vertex 770 1130 lies on the border" in page.text("findings"))
     true("a picture is shown", page.js("return document.getElementById('pictureImage').naturalWidth") > 0)
     same("Mend has the focus", page.js("return document.activeElement.id"), "mend")
@@ -478,11 +504,13 @@ def test_mending(page, out):
     true("the report says what mending did", "has new vertices" in page.text("askReport"), page.text("askReport"))
     page.element("askYes").click()
     page.settle()
-    true("the map is open, with unsaved changes", page.js("return editor.model.features.size === 4 && editor.isUnsaved"))
+    state = page.js("return [editor.model.features.size, editor.isUnsaved]")
+    same("the map is open, with unsaved changes", state, [4, True])
     is_map(page, "mending")
     page.keys(Keys.CONTROL, "s")
     page.wait("!editor.isUnsaved")
-    done = subprocess.run([BORDER_EDIT, out, "-", "--out", out.with_suffix(".end")], input="count\n", capture_output=True, text=True)
+    command = [BORDER_EDIT, out, "-", "--out", out.with_suffix(".end")]
+    done = subprocess.run(command, input="count\n", capture_output=True, text=True)
     true("the saved map opens", done.stdout.startswith("features 4 "), done.stderr)
 
 
@@ -595,7 +623,7 @@ def test_keys_reshape(page):
 
 def cursor_to(page, at):
     """Moves the cursor near a position of the grid with arrows."""
-    x, y = page.js("const [x, y] = editor.view.screen(...arguments); return [x - tools.pointer.x, y - tools.pointer.y]", *at)
+    x, y = page.js("const [x, y] = editor.view.screen(...arguments), p = tools.pointer; return [x - p.x, y - p.y]", *at)
     steps(page, Keys.ARROW_RIGHT if x > 0 else Keys.ARROW_LEFT, round(abs(x) / 12))
     steps(page, Keys.ARROW_DOWN if y > 0 else Keys.ARROW_UP, round(abs(y) / 12))
 
@@ -653,14 +681,18 @@ def test_focus(page):
     reached, shown = [], []
     for _ in range(40):
         page.chain().send_keys(Keys.TAB).perform()
-        name, outline = page.js("const e = document.activeElement; return [e.id || e.tagName, getComputedStyle(e).outlineStyle]")
+        name, outline = page.js("const e = document.activeElement; "
+                                "return [e.id || e.tagName, getComputedStyle(e).outlineStyle]")
         reached.append(name)
         shown.append((name, outline))
-    wanted = {"underlay", "script", "download", "helpOpen", "undo", "cut", "reshape", "thin", "measure", "zoomIn", "fit", "map", "tabLayers", "nameBy", "colourBy"}
+    wanted = {"underlay", "script", "download", "helpOpen", "undo", "cut", "reshape", "thin", "measure", "zoomIn", "fit",
+              "map", "tabLayers", "nameBy", "colourBy"}
     same("Tab reaches all", wanted - set(reached), set())
-    same("the focus is seen", [name for name, outline in shown if outline == "none" and name not in ("BODY", "HTML")], [])
-    unnamed = page.js("return [...document.querySelectorAll('button, input, select')].filter(e => !e.textContent.trim() && !e.getAttribute('aria-label') "
-                      "&& !e.getAttribute('aria-labelledby') && !e.labels?.length).map(e => e.id)")
+    unseen = [name for name, outline in shown if outline == "none" and name not in ("BODY", "HTML")]
+    same("the focus is seen", unseen, [])
+    unnamed = page.js("return [...document.querySelectorAll('button, input, select')].filter(e => !e.textContent.trim() "
+                      "&& !e.getAttribute('aria-label') && !e.getAttribute('aria-labelledby') && !e.labels?.length)"
+                      ".map(e => e.id)")
     same("all have names", unnamed, [])
 
 
@@ -700,51 +732,53 @@ def put(folder, name, text):
 
 def run_all(driver, folder, downloads):
     columbus = shutil.copy(EXAMPLES / "columbus.json", folder / "columbus.json")
-    (folder / "saved").mkdir()
-    out = folder / "saved/out.json"
+    saved, mended = folder / "saved/out.json", folder / "mended.json"
+    saved.parent.mkdir()
 
     def by_mouse(page):
-        page.load()
-        test_refused(page, *test_dragging(page))
-        test_vertices(page)
-        test_split_and_merge(page)
-        test_several_merges(page)
-        test_reshape(page)
-        test_names_and_deleting(page)
-        test_thinning(page)
-        test_measuring(page)
-        test_saving(page, columbus, out, folder)
-        test_loading_again(page)
-        test_downloads(page, downloads)
-        # saving was refused three times, which the browser writes there
-        same("nothing else is written on the console", [text for text in page.errors() if "/save" not in text], [])
-        test_two_tabs(page)
-        test_server_gone(page)
+        edits_by_mouse(page)
+        files_and_tabs(page, columbus, saved, folder, downloads)
 
-    def by_keys(page):
-        page.load()
-        test_keys_vertices(page)
-        test_keys_features(page)
-        test_keys_reshape(page)
-        test_keys_merge(page)
-        test_keys_rest(page)
-        test_focus(page)
-
-    def layers(page):
-        page.load()
-        test_layers(page)
-
-    def hostile(page):
-        page.load()
-        test_hostile(page)
-
-    with_page(driver, columbus, ["--out", out], by_mouse)
+    with_page(driver, columbus, ["--out", saved], by_mouse)
     with_page(driver, columbus, ["--out", folder / "keys.json"], by_keys)
-    with_page(driver, put(folder, "layers.json", TWO_LAYERS), [], layers)
-    with_page(driver, put(folder, "hostile.json", HOSTILE), [], hostile)
+    with_page(driver, put(folder, "layers.json", TWO_LAYERS), [], test_layers)
+    with_page(driver, put(folder, "hostile.json", HOSTILE), [], test_hostile)
     wards = shutil.copy(EXAMPLES / "wards.json", folder / "wards.json")
-    with_page(driver, wards, ["--out", folder / "mended.json"], lambda page: test_mending(page, folder / "mended.json"))
+    with_page(driver, wards, ["--out", mended], lambda page: test_mending(page, mended))
     with_page(driver, put(folder, "broken.json", '{"type":"Topology",'), [], test_not_mendable)
+
+
+def edits_by_mouse(page):
+    page.load()
+    test_refused(page, *test_dragging(page))
+    test_vertices(page)
+    test_split_and_merge(page)
+    test_several_merges(page)
+    test_reshape(page)
+    test_names_and_deleting(page)
+    test_thinning(page)
+    test_measuring(page)
+
+
+def files_and_tabs(page, map_path, out, folder, downloads):
+    test_saving(page, map_path, out, folder)
+    test_saving_troubles(page, out)
+    test_loading_again(page)
+    test_downloads(page, downloads)
+    # saving was refused three times, which the browser writes there
+    same("nothing else is written on the console", [text for text in page.errors() if "/save" not in text], [])
+    test_two_tabs(page)
+    test_server_gone(page)
+
+
+def by_keys(page):
+    page.load()
+    test_keys_vertices(page)
+    test_keys_features(page)
+    test_keys_reshape(page)
+    test_keys_merge(page)
+    test_keys_rest(page)
+    test_focus(page)
 
 
 if __name__ == "__main__":

@@ -32,6 +32,51 @@ export class Refusal extends Error {
 export class Stopped extends Error {}
 
 export class Editor {
+  /** @type {Model} */
+  model = /** @type {any} */ (null);
+  history = new History();
+  /** @type {LogEntry[]} */
+  log = [];
+  /**
+   * numbers of selected features, in order
+   * @type {number[]}
+   */
+  selected = [];
+  /**
+   * two segments in conflict
+   * @type {number[][] | null}
+   */
+  conflict = null;
+  /**
+   * triangles that a refused edit would pass over, and the vertices in them
+   * @type {import("./swept.js").Swept | null}
+   */
+  swept = null;
+  isUnsaved = false;
+  isClosed = false;
+  /** whether edits wait, since a thinning is shown that is not kept yet */
+  isLocked = false;
+  /** features at the start of the session, and vertices now */
+  count = 0;
+  vertices = 0;
+  nextAct = 1;
+  /**
+   * the newest act under way, and how many there are
+   * @type {Promise<any>}
+   */
+  turn = Promise.resolve();
+  pending = 0;
+  /**
+   * called when the state is another one, with an entry of the log where there is a new one
+   * @type {((entry?: LogEntry) => void)[]}
+   */
+  watchers = [];
+  /**
+   * called with a refusal, an act that was stopped, or a fault of the server
+   * @type {(fault: Refusal | Stopped | TalkFault) => void}
+   */
+  onFault = () => undefined;
+
   /**
    * @param {import("./talk.js").Talk} talk
    * @param {import("./view.js").View} view
@@ -39,50 +84,6 @@ export class Editor {
   constructor(talk, view) {
     this.talk = talk;
     this.view = view;
-    /** @type {Model} */
-    this.model = /** @type {any} */ (null);
-    this.history = new History();
-    /** @type {LogEntry[]} */
-    this.log = [];
-    /**
-     * numbers of selected features, in order
-     * @type {number[]}
-     */
-    this.selected = [];
-    /**
-     * two segments in conflict
-     * @type {number[][] | null}
-     */
-    this.conflict = null;
-    /**
-     * triangles that a refused edit would pass over, and the vertices in them
-     * @type {{triangles: number[][], vertices: [number, number][]} | null}
-     */
-    this.swept = null;
-    this.isUnsaved = false;
-    this.isClosed = false;
-    /** whether edits wait, since a thinning is shown that is not kept yet */
-    this.isLocked = false;
-    /** features at the start of the session */
-    this.count = 0;
-    this.vertices = 0;
-    this.nextAct = 1;
-    /**
-     * the newest act under way, and how many there are
-     * @type {Promise<any>}
-     */
-    this.turn = Promise.resolve();
-    this.pending = 0;
-    /**
-     * calls when the state is another one, with an entry of the log where there is a new one
-     * @type {((entry?: LogEntry) => void)[]}
-     */
-    this.watchers = [];
-    /**
-     * calls with a refusal, an act that was stopped, or a fault of the server
-     * @type {(fault: Refusal | Stopped | TalkFault) => void}
-     */
-    this.onFault = () => undefined;
   }
 
   get canEdit() { return !this.isClosed && !this.isLocked; }
@@ -149,7 +150,8 @@ export class Editor {
   edit(line) { return this.perform(send => send(line)); }
 
   /**
-   * Does the steps of an act, and takes all back where one is refused. After a fault of the server what was done before it stays.
+   * Does the steps of an act, and takes all back where one is refused. After a fault of the server what was done before it
+   * stays.
    * @param {Run} run
    * @param {() => Promise<any>} steps
    */
@@ -165,7 +167,9 @@ export class Editor {
       } catch (other) {
         this.fail(other);
       }
-      if (fault instanceof Refusal) this.refuse(fault); else if (fault instanceof Stopped) this.onFault(fault); else this.fail(fault);
+      if (fault instanceof Refusal) this.refuse(fault);
+      else if (fault instanceof Stopped) this.onFault(fault);
+      else this.fail(fault);
       return false;
     }
   }
@@ -181,7 +185,9 @@ export class Editor {
     this.enter(said);
     const { answers, accepted } = said;
     if (!accepted) throw new Refusal(lines[answers.length - 1], answers[answers.length - 1]);
-    for (let i = 0; i < lines.length; i++) if (isChange(answers[i])) await this.follow(run, { line: lines[i], answer: answers[i] });
+    for (let i = 0; i < lines.length; i++) {
+      if (isChange(answers[i])) await this.follow(run, { line: lines[i], answer: answers[i] });
+    }
     return answers;
   }
 
@@ -203,19 +209,24 @@ export class Editor {
   async follow(run, entry) {
     run.entries.push(entry);
     if (run.isStale || entry.line.startsWith("thin ")) { run.isStale = true; return; }
-    const part = partOf(entry);
-    let rings = null;
-    if (part !== null) {
-      const old = this.model.features.get(splitWords(entry.line).num);
-      if (old && old.polygons.some(polygon => polygon.length > 1)) rings = JSON.parse((await this.talk.ask(`rings ${part}`))[0]);
-    }
     try {
-      this.model.apply(entry.line, entry.answer, rings);
+      this.model.apply(entry.line, entry.answer, await this.ringsOfPart(entry));
       run.records++;
     } catch (fault) {
       console.error(fault);
       run.isStale = true;
     }
+  }
+
+  /**
+   * What the model needs to know of a part that was cut off: its rings, where the feature had holes.
+   * @param {Entry} entry
+   * @returns {Promise<number[][][][] | null>}
+   */
+  async ringsOfPart(entry) {
+    const part = partOf(entry), old = part === null ? undefined : this.model.features.get(splitWords(entry.line).num);
+    if (!old || !old.polygons.some(polygon => polygon.length > 1)) return null;
+    return JSON.parse((await this.talk.ask(`rings ${part}`))[0]);
   }
 
   /**
@@ -233,7 +244,7 @@ export class Editor {
     this.view.change();
   }
 
-  /** Asks for the counts, and loads the text where they are not those of the model: a mistake of the page would show here. */
+  /** Asks for the counts, and loads the text where they are not those of the model: a mistake of the page shows here. */
   async recount() {
     const [features, vertices, segments] = (await this.talk.ask("count"))[0].split(" ").filter((_, i) => i % 2).map(Number);
     this.vertices = vertices;

@@ -106,9 +106,9 @@ export class Features {
       const ring = model.positions(polygon[0]);
       const [from, to] = ends.map(end => placeIn(ring, end));
       if (from < 0 || to < 0) continue;
-      const inner = path.flatMap(point => [point.x, point.y]), back = path.slice().reverse().flatMap(point => [point.x, point.y]);
-      const first = [...stretch(ring, from, to), ...back], second = [...stretch(ring, to, from), ...inner];
-      return Math.abs(twiceArea(second)) <= Math.abs(twiceArea(first)) ? path : path.slice().reverse();
+      const back = path.slice().reverse();
+      const first = [...stretch(ring, from, to), ...wayOf(back)], second = [...stretch(ring, to, from), ...wayOf(path)];
+      return Math.abs(twiceArea(second)) <= Math.abs(twiceArea(first)) ? path : back;
     }
     return path;
   }
@@ -130,6 +130,9 @@ export class Features {
     return near[chosen];
   }
 }
+
+/** @param {PathPoint[]} path */
+const wayOf = path => path.flatMap(({ x, y }) => [x, y]);
 
 /**
  * Where a position stands in a ring; below 0 where it does not.

@@ -33,7 +33,8 @@ export class Keys {
       F2: () => { if (editor.canEdit) features.rename(); },
       t: () => { if (editor.canEdit) acts.thin(); },
       f: () => view.fit(editor.model.extent()),
-      "/": () => by("find").focus(), "?": () => showHelp(), "+": () => zoom(1.5), "=": () => zoom(1.5), "-": () => zoom(1 / 1.5),
+      "/": () => by("find").focus(), "?": () => showHelp(),
+      "+": () => zoom(1.5), "=": () => zoom(1.5), "-": () => zoom(1 / 1.5),
       Escape: () => this.stop(),
       Delete: e => { if (e.shiftKey) this.remove(); },
     };
@@ -59,7 +60,7 @@ export class Keys {
     const key = e.key.length === 1 ? e.key.toLowerCase() : e.key;
     if (e.ctrlKey || e.metaKey) { this.pressWithCtrl(e, key); return; }
     if (e.altKey) return;
-    const isField = target.matches("input, select, textarea"), isOnMap = target === map || target === document.body;
+    const isField = target.matches("input, select, textarea"), isOnMap = this.isOnMap(target);
     if (isField) { if (key === "Escape") { if (!this.acts.discard()) map.focus(); } return; }
     if (isOnMap && ARROWS[key]) { e.preventDefault(); this.arrow(ARROWS[key], e.shiftKey, false); return; }
     const does = isOnMap ? this.onMap[key] ?? this.anywhere[key] : this.anywhere[key];
@@ -69,13 +70,16 @@ export class Keys {
     editor.view.redrawOver();
   }
 
+  /** @param {HTMLElement} target */
+  isOnMap(target) { return target === this.tools.map || target === document.body; }
+
   /**
    * @param {KeyboardEvent} e
    * @param {string} key
    */
   pressWithCtrl(e, key) {
-    const { editor, map } = this.tools, target = /** @type {HTMLElement} */ (e.target);
-    if (ARROWS[key] && (target === map || target === document.body)) { e.preventDefault(); this.arrow(ARROWS[key], false, true); return; }
+    const { editor } = this.tools, target = /** @type {HTMLElement} */ (e.target);
+    if (ARROWS[key] && this.isOnMap(target)) { e.preventDefault(); this.arrow(ARROWS[key], false, true); return; }
     if (key === "s") { e.preventDefault(); this.acts.save(); return; }
     if (target.matches("input[type=search], dialog input")) return;
     const isUndo = key === "z" && !e.shiftKey, isRedo = key === "y" || (key === "z" && e.shiftKey);
@@ -105,7 +109,8 @@ export class Keys {
   /** The map moves along where the cursor comes near an edge. */
   keepInSight() {
     const { pointer, view } = this.tools;
-    const x = Math.min(Math.max(pointer.x, EDGE), view.width - EDGE), y = Math.min(Math.max(pointer.y, EDGE), view.height - EDGE);
+    const within = (/** @type {number} */ v, /** @type {number} */ size) => Math.min(Math.max(v, EDGE), size - EDGE);
+    const x = within(pointer.x, view.width), y = within(pointer.y, view.height);
     if (x === pointer.x && y === pointer.y) return;
     view.pan(x - pointer.x, y - pointer.y);
     pointer.x = x;

@@ -70,7 +70,8 @@ export class Layers {
     const show = this.box(TEXT.layerOption(TEXT.layerShown, name), isOn => this.show(i, isOn));
     const hit = this.box(TEXT.layerOption(TEXT.layerHit, name), isOn => { this.rows[i].isHit = isOn; });
     show.checked = model.layers[i].isShown;
-    return make("tr", [make("td", [document.createTextNode(name), this.rows[i].count]), make("td", [show]), make("td", [hit])]);
+    const head = make("td", [document.createTextNode(name), this.rows[i].count]);
+    return make("tr", [head, make("td", [show]), make("td", [hit])]);
   }
 
   /**
@@ -103,12 +104,12 @@ export class Layers {
    * @param {string[]} names
    */
   fillChoice(id, none, names) {
-    const option = (/** @type {string} */ text, /** @type {string} */ value) => { const o = make("option", text); o.value = value; return o; };
     by(id).replaceChildren(option(none, ""), ...names.map(name => option(name, `=${name}`)));
   }
 
   tellCounts() {
-    this.editor.model.layerSizes().forEach((size, i) => { if (this.rows[i]) this.rows[i].count.textContent = TEXT.layerCount(size); });
+    const sizes = this.editor.model.layerSizes();
+    this.rows.forEach(({ count }, i) => { count.textContent = TEXT.layerCount(sizes[i]); });
   }
 
   // ---- names and colours
@@ -142,11 +143,30 @@ export class Layers {
   }
 
   /** @param {import("./colours.js").Entry} entry */
-  legendRow({ colour, kind, label, least, greatest, count }) {
+  legendRow(entry) {
     const swatch = make("i");
-    swatch.style.background = colour;
-    const number = (/** @type {number | undefined} */ n) => (n ?? NaN).toLocaleString("en", { maximumSignificantDigits: 6 });
-    const text = kind === "class" ? TEXT.range(number(least), number(greatest)) : kind === "other" ? TEXT.otherValues : kind === "none" ? TEXT.noValue : label;
-    return make("li", [swatch, make("span", text), make("span", TEXT.legendCount(count), "dim")]);
+    swatch.style.background = entry.colour;
+    return make("li", [swatch, make("span", legendText(entry)), make("span", TEXT.legendCount(entry.count), "dim")]);
+  }
+}
+
+/**
+ * @param {string} text
+ * @param {string} value
+ */
+function option(text, value) {
+  const element = make("option", text);
+  element.value = value;
+  return element;
+}
+
+/** @param {import("./colours.js").Entry} entry */
+function legendText({ kind, label, least = NaN, greatest = NaN }) {
+  const number = (/** @type {number} */ n) => n.toLocaleString("en", { maximumSignificantDigits: 6 });
+  switch (kind) {
+    case "class": return TEXT.range(number(least), number(greatest));
+    case "other": return TEXT.otherValues;
+    case "none": return TEXT.noValue;
+    default: return label;
   }
 }

@@ -117,7 +117,9 @@ function wireFind(panel, tools) {
   by("find").addEventListener("focus", () => { panel.fillNames(); by("find").select(); });
   by("find").addEventListener("keydown", (/** @type {KeyboardEvent} */ e) => { if (e.key === "Enter") find(); });
   // one of the names that the browser proposes
-  by("find").addEventListener("input", (/** @type {InputEvent} */ e) => { if (e.inputType === "insertReplacementText") find(); });
+  by("find").addEventListener("input", (/** @type {InputEvent} */ e) => {
+    if (e.inputType === "insertReplacementText") find();
+  });
 }
 
 /** The lists beside the map: one is shown, arrows go from tab to tab. */

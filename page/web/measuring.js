@@ -25,7 +25,10 @@ export class Measuring {
    * An outline that was drawn.
    * @param {number[]} way
    */
-  outline(way) { return TEXT.measuredArea(this.length([...way, way[0], way[1]]), `${readable(this.units.area(way))} ${TEXT.square(this.unit)}`); }
+  outline(way) { return TEXT.measuredArea(this.length([...way, way[0], way[1]]), this.squares(this.units.area(way))); }
+
+  /** @param {number} area */
+  squares(area) { return `${readable(area)} ${TEXT.square(this.unit)}`; }
 
   /** @param {number[]} way */
   length(way) {
@@ -39,7 +42,7 @@ export class Measuring {
    * @param {string} twice twice the area in squares of the grid, exactly
    */
   area(num, twice) {
-    const own = `${readable(this.units.areaOfTwice(Number(twice)))} ${TEXT.square(this.unit)}`, feature = this.model.features.get(num);
+    const own = this.squares(this.units.areaOfTwice(Number(twice))), feature = this.model.features.get(num);
     if (!this.model.isDegrees || !feature) return own;
     return TEXT.ifDegrees(own, `${readable(areaOfFeature(this.model, feature).value)} km²`);
   }

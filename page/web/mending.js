@@ -18,7 +18,10 @@ export class Mending {
     this.scale = 1;
     by("mendForm").addEventListener("submit", (/** @type {Event} */ e) => { e.preventDefault(); this.mend(); });
     by("picture").addEventListener("wheel", (/** @type {WheelEvent} */ e) => this.wheel(e), { passive: false });
-    by("pictureImage").addEventListener("error", () => { by("pictureImage").hidden = true; by("pictureNone").hidden = false; });
+    by("pictureImage").addEventListener("error", () => {
+      by("pictureImage").hidden = true;
+      by("pictureNone").hidden = false;
+    });
   }
 
   /** @param {import("./talk.js").Began} began */
@@ -31,7 +34,8 @@ export class Mending {
     const findings = began.findings.filter(line => !line.startsWith("counts"));
     by("mendCount").textContent = findings.length ? TEXT.mendCount(findings.length) : "";
     by("findings").hidden = !findings.length;
-    by("findings").replaceChildren(...findings.map(line => make("li", [make("span", findingText(line)), make("code", line)])));
+    const item = (/** @type {string} */ line) => make("li", [make("span", findingText(line)), make("code", line)]);
+    by("findings").replaceChildren(...findings.map(item));
     by("mendForm").hidden = !began.mendable;
     by("mendNot").hidden = began.mendable;
     by("mend").focus();

@@ -7,7 +7,8 @@ import { conflictOf } from "./words.js";
 /** @typedef {CanvasRenderingContext2D} Canvas */
 
 const RED = "#d21f1f", BLUE = "#1669c9", LINE = "#5b5751", PALE = "rgba(90,90,90,0.35)";
-const SELECTED = "rgba(30,110,210,0.22)", HOVER = "rgba(240,180,40,0.25)", CURSOR = "#23272e", INSIDE = "rgba(22,105,201,0.12)";
+const SELECTED = "rgba(30,110,210,0.22)", HOVER = "rgba(240,180,40,0.25)", INSIDE = "rgba(22,105,201,0.12)";
+const CURSOR = "#23272e";
 
 /**
  * @param {Canvas} ctx
@@ -16,7 +17,8 @@ const SELECTED = "rgba(30,110,210,0.22)", HOVER = "rgba(240,180,40,0.25)", CURSO
 export function paint(ctx, tools) {
   const { view, editor } = tools;
   if (!editor.model) return;
-  const carried = tools.drag?.kind === "vertex" ? tools.drag : tools.held, moved = carried && carried.isMoved ? carried : null;
+  const carried = tools.drag?.kind === "vertex" ? tools.drag : tools.held;
+  const moved = carried && carried.isMoved ? carried : null;
   view.moved = moved;
   paintFeatures(ctx, tools);
   view.moved = null;

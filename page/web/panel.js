@@ -98,7 +98,8 @@ export class Panel {
     const at = conflict ? conflict.flat() : (swept ? [...swept.triangles.flat(), ...swept.vertices.flat()] : []);
     if (!at.length) return;
     const xs = at.filter((_, i) => i % 2 === 0), ys = at.filter((_, i) => i % 2);
-    const [x0, x1, y0, y1] = [Math.min(...xs), Math.max(...xs), Math.min(...ys), Math.max(...ys)], edge = Math.max(x1 - x0, y1 - y0, 4) / 2;
+    const [x0, x1, y0, y1] = [Math.min(...xs), Math.max(...xs), Math.min(...ys), Math.max(...ys)];
+    const edge = Math.max(x1 - x0, y1 - y0, 4) / 2;
     view.fit([x0 - edge, y0 - edge, x1 + edge, y1 + edge]);
     by("map").focus();
   }
@@ -135,11 +136,18 @@ export class Panel {
     by("delete").disabled = !canEdit || !selected.length;
     for (const id of ["cut", "reshape", "thin"]) by(id).disabled = !canEdit;
     by("save").disabled = !canEdit || !editor.isUnsaved;
-    by("state").textContent = editor.isClosed ? TEXT.closed : editor.isUnsaved ? TEXT.stateUnsaved : editor.log.length ? TEXT.stateSaved : TEXT.stateUntouched;
+    by("state").textContent = this.state();
     by("state").classList.toggle("unsaved", editor.isUnsaved);
     by("counts").textContent = TEXT.counts(editor.model.features.size, editor.vertices);
     this.layers.tellCounts();
     this.showInfo().catch(fault => editor.fail(fault));
+  }
+
+  state() {
+    const { isClosed, isUnsaved, log } = this.editor;
+    if (isClosed) return TEXT.closed;
+    if (isUnsaved) return TEXT.stateUnsaved;
+    return log.length ? TEXT.stateSaved : TEXT.stateUntouched;
   }
 
   /** @param {number} num */
@@ -150,10 +158,12 @@ export class Panel {
     if (key === this.infoKey) return;
     this.infoKey = key;
     const info = by("info");
-    if (!selected.length) { info.replaceChildren(make("p", TEXT.nothingSelected), make("p", TEXT.howToEdit, "dim")); return; }
-    if (selected.length > 1) { info.replaceChildren(...this.many(selected)); return; }
-    const [num] = selected, [area, near] = await Promise.all([this.editor.talk.ask(`area ${num}`), this.editor.neighboursOf(num)]);
-    if (key === this.infoKey) info.replaceChildren(...this.one(num, area[0], near));
+    if (!selected.length) info.replaceChildren(make("p", TEXT.nothingSelected), make("p", TEXT.howToEdit, "dim"));
+    else if (selected.length > 1) info.replaceChildren(...this.many(selected));
+    else {
+      const [num] = selected, [area] = await this.editor.talk.ask(`area ${num}`), near = await this.editor.neighboursOf(num);
+      if (key === this.infoKey) info.replaceChildren(...this.one(num, area, near));
+    }
   }
 
   /** @param {number[]} numbers */
@@ -181,8 +191,10 @@ export class Panel {
       [TEXT.rowNeighbours, this.links(near)],
     ];
     const own = feature.properties && typeof feature.properties === "object" ? Object.entries(feature.properties) : [];
-    const properties = own.slice(0, MOST_PROPERTIES).map(([name, value]) => [name, typeof value === "string" ? value : JSON.stringify(value)]);
-    return [make("h3", this.nameOf(num)), table(rows), make("h4", properties.length ? TEXT.properties : TEXT.noProperties), table(properties)];
+    const text = (/** @type {any} */ value) => typeof value === "string" ? value : JSON.stringify(value);
+    const properties = own.slice(0, MOST_PROPERTIES).map(([name, value]) => [name, text(value)]);
+    const head = make("h4", properties.length ? TEXT.properties : TEXT.noProperties);
+    return [make("h3", this.nameOf(num)), table(rows), head, table(properties)];
   }
 
   /** @param {number[]} numbers */
@@ -213,7 +225,7 @@ export class Panel {
   /** Fills the list of names that the search proposes. */
   fillNames() {
     const numbers = this.editor.model.order.slice(0, MOST_IDS);
-    by("ids").replaceChildren(...numbers.map(num => { const option = make("option"); option.value = this.nameOf(num); return option; }));
+    by("ids").replaceChildren(...numbers.map(num => make("option", this.nameOf(num))));
   }
 
   /**
@@ -224,7 +236,8 @@ export class Panel {
     const wanted = text.trim().toLowerCase(), { order } = this.editor.model;
     if (!wanted) return false;
     const name = (/** @type {number} */ num) => this.nameOf(num).toLowerCase();
-    const found = order.find(num => name(num) === wanted || `#${num}` === wanted) ?? order.find(num => name(num).includes(wanted));
+    const found = order.find(num => name(num) === wanted || `#${num}` === wanted)
+      ?? order.find(num => name(num).startsWith(wanted)) ?? order.find(num => name(num).includes(wanted));
     if (found === undefined) { this.note("", TEXT.notFound(text.trim())); return false; }
     this.hideNote();
     this.goTo(found);
@@ -238,10 +251,11 @@ export class Panel {
  * @param {LogEntry[]} entries
  */
 function actItem(entries) {
-  const accepted = entries.filter(({ answer }) => answer.startsWith("ok")), refused = entries.filter(({ answer }) => !answer.startsWith("ok"));
-  const texts = accepted.map(({ line, answer }) => answer === "ok" ? shortened(line) : `${shortened(line)} → ${answer}`);
+  const isAccepted = (/** @type {LogEntry} */ { answer }) => answer.startsWith("ok");
+  const refused = (/** @type {LogEntry} */ { line, answer }) => [make("div", shortened(line)), make("span", answerText(answer))];
+  const texts = entries.filter(isAccepted).map(({ line, answer }) => answer === "ok" ? shortened(line) : `${shortened(line)} → ${answer}`);
   const few = texts.length > MOST_OF_ACT ? [TEXT.manyLines(texts[0], texts[texts.length - 1], texts.length)] : texts;
-  const no = refused.map(({ line, answer }) => make("div", [make("div", shortened(line)), make("span", answerText(answer))], "no"));
+  const no = entries.filter(entry => !isAccepted(entry)).map(entry => make("div", refused(entry), "no"));
   return make("li", [...few.map(text => make("div", text)), ...no]);
 }
 

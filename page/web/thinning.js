@@ -65,7 +65,8 @@ export class Thinning {
 
   /** What the slider says, and what is left. */
   tell() {
-    const wanted = TEXT.thinWanted(Number(this.slider.value)), share = this.before ? Math.round((100 * this.left) / this.before) : 100;
+    const wanted = TEXT.thinWanted(Number(this.slider.value));
+    const share = this.before ? Math.round((100 * this.left) / this.before) : 100;
     by("thinWanted").textContent = wanted;
     this.slider.setAttribute("aria-valuetext", wanted);
     by("thinLeft").textContent = TEXT.thinLeft(this.left, this.before, share);

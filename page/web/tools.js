@@ -1,5 +1,5 @@
 // @ts-check
-/** What the pointer does on the map: pointing, dragging, clicking. Keys stand in keys.js, lines that are drawn in sketch.js. */
+/** What the pointer does on the map: pointing, dragging, clicking. Keys stand in keys.js, drawn lines in sketch.js. */
 import { Sketch } from "./sketch.js";
 import { share } from "./features.js";
 import { by } from "./dom.js";
@@ -119,9 +119,10 @@ export class Tools {
     const { view, editor } = this, [x, y] = view.place(this.pointer.x, this.pointer.y);
     if (!editor.model) return;
     // with the whole of a large map on the screen no vertex can be told from its neighbours
-    const canPoint = view.hasVertices !== false;
-    this.vertex = canPoint ? editor.model.nearestVertex(x, y, NEAR_VERTEX / view.kx, NEAR_VERTEX / view.ky) : null;
-    this.segment = canPoint && !this.vertex ? editor.model.nearestSegment(x, y, NEAR_BORDER / view.kx, NEAR_BORDER / view.ky) : null;
+    const { hasVertices, kx, ky } = view;
+    this.vertex = hasVertices ? editor.model.nearestVertex(x, y, NEAR_VERTEX / kx, NEAR_VERTEX / ky) : null;
+    const isBorder = hasVertices && !this.vertex;
+    this.segment = isBorder ? editor.model.nearestSegment(x, y, NEAR_BORDER / kx, NEAR_BORDER / ky) : null;
     this.map.style.cursor = this.sketch.kind ? "crosshair" : this.vertex ? "move" : this.segment ? "copy" : "default";
     view.redrawOver();
     this.tell();
@@ -191,7 +192,10 @@ export class Tools {
     const { drag } = this;
     if (!drag) this.look();
     else if (drag.kind === "pan") this.pan(drag, e);
-    else if (drag.isMoved || Math.hypot(this.pointer.x - drag.from.x, this.pointer.y - drag.from.y) >= DRAG) this.carry(drag);
+    else {
+      const { x, y } = drag.from, distance = Math.hypot(this.pointer.x - x, this.pointer.y - y);
+      if (drag.isMoved || distance >= DRAG) this.carry(drag);
+    }
   }
 
   /**
@@ -293,8 +297,8 @@ export class Tools {
     const now = editor.selected.length === 1 && !isMore ? all.indexOf(editor.selected[0]) : -1;
     const num = all[all.length ? (now + 1) % all.length : 0];
     panel.hideNote();
-    if (!isMore) editor.select(num === undefined ? [] : [num]);
-    else if (num !== undefined) editor.select(editor.selected.includes(num) ? editor.selected.filter(n => n !== num) : [...editor.selected, num]);
+    const others = isMore ? editor.selected.filter(other => other !== num) : [], isOut = isMore && others.length < editor.selected.length;
+    if (num !== undefined || !isMore) editor.select(num === undefined || isOut ? others : [...others, num]);
     if (num !== undefined) by("said").textContent = TEXT.selectedOne(panel.nameOf(num));
   }
 

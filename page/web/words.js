@@ -16,7 +16,8 @@ const sentence = reason => `${reason.slice(0, 1).toUpperCase()}${reason.slice(1)
  */
 const REFUSALS = [
   [/^conflict/, "The border would run into another border. The two are drawn in red."],
-  [/^sweeps/, "The border would pass over another vertex, which would then lie on the wrong side. Move that vertex first, or go around it in smaller steps."],
+  [/^sweeps/, "The border would pass over another vertex, which would then lie on the wrong side. " +
+    "Move that vertex first, or go around it in smaller steps."],
   [/^no vertex/, "There is no vertex here any more."],
   [/^no segment/, "There is no border between these two vertices any more."],
   [/^occupied/, "There is already a vertex at this place."],
@@ -59,7 +60,8 @@ const FAULTS = [
   [/^arcs do not meet (\d+) (\d+) (\d+)/, "The arcs of a ring of feature $1 do not meet."],
   [/^ring short (\d+) (\d+) (\d+)/, "A ring of feature $1 has fewer than three positions."],
   [/^ring repeats (\d+) (\d+) (\d+) at (\S+ \S+)/, "A ring of feature $1 passes twice through $4."],
-  [/^conflict (\S+ \S+) (\S+ \S+) \/ (\S+ \S+) (\S+ \S+)/, "Two borders cross or lie on each other: the one from $1 to $2, and the one from $3 to $4."],
+  [/^conflict (\S+ \S+) (\S+ \S+) \/ (\S+ \S+) (\S+ \S+)/,
+    "Two borders cross or lie on each other: the one from $1 to $2, and the one from $3 to $4."],
 ];
 
 /**
@@ -147,7 +149,7 @@ export const TEXT = {
   unproved: "Built without proof: good for trying, not for work.",
   closed: "This page is closed.",
   otherTab: "The map was opened in another tab or window. Go on there, or reload this page to edit here.",
-  noServer: "The program behind this page has ended or cannot be reached. Edits that were not saved are kept by it as a script where it could.",
+  noServer: "The program behind this page has ended or cannot be reached. If it could, it left unsaved edits as a script beside the map.",
   noAnswer: "The program could not answer.",
   notOpened: "The map could not be opened.",
   reload: "Reload",
@@ -161,7 +163,8 @@ export const TEXT = {
   notPlaced: "A line must begin and end on a border.",
   hintCut: "Cut: click a border where the cut begins, click its bends, and end on a border. Esc stops.",
   hintReshape: "Reshape: draw from border to border inside a feature; the smaller part goes to the neighbour there. Esc stops.",
-  hintMeasure: "Measure: click along the way. Click the first point to close it for an area. Backspace removes the last point, Esc stops.",
+  hintMeasure: "Measure: click along the way. Click the first point to close it for an area. " +
+    "Backspace removes the last point, Esc stops.",
   hintBegin: "A line begins on a border. Click on a border or a vertex.",
   hintCarry: "The vertex is picked up. Move it with the arrow keys, put it down with Space, or stop with Esc.",
   measured: (/** @type {string} */ length, /** @type {string} */ last) => `Length ${length}. Last stretch ${last}.`,
@@ -171,7 +174,8 @@ export const TEXT = {
   unitMap: "map units",
   unitGrid: "grid units",
   thinWanted: (/** @type {number} */ share) => `Keep ${share} % of the vertices`,
-  thinLeft: (/** @type {number} */ left, /** @type {number} */ before, /** @type {number} */ share) => `${grouped(left)} of ${grouped(before)} vertices left (${share} %)`,
+  thinLeft: (/** @type {number} */ left, /** @type {number} */ before, /** @type {number} */ share) =>
+    `${grouped(left)} of ${grouped(before)} vertices left (${share} %)`,
   thinKept: (/** @type {number} */ left, /** @type {number} */ before) => `Thinned from ${grouped(before)} to ${grouped(left)} vertices.`,
   counts: (/** @type {number} */ features, /** @type {number} */ vertices) => `${grouped(features)} features, ${grouped(vertices)} vertices`,
   vertexAt: "vertex",
@@ -179,7 +183,8 @@ export const TEXT = {
   where: (/** @type {string} */ own, /** @type {number} */ x, /** @type {number} */ y) => `${own}  ·  grid ${x} ${y}`,
   numbered: (/** @type {string} */ name, /** @type {number} */ num) => name === `#${num}` ? name : `${name} (#${num})`,
   nothingSelected: "Click a feature to see it here. Shift+click selects more than one.",
-  howToEdit: "Drag a vertex to move it in every feature that has it. Double-click a border to add a vertex. Point at a vertex and press Delete to remove it.",
+  howToEdit: "Drag a vertex to move it in every feature that has it. Double-click a border to add a vertex. " +
+    "Point at a vertex and press Delete to remove it.",
   manySelected: (/** @type {number} */ count) => `${count} features selected`,
   mergeKeeps: "Merge keeps the id of the first one.",
   selectedOne: (/** @type {string} */ name) => `${name} selected`,
@@ -192,7 +197,8 @@ export const TEXT = {
   properties: "Properties",
   noProperties: "No properties.",
   noEdits: "No edits yet.",
-  manyLines: (/** @type {string} */ first, /** @type {string} */ last, /** @type {number} */ count) => first === last ? `${first} (${count} times)` : `${first} … ${last} (${count} lines)`,
+  manyLines: (/** @type {string} */ first, /** @type {string} */ last, /** @type {number} */ count) =>
+    first === last ? `${first} (${count} times)` : `${first} … ${last} (${count} lines)`,
   layerShown: "Show",
   layerHit: "Point at",
   layerNamed: "Names",
