@@ -42,6 +42,7 @@ FILES = {
 }
 
 # A run: the program, its arguments, its status, what is on standard error, and the folder before and after.
+# Of standard output what it begins with is looked at, and what comes then.
 FIELDS = "what program words status said before after user output"
 Row = collections.namedtuple("Row", FIELDS, defaults=({}, {}, None, None))
 
@@ -188,9 +189,8 @@ def rows():
         yield Row(f"border_{program} {words}", program, words.split(), 0, "", before, {**twins, gets: Text(WHOLE)})
     for program, words in NOT_UTF8:
         yield Row(f"border_{program} {words}", program, words, 64, [])
-    answers = "move 10 10 12 12\n"
-    yield Row("FILE is standard output", EDIT, ["squares.json", "one.txt", "--out", "/dev/stdout"], 0, "",
-              {"one.txt": Text(answers)}, {}, None, ["ok\n", WHOLE])
+    yield Row("FILE is standard output", EDIT, ["squares.json", "accepted.txt", "--out", "/dev/stdout"], 0, "",
+              output=["ok\n240\n", WHOLE])
 
 
 # ---- the folder of a run
@@ -305,8 +305,8 @@ def ran(program, row, folder):
 
 def faults(program, row):
     """What differs of a run, or nothing."""
-    with tempfile.TemporaryDirectory() as name:
-        folder = pathlib.Path(name)
+    with tempfile.TemporaryDirectory() as own:
+        folder = pathlib.Path(own)
         folder.chmod(0o777)
         put(folder, {name: Text(text) for name, text in FILES.items()})
         put(folder, row.before)
@@ -334,8 +334,8 @@ def is_output(text, answers, rest):
 @contextlib.contextmanager
 def lent(programs):
     """Copies of programs that each user can run."""
-    with tempfile.TemporaryDirectory() as name:
-        folder = pathlib.Path(name)
+    with tempfile.TemporaryDirectory() as own:
+        folder = pathlib.Path(own)
         folder.chmod(0o755)
         copies = {}
         for name, program in programs.items():
