@@ -42,6 +42,7 @@ FILES = {
 }
 
 # A run: the program, its arguments, its status, what is on standard error, and the folder before and after.
+# Of standard output what it begins with is looked at, and what comes then.
 FIELDS = "what program words status said before after user output"
 Row = collections.namedtuple("Row", FIELDS, defaults=({}, {}, None, None))
 
@@ -57,7 +58,7 @@ WRITERS = [
     Writer("picture", SHOW, ["squares.json", "--out", "PATH"], 0, "save fault\n", WHOLE),
 ]
 LONG, LONG_UMLAUTS = "n" * 255, "ä" * 127
-NEW_MODE = 0o666 & ~0o022
+NEW_MODE, MODES = 0o666 & ~0o022, (0o600, 0o640, 0o664, 0o755)
 
 # Where a file is written: what it is, its path, what stands there before, and the names that get the text.
 Place = collections.namedtuple("Place", "what path before gets mode", defaults=(None,))
@@ -66,11 +67,11 @@ PLACES = [
     Place("a file by ./", "./saved", {}, "saved"),
     Place("a file by its whole path", "HERE/saved", {}, "saved"),
     Place("a new file", "new", {}, "new", NEW_MODE),
-    *(Place(f"a file of mode {mode:o}", "old", {"old": Text(OLD, mode)}, "old", mode) for mode in (0o600, 0o640, 0o664, 0o755)),
+    *(Place(f"a file of mode {mode:o}", "old", {"old": Text(OLD, mode)}, "old", mode) for mode in MODES),
     Place("a link", "link", {"link": Link("saved")}, "saved"),
     Place("a link with a whole path", "link", {"link": Link("HERE/saved")}, "saved"),
     Place("a link to a link", "sub/link", {"sub": Folder(), "sub/link": Link("../other"), "other": Link("saved")}, "saved"),
-    Place("a link to a folder's file", "sub/saved", {"real": Folder(), "real/saved": Text(OLD), "sub": Link("real")}, "real/saved"),
+    Place("a link to a folder", "sub/saved", {"real": Folder(), "real/saved": Text(OLD), "sub": Link("real")}, "real/saved"),
     Place("a link to a file of mode 640", "link", {"old": Text(OLD, 0o640), "link": Link("old")}, "old", 0o640),
     Place("a link to no file", "link", {"sub": Folder(), "link": Link("sub/new")}, "sub/new", NEW_MODE),
     Place("a file with a hard link", "saved", {"twin": Twin("saved")}, "saved"),
@@ -92,14 +93,16 @@ FAULTS = [
     Place("a name that is too long", "n" * 256, {}, None),
 ]
 # The same for a user who may not make a file in a folder, or may not write the file.
+SHUT = {"sub/saved": Text(OLD, 0o666), "sub": Folder(0o555)}
 CLOSED = [
-    Place("a file in a closed folder", "sub/saved", {"sub/saved": Text(OLD, 0o666), "sub": Folder(0o555)}, None),
-    Place("a new file in a closed folder", "sub/new", {"sub": Folder(0o555)}, None),
-    Place("a link into a closed folder", "link", {"sub/saved": Text(OLD, 0o666), "sub": Folder(0o555), "link": Link("sub/saved")}, None),
+    Place("a file in a closed folder", "sub/saved", SHUT, None),
+    Place("a new file in a closed folder", "sub/new", SHUT, None),
+    Place("a link into a closed folder", "link", {**SHUT, "link": Link("sub/saved")}, None),
     Place("a file of mode 444", "old", {"old": Text(OLD, 0o444)}, None),
 ]
 
 # Arguments that name one file: the program, its arguments, what stands there, and the names of the two.
+LINKED = {"real": Folder(), "sub": Link("real")}
 ONE_FILE = [
     (EDIT, "squares.json accepted.txt --out saved --refused squares.json", {}, "--refused MAP"),
     (EDIT, "squares.json accepted.txt --out saved --refused ./squares.json", {}, "--refused MAP"),
@@ -118,7 +121,7 @@ ONE_FILE = [
     (EDIT, "squares.json accepted.txt --out link --refused saved", {"link": Link("saved")}, "--refused --out"),
     (EDIT, "squares.json accepted.txt --out new --refused ./new", {}, "--refused --out"),
     (EDIT, "squares.json accepted.txt --out sub/../new --refused new", {"sub": Folder()}, "--refused --out"),
-    (EDIT, "squares.json accepted.txt --out sub/new --refused real/new", {"real": Folder(), "sub": Link("real")}, "--refused --out"),
+    (EDIT, "squares.json accepted.txt --out sub/new --refused real/new", LINKED, "--refused --out"),
     (EDIT, "squares.json accepted.txt --out link --refused new", {"link": Link("new")}, "--refused --out"),
     (EDIT, "squares.json accepted.txt --out squares.json --refused squares.json", {}, "--refused --out|MAP"),
     (MEND, "wards.json --places wards.json", {}, "--places MAP"),
@@ -167,7 +170,8 @@ def written(writer, place):
     gets = {place.gets: Text(writer.text, place.mode)} if place.gets else {}
     twin = {name: Text(OLD) for name, kept in place.before.items() if isinstance(kept, Twin)}
     words = [place.path if word == "PATH" else word for word in writer.words]
-    return Row(f"{writer.what}: {place.what}", writer.program, words, writer.status, "", place.before, {**writer.also, **twin, **gets})
+    after = {**writer.also, **twin, **gets}
+    return Row(f"{writer.what}: {place.what}", writer.program, words, writer.status, "", place.before, after)
 
 
 def not_written(writer, place, user=None):
@@ -180,7 +184,8 @@ def rows():
     yield from itertools.starmap(not_written, itertools.product(WRITERS, FAULTS))
     yield from (not_written(writer, place, NOBODY) for writer, place in itertools.product(WRITERS, CLOSED))
     for writer in WRITERS:
-        yield written(writer, Place("a pipe", "pipe", {"pipe": Pipe()}, None))._replace(after={**writer.also, "pipe": Pipe(writer.text)})
+        piped = written(writer, Place("a pipe", "pipe", {"pipe": Pipe()}, None))
+        yield piped._replace(after={**writer.also, "pipe": Pipe(writer.text)})
     for program, words, before, names in ONE_FILE:
         yield Row(f"border_{program} {words}", program, words.split(), 64, names.split(), before)
     for program, words, before, gets in APART:
@@ -188,9 +193,8 @@ def rows():
         yield Row(f"border_{program} {words}", program, words.split(), 0, "", before, {**twins, gets: Text(WHOLE)})
     for program, words in NOT_UTF8:
         yield Row(f"border_{program} {words}", program, words, 64, [])
-    answers = "move 10 10 12 12\n"
-    yield Row("FILE is standard output", EDIT, ["squares.json", "one.txt", "--out", "/dev/stdout"], 0, "",
-              {"one.txt": Text(answers)}, {}, None, ["ok\n", WHOLE])
+    yield Row("FILE is standard output", EDIT, ["squares.json", "accepted.txt", "--out", "/dev/stdout"], 0, "",
+              output=["ok\n240\n", WHOLE])
 
 
 # ---- the folder of a run
@@ -305,8 +309,8 @@ def ran(program, row, folder):
 
 def faults(program, row):
     """What differs of a run, or nothing."""
-    with tempfile.TemporaryDirectory() as name:
-        folder = pathlib.Path(name)
+    with tempfile.TemporaryDirectory() as own:
+        folder = pathlib.Path(own)
         folder.chmod(0o777)
         put(folder, {name: Text(text) for name, text in FILES.items()})
         put(folder, row.before)
@@ -334,8 +338,8 @@ def is_output(text, answers, rest):
 @contextlib.contextmanager
 def lent(programs):
     """Copies of programs that each user can run."""
-    with tempfile.TemporaryDirectory() as name:
-        folder = pathlib.Path(name)
+    with tempfile.TemporaryDirectory() as own:
+        folder = pathlib.Path(own)
         folder.chmod(0o755)
         copies = {}
         for name, program in programs.items():

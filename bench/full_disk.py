@@ -13,6 +13,7 @@ import argparse
 import collections
 import contextlib
 import pathlib
+import signal
 import subprocess
 import sys
 import tempfile
@@ -181,6 +182,7 @@ def tried(disk, programs):
 
 
 def main():
+    signal.signal(signal.SIGTERM, lambda number, _: sys.exit(128 + number))  # so that the file system is taken away
     words = argparse.ArgumentParser(description=__doc__, formatter_class=argparse.RawDescriptionHelpFormatter)
     running.add_programs(words, "edit", "show", "mend")
     programs = vars(words.parse_args())

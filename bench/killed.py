@@ -37,9 +37,9 @@ SCRIPT = "delete 0\n"
 Times = collections.namedtuple("Times", "begins ends")
 
 
-def make_map(path, size, seed):
+def make_map(path, size):
     """A map of about so many bytes."""
-    made = json.loads(maps.made_map("bricks", SEGMENTS, seed).path.read_text())
+    made = json.loads(maps.made_map("bricks", SEGMENTS, 1).path.read_text())
     features = made["objects"]["cells"]["geometries"]
     text = "x" * (size // len(features))
     for feature in features:
@@ -161,7 +161,7 @@ def main():
     options.folder.mkdir(parents=True, exist_ok=True)
     with tempfile.TemporaryDirectory(dir=options.folder) as name:
         folder = pathlib.Path(name)
-        make_map(folder / "made.json", options.megabytes * MEGABYTE, options.seed)
+        make_map(folder / "made.json", options.megabytes * MEGABYTE)
         place = Place(options.edit, folder, (folder / "made.json").read_bytes())
         times, new = place.times(), place.file.read_bytes()
         if new == place.old or place.left():

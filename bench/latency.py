@@ -121,7 +121,8 @@ def timed(program, size, folder):
             best = min(latencies(run, lines), key=statistics.median)
             median, late = statistics.median(best), best[int(0.99 * TIMED) - 1]
             over += median >= BAR
-            print(f"    {kind:5} median {median:.3f} ms, 99th percentile {late:.3f} ms" + (" over the bar" if median >= BAR else ""), flush=True)
+            bar = ", which is too much" if median >= BAR else ""
+            print(f"    {kind:5} median {median:.3f} ms, 99th percentile {late:.3f} ms{bar}", flush=True)
     return over
 
 
@@ -147,7 +148,7 @@ def example_fault(program, folder):
 def main():
     words = argparse.ArgumentParser(description=__doc__, formatter_class=argparse.RawDescriptionHelpFormatter)
     running.add_programs(words, "edit")
-    words.add_argument("--sizes", type=int, nargs="+", default=SIZES, help="about how many vertices the maps have (%(default)s)")
+    words.add_argument("--sizes", type=int, nargs="+", default=SIZES, help="about how many vertices maps have (%(default)s)")
     options = words.parse_args()
     with tempfile.TemporaryDirectory() as name:
         folder = pathlib.Path(name)

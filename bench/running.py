@@ -44,7 +44,8 @@ def add_programs(parser, *names):
     """Gives a script an option for each of these programs, which is where `rt ci` leaves it."""
     for name in names:
         built = TOP / "crates" / PROGRAMS[name] / "out" / PROGRAMS[name]
-        parser.add_argument(f"--{name}", type=os.path.abspath, default=str(built), help=f"the program {PROGRAMS[name]} (%(default)s)")
+        what = f"the program {PROGRAMS[name]} (%(default)s)"
+        parser.add_argument(f"--{name}", type=os.path.abspath, default=str(built), help=what)
 
 
 # ---- what the system tells of a process
