@@ -2,6 +2,7 @@
 ghost use Rattle.std.specs.Prelude.{◌≤◌};
 
 use mend_report::Asked;
+use program_ends::{FileArgument, Role};
 
 /// What the words of the program ask for.
 #[derive(Debug, Drop)]
@@ -17,4 +18,27 @@ pub struct Words {
     /// The path of the file that the mended map is saved in.
     pub out: Option<String>,
     ghost most_lines: { asked.most ≤ 4000000 },
+}
+
+impl Words {
+    /// The files that the words name, those that are written first.
+    pub(crate) fn files(&self) -> [FileArgument<'_>; 3] {
+        [
+            FileArgument {
+                argument: "--places",
+                path: self.places.as_ref().map(|path| path.as_str()),
+                role: Role::Written,
+            },
+            FileArgument {
+                argument: "--out",
+                path: self.out.as_ref().map(|path| path.as_str()),
+                role: Role::Saved,
+            },
+            FileArgument {
+                argument: "MAP",
+                path: Some(self.map.as_str()),
+                role: Role::Edited,
+            },
+        ]
+    }
 }

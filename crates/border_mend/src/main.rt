@@ -11,7 +11,7 @@ mod telling;
 
 use asked::Words;
 use command_line::words;
-use program_ends::{Stop, end_stopped, given_words};
+use program_ends::{Stop, check_apart, end_stopped, given_words};
 use std::process::ExitCode;
 use telling::tell;
 
@@ -19,6 +19,7 @@ use telling::tell;
 fn words_given(rt: &HostRuntime) -> Result<Words, Stop> {
     let given = given_words(rt)?;
     let words = words(rt.alloc(), given.as_slice())?;
+    check_apart(rt, &words.files())?;
     Ok(words)
 }
 

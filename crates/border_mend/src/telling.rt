@@ -5,9 +5,8 @@ use crate::points::{unread, with_points_on_grid};
 use line_dropping::{Dropped, without_lines};
 use mend_report::{Asked, LookFault, Remade, RepairFault, Report, Texts, mend_map, report_map};
 use point_rounding::PointFault;
-use program_ends::{Ending, Stop, end, hash_seed, map_bytes};
+use program_ends::{Ending, Stop, end, hash_seed, map_bytes, replace_file};
 use std::alloc::Global;
-use std::fs;
 use std::hash::RandomState;
 use std::io::{Result as IoResult, Write};
 
@@ -22,7 +21,7 @@ fn save<'a>(rt: &HostRuntime, ending: Ending<'a>, path: &str, text: &[u8]) -> En
     if ending.line.is_some() {
         return ending;
     }
-    ending.once_written(fs::write(rt, path, text))
+    ending.once_written(replace_file(rt, path, text))
 }
 
 /// Writes the report on standard output, and the places in their file where they are asked for.

@@ -1,6 +1,7 @@
 //! What the words of the program ask for.
 
 use map_drawing::View;
+use program_ends::{FileArgument, Role};
 
 /// What the words of the program ask for.
 #[derive(Debug, Drop)]
@@ -13,4 +14,27 @@ pub struct Words {
     pub out: String,
     /// What is to be seen.
     pub view: View,
+}
+
+impl Words {
+    /// The files that the words name, the one that is written first.
+    pub(crate) fn files(&self) -> [FileArgument<'_>; 3] {
+        [
+            FileArgument {
+                argument: "--out",
+                path: Some(self.out.as_str()),
+                role: Role::Written,
+            },
+            FileArgument {
+                argument: "MAP",
+                path: Some(self.before.as_str()),
+                role: Role::Read,
+            },
+            FileArgument {
+                argument: "AFTER",
+                path: self.after.as_ref().map(|path| path.as_str()),
+                role: Role::Read,
+            },
+        ]
+    }
 }

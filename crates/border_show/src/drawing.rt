@@ -2,14 +2,13 @@
 use crate::asked::Words;
 use crate::ending::ending_of_drawing;
 use crate::showing::show;
-use program_ends::{Ending, Stop, end, hash_seed, map_bytes};
-use std::fs;
+use program_ends::{Ending, Stop, end, hash_seed, map_bytes, replace_file};
 use std::io::Write;
 
 /// Writes FILE where the ending has something for it, says the line, and answers the status.
 fn end_with_file<E: Write>(rt: &HostRuntime, ending: Ending<'_>, file: &str, errors: &mut E) -> u8 {
     match ending.file {
-        Some(text) => end(ending.once_written(fs::write(rt, file, text)), errors),
+        Some(text) => end(ending.once_written(replace_file(rt, file, text)), errors),
         None => end(ending, errors),
     }
 }

@@ -21,13 +21,15 @@ mod showing;
 use asked::Words;
 use command_line::words;
 use drawing::draw;
-use program_ends::{Stop, end_stopped, given_words};
+use program_ends::{Stop, check_apart, end_stopped, given_words};
 use std::process::ExitCode;
 
 /// What the words that the program was called with ask for.
 fn words_given(rt: &HostRuntime) -> Result<Words, Stop> {
     let given = given_words(rt)?;
-    Ok(words(rt.alloc(), given.as_slice())?)
+    let words = words(rt.alloc(), given.as_slice())?;
+    check_apart(rt, &words.files())?;
+    Ok(words)
 }
 
 fn main(rt: HostRuntime) -> ExitCode {

@@ -1,2 +1,3 @@
 pub mod WordLemmas
+pub mod ClashLemmas
 pub mod Common

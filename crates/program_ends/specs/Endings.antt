@@ -1,10 +1,10 @@
 -- The lines on standard error that say why a program ends.
-use Rattle.std.specs.Prelude.{◌≡◌, ℕ, List, Option, Some, None, codes}
+use Rattle.std.specs.Prelude.{◌≡◌, ℕ, List, Option, Some, None, codes, ◌++◌}
 use Rattle.std.specs.declared.io.ErrorKind.{ErrorKind}
 use Rattle.std.specs.declared.io.ErrorKind.TheVariants as kind
 use Rattle.topo_outline.specs.declared.fault.OpenFault.{OpenFault}
 use Rattle.program_ends.specs.declared.diagnostic.Diagnostic.{Diagnostic}
-use Rattle.program_ends.specs.declared.diagnostic.Diagnostic.TheVariants.{Open, Findings, TooLarge, Unmended, Unparted, Map, Script, Write, Save, Refused, NoSeed, NoMemory}
+use Rattle.program_ends.specs.declared.diagnostic.Diagnostic.TheVariants.{Open, Findings, TooLarge, Unmended, Unparted, Map, Script, Write, Save, Refused, NoSeed, NoMemory, NotUtf8, OneFile}
 use Rattle.program_ends.specs.declared.stop.Stop.{Stop}
 use Rattle.program_ends.specs.declared.stop.Stop.TheVariants as stop
 
@@ -16,6 +16,8 @@ IsOpen f line = ⊥
 -- what is told where no work began; what clap says of the words is no line of the program's
 abbrev pub stop_line : Stop → Option Diagnostic
 stop_line (stop.Words error) = None
+stop_line stop.NotUtf8 = Some NotUtf8
+stop_line (stop.OneFile first second) = Some (OneFile first second)
 stop_line stop.Map = Some Map
 stop_line stop.Script = Some Script
 stop_line stop.NoSeed = Some NoSeed
@@ -53,3 +55,5 @@ line_text Save = Some (codes "save fault")
 line_text Refused = Some (codes "refused fault")
 line_text NoSeed = Some (codes "no random seed")
 line_text NoMemory = Some (codes "out of memory")
+line_text NotUtf8 = Some (codes "an argument is not UTF-8")
+line_text (OneFile first second) = Some (first.now ++ (codes " and " ++ (second.now ++ codes " name the same file")))

@@ -1,4 +1,5 @@
 pub mod Stops
 pub mod Endings
 pub mod Words
+pub mod Clashes
 pub mod Common

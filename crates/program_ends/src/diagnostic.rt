@@ -34,6 +34,10 @@ pub enum Diagnostic<'a> {
     NoSeed,
     /// A growth was refused: `out of memory`.
     NoMemory,
+    /// An argument is not UTF-8: `an argument is not UTF-8`.
+    NotUtf8,
+    /// Two arguments name one file: `--refused and MAP name the same file`.
+    OneFile { first: &'a str, second: &'a str },
 }
 
 impl<'a> Diagnostic<'a> {
@@ -95,6 +99,10 @@ impl<'a> fmt::Display for Diagnostic<'a> {
             Diagnostic::Refused => f.write_str("refused fault"),
             Diagnostic::NoSeed => f.write_str("no random seed"),
             Diagnostic::NoMemory => f.write_str("out of memory"),
+            Diagnostic::NotUtf8 => f.write_str("an argument is not UTF-8"),
+            Diagnostic::OneFile { first, second } => {
+                write!(f, "{first} and {second} name the same file")
+            }
         }
     }
 }

@@ -54,6 +54,8 @@ impl<'a> Ending<'a> {
     {
         let line = match stop {
             Stop::Words(_) => None,
+            Stop::NotUtf8 => Some(Diagnostic::NotUtf8),
+            Stop::OneFile { first, second } => Some(Diagnostic::OneFile { first, second }),
             Stop::Map => Some(Diagnostic::Map),
             Stop::Script => Some(Diagnostic::Script),
             Stop::NoSeed => Some(Diagnostic::NoSeed),

@@ -9,12 +9,12 @@ use std::fs::File;
 use std::hash::RandomState;
 use std::io::{self, Read, Write};
 
-/// The words that the program was called with, its name first.
+/// The words that the program was called with, its name first. They have to be UTF-8.
 pub fn given_words(rt: &HostRuntime) -> Result<Vec<String>, Stop>
-    ensures { IfErr result (λ stop. stop ≡ Stop.NoMemory) }
+    ensures { IfErr result (λ stop. (stop ≡ Stop.NotUtf8) ⊎ (stop ≡ Stop.NoMemory)) }
 {
     let mut given = Vec::new(rt.alloc());
-    for word in env::args(rt).map_err(|_| Stop::NoMemory)? {
+    for word in env::args(rt).map_err(|e| Stop::of_file(e, Stop::NotUtf8))? {
         given.push(word)?;
     }
     Ok(given)

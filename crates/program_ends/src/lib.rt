@@ -5,12 +5,16 @@
 mod diagnostic;
 mod ending;
 mod files;
+mod naming;
+mod replacing;
 mod stop;
 mod texts;
 
 pub use diagnostic::Diagnostic;
 pub use ending::Ending;
 pub use files::{end, end_stopped, given_words, hash_seed, map_bytes};
+pub use naming::{FileArgument, NamedFile, Role, check_apart, first_clash};
+pub use replacing::replace_file;
 pub use stop::Stop;
 pub use texts::{copied, is_file};
 

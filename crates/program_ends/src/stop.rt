@@ -11,6 +11,13 @@ use std::io::{Error, ErrorKind};
 pub enum Stop {
     /// The words ask for help, or do not parse.
     Words(clap::Error),
+    /// An argument is not UTF-8.
+    NotUtf8,
+    /// Two arguments name one file, and may not.
+    OneFile {
+        first: &'static str,
+        second: &'static str,
+    },
     /// The file of a map can't be read.
     Map,
     /// The file of a script can't be opened.
@@ -44,6 +51,7 @@ impl Stop {
                 Mistake::DisplayHelp | Mistake::DisplayVersion => 0,
                 _ => 64,
             },
+            Stop::NotUtf8 | Stop::OneFile { .. } => 64,
             Stop::Map | Stop::Script | Stop::NoSeed | Stop::NoMemory => 3,
         }
     }

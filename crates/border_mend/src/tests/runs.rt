@@ -61,6 +61,8 @@ border_mend @empty.json --out @empty.json => 2 @empty.json=empty.json =>  => ope
 border_mend @bow_tie.json --out @bow_tie.json => 3 @bow_tie.json=bow_tie.json =>  => write fault; => full
 # A file that can't be written is told after the report.
 border_mend @bow_tie.json --places @bow_tie.json/made.txt => 3 - => cross 0 0 10 10 / 0 10 10 0;counts short 0 repeats 0 on 0 cross 1; => save fault;
+# FILE stays as it was where the places can't be written.
+border_mend @bow_tie.json --places @bow_tie.json/made.txt --out @bow_tie.json => 3 @bow_tie.json=bow_tie.json => cross 0 0 10 10 / 0 10 10 0;path 0 0 5 5 10 10;path 0 10 5 5 10 0;parts 0 0 2;area 0 0 100 0;counts short 0 repeats 0 on 0 cross 1 paths 2 parts 1 areas 1; => save fault;
 # Points are put on the grid of the arcs.
 border_mend @decimals.json --out @made.json => 0 @made.json=decimals.saved => decimals 2 digits 2 rounded 0;counts short 0 repeats 0 on 0 cross 0 paths 0 parts 0 areas 0;
 border_mend @whole.json --refine 2 --out @made.json => 0 @made.json=whole.saved => opens;counts short 0 repeats 0 on 0 cross 0 paths 0 parts 0 areas 0;
