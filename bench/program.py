@@ -53,10 +53,14 @@ FILES = {
     "cut.json": "{",
     "long.txt": "document\n" * 100,
     "undone.txt": "move 0 0 1 1\nmove 10 10 12 12\nundo\nundo\n",
+    "unended.txt": "area 0\nmove 10 10 12 12",
     "mixed.txt": "# corners\r\n\nmove 1 1 2 2\r\ndocument\narea 0\n\r\n mend\narea 9",
 }
 # What is listed of mixed.txt.
-LISTED = "3\trefused no vertex\tmove 1 1 2 2\n7\tbad line\t mend\n8\trefused no feature\tarea 9\n"
+LISTED = (
+    "3\trefused no vertex\tmove 1 1 2 2\t1 1\n7\tbad line\t mend\tspace at the start\n"
+    "8\trefused no feature\tarea 9\t9\n"
+)
 
 
 def ends():
@@ -112,6 +116,22 @@ def ends():
             yield Row(f"{list_file}, {script}", listing(script, list_file), 3, SOME, "refused fault\n", SAVED)
     yield Row("a full list", listing("mixed.txt", "/dev/full"), 3, SOME, "refused fault\n", SAVED)
     yield Row("one FILE for both", listing("mixed.txt", "saved.json"), 64, "", SOME, KEPT)
+
+    def strict(script, *more):
+        return words("squares.json", script, "saved.json", "--strict", *more)
+
+    ended, refused, unended = "accepted.txt", "refused.txt", "unended.txt"
+    left, cut = "not saved: 1 line was refused\n", "not saved: the last line of the script has no line feed\n"
+    answers = {ended: "ok\n240\n", refused: "refused no vertex\n200\n", unended: "200\nok\n"}
+    yield Row("cut off", words("squares.json", unended), 0, answers[unended], "", SAVED)
+    for script, status, said, file in (ended, 0, "", SAVED), (refused, 1, left, KEPT), (unended, 1, cut, KEPT):
+        yield Row(f"strict, {script}", strict(script), status, answers[script], said, file)
+        piped = strict("-")
+        yield Row(f"strict, piped {script}", piped, status, answers[script], said, file, given=script)
+    yield Row("strict, an empty pipe", strict("-"), 0, "", "", SAVED)
+    yield Row("strict, bad line", strict("bad.txt"), 1, "bad line\n", left, KEPT)
+    many = "not saved: 3 lines were refused\n"
+    yield Row("strict, listed", strict("mixed.txt", "--refused", "list.txt"), 1, SOME, many, KEPT, listed=LISTED)
 
     progress = words("squares.json", "refused.txt", "saved.json", "--progress")
     answers, opening, saving = "refused no vertex\n200\n", "opening squares.json\n", "saving saved.json\n"

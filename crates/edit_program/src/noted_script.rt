@@ -1,82 +1,84 @@
-//! A script that is kept while it is read.
-ghost use Rattle.std.specs.Prelude.{◌≡◌, ◌||◌, ◌<◌, ◌≤◌, ◌++◌, true, false, [], take, length, IfOk, OnOk, OnErr};
+//! A script that is noted while it is read.
+ghost use Rattle.std.specs.Prelude.{◌≡◌, ◌||◌, ◌<◌, ◌≤◌, false, true, take, length, IfOk, OnOk, OnErr};
 ghost use Rattle.std.specs.Io.KnownBytes.{Keeps, Consumes, IsAtEnd};
 
+use crate::refused_lines::RefusedLines;
 use device_io::{Failed, Source};
-use std::alloc::Global;
+use std::cell::RefCell;
 
-/// A source that gives what another gives, and keeps it. Where there is no memory to keep a piece, the
-/// next call fails.
+/// A source that gives what another gives, and shows it to the list of refused lines. Where a piece
+/// can't be noted there, the next call fails.
 #[derive(Drop)]
-pub struct KeptScript<R> {
+pub struct NotedScript<'a, R> {
     /// The source that the bytes come from.
     source: R,
-    /// The bytes that were given.
-    kept: Vec<u8>,
-    no_memory: bool,
+    list: &'a RefCell<RefusedLines>,
+    is_short: bool,
     failed: bool,
 }
 
-impl<R> KeptScript<R> {
-    ghost use Rattle.edit_program.specs.Keeping.{source_of, kept_of, is_short, fails_itself};
+impl<'a, R> NotedScript<'a, R> {
+    ghost use Rattle.edit_program.specs.Keeping.{source_of, is_short, fails_itself};
 
-    /// A source over this one, of which nothing is kept yet.
-    pub fn new(alloc: Global, source: R) -> Self
+    /// A source over this one, of which nothing is noted yet.
+    pub fn new(list: &'a RefCell<RefusedLines>, source: R) -> Self
         ensures source { source_of result ≡ source }
-        ensures kept { kept_of result ≡ [] }
+        ensures whole { is_short result ≡ false }
         ensures works { fails_itself result ≡ false }
     {
-        KeptScript {
+        NotedScript {
             source,
-            kept: Vec::new(alloc),
-            no_memory: false,
+            list,
+            is_short: false,
             failed: false,
         }
     }
 
-    /// The bytes that were given.
-    pub fn kept(&self) -> &[u8]
-        ensures { result.now ≡ kept_of self.now }
+    /// The source that the bytes come from.
+    pub fn source(&self) -> &R
+        ensures { result.now ≡ source_of self.now }
     {
-        self.kept.as_slice()
+        &self.source
     }
 
-    /// Whether there was no memory to keep what was given.
+    /// Whether some piece was not noted.
     pub fn is_short(&self) -> bool
         ensures { result ≡ is_short self.now }
     {
-        self.no_memory
+        self.is_short
     }
 
-    /// Fails where a piece was not kept.
+    /// Fails where a piece was not noted.
     fn pass(&mut self) -> Result<(), Failed>
         ensures source { source_of self.new ≡ source_of self.old }
-        ensures kept { kept_of self.new ≡ kept_of self.old }
-        ensures whole { OnOk result (is_short self.new ≡ false) }
+        ensures short { is_short self.new ≡ is_short self.old }
+        ensures whole { OnOk result (is_short self.old ≡ false) }
         ensures works { OnOk result (fails_itself self.new ≡ fails_itself self.old) }
         ensures failed { OnErr result (fails_itself self.new ≡ true) }
     {
-        if self.no_memory {
+        if self.is_short {
             self.failed = true;
             return Err(Failed);
         }
         Ok(())
     }
 
-    /// Keeps a piece, or notes that there is no memory for it.
-    fn keep(&mut self, piece: &[u8])
+    /// Notes a piece, or the end of the script, or that it could not be noted.
+    fn note(&mut self, piece: &[u8], is_end: bool)
         ensures source { source_of self.new ≡ source_of self.old }
         ensures works { fails_itself self.new ≡ fails_itself self.old }
-        ensures kept { is_short self.new ≡ false → kept_of self.new ≡ kept_of self.old ++ piece.now }
     {
-        if self.kept.extend_from_slice(piece).is_err() {
-            self.no_memory = true;
-        }
+        let noted = match self.list.try_borrow_mut() {
+            Ok(mut list) if is_end => list.end_script().is_ok(),
+            Ok(mut list) => list.take_script(piece).is_ok(),
+            Err(_) => false,
+        };
+        self.is_short |= !noted;
     }
 }
 
-impl<R: Source> Source for KeptScript<R> {
-    ghost use Rattle.edit_program.specs.Keeping.{source_of, kept_of, is_short, fails_itself};
+impl<R: Source> Source for NotedScript<'_, R> {
+    ghost use Rattle.edit_program.specs.Keeping.{source_of, is_short, fails_itself};
 
     ghost coming = { λ s. R.coming (source_of s) };
 
@@ -96,13 +98,13 @@ impl<R: Source> Source for KeptScript<R> {
         ensures failed { OnErr result
             ((fails_itself self.new || R.has_failed (source_of self.new)) ≡ true) }
 
-        // What was given is kept, where there was memory for it.
-        ensures kept { IfOk result (λ n.
-            is_short self.new ≡ false → kept_of self.new ≡ kept_of self.old ++ take n room.new) }
+        // A piece comes only where each one before it was noted.
+        ensures whole { OnOk result (is_short self.old ≡ false) }
     {
         self.pass()?;
         let n = self.source.get(room)?;
-        self.keep(&room[..n]);
+        let is_end = n == 0 && !room.is_empty();
+        self.note(&room[..n], is_end);
         Ok(n)
     }
 }
