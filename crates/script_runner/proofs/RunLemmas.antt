@@ -303,7 +303,7 @@ module _ (bytes : List ℕ) (depth : ℕ) (opened : MapState) (began : Edited) (
   ends_opened : (f : RunFault) → Fails f depth opened.doc before after → Ends f bytes depth before after
   ends_opened (fault.Open f) h = absurd h
   ends_opened fault.Read h = (opened.doc, opens, h.0, h.1)
-  ends_opened fault.Write h = (opened.doc, opens, h.0, h.1)
+  ends_opened fault.Write h = (opened.doc, opens, h.0, h.1, h.2)
   ends_opened fault.Save h = (opened.doc, opens, h.0, h.1)
   ends_opened fault.OutOfMemory h = inr (opened.doc, opens, h)
 

@@ -2,7 +2,7 @@
 use Rattle.kit_words.proofs.Common.{Result, Ok, Err, OnErr, ◌≡◌, ◌≢◌, ℕ, ◌+◌, take, length, List, [], ◌∷◌, ◌++◌, Option}
 use Rattle.kit_words.proofs.Common.{None, Some, refl, sym, ap, ap₂, subst, ◌∙◌, arith, append_assoc, inl, inr, ◌⊎◌}
 use Rattle.kit_words.proofs.Common.{MatchBool, Bool, true, false, cond, ◌==◌, take_all, Keeps, Appends-nil}
-use Rattle.kit_words.proofs.Common.{Appends-kept}
+use Rattle.kit_words.proofs.Common.{Appends, Appends-kept}
 use Rattle.std.proofs.Common.{append-nil}
 use Rattle.ring_machine.specs.Common.{Document, Show}
 use Rattle.undo_ring.specs.Common.{command_of, Edited, machine_of}

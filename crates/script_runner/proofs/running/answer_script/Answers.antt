@@ -50,9 +50,9 @@ returns-then-left-eq0-clause-halted g c = λ held.
 
 pub returns-in-Err-feed_piece-clause-halted : goal.returns-in-Err-feed_piece-clause-halted
 returns-in-Err-feed_piece-clause-halted g c =
-    halts_at c.in-Err-feed_piece.fault c.not_answered.result c.args.runner.now.depth c.args.runner.now.state.doc
+    halts_at c.in-Err-feed_piece.fault c.not_answered-in-Err-feed_piece.result c.args.runner.now.depth c.args.runner.now.state.doc
     (reader_of g.R.Source c.args.script.now) (reader_of g.R.Source c.get.new.self) (writer_of g.W.Sink c.args.out.now) (writer_of g.W.Sink c.feed_piece.new.out)
-    c.not_answered.ensures
+    c.not_answered-in-Err-feed_piece.ensures
     (λ held.
     let (read, text, came, put, fed, counted) = c.loop-n.invariant.so_far in
     let within : c.min-taken.result ≤ c.in-Ok.n = omega arith in
