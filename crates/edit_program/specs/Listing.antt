@@ -1,5 +1,5 @@
 -- The list of the refused lines of a script: which lines have a row, and what stands in it.
-use Rattle.std.specs.Prelude.{◌≡◌, ℕ, ◌+◌, ◌<◌, ◌==◌, ◌||◌, ◌<?◌, List, [], ◌∷◌, ◌++◌, take, length, Bool, true, false, if◌then◌else◌}
+use Rattle.std.specs.Prelude.{◌≡◌, ℕ, nat_lt, ◌||◌, List, [], ◌∷◌, ◌++◌, take, length, false, if◌then◌else◌}
 use Rattle.std.specs.Prelude.{Option, None, ◌⊎◌, codes, decimal}
 use Rattle.grid_geometry.specs.Common.{position_text}
 use Rattle.ring_machine.specs.Common.{Command}
@@ -20,7 +20,7 @@ use Rattle.edit_program.specs.declared.refused_lines.RefusedLines.{RefusedLines}
 pub record Gains (old : ScriptLine) (bytes : List ℕ) (new : ScriptLine) : Type 0 where
   pub number : new.number ≡ old.number
   pub text : new.text.items ≡ take 8192 (old.text.items ++ bytes)
-  pub over : new.is_over ≡ (old.is_over || 8192 <? length (old.text.items ++ bytes))
+  pub over : new.is_over ≡ (old.is_over || nat_lt 8192 (length (old.text.items ++ bytes)))
 
 -- the line without the carriage return before its line feed; one that was cut stays
 pub record IsWithoutReturn (old new : ScriptLine) : Type 0 where
