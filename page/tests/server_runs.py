@@ -67,9 +67,14 @@ class Served:
         return self
 
     def __exit__(self, *_):
+        # it removes what it keeps meanwhile
         if self.process.poll() is None:
+            self.process.terminate()
+        try:
+            self.process.communicate(timeout=PATIENCE)
+        except subprocess.TimeoutExpired:
             self.process.kill()
-        self.process.communicate()
+            self.process.communicate()
 
     def ask(self, method, path, body=None, **headers):
         """A request as it is given: status, text, and the answer itself. A header that is None is left out."""
