@@ -1,6 +1,6 @@
 // Shows a map in the browser that frames.py or test_drawing.py starts, and measures it.
 import { Model, parsed } from "./web/model.js";
-import { View } from "./web/view.js";
+import { TURN, View } from "./web/view.js";
 import { colouring } from "./web/colours.js";
 const by = id => document.getElementById(id), start = performance.now();
 const text = await (await fetch("map.json")).text(), fetched = performance.now();
@@ -34,7 +34,6 @@ async function moving(step, milliseconds) {
   view.stats.draws = [];
   const times = [await frame()];
   for (let i = 0; times[times.length - 1] - times[0] < milliseconds; i++) { step(i); times.push(await frame()); }
-  await settled();
   const frames = times.length - 1, between = times.slice(1).map((time, i) => time - times[i]);
   const second = (1000 * frames) / (times[frames] - times[0]);
   return { frames, second, ...spread(between), drawing: spread(view.stats.draws).median };
@@ -92,7 +91,7 @@ window.measure = {
   ready: { fetch: fetched - start, parse: read - fetched, model: made - read, drawn: drawn - made },
   size: { features: model.counts.features, vertices: model.counts.vertices, pieces: model.pieces.length },
   heap: () => performance.memory.usedJSHeapSize / 1e6,
-  go, drawing, edits,
+  go, drawing, edits, settled, turn: TURN,
   picture: milliseconds => moving(i => { view.x += (i % 2 ? 7 : -7) / view.kx; view.showShot(); }, milliseconds),
   pan: milliseconds => moving(i => { const way = i % 120 < 60 ? 1 : -1; view.pan(7 * way, 3 * way); }, milliseconds),
   zoom: milliseconds => moving(i => view.zoom(i % 80 < 40 ? 1.03 : 1 / 1.03, 500, 400), milliseconds),

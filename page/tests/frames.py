@@ -6,8 +6,9 @@ frames while it is panned and zoomed, as a whole and from near, the time of one 
 memory. `busy` is the processor time that the page's thread takes for a frame, which other work of the machine does not change.
 
 It fails where panning has fewer than 30 frames a second, where a frame is asked for while nothing changes, or where the page
-reports an error. `busy` tells the first, and the clock too, unless the machine is so busy that a page that moves a picture
-and draws nothing has not its 60 frames a second. The last line is `N passed, M failed`, the status 1 where something failed.
+reports an error. `busy` and the turn of drawing of a frame tell the first, and the clock too, unless the machine is so busy
+that a page that moves a picture and draws nothing has not its 60 frames a second. The last line is `N passed, M failed`, the
+status 1 where something failed.
 """
 import argparse
 import http.server
@@ -109,7 +110,9 @@ class Browser:
         """What a movement takes, with the processor time of each frame."""
         begun = self.processor()
         found = self.ask(kind, *given)
-        return {**found, "busy": (self.processor() - begun) / found["frames"]}
+        busy = (self.processor() - begun) / found["frames"]
+        self.ask("settled")
+        return {**found, "busy": busy}
 
     def errors(self):
         logged = self.driver.get_log("browser")
@@ -137,10 +140,13 @@ def rounded(numbers):
     return " ".join(f"{name} {value:.1f}" for name, value in numbers.items() if isinstance(value, (int, float)))
 
 
-def is_quick(found, picture):
-    """Whether a movement has the frames that are wanted: by its processor time, and by the clock where that can tell it."""
-    can_tell = picture["second"] >= FREE
-    return found["busy"] <= 1000 / WANTED and (not can_tell or found["second"] >= WANTED)
+def is_quick(found, picture, turn):
+    """Whether a movement has the frames that are wanted: by its processor time, and by the clock where that can tell it.
+
+    On a busy machine the thread has but a part of a turn of drawing, which ends by the clock, so a whole one is counted.
+    """
+    can_tell, busy = picture["second"] >= FREE, max(found["busy"], picture["busy"] + turn)
+    return busy <= 1000 / WANTED and (not can_tell or found["second"] >= WANTED)
 
 
 def measure_map(browser, server, path, milliseconds, checks, shots):
@@ -158,7 +164,8 @@ def measure_map(browser, server, path, milliseconds, checks, shots):
             found = browser.move(kind, milliseconds)
             print(f"    {kind}, ms: {rounded(found)}")
             if kind == "pan":
-                checks.check(f"{path.name}, {nearness} times as near: {WANTED} frames a second", is_quick(found, picture))
+                checks.check(f"{path.name}, {nearness} times as near: {WANTED} frames a second",
+                             is_quick(found, picture, browser.ask("turn")))
         if shots:
             browser.driver.save_screenshot(str(shots / f"{path.stem}-{nearness}.png"))
     browser.ask("go", 1)
