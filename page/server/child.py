@@ -89,6 +89,7 @@ class Child:
                 pipe.close()
 
     def _send(self, text):
+        """Gives the program lines of its script."""
         if self.ended:
             raise Ended(*self.ended)
         try:
@@ -98,12 +99,14 @@ class Child:
             raise self._end_told() from None
 
     def _line(self):
+        """The next line of its answers, without its line feed."""
         row = self.process.stdout.readline()
         if not row.endswith(b"\n"):
             raise self._end_told()
         return row[:-1]
 
     def _piece(self):
+        """What there is of its answers; it waits for some."""
         piece = self.process.stdout.read1(BUFFER)
         if not piece:
             raise self._end_told()

@@ -105,13 +105,19 @@ def leading_file(address):
     return pathlib.Path(path)
 
 
+def remove(path):
+    """Removes a file, if it is there."""
+    with contextlib.suppress(OSError):
+        path.unlink()
+
+
 def open_browser(server, leave):
     """Opens the page. `leave` has what is done at the end at the latest."""
     leading = leading_file(server.address)
     if leading is None:
         return
-    leave.callback(leading.unlink, missing_ok=True)
-    server.on_first_page = lambda: leading.unlink(missing_ok=True)
+    leave.callback(remove, leading)
+    server.on_first_page = lambda: remove(leading)
     # some browsers return only when they are closed
     threading.Thread(target=webbrowser.open, args=[leading.as_uri()], daemon=True).start()
 

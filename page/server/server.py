@@ -151,6 +151,7 @@ class Server(http.server.ThreadingHTTPServer):
                 self.lock.release()
 
     def _end_or_stay(self):
+        """Ends the server, or says once why it stays, if its last page is closed."""
         if not self.visits.is_over():
             return
         if not self.session.is_unsaved:
@@ -170,12 +171,15 @@ class Handler(http.server.BaseHTTPRequestHandler):
     """One connection of a browser."""
 
     protocol_version = "HTTP/1.1"
-    server_version, sys_version = "border_edit", ""
     # seconds for which a connection may be silent
     timeout = 120
     # head and body go out in one piece, at once: else the system waits 40 ms for the answer to the first one
     wbufsize = -1
     disable_nagle_algorithm = True
+
+    def version_string(self):
+        """The server's name in answers, without versions."""
+        return "border_edit"
 
     def log_message(self, *_):
         """Nothing is written for a request."""
@@ -254,6 +258,7 @@ class Handler(http.server.BaseHTTPRequestHandler):
             self.send_error(500, "this was not done, by a mistake in the server; its terminal has more")
 
     def _get(self):
+        """Answers a GET."""
         name, server = self.name(), self.server
         server.visits.hear()
         if name in server.files:
@@ -274,6 +279,7 @@ class Handler(http.server.BaseHTTPRequestHandler):
             raise BadRequest(404, "no such name")
 
     def _send_picture(self):
+        """Sends the picture of a map that does not open."""
         with self.server.lock:
             drawn = self.server.session.picture()
         if drawn is None:
@@ -281,6 +287,7 @@ class Handler(http.server.BaseHTTPRequestHandler):
         self.send(200, drawn, "image/svg+xml", PICTURE_POLICY)
 
     def _post(self):
+        """Answers a POST."""
         name = self.name()
         given = self._body(name)
         with self.server.lock:

@@ -124,6 +124,7 @@ class Session:
         return {**known, "opens": True, "log": self.log, "counts": self.counts, **self._state()}
 
     def _state(self):
+        """What changes with each edit."""
         return {"undos": self.undos, "unsaved": self.is_unsaved}
 
     def ask(self, lines):
@@ -204,6 +205,7 @@ class Session:
         return self._with_child(lambda: self._attempt(line))
 
     def _attempt(self, line):
+        """The answer to an edit, which is taken back if it was accepted."""
         answer, = self.child.ask([line])
         if is_accepted(answer):
             self._undo(1)
@@ -235,12 +237,14 @@ class Session:
             return does()
 
     def _must_be_open(self):
+        """Refuses what can't be done without a map that opens."""
         if self.lost:
             raise Lost(self.lost)
         if self.child is None:
             raise Refusal("the map does not open")
 
     def _run_again(self):
+        """Starts border_edit again, with the edits of the log."""
         self.child.end()
         self.child = Child(self.programs.path("border_edit"), self.base)
         done = [entry for entry in self.log if is_accepted(entry["answer"])]

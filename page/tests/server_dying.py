@@ -40,7 +40,8 @@ def killed(checks):
         with Served(files / "map.json", "--out", files / "out.json") as page:
             page.begin()
             page.edit("move 10 10 12 12", 'split 0 "C" 0 0 12 12')
-            page.edit("move 1 1 2 2")
+            # its second line is refused after the first one alone, and the log has only the second
+            page.edit("move 0 0 1 1", "insert 0 0 10 0 5 0")
             page.edit("undo")
             for name, asks, answer in [("an edit", lambda: page.edit('split 1 "D" 10 0 20 10'), (["ok 3"], True)),
                                        ("questions", lambda: page.questions("area 0", "neighbours 3"),

@@ -1,8 +1,11 @@
 """Edits, trials, questions, the log, and two pages."""
 import json
+import threading
 
 from server_maps import SQUARES, of_rings, square
-from server_runs import Served, folder, run
+from server_runs import PATHS, PATIENCE, Served, folder, run
+
+import child
 
 # The lines of a request, their answers, whether they are accepted, and twice the areas of both squares then.
 REQUESTS = [
@@ -167,6 +170,14 @@ def many_lines(checks):
             lines = [f'rename 0 "{"x" * 4000}{number}"' for number in range(250)]
             checks.same("250 edits of 4,000 bytes", page.edit(*lines), (["ok"] * 250, True))
             checks.same("no question is no question", page.questions(), [])
+        (files / "map.json").write_text(SQUARES)
+        running = child.Child(PATHS["border_edit"], files / "map.json")
+        too_late = threading.Timer(PATIENCE, running.process.kill)
+        too_late.start()
+        ring = "[[[[0,0],[10,0],[10,10],[0,10]]]]"
+        checks.same("60,000 lines", running.ask(["rings 0"] * 60_000) == [ring] * 60_000, True)
+        too_late.cancel()
+        running.end()
 
 
 def undos(checks):

@@ -1,5 +1,6 @@
 """When the server ends, and what it leaves."""
 import contextlib
+import os
 import pathlib
 import signal
 import time
@@ -105,6 +106,8 @@ def signals(checks):
                 page.edit("undo")
                 expected = page.get("document")[1]
                 children = page.children()
+                checks.same("Ctrl+C in a terminal does not reach border_edit before the log is kept",
+                            [os.getsid(child) == os.getsid(page.process.pid) for child in children], [False])
                 status, said = page.stop(sign)
                 left, = files.glob("*.txt")
                 checks.same(f"{sign.name}: what it says", (status, said.splitlines()),
@@ -114,9 +117,7 @@ def signals(checks):
                 again = run("border_edit", files / "map.json", left, "--out", files / "again.json", "--undo", "1000")
                 checks.same("the script gives the map", (again.returncode, (files / "again.json").read_bytes()),
                             (0, expected))
-                checks.same("border_edit has ended", (len(children),
-                                                      until(lambda: not any(map(is_running, children)), 5)),
-                            (1, True))
+                checks.same("border_edit has ended", until(lambda: not any(map(is_running, children)), 5), True)
                 checks.same("nothing is left", list((files / "tmp").iterdir()), [])
 
 

@@ -12,7 +12,7 @@ PATIENCE = 180
 
 def of_bytes(size, rows):
     """A map of so many bytes, of which the properties have so many line feeds."""
-    kept = "[" + "1234567890,\n" * rows + '0,"{fill}"]'
+    kept = '["features 1 vertices 4 segments 4",\n' + "123456789,\n" * rows + '0,"{fill}"]'
     text = of_squares([('"A"', kept)])
     return text.replace("{fill}", "x" * (size - len(text) + len("{fill}")))
 

@@ -112,7 +112,8 @@ def browser(checks):
                             until((files / "browser.mode").exists) and until((files / "browser.mode").read_text),
                             True)
                 arguments = (files / "browser.arguments").read_text()
-                checks.same("its arguments", (arguments.startswith(f"file://{files}/home/border_edit-"), token in arguments),
+                checks.same("its arguments",
+                            (arguments.startswith(f"file://{files}/home/border_edit-"), token in arguments),
                             (True, False))
                 checks.same("no dot before the name", pathlib.Path(arguments.strip()).name.startswith("."), False)
                 checks.same("who may read the file", (files / "browser.mode").read_text(), "600\n")
