@@ -33,7 +33,7 @@ const REFUSALS = [
   [/^not one polygon/, "Only features that have a single part can be merged."],
   [/^not neighbours/, "These features have no border in common."],
   [/^runs (\d+)/, "These features share $1 separate stretches of border. Only features with one common stretch can be merged."],
-  [/^common (?:else|position) (\S+ \S+)/, "These features also touch away from their common border, at $1."],
+  [/^common else (\S+ \S+)/, "These features also touch away from their common border, at $1."],
   [/^same side/, "These features lie on the same side of their common border."],
   [/^too large/, "The map would become larger than the editor allows."],
   [/^nothing to undo/, "There is nothing left to undo."],
@@ -122,16 +122,6 @@ export function conflictOf(answer) {
   return found ? [found.slice(1, 5).map(Number), found.slice(5, 9).map(Number)] : null;
 }
 
-/**
- * The vertex that a refusal names.
- * @param {string} answer
- * @returns {[number, number] | null}
- */
-export function sweptOf(answer) {
-  const found = /^refused sweeps (-?\d+) (-?\d+)$/.exec(answer);
-  return found ? [Number(found[1]), Number(found[2])] : null;
-}
-
 export const TEXT = {
   title: (/** @type {string} */ name) => `${name} – border_edit`,
   refused: "Refused.",
@@ -152,7 +142,6 @@ export const TEXT = {
   noServer: "The program behind this page has ended or cannot be reached. If it could, it left unsaved edits as a script beside the map.",
   noAnswer: "The program could not answer.",
   notOpened: "The map could not be opened.",
-  reload: "Reload",
   showConflict: "Show the place",
   newId: "New id of the feature",
   partId: (/** @type {string} */ name) => `Id of the part that is cut from ${name}`,
@@ -160,7 +149,6 @@ export const TEXT = {
   cutOutside: "The line does not run inside a feature that can be pointed at.",
   noTaker: "The part that is cut off has no neighbour that could take it.",
   chooseTaker: "Which neighbour takes the part?",
-  notPlaced: "A line must begin and end on a border.",
   hintCut: "Cut: click a border where the cut begins, click its bends, and end on a border. Esc stops.",
   hintReshape: "Reshape: draw from border to border inside a feature; the smaller part goes to the neighbour there. Esc stops.",
   hintMeasure: "Measure: click along the way. Click the first point to close it for an area. " +
@@ -201,7 +189,6 @@ export const TEXT = {
     first === last ? `${first} (${count} times)` : `${first} … ${last} (${count} lines)`,
   layerShown: "Show",
   layerHit: "Point at",
-  layerNamed: "Names",
   layerOption: (/** @type {string} */ what, /** @type {string} */ layer) => `${what}: ${layer}`,
   layerCount: (/** @type {number} */ count) => count === 1 ? "1 feature" : `${grouped(count)} features`,
   nameById: "id",
@@ -210,7 +197,6 @@ export const TEXT = {
   noValue: "no value",
   otherValues: "other values",
   range: (/** @type {string} */ from, /** @type {string} */ to) => from === to ? from : `${from} to ${to}`,
-  found: (/** @type {string} */ name) => `${name} found`,
   notFound: (/** @type {string} */ text) => `No feature with “${text}” in its id or name.`,
   underlay: (/** @type {number} */ lines, /** @type {string} */ file) => `Underlay: ${grouped(lines)} lines of ${file}.`,
   noUnderlay: (/** @type {string} */ file) => `${file} is not GeoJSON or TopoJSON.`,
@@ -220,7 +206,6 @@ export const TEXT = {
   mendReason: (/** @type {string} */ reason) => sentence(reason),
   mending: "Mending …",
   mended: "Mended. Nothing is saved yet.",
-  mendedReport: "What mending did",
 };
 
 /**
