@@ -1,9 +1,26 @@
 -- What is seen of a script and of its answers piece by piece adds up.
-use Rattle.kit_words.proofs.Common.{◌≡◌, ℕ, List, [], ◌∷◌, ◌++◌, refl, sym, ◌∙◌, ap, append_assoc}
+use Rattle.kit_words.proofs.Common.{◌≡◌, ℕ, ◌-◌, min, Bool, ◌||◌, List, [], ◌∷◌, ◌++◌, length, take, refl, sym, ◌∙◌, ap}
+use Rattle.kit_words.proofs.Common.{append_assoc, arith, nat_lt, nat_tests}
 use Rattle.std.proofs.Common.{append-nil}
+use Rattle.std.proofs.lemmas.List.{take_min}
 use Rattle.edit_program.specs.declared.refused_lines.RefusedLines.{RefusedLines}
 use Rattle.edit_program.specs.declared.script_line.ScriptLine.{ScriptLine}
 use Rattle.edit_program.specs.Listing.{AreRows, Awaits, EndsLine, IsRow, Lists, ListsFirst, rows_of, waiting_of}
+
+-- ---- bytes of a line
+
+-- so many bytes are kept as there is room for
+pub kept_bytes : (old new bytes : List ℕ) (kept : ℕ) → kept ≡ min (length bytes) (8192 - length old) → new ≡ old ++ take kept bytes
+    → new ≡ old ++ take (8192 - length old) bytes
+kept_bytes old new bytes kept most e =
+    let same : kept ≡ min (8192 - length old) (length bytes) = omega arith in
+    e ∙ ap (λ (k : ℕ). old ++ take k bytes) same ∙ ap (λ (z : List ℕ). old ++ z) (take_min (8192 - length old) bytes)
+
+pub kept_over : (over : Bool) (old n kept : ℕ) → kept ≡ min n (8192 - old)
+    → (over || nat_lt kept n) ≡ (over || nat_lt (8192 - old) n)
+kept_over over old n kept most =
+    let same : nat_lt kept n ≡ nat_lt (8192 - old) n = grind (arith, nat_tests) in
+    ap (λ (b : Bool). over || b) same
 
 -- ---- lines that wait
 

@@ -1,5 +1,5 @@
 -- The list of the refused lines of a script: which lines have a row, and what stands in it.
-use Rattle.std.specs.Prelude.{◌≡◌, ℕ, nat_lt, ◌||◌, List, [], ◌∷◌, ◌++◌, take, length, false, if◌then◌else◌}
+use Rattle.std.specs.Prelude.{◌≡◌, ℕ, ◌-◌, nat_lt, ◌||◌, ◌&&◌, not, List, [], ◌∷◌, ◌++◌, take, length, false, if◌then◌else◌}
 use Rattle.std.specs.Prelude.{Option, None, ◌⊎◌, codes, decimal}
 use Rattle.grid_geometry.specs.Common.{position_text}
 use Rattle.ring_machine.specs.Common.{Command}
@@ -7,34 +7,32 @@ use Rattle.script_lines.specs.Common.{Says}
 use Rattle.script_runner.specs.Common.{without_return}
 use Rattle.edit_program.specs.declared.reasons.Reason.{Reason}
 use Rattle.edit_program.specs.declared.reasons.Reason.TheVariants as reason
-use Rattle.edit_program.specs.declared.subjects.Subject.{Subject}
-use Rattle.edit_program.specs.declared.subjects.Subject.TheVariants.{Position, Segment, Feature}
-use Rattle.edit_program.specs.declared.rows.Why.{Why}
-use Rattle.edit_program.specs.declared.rows.Why.TheVariants.{Bad, About, Unsaid}
+use Rattle.edit_program.specs.declared.why.Why.{Why}
+use Rattle.edit_program.specs.declared.why.Why.TheVariants.{Bad, Position, Segment, Feature, Unsaid}
 use Rattle.edit_program.specs.declared.script_line.ScriptLine.{ScriptLine}
 use Rattle.edit_program.specs.declared.refused_lines.RefusedLines.{RefusedLines}
 
 -- ---- lines
 
--- the line with these bytes too, of which at most 8192 are kept
+-- the line with these bytes too, or so many of them as there is room for
 pub record Gains (old : ScriptLine) (bytes : List ℕ) (new : ScriptLine) : Type 0 where
   pub number : new.number ≡ old.number
-  pub text : new.text.items ≡ take 8192 (old.text.items ++ bytes)
-  pub over : new.is_over ≡ (old.is_over || nat_lt 8192 (length (old.text.items ++ bytes)))
+  pub bytes : new.bytes.items ≡ old.bytes.items ++ take (8192 - length old.bytes.items) bytes
+  pub ended : new.is_ended ≡ old.is_ended
+  pub over : new.is_over ≡ (old.is_over || nat_lt (8192 - length old.bytes.items) (length bytes))
 
--- the line without the carriage return before its line feed; one that was cut stays
-pub record IsWithoutReturn (old new : ScriptLine) : Type 0 where
-  pub number : new.number ≡ old.number
-  pub text : new.text.items ≡ (if old.is_over then old.text.items else without_return old.text.items)
-  pub over : new.is_over ≡ old.is_over
+-- what of a line is read: its bytes without the carriage return before its line feed; of one that was cut
+-- all that is kept
+abbrev pub text_of : ScriptLine → List ℕ
+text_of line = if (line.is_ended && not line.is_over) then without_return line.bytes.items else line.bytes.items
 
 -- an empty line, or a comment, which has no answer
 abbrev pub IsSkipped : ScriptLine → Type 0
-IsSkipped line = (line.is_over ≡ false) × Says line.text.items None
+IsSkipped line = (line.is_over ≡ false) × Says (text_of line) None
 
 -- a line that says nothing, or is too long
 abbrev pub IsBad : ScriptLine → Type 0
-IsBad line = line.is_over ≡ false → (said : Option Command) → ¬ Says line.text.items said
+IsBad line = line.is_over ≡ false → (said : Option Command) → ¬ Says (text_of line) said
 
 -- ---- rows
 
@@ -51,26 +49,27 @@ reason_text reason.NotString = codes "not a JSON string"
 reason_text reason.TooFew = codes "too few arguments"
 reason_text reason.TooMany = codes "too many arguments"
 
-abbrev pub subject_text : Subject → List ℕ
-subject_text (Position at) = position_text at
-subject_text (Segment a b) = position_text a ++ 32 ∷ position_text b
-subject_text (Feature number) = decimal number
-
 abbrev pub why_text : Why → List ℕ
-why_text (Bad why) = reason_text why
-why_text (About subject) = subject_text subject
+why_text (Bad reason) = reason_text reason
+why_text (Position at) = position_text at
+why_text (Segment a b) = position_text a ++ 32 ∷ position_text b
+why_text (Feature number) = decimal number
 why_text Unsaid = []
+
+-- no reason
+abbrev pub IsNoReason : Why → Type 0
+IsNoReason (Bad reason) = ⊥
+IsNoReason why = Unit {0}
 
 -- a reason is told of a bad line, and of no other one
 abbrev pub TellsWhy : ScriptLine → Why → Type 0
-TellsWhy line (Bad why) = IsBad line
-TellsWhy line (About subject) = ¬ IsBad line
-TellsWhy line Unsaid = ¬ IsBad line
+TellsWhy line (Bad reason) = IsBad line
+TellsWhy line why = ¬ IsBad line
 
 -- the number of the line, its answer, the line, and what is told of it, with a tab between two of them
 abbrev pub row_text : ScriptLine → List ℕ → Why → List ℕ
 row_text line answer why =
-    decimal line.number ++ (9 ∷ (answer ++ (9 ∷ (line.text.items ++ (9 ∷ (why_text why ++ 10 ∷ []))))))
+    decimal line.number ++ (9 ∷ (answer ++ (9 ∷ (text_of line ++ (9 ∷ (why_text why ++ 10 ∷ []))))))
 
 -- the list with the row of this line
 abbrev pub AddsRow : ScriptLine → List ℕ → List ℕ → List ℕ → Type 0
@@ -97,7 +96,7 @@ pub record EndsLine (old new : RefusedLines) : Type 0 where
   pub waits : (IsSkipped old.open × (waiting_of new ≡ waiting_of old))
       ⊎ ((¬ IsSkipped old.open) × (waiting_of new ≡ waiting_of old ++ old.open ∷ []))
   pub rows : rows_of new ≡ rows_of old
-  pub empty : new.open.text.items ≡ []
+  pub empty : new.open.bytes.items ≡ []
 
 -- no row, or the row of this line
 abbrev pub IsRow : ScriptLine → List ℕ → Type 0

@@ -1,5 +1,5 @@
 -- How a script ends.
-use Rattle.std.specs.Prelude.{ℕ, List, [], ◌∷◌, Bool, ◌==◌}
+use Rattle.std.specs.Prelude.{ℕ, ◌-◌, ◌==◌, List, length, slice_index, Bool, if◌then◌else◌}
 use Rattle.edit_program.specs.declared.script_tail.ScriptTail.{ScriptTail}
 
 -- the source that a script comes from
@@ -10,7 +10,7 @@ script_of script = script.source
 abbrev pub is_whole : {R : Type 0} → ScriptTail R → Bool
 is_whole script = script.is_whole
 
--- whether it is once these bytes came too
+-- whether it is once these bytes came too: the last of them tells, where there is one
 abbrev pub whole_after : Bool → List ℕ → Bool
-whole_after before [] = before
-whole_after before (b ∷ bs) = whole_after (b == 10) bs
+whole_after before given =
+    if length given == 0 then before else slice_index given (length given - 1) == 10

@@ -14,7 +14,7 @@ mod refused_lines;
 mod rows;
 mod script_line;
 mod script_tail;
-mod subjects;
+mod why;
 
 pub use asked::Words;
 pub use command_line::words;

@@ -80,7 +80,7 @@ impl RefusedLines {
         match part.strip_suffix(b"\n") {
             Some(bytes) => {
                 self.open.gain(bytes)?;
-                self.open.drop_return();
+                self.open.is_ended = true;
                 self.end_line()
             }
             None => {
@@ -104,7 +104,7 @@ impl RefusedLines {
     pub fn end_script(&mut self) -> Result<(), NotListed>
         ensures { OnOk result (Awaits self.old self.new) }
     {
-        if self.open.text.is_empty() {
+        if self.open.bytes.is_empty() {
             return Ok(());
         }
         self.end_line()

@@ -59,8 +59,8 @@ impl<R: Source> Source for ScriptTail<R> {
         ensures unread { OnErr result (is_whole self.new ≡ is_whole self.old) }
     {
         let n = self.source.get(room)?;
-        if let Some(last) = room[..n].last() {
-            self.is_whole = *last == b'\n';
+        if n > 0 {
+            self.is_whole = room[n - 1] == b'\n';
         }
         Ok(n)
     }
