@@ -43,7 +43,9 @@ fn command<'a>(alloc: Global) -> Result<Command<'a>, clap::Error>
     let refused = Arg::new(alloc, "refused")
         .long("refused")
         .value_name("FILE2")
-        .help("The file that each refused or bad line is written in, with its number, its answer and why")
+        .help(
+            "The file that each refused or bad line is written in, with its number, its answer and why",
+        )
         .action(ArgAction::Set);
     let progress = Arg::new(alloc, "progress")
         .long("progress")
