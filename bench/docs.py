@@ -9,17 +9,16 @@
              at the top of a fresh clone of the last commit, one after another, and prints what the block after it
              holds, where that begins with ```text; else its status is 0 or 1
 
-A block's `./run` is the program that is named, or else the clone's own ./run. That one builds an unproved program
-for each block, which takes a minute each, and tells so in lines that are left out here. The companion programs are lent
-to the clone, as `rt ci` and `./build` leave them.
+A block's `./run` runs the border_edit that is named, and the programs that BORDER_EDIT, BORDER_SHOW and BORDER_MEND
+name; otherwise those that `rt ci` and `./build` left here, or else it builds an unproved one, once. What it says of that
+is left out here.
 
 There is one line for each fault, and one that counts; the status is 0 where there is no fault.
 """
 import argparse
+import os
 import pathlib
 import re
-import shlex
-import shutil
 import subprocess
 import sys
 import tempfile
@@ -27,9 +26,9 @@ import tempfile
 TOP = pathlib.Path(__file__).resolve().parent.parent
 MOST_LINES, MOST_COLUMNS = 250, 120
 TYPED = ["README.md", "docs/TUTORIAL.md", "docs/TESTED.md"]
-COMPANIONS = ["border_show", "border_mend"]
-# What ./run and `rt try` say of themselves.
-NOTICE = re.compile(r"^(run: |checked: |run=)")
+PROGRAMS = ["border_edit", "border_show", "border_mend"]
+# What ./run says of itself.
+NOTICE = re.compile(r"^programs: ")
 # The first words of a block of code, and its text.
 BLOCK = re.compile(r"^```(.*)\n((?:.*\n)*?)```$", re.M)
 
@@ -83,8 +82,10 @@ def line_faults():
         return re.findall(pattern, (TOP / name).read_text(), re.M)
 
     table = (TOP / "docs/FORMATS.md").read_text().split("\n| Line | Answer | What it does |\n", 1)[1].split("\n\n", 1)[0]
-    told = [line for row in table.splitlines()[1:] for line in re.findall("`([^`]*)`", row.split("|")[1])]
+    listed = [line for row in table.splitlines()[1:] for line in re.findall("`([^`]*)`", row.split("|")[1])]
     helped = found(r"^  ([a-z]\S*(?: \S+)*) {2,}\S", "crates/edit_program/src/help.rt")
+    # positions may be numbered in one list and not in the other
+    told, helped = ([re.sub(r"\b([xy])[0-9]\b", r"\1", line) for line in lines] for lines in (listed, helped))
     taken = found(r'(?:word|line) == b"(\w+)"', "crates/script_lines/src/parsing.rt")
     if helped != told:
         yield f"help.rt has the lines {helped}, and docs/FORMATS.md {told}"
@@ -101,20 +102,17 @@ def typed(page):
             yield number, block, after if head_after == "text" else None
 
 
-def lend_companions(clone):
-    """Puts the built companion programs where the pages call them."""
-    for name in COMPANIONS:
-        built = TOP / "crates" / name / "out" / name
-        if built.is_file():
-            (clone / "crates" / name / "out").mkdir()
-            shutil.copy(built, clone / "crates" / name / "out" / name)
+def environment(program):
+    """The environment in which ./run finds the built programs."""
+    built = {name.upper(): TOP / "crates" / name / "out" / name for name in PROGRAMS}
+    found = {word: str(path) for word, path in built.items() if path.is_file()}
+    return {**found, **os.environ, **({"BORDER_EDIT": program} if program else {})}
 
 
 def run_faults(page, folder, program):
     for number, text, wanted in typed(page):
-        if program:
-            text = text.replace("./run ", shlex.quote(program) + " ")
-        ran = subprocess.run(["sh", "-c", text], cwd=folder, stdout=subprocess.PIPE, stderr=subprocess.STDOUT, text=True)
+        ran = subprocess.run(["sh", "-c", text], cwd=folder, env=environment(program), stdout=subprocess.PIPE,
+                             stderr=subprocess.STDOUT, text=True)
         told = "".join(line for line in ran.stdout.splitlines(True) if not NOTICE.match(line))
         if wanted is not None and told != wanted:
             yield f"{number}: {told!r}, and not {wanted!r}"
@@ -124,11 +122,11 @@ def run_faults(page, folder, program):
 
 def main():
     words = argparse.ArgumentParser(description=__doc__, formatter_class=argparse.RawDescriptionHelpFormatter)
-    words.add_argument("program", nargs="?", help="an executable to run in the place of ./run")
+    words.add_argument("program", nargs="?", help="the border_edit that ./run runs")
     words.add_argument("--no-runs", action="store_true", help="links and sizes alone")
     options = words.parse_args()
     faults = [f"{page.relative_to(TOP)}:{fault}" for page in pages() for fault in link_faults(page)]
-    faults += [f"{page.relative_to(TOP)}:{fault}" for page in pages() if page.parent.name == "docs" for fault in size_faults(page)]
+    faults += [f"{page.relative_to(TOP)}:{fault}" for page in pages() if page.parent == TOP / "docs" for fault in size_faults(page)]
     faults += line_faults()
     runs = 0
     if not options.no_runs:
@@ -136,7 +134,6 @@ def main():
         with tempfile.TemporaryDirectory() as folder:
             clone = pathlib.Path(folder, "clone")
             subprocess.run(["git", "clone", "-q", TOP, clone], check=True)
-            lend_companions(clone)
             for name in TYPED:
                 runs += len(list(typed(clone / name)))
                 faults += [f"{name}:{fault}" for fault in run_faults(clone / name, clone, program)]

@@ -1,8 +1,8 @@
 #!/usr/bin/env python3
 """Makes the pictures of docs/pictures from the examples, and draws maps with hostile ids.
 
-The pictures are made by the built programs border_edit and border_show (`rt ci` leaves them); others
-can be named. Then `--maps N` maps with drawn ids are drawn too, alone and as what an edit did. Each
+The pictures are made by the built programs border_edit, border_show and border_mend (`rt ci` leaves
+them); others can be named. Then `--maps N` maps with drawn ids are drawn too, alone and as what an edit did. Each
 picture has to be well-formed XML with whole numbers alone, in which each feature's title is its number
 and what a model here makes of its id, and the same bytes again when it is drawn again. Damaged, deep and huge
 maps have to end with the fault that border_edit has for them, or, where it names a conflict, with a
@@ -51,18 +51,26 @@ def run(program, *words, status=0):
         raise SystemExit(f"{program}: status {ran.returncode}, and not {status}: {ran.stderr.decode()}")
 
 
-def make_pictures(edit, show):
-    """The pictures of docs/pictures."""
+def make_tutorial(edit, show, mend, folder):
+    """The map of docs/TUTORIAL.md, and what its scripts do to it."""
+    maps = [folder / f"step{number}.json" for number in range(5)]
+    run(mend, EXAMPLES / "somerville.json", "--digits", 4, "--out", maps[0])
+    for (script, status), before, after in zip([("corner", 0), ("refused", 1), ("parts", 1), ("thin", 0)], maps, maps[1:]):
+        run(edit, before, EXAMPLES / "tutorial" / f"{script}.txt", "--out", after, status=status)
+    run(show, maps[0], "--ids", "--out", PICTURES / "somerville.svg")
+    run(show, maps[0], maps[-1], "--ids", "--out", PICTURES / "somerville_change.svg")
+
+
+def make_pictures(edit, show, mend):
+    """The pictures of docs/pictures that the programs draw."""
     PICTURES.mkdir(exist_ok=True)
     with tempfile.TemporaryDirectory() as name:
         folder = pathlib.Path(name)
         before, after = EXAMPLES / "columbus.json", folder / "columbus.json"
         (folder / "script.txt").write_text(COLUMBUS)
         run(edit, before, folder / "script.txt", "--out", after)
-        run(show, before, "--ids", "--out", PICTURES / "columbus.svg")
         run(show, before, after, "--ids", "--out", PICTURES / "columbus_change.svg")
-        part = ["--at", 545000, 395000, 200000]
-        run(show, before, after, *part, "--ids", "--out", PICTURES / "columbus_part.svg")
+        make_tutorial(edit, show, mend, folder)
         crossed = (EXAMPLES / "squares.json").read_text().replace("[10,10]", "[-5,15]", 1)
         crossed = crossed.replace("[[10,10],[0,10]", "[[-5,15],[0,10]").replace("[20,10],[10,10]", "[20,10],[-5,15]")
         (folder / "crossed.json").write_text(crossed)
@@ -189,13 +197,14 @@ def main():
     words = argparse.ArgumentParser(description=__doc__.split("\n", 1)[0])
     words.add_argument("--edit", default=str(TOP / "crates/border_edit/out/border_edit"))
     words.add_argument("--show", default=str(TOP / "crates/border_show/out/border_show"))
+    words.add_argument("--mend", default=str(TOP / "crates/border_mend/out/border_mend"))
     words.add_argument("--maps", type=int, default=0, help="how many maps with hostile ids are drawn")
     words.add_argument("--seed", type=int, default=1)
     words.add_argument("--no-pictures", action="store_true", help="leaves docs/pictures as it is")
     asked = words.parse_args()
     edit, show = os.path.abspath(asked.edit), os.path.abspath(asked.show)
     if not asked.no_pictures:
-        make_pictures(edit, show)
+        make_pictures(edit, show, os.path.abspath(asked.mend))
     wrong = draw_maps(show, asked.maps, asked.seed) + (draw_hostile(edit, show, asked.seed) if asked.maps else 0)
     for picture in sorted(PICTURES.glob("*.svg")) if not asked.no_pictures else []:
         root = xml.dom.minidom.parse(str(picture)).documentElement

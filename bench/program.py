@@ -1,14 +1,15 @@
 #!/usr/bin/env python3
-"""Runs the built program border_edit to each of its ends, and looks at FILE before and after.
+"""Runs the built program border_edit to each of its ends, and looks at FILE before and after; and runs all three programs
+on files of all kinds (bench/file_ends.py).
 
 The tests of the crate call what stands below `main`. Here the program itself is called: with words, on
 files, on devices that are full, with little memory, and with a terminal as standard error. Compared are
 the status, the answers, what stands on standard error, and what FILE holds at the end, and FILE2 where
-one is named.
+one is named; and no other file may be left.
 
 Without a C compiler the ends without a seed are left out, and that is said.
 
-The program has to stand already (`rt ci` leaves it); another one can be named. There is one line for
+The programs have to stand already (`rt ci` leaves them); others can be named. There is one line for
 each end that differs; the status is 0 where none does.
 """
 import argparse
@@ -23,6 +24,9 @@ import shutil
 import subprocess
 import sys
 import tempfile
+
+import file_ends
+import running
 
 TOP = pathlib.Path(__file__).resolve().parent.parent
 DATA = TOP / "crates/border_edit/data"
@@ -53,10 +57,16 @@ FILES = {
     "cut.json": "{",
     "long.txt": "document\n" * 100,
     "undone.txt": "move 0 0 1 1\nmove 10 10 12 12\nundo\nundo\n",
+    "cut.txt": "move 10 10 12 12\narea 0",
+    "cut_refused.txt": "move 10 10 12 12\nmove 1 1 2 2",
+    "cut_comment.txt": "move 10 10 12 12\n# the end",
+    "cut_return.txt": "move 10 10 12 12\r\narea 0\r",
+    "empty.txt": "",
     "mixed.txt": "# corners\r\n\nmove 1 1 2 2\r\ndocument\narea 0\n\r\n mend\narea 9",
 }
 # What is listed of mixed.txt.
-LISTED = "3\trefused no vertex\tmove 1 1 2 2\n7\tbad line\t mend\n8\trefused no feature\tarea 9\n"
+LISTED = ("3\trefused no vertex\tmove 1 1 2 2\t1 1\n7\tbad line\t mend\tspace at the start\n"
+          "8\trefused no feature\tarea 9\t9\n")
 
 
 def ends():
@@ -113,6 +123,8 @@ def ends():
     yield Row("a full list", listing("mixed.txt", "/dev/full"), 3, SOME, "refused fault\n", SAVED)
     yield Row("one FILE for both", listing("mixed.txt", "saved.json"), 64, "", SOME, KEPT)
 
+    yield from strict_ends(words)
+
     progress = words("squares.json", "refused.txt", "saved.json", "--progress")
     answers, opening, saving = "refused no vertex\n200\n", "opening squares.json\n", "saving saved.json\n"
     yield Row("progress", progress, 1, answers, opening + saving, SAVED, terminal=True)
@@ -124,6 +136,37 @@ def ends():
 
     for map_file, script in ("squares.json", "accepted.txt"), ("none.json", "none.txt"):
         yield Row(f"no seed, {map_file}", words(map_file, script), 3, "", "no random seed\n", KEPT, unseeded=True)
+
+
+def strict_ends(words):
+    """The ends with --strict, beside those without it, of the same scripts."""
+    def strict(script, *more, out="saved.json"):
+        return words("squares.json", script, out, "--strict", *more)
+
+    moved, refused = "ok\n240\n", "refused no vertex\n200\n"
+    one, cut = "not saved: 1 line was refused\n", "not saved: the last line of the script has no line feed\n"
+    for script, answers, status, said in (
+        ("cut.txt", moved, 0, cut), ("cut_refused.txt", "ok\nrefused no vertex\n", 1, one),
+        ("cut_comment.txt", "ok\n", 0, cut), ("cut_return.txt", "ok\nbad line\n", 1, one),
+        ("refused.txt", refused, 1, one), ("bad.txt", "bad line\n", 1, one),
+    ):
+        yield Row(f"not strict, {script}", words("squares.json", script), status, answers, "", SAVED)
+        yield Row(f"strict, {script}", strict(script), 1, answers, said, KEPT)
+        yield Row(f"strict, piped {script}", strict("-"), 1, answers, said, KEPT, given=script)
+        yield Row(f"strict, {script}, no FILE", strict(script, out="."), 1, answers, said, KEPT)
+        yield Row(f"strict, {script}, with progress", strict(script, "--progress"), 1, answers, said, KEPT)
+    for script, answers in ("accepted.txt", moved), ("empty.txt", ""):
+        yield Row(f"strict, {script}", strict(script), 0, answers, "", SAVED)
+        yield Row(f"strict, piped {script}", strict("-"), 0, answers, "", SAVED, given=script)
+        yield Row(f"strict, {script}, no FILE", strict(script, out="."), 3, answers, "save fault\n", KEPT)
+    yield Row("strict, not opened", ["cut.json", *strict("refused.txt")[1:]], 2, "", "open: not json at 1\n", KEPT)
+    yield Row("strict, no script", strict("none.txt"), 3, "", "script fault\n", KEPT)
+    yield Row("strict, full output", strict("refused.txt"), 3, None, "write fault\n", KEPT, output="/dev/full")
+    listing = "--refused", "list.txt"
+    many = "not saved: 3 lines were refused\n"
+    yield Row("strict, listed", strict("mixed.txt", *listing), 1, SOME, many, KEPT, listed=LISTED)
+    yield Row("strict, nothing to list", strict("accepted.txt", *listing), 0, moved, "", SAVED, listed="")
+    yield Row("strict, no list", strict("refused.txt", "--refused", "."), 3, refused, "refused fault\n", KEPT)
 
 
 def compiler():
@@ -148,6 +191,12 @@ def put_files(folder):
 
 def differs(wanted, text):
     return not text if wanted is SOME else wanted is not None and text != wanted
+
+
+def left_over(folder):
+    """The files that a run has left beside those that it was to write."""
+    known = {*FILES, "saved.json", "list.txt", "large.json", "answers", "unseeded.so"}
+    return sorted(set(os.listdir(folder)) - known)
 
 
 def file_ended(folder):
@@ -194,7 +243,7 @@ def faults(program, row):
         put_files(folder)
         status, said = ran(program, row, folder)
         answers = None if row.output else (folder / "answers").read_text()
-        file, listed = file_ended(folder), (folder / "list.txt").read_text()
+        file, listed, left = file_ended(folder), (folder / "list.txt").read_text(), left_over(folder)
         if status != row.status:
             return f"status {status}, and not {row.status}: {said}"
         if differs(row.answers, answers):
@@ -205,21 +254,23 @@ def faults(program, row):
             return f"FILE is {file!r:.60}, and not {row.file}"
         if listed != (BEFORE if row.listed is None else row.listed):
             return f"FILE2 is {listed!r:.60}"
+        if left:
+            return f"it leaves {left}"
     return None
 
 
 def main():
     words = argparse.ArgumentParser(description=__doc__.split("\n", 1)[0])
-    words.add_argument("program", nargs="?", default=str(TOP / "crates/border_edit/out/border_edit"))
-    program = os.path.abspath(words.parse_args().program)
-    count = wrong = 0
+    running.add_programs(words, "edit", "show", "mend")
+    programs = vars(words.parse_args())
+    count, wrong = file_ends.told(programs)
     if not compiler():
         print("no compiler: the ends without a seed are left out")
     for row in ends():
         if row.unseeded and not compiler():
             continue
         count += 1
-        fault = faults(program, row)
+        fault = faults(programs["edit"], row)
         if fault:
             wrong += 1
             print(f"{row.what}: {fault}")

@@ -22,6 +22,9 @@ PROCESSOR = max(os.sched_getaffinity(0))
 # How long to wait before asking again whether a program has read all that was written, in seconds.
 PAUSE = 0.0005
 
+TOP = pathlib.Path(__file__).resolve().parent.parent
+PROGRAMS = {"edit": "border_edit", "show": "border_show", "mend": "border_mend"}
+
 Run = collections.namedtuple("Run", "seconds status out err")
 Count = collections.namedtuple("Count", "instructions misses")
 
@@ -35,6 +38,14 @@ def why(done):
     answers = [line for line in done.out.splitlines() if line.startswith(("refused", "bad line"))]
     said = (done.err.strip().splitlines() or answers or [f"{done.out.count(chr(10))} answers"])[0]
     return f"status {done.status} ({said[:100]})"
+
+
+def add_programs(parser, *names):
+    """Gives a script an option for each of these programs, which is where `rt ci` leaves it."""
+    for name in names:
+        built = TOP / "crates" / PROGRAMS[name] / "out" / PROGRAMS[name]
+        what = f"the program {PROGRAMS[name]} (%(default)s)"
+        parser.add_argument(f"--{name}", type=os.path.abspath, default=str(built), help=what)
 
 
 # ---- what the system tells of a process

@@ -2,17 +2,18 @@
 ghost use Rattle.std.specs.Prelude.{◌≡◌, false, []};
 
 use device_io::{FromReader, Sink, Source, ToWriter};
-use edit_program::{KeptScript, NotedAnswers, Refusal, Words, ending_of_run, list_refused};
-use program_ends::{Ending, Stop, end, hash_seed, map_bytes};
-use script_runner::run;
+use edit_program::{NotedAnswers, NotedScript, RefusedLines, ScriptTail, Words};
+use edit_program::{ending_of_run, strict_ending};
+use program_ends::{Ending, Stop, end, hash_seed, map_bytes, replace_file};
+use script_runner::{RunFault, Summary, run};
 use std::alloc::Allocator;
-use std::fs;
+use std::cell::RefCell;
 use std::fs::File;
 use std::hash::RandomState;
-use std::io::{BufWriter, Read, Result as IoResult, Write};
+use std::io::{BufWriter, Read, Write};
 
 /// The SCRIPT that is standard input.
-const STANDARD_INPUT: &str = "-";
+pub(crate) const STANDARD_INPUT: &str = "-";
 
 /// Tells what is begun, and with which file, where the words ask for it.
 fn tell<E: Write>(words: &Words, begun: &str, path: &str, errors: &mut E) {
@@ -33,29 +34,21 @@ fn save<'a, E: Write>(
     };
     let file = words.out.as_str();
     tell(words, "saving", file, errors);
-    ending.once_written(fs::write(rt, file, text))
+    ending.once_written(replace_file(rt, file, text))
 }
 
-/// Writes the refused lines of a script in FILE2.
-fn write_list(rt: &HostRuntime, path: &str, script: &[u8], refusals: &[Refusal]) -> IoResult<()> {
-    let file = File::create(rt, path)?;
-    let mut list = BufWriter::new(rt.alloc(), file)?;
-    list_refused(rt.alloc(), script, refusals, &mut list)?;
-    list.flush()
+/// Whether the whole script was answered, and FILE was written or is to stay as it is.
+fn is_done(ending: &Ending<'_>) -> bool {
+    ending.status <= 1
 }
 
-/// Writes FILE2 where FILE was written.
-fn list<'a>(
-    rt: &HostRuntime,
-    ending: Ending<'a>,
-    path: &str,
-    script: &[u8],
-    refusals: &[Refusal],
-) -> Ending<'a> {
-    if ending.line.is_some() {
-        return ending;
+/// Writes the rows of the refused lines in FILE2, where no fault came before.
+fn list<'a>(rt: &HostRuntime, ending: Ending<'a>, path: &str, rows: &[u8]) -> Ending<'a> {
+    if is_done(&ending) {
+        ending.once_listed(replace_file(rt, path, rows))
+    } else {
+        ending
     }
-    ending.once_listed(write_list(rt, path, script, refusals))
 }
 
 /// An empty list for the saved text, with room for one of a map's length and an eighth more where
@@ -77,15 +70,29 @@ struct Editing<'a> {
     map: &'a [u8],
 }
 
+/// The ending of a run that saved this text, as the words ask.
+fn ending_of<'a>(
+    words: &Words,
+    outcome: &'a Result<Summary, RunFault<'a>>,
+    saved: &'a [u8],
+    is_whole: bool,
+) -> Ending<'a> {
+    if words.strict {
+        strict_ending(outcome, saved, is_whole)
+    } else {
+        ending_of_run(outcome, saved)
+    }
+}
+
 impl Editing<'_> {
     /// Runs a script on the map, and writes FILE.
     fn run_script<R: Source, W: Sink, E: Write>(
         &self,
-        script: &mut R,
+        script: &mut ScriptTail<R>,
         answers: &mut W,
         errors: &mut E,
     ) -> u8
-        requires reader { R.has_failed script.old ≡ false }
+        requires reader { ⟦<ScriptTail<R> as Source>⟧.has_failed script.old ≡ false }
         requires writer { W.has_failed answers.old ≡ false }
     {
         let alloc = self.rt.alloc();
@@ -94,33 +101,41 @@ impl Editing<'_> {
         let outcome = run(
             alloc, alloc, self.seed, self.map, script, depth, answers, &mut saved,
         );
-        let ending = ending_of_run(&outcome, saved.writer.as_slice());
+        let saved = saved.writer.as_slice();
+        let ending = ending_of(self.words, &outcome, saved, script.is_whole());
         end(save(self.rt, self.words, ending, errors), errors)
     }
 
-    /// The same, and writes the refused lines in FILE2 where FILE was written.
+    /// The same, and writes the refused lines in FILE2.
     fn run_listed<R: Source + Drop, W: Sink + Drop, E: Write>(
         &self,
-        script: R,
+        script: ScriptTail<R>,
         answers: W,
         path: &str,
         errors: &mut E,
     ) -> u8
-        requires reader { R.has_failed script ≡ false }
+        requires reader { ⟦<ScriptTail<R> as Source>⟧.has_failed script ≡ false }
         requires writer { W.has_failed answers ≡ false }
     {
         let alloc = self.rt.alloc();
-        let mut kept = KeptScript::new(alloc, script);
-        let mut noted = NotedAnswers::new(alloc, answers);
+        let lines = RefCell::new(RefusedLines::new(alloc));
+        let mut script = NotedScript::new(&lines, script);
+        let mut answers = NotedAnswers::new(&lines, answers);
         let mut saved = ToWriter::new(room_for_saved(alloc, self.map.len()));
         let depth = self.words.depth;
         let outcome = run(
-            alloc, alloc, self.seed, self.map, &mut kept, depth, &mut noted, &mut saved,
+            alloc, alloc, self.seed, self.map, &mut script, depth, &mut answers, &mut saved,
         );
-        let ending = ending_of_run(&outcome, saved.writer.as_slice());
-        let ending = ending.unless_short(kept.is_short() || noted.is_short());
+        let saved = saved.writer.as_slice();
+        let ending = ending_of(self.words, &outcome, saved, script.source().is_whole());
+        let is_short = script.is_short() || answers.is_short();
+        let listed = lines.try_borrow();
+        let ending = ending.unless_short(is_short || listed.is_err());
         let ending = save(self.rt, self.words, ending, errors);
-        let ending = list(self.rt, ending, path, kept.kept(), noted.refusals());
+        let ending = match &listed {
+            Ok(lines) => list(self.rt, ending, path, lines.rows()),
+            Err(_) => ending,
+        };
         end(ending, errors)
     }
 
@@ -133,7 +148,7 @@ impl Editing<'_> {
     ) -> Result<u8, Stop> {
         // Standard output sends on each piece at once, and an answer is a short one.
         let answers = BufWriter::new(self.rt.alloc(), answers).map_err(|_| Stop::NoMemory)?;
-        let mut source = FromReader::new(script);
+        let mut source = ScriptTail::new(FromReader::new(script));
         let mut sink = ToWriter::new(answers);
         let status = match &self.words.refused {
             Some(path) => self.run_listed(source, sink, path.as_str(), errors),
@@ -167,7 +182,8 @@ fn edit_files<W: Write + Drop, E: Write>(
     editing.edit_by(script, answers, errors)
 }
 
-/// Runs a script on a map as the words ask, and saves the map where the whole script was answered.
+/// Runs a script on a map as the words ask, and saves the map where the whole script was answered and,
+/// with `--strict`, accepted.
 /// Answers the status that the program ends with; the answers and the line that says why it ends go
 /// to these two writers. Faults are found in this order: a seed, MAP, opening SCRIPT, the run, FILE, FILE2.
 pub(crate) fn edit<W: Write + Drop, E: Write>(

@@ -5,16 +5,56 @@
 mod editing;
 
 use edit_program::{Words, words};
-use editing::edit;
-use program_ends::{Stop, end_stopped, given_words};
+use editing::{STANDARD_INPUT, edit};
+use program_ends::{FileArgument, Role, Stop, check_apart, end_stopped, given_words};
 use std::io::IsTerminal;
 use std::process::ExitCode;
+
+/// The file that a SCRIPT of standard input comes from, where it comes from one.
+const STANDARD_INPUT_FILE: &str = "/dev/stdin";
+
+/// The files that the words name, those that are written first.
+fn files_of(words: &Words) -> [FileArgument<'_>; 4] {
+    let script = match words.script.as_str() {
+        STANDARD_INPUT => STANDARD_INPUT_FILE,
+        path => path,
+    };
+    [
+        FileArgument {
+            argument: "--refused",
+            path: words.refused.as_ref().map(|path| path.as_str()),
+            role: Role::Written,
+        },
+        FileArgument {
+            argument: "--out",
+            path: Some(words.out.as_str()),
+            role: Role::Saved,
+        },
+        FileArgument {
+            argument: "MAP",
+            path: Some(words.map.as_str()),
+            role: Role::Edited,
+        },
+        FileArgument {
+            argument: "SCRIPT",
+            path: Some(script),
+            role: Role::Read,
+        },
+    ]
+}
+
+/// What these words ask for, the program's name first, where no file is written that another of them
+/// names.
+fn words_of(rt: &HostRuntime, given: &[String]) -> Result<Words, Stop> {
+    let words = words(rt.alloc(), given)?;
+    check_apart(rt, &files_of(&words))?;
+    Ok(words)
+}
 
 /// What the words that the program was called with ask for.
 fn words_given(rt: &HostRuntime) -> Result<Words, Stop> {
     let given = given_words(rt)?;
-    let words = words(rt.alloc(), given.as_slice())?;
-    Ok(words)
+    words_of(rt, given.as_slice())
 }
 
 fn main(rt: HostRuntime) -> ExitCode {

@@ -5,8 +5,8 @@ use Rattle.clap.specs.Words.{App, Rule, new_app, new_rule, with_rule, first_of, 
 use Rattle.program_ends.specs.Common.{with_version}
 use Rattle.clap.specs.declared.builder.action.ArgAction.TheVariants.{Set, SetTrue}
 
--- MAP and SCRIPT stand in their places, and --out FILE is required too; --undo N, --refused FILE2 and
--- --progress are not
+-- MAP and SCRIPT stand in their places, and --out FILE is required too; --undo N, --refused FILE2,
+-- --progress and --strict are not
 abbrev pub map_rule : Rule
 map_rule = record (new_rule (codes "MAP")) { required = true; action = Some Set }
 
@@ -41,10 +41,16 @@ progress_rule = record (new_rule (codes "progress")) {
   action = Some SetTrue;
 }
 
+abbrev pub strict_rule : Rule
+strict_rule = record (new_rule (codes "strict")) {
+  long = Some (codes "strict");
+  action = Some SetTrue;
+}
+
 abbrev pub program : App
 program =
-    with_rule (with_rule (with_rule (with_rule (with_rule (with_rule (with_version (new_app (codes "border_edit")))
-    map_rule) script_rule) out_rule) undo_rule) refused_rule) progress_rule
+    with_rule (with_rule (with_rule (with_rule (with_rule (with_rule (with_rule (with_version (new_app (codes "border_edit")))
+    map_rule) script_rule) out_rule) undo_rule) refused_rule) progress_rule) strict_rule
 
 -- the value that clap finds for an argument among the words, the program's name first
 abbrev pub text_of : List ℕ → List (List ℕ) → Option (List ℕ)

@@ -2,4 +2,6 @@ pub mod Status
 pub mod Endings
 pub mod Asked
 pub mod Keeping
+pub mod Tail
+pub mod Listing
 pub mod Common

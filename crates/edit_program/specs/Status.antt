@@ -1,5 +1,5 @@
 -- The status that a run ends the program with.
-use Rattle.std.specs.Prelude.{ℕ, ◌==◌, Result, Ok, Err, if◌then◌else◌}
+use Rattle.std.specs.Prelude.{ℕ, ◌==◌, Bool, Result, Ok, Err, if◌then◌else◌}
 use Rattle.script_runner.specs.declared.runner.Summary.{Summary}
 use Rattle.script_runner.specs.declared.fault.RunFault.{RunFault}
 use Rattle.script_runner.specs.declared.fault.RunFault.TheVariants.{Open, Read, Write, Save, OutOfMemory}
@@ -13,3 +13,9 @@ status_of (Err Read) = 3
 status_of (Err Write) = 3
 status_of (Err Save) = 3
 status_of (Err OutOfMemory) = 3
+
+-- the same, and 1 too where a script whose lines were all accepted is not whole: its last line has no
+-- line feed
+abbrev pub strict_status : Result Summary RunFault → Bool → ℕ
+strict_status (Ok summary) whole = if summary.refused == 0 then (if whole then 0 else 1) else 1
+strict_status (Err fault) whole = status_of (Err fault)

@@ -16,6 +16,9 @@ pub struct Words {
     pub refused: Option<String>,
     /// Whether standard error, where it is a terminal, is told what is begun.
     pub progress: bool,
+    /// Whether the map is saved only where no line was refused or bad, and the script's last line has
+    /// its line feed.
+    pub strict: bool,
     ghost least: { 1 ≤ depth },
     ghost most: { depth ≤ 1000 },
 }

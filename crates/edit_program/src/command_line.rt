@@ -43,11 +43,15 @@ fn command<'a>(alloc: Global) -> Result<Command<'a>, clap::Error>
     let refused = Arg::new(alloc, "refused")
         .long("refused")
         .value_name("FILE2")
-        .help("The file that each refused or bad line is written in, with its number and answer")
+        .help("The file that each refused or bad line is written in, with its number, its answer and why")
         .action(ArgAction::Set);
     let progress = Arg::new(alloc, "progress")
         .long("progress")
         .help("Tell on standard error, where that is a terminal, what is begun")
+        .action(ArgAction::SetTrue);
+    let strict = Arg::new(alloc, "strict")
+        .long("strict")
+        .help("Write FILE only where no line was refused or bad and the last one has its line feed")
         .action(ArgAction::SetTrue);
     let command = Command::new(alloc, "border_edit")
         .about(ABOUT)
@@ -58,7 +62,8 @@ fn command<'a>(alloc: Global) -> Result<Command<'a>, clap::Error>
         .arg(out)?
         .arg(undo)?
         .arg(refused)?
-        .arg(progress)?;
+        .arg(progress)?
+        .arg(strict)?;
     Ok(command)
 }
 
@@ -94,6 +99,8 @@ pub fn words(alloc: Global, given: &[String]) -> Result<Words, clap::Error>
         option_map string_bytes words.refused ≢ Some (string_bytes words.out)) }
     ensures progress { IfOk result (λ words.
         IsFlag (flag_of (codes "progress") (map string_bytes given.now)) words.progress) }
+    ensures strict { IfOk result (λ words.
+        IsFlag (flag_of (codes "strict") (map string_bytes given.now)) words.strict) }
 {
     let mut command = command(alloc)?;
     let matches = command.try_get_matches_from_mut(given)?;
@@ -115,5 +122,6 @@ pub fn words(alloc: Global, given: &[String]) -> Result<Words, clap::Error>
         depth,
         refused: copied(alloc, refused)?,
         progress: matches.get_flag("progress"),
+        strict: matches.get_flag("strict"),
     })
 }

@@ -1,7 +1,7 @@
 //! How a run ends the program: with which status, with what in FILE, and with which line.
-ghost use Rattle.std.specs.Prelude.{◌≡◌, None, Some, option_map, OnOk, OnErr, IfErr, IsSomeAnd};
-ghost use Rattle.edit_program.specs.Status.{status_of};
-ghost use Rattle.edit_program.specs.Endings.{Tells};
+ghost use Rattle.std.specs.Prelude.{◌≡◌, None, Some, option_map, OnOk, OnErr, IfOk, IfErr, IsSomeAnd};
+ghost use Rattle.edit_program.specs.Status.{status_of, strict_status};
+ghost use Rattle.edit_program.specs.Endings.{Tells, strict_file, strict_line};
 
 use program_ends::{Diagnostic, Ending};
 use script_runner::{RunFault, Summary};
@@ -49,5 +49,45 @@ pub fn ending_of_run<'a>(outcome: &'a Result<Summary, RunFault<'a>>, saved: &'a 
             line: None,
         },
         Err(fault) => Ending::of_fault(status, line_of(fault)),
+    }
+}
+
+/// The line that says why a run left FILE as it was, where each line was to be accepted, and the last
+/// one to have its line feed.
+fn line_of_unsaved<'a>(refused: u64, is_whole: bool) -> Option<Diagnostic<'a>>
+    ensures { result ≡ strict_line refused is_whole }
+{
+    if refused > 0 {
+        return Some(Diagnostic::LinesRefused(refused));
+    }
+    if is_whole {
+        None
+    } else {
+        Some(Diagnostic::CutOff)
+    }
+}
+
+/// The ending of a run that saved this text, where each line is to be accepted, and the last one to
+/// have its line feed: FILE gets the text only then, and stays as it is after any other run.
+pub fn strict_ending<'a>(
+    outcome: &'a Result<Summary, RunFault<'a>>,
+    saved: &'a [u8],
+    is_whole: bool,
+) -> Ending<'a>
+    ensures status { result.status ≡ strict_status outcome.now is_whole }
+    ensures written { IfOk outcome.now (λ summary. option_map (λ text. text.now) result.file
+        ≡ strict_file summary.refused is_whole saved.now) }
+    ensures why { IfOk outcome.now (λ summary.
+        result.line ≡ strict_line summary.refused is_whole) }
+    ensures kept { OnErr outcome.now (result.file ≡ None) }
+    ensures told { IfErr outcome.now (λ fault. IsSomeAnd result.line (Tells fault)) }
+{
+    let ending = ending_of_run(outcome, saved);
+    match outcome {
+        Ok(summary) => match line_of_unsaved(summary.refused, is_whole) {
+            Some(line) => Ending::of_fault(1, line),
+            None => ending,
+        },
+        Err(_) => ending,
     }
 }

@@ -4,29 +4,32 @@
 pub(crate) const ABOUT: &str =
     "Edits the shared borders of a TopoJSON map by a script, and prints an answer a line";
 
-/// The lines of a script, and an example. The lines are those of the table in docs/FORMATS.md.
+/// The lines of a script, the statuses, and two examples. The lines are those of the table in
+/// docs/FORMATS.md.
 pub(crate) const LINES: &str = "\
 Lines of SCRIPT (f and g are features, numbered from 0; id is a JSON string):
-  move x y x y           Move the vertex at the first position to the second
-  insert x y x y x y     Make the third position a vertex between the first two
-  remove x y             Leave the vertex out
-  thin t                 Leave out vertices whose triangle has at most t as twice its area
-  split f id x y x y ..  Cut feature f along a path; the second part is new and has the id
-  merge f g              Join feature g to feature f
-  rename f id            Give feature f the id
-  delete f               Take feature f out
-  undo                   Take back the newest change that is kept
-  area f                 Twice the area of feature f
-  rings f                The positions of feature f, ring by ring
-  at x y                 The features that hold the position, and those with a border there
-  neighbours f           The features that have a segment in common with feature f
-  count                  How many features, vertices and segments there are
-  document               The text of the map
-  # ..                   A comment; it has no answer, nor has an empty line
+  move x1 y1 x2 y2           Move the vertex at x1 y1 to x2 y2
+  insert x1 y1 x2 y2 x y     Add the vertex x y to the segment from x1 y1 to x2 y2
+  remove x y                 Remove the vertex
+  thin t                     Remove vertices whose triangle has at most t as twice its area
+  split f id x1 y1 x2 y2 ..  Cut feature f along a path; the second part is new and has the id
+  merge f g                  Join feature g to feature f
+  rename f id                Give feature f the id
+  delete f                   Delete feature f
+  undo                       Revert the latest change in the history
+  area f                     Twice the area of feature f
+  rings f                    The positions of feature f, ring by ring
+  at x y                     The features that contain the position, and those with a border there
+  neighbours f               The features that share a segment with feature f
+  count                      The numbers of features, vertices and segments
+  document                   The map as TopoJSON
+  # ..                       A comment; it has no answer, nor has an empty line
 
-Example: border_edit map.json script.txt --out saved.json
-with these lines in script.txt:
-  # both squares have this corner
-  move 10 10 12 12
-  area 0
-  undo";
+The answers are sent before more of SCRIPT is read, so with SCRIPT - a program can ask line by line.
+
+Status: 0 all lines were accepted; 1 some were refused or bad, or --strict did not save; 2 the map
+does not open; 3 a file, a device or memory failed; 64 the arguments are wrong.
+
+Examples:
+  border_edit map.json script.txt --out saved.json
+  printf 'move 10 10 12 12\\narea 0\\n' | border_edit map.json - --out map.json --strict";

@@ -1,78 +1,75 @@
-//! Answers whose refusals are noted while they are written.
+//! Answers that are noted while they are written.
 ghost use Rattle.std.specs.Prelude.{◌≡◌, ◌||◌, true, false, OnOk, OnErr};
 ghost use Rattle.std.specs.Io.KnownBytes.{Keeps};
 
-use crate::notes::{Notes, Refusal};
+use crate::refused_lines::RefusedLines;
 use device_io::{Failed, Sink};
-use std::alloc::Global;
+use std::cell::RefCell;
 
-/// A sink that passes answers on to another, and notes which of them are refusals. Where there is no
-/// memory to note one, the next call fails.
+/// A sink that passes answers on to another, and shows them to the list of refused lines. Where
+/// answers can't be noted there, the next call fails.
 #[derive(Drop)]
-pub struct NotedAnswers<W> {
+pub struct NotedAnswers<'a, W> {
     /// The sink that the bytes go to.
     sink: W,
-    notes: Notes,
-    no_memory: bool,
+    list: &'a RefCell<RefusedLines>,
+    is_short: bool,
     failed: bool,
 }
 
-impl<W> NotedAnswers<W> {
+impl<'a, W> NotedAnswers<'a, W> {
     ghost use Rattle.edit_program.specs.Keeping.{sink_of, is_cut, fails_alone};
 
     /// A sink over this one, which no answer has gone to.
-    pub fn new(alloc: Global, sink: W) -> Self
+    pub fn new(list: &'a RefCell<RefusedLines>, sink: W) -> Self
         ensures sink { sink_of result ≡ sink }
+        ensures whole { is_cut result ≡ false }
         ensures works { fails_alone result ≡ false }
     {
         NotedAnswers {
             sink,
-            notes: Notes::new(alloc),
-            no_memory: false,
+            list,
+            is_short: false,
             failed: false,
         }
     }
 
-    /// The refusals among the answers, in order.
-    pub fn refusals(&self) -> &[Refusal]
-        ensures { result.now ≡ self.now.notes.refusals.items }
-    {
-        self.notes.refusals()
-    }
-
-    /// Whether there was no memory to note a refusal.
+    /// Whether some answers were not noted.
     pub fn is_short(&self) -> bool
         ensures { result ≡ is_cut self.now }
     {
-        self.no_memory
+        self.is_short
     }
 
-    /// Fails where a refusal was not noted.
+    /// Fails where answers were not noted.
     fn pass(&mut self) -> Result<(), Failed>
         ensures sink { sink_of self.new ≡ sink_of self.old }
+        ensures short { is_cut self.new ≡ is_cut self.old }
         ensures whole { OnOk result (is_cut self.new ≡ false) }
         ensures works { OnOk result (fails_alone self.new ≡ fails_alone self.old) }
         ensures failed { OnErr result (fails_alone self.new ≡ true) }
     {
-        if self.no_memory {
+        if self.is_short {
             self.failed = true;
             return Err(Failed);
         }
         Ok(())
     }
 
-    /// Notes the refusals in a piece, or that there is no memory for one.
+    /// Notes a piece, or that it could not be noted.
     fn note(&mut self, piece: &[u8])
         ensures sink { sink_of self.new ≡ sink_of self.old }
         ensures works { fails_alone self.new ≡ fails_alone self.old }
     {
-        if self.notes.take(piece).is_err() {
-            self.no_memory = true;
-        }
+        let noted = match self.list.try_borrow_mut() {
+            Ok(mut list) => list.take_answers(piece).is_ok(),
+            Err(_) => false,
+        };
+        self.is_short |= !noted;
     }
 }
 
-impl<W: Sink> Sink for NotedAnswers<W> {
+impl<W: Sink> Sink for NotedAnswers<'_, W> {
     ghost use Rattle.edit_program.specs.Keeping.{sink_of, is_cut, fails_alone};
 
     ghost taken = { λ s. W.taken (sink_of s) };
@@ -97,7 +94,7 @@ impl<W: Sink> Sink for NotedAnswers<W> {
         ensures failed { OnErr result
             ((fails_alone self.new || W.has_failed (sink_of self.new)) ≡ true) }
 
-        // Answers are not sent on as whole where a refusal among them was not noted.
+        // Answers are not sent on as whole where some of them were not noted.
         ensures whole { OnOk result (is_cut self.new ≡ false) }
     {
         self.pass()?;

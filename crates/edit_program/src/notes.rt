@@ -1,17 +1,5 @@
 //! Which answers are refusals, seen byte by byte.
-ghost use Rattle.std.specs.Prelude.{◌≡◌, []};
-
 use std::alloc::{AllocError, Global};
-use std::mem;
-
-/// A refusal, or `bad line`, among the answers of a script.
-#[derive(Debug, Drop)]
-pub struct Refusal {
-    /// Its number among all answers, from 1.
-    pub answer: u64,
-    /// Its text, without the line feed.
-    pub text: Vec<u8>,
-}
 
 /// Where the next byte of the answers stands.
 #[derive(Clone, Copy, Debug, PartialEq, Eq)]
@@ -77,61 +65,40 @@ impl Place {
     }
 }
 
-/// The refusals among the answers so far.
+/// Where the answers have come to, and the refusal that came last.
 #[derive(Debug, Drop)]
-pub struct Notes {
-    alloc: Global,
+pub(crate) struct Notes {
     place: Place,
-    /// How many answers have begun.
-    answers: u64,
-    /// What has come of a refusal that has not ended.
+    /// What has come of an answer that is a refusal or `bad line`, up to the next answer.
     text: Vec<u8>,
-    refusals: Vec<Refusal>,
 }
 
 impl Notes {
     /// No answer has begun.
-    pub fn new(alloc: Global) -> Notes
-        ensures { result.refusals.items ≡ [] }
-    {
+    pub(crate) fn new(alloc: Global) -> Notes {
         Notes {
-            alloc,
             place: Place::Start,
-            answers: 0,
             text: Vec::new(alloc),
-            refusals: Vec::new(alloc),
         }
     }
 
-    /// The refusals that have ended, in order.
-    pub fn refusals(&self) -> &[Refusal]
-        ensures { result.now ≡ self.now.refusals.items }
-    {
-        self.refusals.as_slice()
+    /// The answer that has ended last, without its line feed, where it is a refusal or `bad line`.
+    pub(crate) fn refusal(&self) -> Option<&[u8]> {
+        match self.text.as_slice() {
+            [] => None,
+            text => Some(text),
+        }
     }
 
-    /// Takes the next byte of the answers.
-    fn take_byte(&mut self, byte: u8) -> Result<(), AllocError> {
-        let place = self.place;
-        self.place = place.behind(byte);
-        if place == Place::Start {
-            self.answers = self.answers.saturating_add(1);
+    /// Takes the next byte of the answers. Answers whether an answer has ended with it.
+    pub(crate) fn take(&mut self, byte: u8) -> Result<bool, AllocError> {
+        if self.place == Place::Start {
+            self.text.clear();
         }
+        self.place = self.place.behind(byte);
         if self.place == Place::Refusal {
             self.text.push(byte)?;
-        } else if place == Place::Refusal {
-            let text = mem::replace(&mut self.text, Vec::new(self.alloc));
-            let answer = self.answers;
-            self.refusals.push(Refusal { answer, text })?;
         }
-        Ok(())
-    }
-
-    /// Takes the next bytes of the answers. After an error the refusals are not all of them.
-    pub fn take(&mut self, piece: &[u8]) -> Result<(), AllocError> {
-        for byte in piece {
-            self.take_byte(*byte)?;
-        }
-        Ok(())
+        Ok(self.place == Place::Start)
     }
 }

@@ -6,7 +6,10 @@ use std::alloc::{AllocError, Global};
 /// The paths of FILE2, FILE, MAP and SCRIPT, and the two arguments that clash.
 #[derive(Clone, Copy)]
 struct Row {
-    paths: [Option<&'static str>; 4],
+    refused: Option<&'static str>,
+    out: &'static str,
+    map: &'static str,
+    script: &'static str,
     clash: Option<(&'static str, &'static str)>,
 }
 
@@ -14,155 +17,142 @@ struct Row {
 const ROWS: &[Row] = &[
     // Four files.
     Row {
-        paths: [None, Some("out.json"), Some("map.json"), Some("script.txt")],
+        refused: None,
+        out: "out.json",
+        map: "map.json",
+        script: "script.txt",
         clash: None,
     },
     // FILE may be MAP.
     Row {
-        paths: [None, Some("map.json"), Some("map.json"), Some("script.txt")],
+        refused: None,
+        out: "map.json",
+        map: "map.json",
+        script: "script.txt",
         clash: None,
     },
     // Also by another name.
     Row {
-        paths: [None, Some("link"), Some("map.json"), Some("script.txt")],
+        refused: None,
+        out: "link",
+        map: "map.json",
+        script: "script.txt",
         clash: None,
     },
     Row {
-        paths: [
-            Some("map.json"),
-            Some("out.json"),
-            Some("map.json"),
-            Some("script.txt"),
-        ],
+        refused: Some("map.json"),
+        out: "out.json",
+        map: "map.json",
+        script: "script.txt",
         clash: Some(("--refused", "MAP")),
     },
     Row {
-        paths: [
-            Some("link"),
-            Some("out.json"),
-            Some("map.json"),
-            Some("script.txt"),
-        ],
+        refused: Some("link"),
+        out: "out.json",
+        map: "map.json",
+        script: "script.txt",
         clash: Some(("--refused", "MAP")),
     },
     Row {
-        paths: [
-            Some("map.json"),
-            Some("out.json"),
-            Some("link"),
-            Some("script.txt"),
-        ],
+        refused: Some("map.json"),
+        out: "out.json",
+        map: "link",
+        script: "script.txt",
         clash: Some(("--refused", "MAP")),
     },
     Row {
-        paths: [
-            Some("./map.json"),
-            Some("out.json"),
-            Some("map.json"),
-            Some("script.txt"),
-        ],
+        refused: Some("./map.json"),
+        out: "out.json",
+        map: "map.json",
+        script: "script.txt",
         clash: Some(("--refused", "MAP")),
     },
     Row {
-        paths: [
-            Some("map.json"),
-            Some("map.json"),
-            Some("map.json"),
-            Some("script.txt"),
-        ],
+        refused: Some("map.json"),
+        out: "map.json",
+        map: "map.json",
+        script: "script.txt",
         clash: Some(("--refused", "--out")),
     },
     Row {
-        paths: [
-            Some("script.txt"),
-            Some("out.json"),
-            Some("map.json"),
-            Some("script.txt"),
-        ],
+        refused: Some("script.txt"),
+        out: "out.json",
+        map: "map.json",
+        script: "script.txt",
         clash: Some(("--refused", "SCRIPT")),
     },
     Row {
-        paths: [
-            None,
-            Some("script.txt"),
-            Some("map.json"),
-            Some("./script.txt"),
-        ],
+        refused: None,
+        out: "script.txt",
+        map: "map.json",
+        script: "./script.txt",
         clash: Some(("--out", "SCRIPT")),
     },
     Row {
-        paths: [
-            None,
-            Some("script.txt"),
-            Some("script.txt"),
-            Some("script.txt"),
-        ],
+        refused: None,
+        out: "script.txt",
+        map: "script.txt",
+        script: "script.txt",
         clash: Some(("--out", "SCRIPT")),
     },
     // Both are read.
     Row {
-        paths: [None, Some("out.json"), Some("map.json"), Some("map.json")],
+        refused: None,
+        out: "out.json",
+        map: "map.json",
+        script: "map.json",
         clash: None,
     },
     // Neither is there.
     Row {
-        paths: [
-            Some("new.txt"),
-            Some("new.txt"),
-            Some("map.json"),
-            Some("script.txt"),
-        ],
+        refused: Some("new.txt"),
+        out: "new.txt",
+        map: "map.json",
+        script: "script.txt",
         clash: Some(("--refused", "--out")),
     },
     Row {
-        paths: [
-            Some("new.txt"),
-            Some("to_new"),
-            Some("map.json"),
-            Some("script.txt"),
-        ],
+        refused: Some("new.txt"),
+        out: "to_new",
+        map: "map.json",
+        script: "script.txt",
         clash: Some(("--refused", "--out")),
     },
     Row {
-        paths: [
-            Some("new.txt"),
-            Some("new.json"),
-            Some("map.json"),
-            Some("script.txt"),
-        ],
+        refused: Some("new.txt"),
+        out: "new.json",
+        map: "map.json",
+        script: "script.txt",
         clash: None,
     },
     // Nor is the folder.
     Row {
-        paths: [
-            Some("gone/new.txt"),
-            Some("gone/new.txt"),
-            Some("map.json"),
-            Some("script.txt"),
-        ],
+        refused: Some("gone/new.txt"),
+        out: "gone/new.txt",
+        map: "map.json",
+        script: "script.txt",
         clash: Some(("--refused", "--out")),
     },
     Row {
-        paths: [
-            Some("gone/new.txt"),
-            Some("new.txt"),
-            Some("map.json"),
-            Some("script.txt"),
-        ],
+        refused: Some("gone/new.txt"),
+        out: "new.txt",
+        map: "map.json",
+        script: "script.txt",
         clash: None,
     },
     // Nothing in a pipe is lost.
     Row {
-        paths: [
-            Some("pipe"),
-            Some("pipe"),
-            Some("map.json"),
-            Some("script.txt"),
-        ],
+        refused: Some("pipe"),
+        out: "pipe",
+        map: "map.json",
+        script: "script.txt",
         clash: None,
     },
     Row {
-        paths: [Some("pipe"), Some("out.json"), Some("pipe"), Some("pipe")],
+        refused: Some("pipe"),
+        out: "out.json",
+        map: "pipe",
+        script: "pipe",
         clash: None,
     },
 ];
@@ -181,26 +171,25 @@ fn disk_of(alloc: Global) -> Result<Disk, AllocError> {
 
 /// The arguments of a row.
 fn arguments(row: &Row) -> [FileArgument<'static>; 4] {
-    let [refused, out, map, script] = row.paths;
     [
         FileArgument {
             argument: "--refused",
-            path: refused,
+            path: row.refused,
             role: Role::Written,
         },
         FileArgument {
             argument: "--out",
-            path: out,
+            path: Some(row.out),
             role: Role::Saved,
         },
         FileArgument {
             argument: "MAP",
-            path: map,
+            path: Some(row.map),
             role: Role::Edited,
         },
         FileArgument {
             argument: "SCRIPT",
-            path: script,
+            path: Some(row.script),
             role: Role::Read,
         },
     ]

@@ -1,12 +1,14 @@
--- Which arguments of a program name one file that one of them has written and the other one needs.
-use Rattle.std.specs.Prelude.{◌≡◌, ◌⊎◌, ℕ, Bool, true, false, ◌&&◌, List, [], ◌∷◌, Option, None, Some, option_map, string_bytes, Bor}
+-- Which arguments of a program name one file, and may not.
+use Rattle.std.specs.Prelude.{ℕ, Bool, true, false, ◌&&◌, List, [], ◌∷◌, Option, None, Some, option_map, string_bytes}
+use Rattle.std.specs.Borrow.{Bor}
 use Rattle.std.specs.List.{find}
 use Rattle.std.specs.Str.{bytes_eq}
 use Rattle.program_ends.specs.declared.naming.NamedFile.{NamedFile}
 use Rattle.program_ends.specs.declared.naming.Role.{Role}
 use Rattle.program_ends.specs.declared.naming.Role.TheVariants.{Edited, Read, Saved, Written}
 
--- whether one of two uses writes what the other one needs: what is saved may be what is edited
+-- whether two arguments with these roles may not name one file: one of them is written, and it is not
+-- what is saved over what is edited
 abbrev pub harms : Role → Role → Bool
 harms Edited Edited = false
 harms Edited Read = false
@@ -21,7 +23,7 @@ abbrev pub are_one : Option (List ℕ) → Option (List ℕ) → Bool
 are_one (Some name) (Some other) = bytes_eq name other
 are_one name other = false
 
--- whether two arguments name one file that one of them has written and the other one needs
+-- whether two arguments name one file, and may not
 abbrev pub clash : NamedFile → NamedFile → Bool
 clash file other = harms file.role other.role
     && are_one (option_map string_bytes file.name) (option_map string_bytes other.name)

@@ -4,7 +4,7 @@ use Rattle.std.specs.declared.io.ErrorKind.{ErrorKind}
 use Rattle.std.specs.declared.io.ErrorKind.TheVariants as kind
 use Rattle.topo_outline.specs.declared.fault.OpenFault.{OpenFault}
 use Rattle.program_ends.specs.declared.diagnostic.Diagnostic.{Diagnostic}
-use Rattle.program_ends.specs.declared.diagnostic.Diagnostic.TheVariants.{Open, Findings, TooLarge, Unmended, Unparted, Map, Script, Write, Save, Refused, NoSeed, NoMemory, NotUtf8, OneFile}
+use Rattle.program_ends.specs.declared.diagnostic.Diagnostic.TheVariants.{Open, Findings, TooLarge, Unmended, Unparted, Map, Script, Write, Save, Refused, NoSeed, NoMemory, NotUtf8, OneFile, LinesRefused, CutOff}
 use Rattle.program_ends.specs.declared.stop.Stop.{Stop}
 use Rattle.program_ends.specs.declared.stop.Stop.TheVariants as stop
 
@@ -41,12 +41,13 @@ unlisted_line k = unwritten_line k Refused
 abbrev pub unprinted_line : ErrorKind → Diagnostic
 unprinted_line k = unwritten_line k Write
 
--- the text of a line; of a fault with a place or a limit nothing is said
+-- the text of a line; of one with a place, a limit or a count nothing is said
 abbrev pub line_text : Diagnostic → Option (List ℕ)
 line_text (Open told) = None
 line_text (TooLarge what) = None
 line_text (Unmended s t) = None
 line_text (Unparted feature polygon) = None
+line_text (LinesRefused count) = None
 line_text Findings = Some (codes "open: too many findings")
 line_text Map = Some (codes "map fault")
 line_text Script = Some (codes "script fault")
@@ -57,3 +58,4 @@ line_text NoSeed = Some (codes "no random seed")
 line_text NoMemory = Some (codes "out of memory")
 line_text NotUtf8 = Some (codes "an argument is not UTF-8")
 line_text (OneFile first second) = Some (first.now ++ (codes " and " ++ (second.now ++ codes " name the same file")))
+line_text CutOff = Some (codes "not saved: the last line of the script has no line feed")

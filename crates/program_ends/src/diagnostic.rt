@@ -38,6 +38,10 @@ pub enum Diagnostic<'a> {
     NotUtf8,
     /// Two arguments name one file: `--refused and MAP name the same file`.
     OneFile { first: &'a str, second: &'a str },
+    /// Each line was to be accepted, and so many were refused or bad: `not saved: N lines were refused`.
+    LinesRefused(u64),
+    /// A script's last line was to have its line feed: `not saved: the last line of the script has no line feed`.
+    CutOff,
 }
 
 impl<'a> Diagnostic<'a> {
@@ -102,6 +106,11 @@ impl<'a> fmt::Display for Diagnostic<'a> {
             Diagnostic::NotUtf8 => f.write_str("an argument is not UTF-8"),
             Diagnostic::OneFile { first, second } => {
                 write!(f, "{first} and {second} name the same file")
+            }
+            Diagnostic::LinesRefused(1) => f.write_str("not saved: 1 line was refused"),
+            Diagnostic::LinesRefused(count) => write!(f, "not saved: {count} lines were refused"),
+            Diagnostic::CutOff => {
+                f.write_str("not saved: the last line of the script has no line feed")
             }
         }
     }

@@ -45,7 +45,7 @@ pub struct NamedFile {
     pub role: Role,
 }
 
-/// Whether one of two uses writes what the other one needs.
+/// Whether two arguments with these roles may not name one file.
 fn harms(role: Role, other: Role) -> bool
     ensures { result ≡ harms role other }
 {
@@ -77,7 +77,7 @@ fn text_of(name: &Option<String>) -> Option<&str>
     }
 }
 
-/// Whether two arguments name one file that one of them has written and the other one needs.
+/// Whether two arguments name one file, and may not.
 fn clash(file: &NamedFile, other: &NamedFile) -> bool
     ensures { result ≡ clash file.now other.now }
 {
@@ -96,8 +96,8 @@ fn first_with(file: &NamedFile, rest: &[NamedFile]) -> Option<&'static str>
     None
 }
 
-/// The first two arguments that name one file, where one of them has it written and the other one needs
-/// it.
+/// The first two arguments that name one file, and may not: one of them is written, and they are not
+/// FILE and MAP.
 #[tactic(auto, using(crate::proofs::ClashLemmas::clash_passed, crate::proofs::ClashLemmas::clash_found))]
 pub fn first_clash(files: &[NamedFile]) -> Option<(&'static str, &'static str)>
     ensures { result ≡ first_clash files.now }

@@ -125,11 +125,17 @@ fn fill_and_rename<R: Files>(
     fs::rename(rt, path, target)
 }
 
-/// Passes the new name on to the device, where the system lets a folder be opened.
+/// Passes the new name on to the device, where the system lets a folder be opened and passed on.
 fn sync_folder<R: Files>(rt: &R, target: &str) -> IoResult<()> {
-    match fs::open(rt, folder_of(target)) {
-        Ok(folder) => folder.sync_all(),
-        Err(_) => Ok(()),
+    let Ok(folder) = fs::open(rt, folder_of(target)) else {
+        return Ok(());
+    };
+    match folder.sync_all() {
+        Ok(()) => Ok(()),
+        Err(error) => match error.kind() {
+            ErrorKind::InvalidInput | ErrorKind::Unsupported => Ok(()),
+            _ => Err(error),
+        },
     }
 }
 

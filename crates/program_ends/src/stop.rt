@@ -13,7 +13,7 @@ pub enum Stop {
     Words(clap::Error),
     /// An argument is not UTF-8.
     NotUtf8,
-    /// Two arguments name one file that one of them has written and the other one needs.
+    /// Two arguments name one file, and may not.
     OneFile {
         first: &'static str,
         second: &'static str,

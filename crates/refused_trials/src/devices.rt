@@ -1,9 +1,11 @@
 // Readers and writers that fail, and scripts at their limits.
 use crate::maps::TWO_SQUARES;
-use crate::told::{Told, holds, is_answered, tell_by, tell_unwritten};
-use device_io::{FailAt, FromReader};
+use crate::told::{Told, holds, is_answered, tell_by, tell_to, tell_unwritten};
+use device_io::{FailAt, FromReader, ToWriter};
 use script_runner::RunFault;
 use std::alloc::{AllocError, Global};
+use std::cell::Cell;
+use std::io::{Error, ErrorKind, Read, Result as IoResult, Write};
 use std::process::Abort;
 
 const SCRIPT: &[u8] = b"area 0\nmove 10 10 12 12\r\nx\narea 0\nundo\narea 0";
@@ -41,8 +43,17 @@ fn a_reader_that_fails(rt: HostRuntime) {
 }
 
 /// After how many calls the writer fails, and how many bytes it has then: each answer is one call, and
-/// the last call flushes.
-const WRITTEN: &[(u64, usize)] = &[(0, 0), (1, 4), (2, 7), (3, 16), (4, 20), (5, 23), (6, 27)];
+/// so is each flush: after the piece that the script is, and at its end.
+const WRITTEN: &[(u64, usize)] = &[
+    (0, 0),
+    (1, 4),
+    (2, 7),
+    (3, 16),
+    (4, 20),
+    (5, 23),
+    (6, 23),
+    (7, 27),
+];
 
 /// Whether the writer of the answers failed after so many bytes, and nothing is saved.
 fn is_cut(told: &Told, length: usize) -> bool {
@@ -62,6 +73,69 @@ fn cuts<R: Abort>(rt: &R, alloc: Global, calls: u64, length: usize) {
 fn a_writer_that_fails(rt: HostRuntime) {
     for (calls, length) in WRITTEN {
         cuts(&rt, rt.alloc(), *calls, *length);
+    }
+}
+
+/// A writer that notes in a cell whether it was flushed since it last took bytes.
+#[derive(Drop)]
+struct Noting<'a> {
+    bytes: Vec<u8>,
+    is_flushed: &'a Cell<bool>,
+}
+
+impl Write for Noting<'_> {
+    fn write(&mut self, piece: &[u8]) -> IoResult<usize> {
+        self.is_flushed.set(false);
+        self.bytes.extend_from_slice(piece)?;
+        Ok(piece.len())
+    }
+
+    fn flush(&mut self) -> IoResult<()> {
+        self.is_flushed.set(true);
+        Ok(())
+    }
+}
+
+/// A reader that gives at most so many bytes a call, and fails where the writer was not flushed.
+#[derive(Drop)]
+struct Watching<'a> {
+    script: &'a [u8],
+    length: usize,
+    is_flushed: &'a Cell<bool>,
+}
+
+impl Read for Watching<'_> {
+    fn read(&mut self, room: &mut [u8]) -> IoResult<usize> {
+        if !self.is_flushed.get() {
+            return Err(Error::from(ErrorKind::Other));
+        }
+        let length = self.length.min(room.len());
+        self.script.read(&mut room[..length])
+    }
+}
+
+/// That each answer was sent on before more of the script was read, in pieces of so many bytes.
+fn sends_on<R: Abort>(rt: &R, alloc: Global, length: usize) {
+    let is_flushed = Cell::new(true);
+    let mut source = FromReader::new(Watching {
+        script: SCRIPT,
+        length,
+        is_flushed: &is_flushed,
+    });
+    let bytes = Vec::new(alloc);
+    let mut sink = ToWriter::new(Noting {
+        bytes,
+        is_flushed: &is_flushed,
+    });
+    let ended = tell_to(rt, alloc, TWO_SQUARES.as_bytes(), &mut source, &mut sink);
+    holds(rt, "the end", ended.end.as_str() == "answered 6, refused 1");
+    holds(rt, "the answers", sink.writer.bytes.as_slice() == ANSWERS);
+}
+
+#[test]
+fn answers_are_sent_on_before_more_is_read(rt: HostRuntime) {
+    for length in [1usize, 7, 8, 30, 4096] {
+        sends_on(&rt, rt.alloc(), length);
     }
 }
 

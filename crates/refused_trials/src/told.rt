@@ -1,7 +1,7 @@
 // How a run is told, to be compared.
 ghost use Rattle.std.specs.Prelude.{◌≡◌, ◌≤◌, false};
 
-use device_io::{FailAt, FromReader, Source, ToWriter};
+use device_io::{FailAt, FromReader, Sink, Source, ToWriter};
 use fixed_seed::fixed_seed;
 use script_runner::{RunFault, Summary, run};
 use std::alloc::{Allocator, Global};
@@ -11,6 +11,13 @@ use std::process::Abort;
 #[derive(Drop)]
 pub(crate) struct Told {
     pub(crate) answers: Vec<u8>,
+    pub(crate) end: String,
+    pub(crate) saved: Vec<u8>,
+}
+
+/// How a run ended, and what it gave to the writer of the saved map.
+#[derive(Drop)]
+pub(crate) struct Ended {
     pub(crate) end: String,
     pub(crate) saved: Vec<u8>,
 }
@@ -62,6 +69,27 @@ pub(crate) fn tell<R: Abort>(rt: &R, alloc: Global, map: &[u8], script: &[u8]) -
     tell_by(rt, alloc, alloc, map, &mut FromReader::new(script), 100)
 }
 
+/// How the run ends of what comes from this source, whose answers go to this sink, and what it saves.
+pub(crate) fn tell_to<R: Abort, S: Source, W: Sink>(
+    rt: &R,
+    alloc: Global,
+    map: &[u8],
+    source: &mut S,
+    sink: &mut W,
+) -> Ended
+    requires reader { S.has_failed source.old ≡ false }
+    requires writer { W.has_failed sink.old ≡ false }
+{
+    let mut saved = ToWriter::new(Vec::new(alloc));
+    let seed = fixed_seed().expect(rt, "a seed");
+    let outcome = run(alloc, alloc, seed, map, source, 100, sink, &mut saved);
+    let end = end_of(rt, alloc, &outcome);
+    Ended {
+        end,
+        saved: saved.writer,
+    }
+}
+
 /// The same where the writer of the answers fails after so many calls.
 pub(crate) fn tell_unwritten<R: Abort>(
     rt: &R,
@@ -71,24 +99,11 @@ pub(crate) fn tell_unwritten<R: Abort>(
     calls: u64,
 ) -> Told {
     let mut sink = FailAt::new(ToWriter::new(Vec::new(alloc)), calls);
-    let mut saved = ToWriter::new(Vec::new(alloc));
-    let mut source = FromReader::new(script);
-    let seed = fixed_seed().expect(rt, "a seed");
-    let outcome = run(
-        alloc,
-        alloc,
-        seed,
-        map,
-        &mut source,
-        100,
-        &mut sink,
-        &mut saved,
-    );
-    let end = end_of(rt, alloc, &outcome);
+    let ended = tell_to(rt, alloc, map, &mut FromReader::new(script), &mut sink);
     Told {
         answers: sink.device.writer,
-        end,
-        saved: saved.writer,
+        end: ended.end,
+        saved: ended.saved,
     }
 }
 

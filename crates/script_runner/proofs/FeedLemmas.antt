@@ -3,9 +3,11 @@ use Rattle.kit_words.proofs.Common.{◌≡◌, ◌≢◌, ℕ, zero, suc, ◌+�
 use Rattle.kit_words.proofs.Common.{drop, get_or, List, [], ◌∷◌, ◌++◌, refl, sym, ap, ap₂, subst, ◌∙◌, arith}
 use Rattle.kit_words.proofs.Common.{append_assoc, nat_lt, ◌==◌, ◌||◌, Option, inl, nat_tests, take-append-drop}
 use Rattle.kit_words.proofs.Common.{drop_more, drop-drop, take_all, Appends, Appends-nil, Appends-trans}
+use Rattle.kit_words.proofs.Common.{Appends-kept, Keeps, MatchBool, inr}
 use Rattle.std.proofs.Common.{append-nil, length-append, length-drop}
 use Rattle.memchr.specs.Find.{Passes, is_byte, NoneBefore, Nowhere}
 use Rattle.script_runner.specs.Common.{NoFeed, Progress, LineStep, more, ByteStep, Feeds, FeedsPart, PutsPart, Told}
+use Rattle.script_runner.specs.Common.{IsPartAt, reply_text}
 use Rattle.script_runner.proofs.StepLemmas.{fed_line, put_at_feed, Feeds-more, Feeds-append}
 
 -- ---- bytes without a line feed
@@ -227,3 +229,76 @@ pub fed_all : (old now : Option (List ℕ)) (p q r : Progress) (piece rest : Lis
 fed_all old now p q r piece rest h fed =
     let all = Feeds-append h.done rest p q r h.text [] h.fed fed in
     (h.text, h.put, subst (λ bs. Feeds p bs h.text r) (sym h.whole) (subst (λ t. Feeds p (h.done ++ rest) t r) (append-nil h.text) all))
+
+-- ---- a piece that was fed whole, and whose answers were not sent on
+
+-- what a byte put is a part of the reply at it
+put_at : (b : ℕ) (p q : Progress) (text : List ℕ) → ByteStep p b text q → IsPartAt b p text
+put_at b p q text step = by (b == 10) refl step
+  where
+    by : (t : Bool) → (b == 10) ≡ t → MatchBool t (LineStep true p text q × (q.bytes ≡ p.bytes + 1)) ((text ≡ []) × (q ≡ more p b)) → IsPartAt b p text
+    by true e h =
+        let (m, means, done) = h.0 in
+        let whole : take (length text) (reply_text p.depth p.state m) ≡ text = ap (take (length text)) (sym done.told) ∙ take_all (length text) text (omega arith) in
+        inr (grind (arith, nat_tests), (m, length text, means, sym whole))
+    by false e h = inl h.0
+
+-- bytes that were fed, seen as all but the last, and the last
+record LastByte (p : Progress) (bs text : List ℕ) : Type 0 where
+  front : List ℕ
+  byte : ℕ
+  mid : Progress
+  before : List ℕ
+  part : List ℕ
+  whole : bs ≡ front ++ byte ∷ []
+  fed : Feeds p front before mid
+  is : IsPartAt byte mid part
+  told : text ≡ before ++ part
+
+last_byte : (bs : List ℕ) (b : ℕ) (p q : Progress) (text : List ℕ) → Feeds p (b ∷ bs) text q → LastByte p (b ∷ bs) text
+last_byte [] b p q text h =
+    let (mid, first, rest, step, tail, whole) = h in
+    record {
+      front = [];
+      byte = b;
+      mid = p;
+      before = [];
+      part = first;
+      whole = refl;
+      fed = (refl, refl);
+      is = put_at b p mid first step;
+      told = whole ∙ ap (λ t. first ++ t) tail.0 ∙ append-nil first;
+    }
+last_byte (x ∷ bs) b p q text h =
+    let (mid, first, rest, step, tail, whole) = h in
+    let l = last_byte bs x mid q rest tail in
+    record {
+      front = b ∷ l.front;
+      byte = l.byte;
+      mid = l.mid;
+      before = first ++ l.before;
+      part = l.part;
+      whole = ap (λ t. b ∷ t) l.whole;
+      fed = (mid, first, l.before, step, l.fed, refl);
+      is = l.is;
+      told = whole ∙ ap (λ t. first ++ t) l.told ∙ sym (append_assoc first l.before l.part);
+    }
+
+-- all was fed, and the writer has what it put
+pub fed_unsent : (a b c : Option (List ℕ)) (p q : Progress) (bs : List ℕ) → 0 < length bs → Told a b (λ text. Feeds p bs text q) → Keeps b c → FeedsPart a c p bs
+fed_unsent a b c p q [] some h k = absurd (omega arith)
+fed_unsent a b c p q (x ∷ bs) some h k =
+    let (text, put, fed) = h in
+    let l = last_byte bs x p q text fed in
+    record {
+      front = l.front;
+      byte = l.byte;
+      rest = [];
+      mid = l.mid;
+      before = l.before;
+      part = l.part;
+      whole = l.whole;
+      fed = l.fed;
+      is = l.is;
+      put = subst (Appends a c) l.told (Appends-kept a b c text put k);
+    }

@@ -9,7 +9,11 @@ use Rattle.script_runner.specs.Common.{Reader, Writer, Devices, devices, ended_l
 use Rattle.script_runner.specs.Common.{state_after_all, opened_state, Progress, start, line_at, LineStep, Feeds}
 use Rattle.script_runner.specs.Common.{FeedsPart, IsReplyFront, IsPartAt, Told, Finishes, PutsLast, OpensAs, Runs}
 use Rattle.script_runner.specs.Common.{AnswersAll, AnswersUpTo, AnswersLines, AnswersPart, IsNextLine, IsFront}
-use Rattle.script_runner.specs.Common.{Completes, SavesPart, Ends, Answers, Halts, Summary}
+use Rattle.script_runner.specs.Common.{Completes, SavesPart, Ends, Answers, AnswersAndSaves, Fails, Halts, Summary}
+use Rattle.script_runner.specs.Common.{IsAnswerEnd, IsSaveEnd}
+use Rattle.topo_writer.specs.Common.{of_device}
+use Rattle.topo_writer.specs.declared.fault.WriteFault.{WriteFault}
+use Rattle.topo_writer.specs.declared.fault.WriteFault.TheVariants as write
 use Rattle.script_runner.specs.declared.fault.RunFault.{RunFault}
 use Rattle.script_runner.specs.declared.fault.RunFault.TheVariants as fault
 use Rattle.device_io.specs.Common.{AppendsPrefix}
@@ -48,10 +52,12 @@ module _ (depth : ℕ) (d : Document) (before after : Devices) where
       }
 
   pub lines_answered : (read text further : List ℕ) (p : Progress) → Feeds (start depth d) read text p → Consumes before.script.coming after.script.coming (read ++ further) → length further ≤ 4096
-      → ((further ≡ []) × (after.script.failed ≡ true)) ⊎ ((length read ≡ 1073741824) × (0 < length further)) → Appends before.answers.taken after.answers.taken text → AnswersLines depth d before after
-  lines_answered read text further p fed came piece cause put = record {
+      → ((further ≡ []) × (after.script.failed ≡ true)) ⊎ ((length read ≡ 1073741824) × (0 < length further)) → Appends before.answers.taken after.answers.taken text
+      → (after.answers ≡ before.answers) ⊎ (after.answers.flushed ≡ true) → AnswersLines depth d before after
+  lines_answered read text further p fed came piece cause put sent = record {
     lines = up_to read text further [] p fed came piece (subst (Appends before.answers.taken after.answers.taken) (sym (append-nil text)) put);
     whole = refl;
+    sent = sent;
     cause = cause;
   }
 
@@ -194,19 +200,29 @@ whole_came a b c read room n t e h k = Consumes-trans a b c read (take t room) h
 
 -- the reader failed
 pub lines_kept : (depth : ℕ) (d : Document) (before after : Devices) (read text : List ℕ) (p : Progress) (mid : Option (List ℕ)) → Feeds (start depth d) read text p
-    → Consumes before.script.coming mid read → Keeps mid after.script.coming → after.script.failed ≡ true → Appends before.answers.taken after.answers.taken text → AnswersLines depth d before after
-lines_kept depth d before after read text p mid fed came k failed put =
+    → Consumes before.script.coming mid read → Keeps mid after.script.coming → after.script.failed ≡ true → Appends before.answers.taken after.answers.taken text
+    → (after.answers ≡ before.answers) ⊎ (after.answers.flushed ≡ true) → AnswersLines depth d before after
+lines_kept depth d before after read text p mid fed came k failed put sent =
     lines_answered depth d before after read text [] p fed (subst (Consumes before.script.coming after.script.coming) (sym (append-nil read)) (Consumes-kept before.script.coming mid after.script.coming read came k))
-    (omega arith) (inl (refl, failed)) put
+    (omega arith) (inl (refl, failed)) put sent
+
+-- a byte comes past the limit, and no byte of its piece is fed
+pub lines_before : (depth : ℕ) (d : Document) (before after : Devices) (read text room : List ℕ) (n left : ℕ) (p : Progress) (mid : Option (List ℕ)) → Feeds (start depth d) read text p
+    → Consumes before.script.coming mid read → Consumes mid after.script.coming (take n room) → n ≤ length room → length room ≡ 4096 → n ≢ 0 → left ≡ 0 → length read + left ≡ 1073741824
+    → Appends before.answers.taken after.answers.taken text → (after.answers ≡ before.answers) ⊎ (after.answers.flushed ≡ true) → AnswersLines depth d before after
+lines_before depth d before after read text room n left p mid fed came more within whole some none counted put sent =
+    let long = length-take-le n room within in
+    lines_answered depth d before after read text (take n room) p fed (Consumes-trans before.script.coming mid after.script.coming read (take n room) came more)
+    (omega arith) (inr (omega arith, omega (arith, some))) put sent
 
 -- the script goes past its limit in this piece
 pub lines_in_piece : (depth : ℕ) (d : Document) (before after : Devices) (read text piece further new : List ℕ) (p q : Progress) (mid : Option (List ℕ)) → Feeds (start depth d) read text p
     → Consumes before.script.coming after.script.coming (read ++ (piece ++ further)) → length further ≤ 4096 → Appends before.answers.taken mid text → Appends mid after.answers.taken new → Feeds p piece new q
-    → (length (read ++ piece) ≡ 1073741824) × (0 < length further) → AnswersLines depth d before after
-lines_in_piece depth d before after read text piece further new p q mid fed came short put put_new fed_new limit =
+    → (length (read ++ piece) ≡ 1073741824) × (0 < length further) → after.answers.flushed ≡ true → AnswersLines depth d before after
+lines_in_piece depth d before after read text piece further new p q mid fed came short put put_new fed_new limit sent =
     lines_answered depth d before after (read ++ piece) (text ++ new) further q (Feeds-append read piece (start depth d) p q text new fed fed_new)
     (subst (Consumes before.script.coming after.script.coming) (sym (append_assoc read piece further)) came) short (inr limit)
-    (Appends-trans before.answers.taken mid after.answers.taken text new put put_new)
+    (Appends-trans before.answers.taken mid after.answers.taken text new put put_new) (inr sent)
 
 -- a piece is no longer than its room, and so is what of it goes past the limit
 pub piece_fits : (room : List ℕ) (n t : ℕ) → length room ≡ 4096 → n ≤ length room → t ≤ n → length (take t room ++ drop t (take n room)) ≤ 4096
@@ -237,37 +253,59 @@ past_limit read room n t left within is less limit = (
 
 -- ---- the end of a run
 
-module _ (bytes : List ℕ) (depth : ℕ) (opened : MapState) (began : Edited) (is : began ≡ begun opened depth) (opens : OpensAs bytes opened.doc) (coming left : Reader) (taken given : Writer) where
-  -- the answering of the script ended early: by its reader, by its writer, for want of memory
-  pub ends_halted : (f : RunFault) → Halts f began.depth began.map.doc coming left taken given → (held : Writer)
-      → Ends f bytes depth (devices coming taken held) (devices left given held)
-  ends_halted (fault.Open f) h held = absurd h
-  ends_halted fault.Read h held =
-      (opened.doc, opens, subst (λ (e : Edited). Halts fault.Read e.depth e.map.doc coming left taken given) is h held, refl)
-  ends_halted fault.Write (h, failed) held =
-      (opened.doc, opens, subst (λ (e : Edited). Halts fault.OutOfMemory e.depth e.map.doc coming left taken given) is h held, failed, refl)
-  ends_halted fault.Save h held = absurd h
-  ends_halted fault.OutOfMemory h held =
-      inr (opened.doc, opens, inl (subst (λ (e : Edited). Halts fault.OutOfMemory e.depth e.map.doc coming left taken given) is h held, refl))
+-- the answering ended early, by its writer or as memory was refused
+pub halts_at : (f : WriteFault) (end : RunFault) (depth : ℕ) (d : Document) (coming left : Reader) (taken given : Writer) → IsAnswerEnd f end
+    → ((held : Writer) → AnswersPart depth d (devices coming taken held) (devices left given held)) → given.failed ≡ of_device f → Halts end depth d coming left taken given
+halts_at write.Device end depth d coming left taken given is part failed = subst (λ e. Halts e depth d coming left taken given) (sym is) (part, failed)
+halts_at write.OutOfMemory end depth d coming left taken given is part failed = subst (λ e. Halts e depth d coming left taken given) (sym is) part
 
-  module _ (ended last : MapState) (held holds : Writer) (s : Summary) (same : last ≡ ended) (answers : Answers began.depth began.map.doc ended.doc coming left taken given s) where
-    answers_all : AnswersAll depth opened.doc last.doc (devices coming taken held) (devices left given holds) s
-    answers_all =
-        subst (λ (e : Edited). Answers e.depth e.map.doc last.doc coming left taken given s) is
-        (subst (λ (m : MapState). Answers began.depth began.map.doc m.doc coming left taken given s) (sym same) answers) held holds
+-- the answering ended early, and nothing was saved
+pub fails_halted : (f : RunFault) (depth : ℕ) (d : Document) (coming left : Reader) (taken given : Writer) → Halts f depth d coming left taken given → (held : Writer)
+    → Fails f depth d (devices coming taken held) (devices left given held)
+fails_halted (fault.Open f) depth d coming left taken given h held = absurd h
+fails_halted fault.Read depth d coming left taken given h held = (h held, refl)
+fails_halted fault.Write depth d coming left taken given (h, failed) held = (h held, failed, refl)
+fails_halted fault.Save depth d coming left taken given h held = absurd h
+fails_halted fault.OutOfMemory depth d coming left taken given h held = inl (h held, refl)
 
-    pub completes : Appends held.taken holds.taken (text_of last.doc) → holds.flushed ≡ true → Saved (text_of last.doc) last.doc → Completes bytes depth (devices coming taken held) (devices left given holds) s
-    completes wrote sent saved = record { document = opened.doc; last = last.doc; opens = opens; answers = answers_all; wrote = wrote; sent = sent; saved = saved }
+module _ (depth : ℕ) (d last ended : Document) (coming left : Reader) (taken given held holds : Writer) (s : Summary) (same : last ≡ ended) (answers : Answers depth d ended coming left taken given s) where
+  answers_all : AnswersAll depth d last (devices coming taken held) (devices left given holds) s
+  answers_all = subst (λ e. Answers depth d e coming left taken given s) (sym same) answers held holds
 
-    saves_part : AppendsPrefix held.taken holds.taken (text_of last.doc) → Saved (text_of last.doc) last.doc → SavesPart depth opened.doc (devices coming taken held) (devices left given holds)
-    saves_part wrote saved = record { last = last.doc; summary = s; answers = answers_all; wrote = wrote; saved = saved }
+  pub saves_all : Appends held.taken holds.taken (text_of last) → holds.flushed ≡ true → Saved (text_of last) last
+      → AnswersAndSaves depth d (devices coming taken held) (devices left given holds) s
+  saves_all wrote sent saved = record { last = last; answers = answers_all; wrote = wrote; sent = sent; saved = saved }
 
-    -- the writer of the saved text failed
-    pub ends_saving : AppendsPrefix held.taken holds.taken (text_of last.doc) → Saved (text_of last.doc) last.doc → holds.failed ≡ true
-        → Ends fault.Save bytes depth (devices coming taken held) (devices left given holds)
-    ends_saving wrote saved failed = (opened.doc, opens, saves_part wrote saved, failed)
+  saves_part : AppendsPrefix held.taken holds.taken (text_of last) → Saved (text_of last) last → SavesPart depth d (devices coming taken held) (devices left given holds)
+  saves_part wrote saved = record { last = last; summary = s; answers = answers_all; wrote = wrote; saved = saved }
 
-    -- memory was refused in saving
-    pub ends_saved_part : AppendsPrefix held.taken holds.taken (text_of last.doc) → Saved (text_of last.doc) last.doc
-        → Ends fault.OutOfMemory bytes depth (devices coming taken held) (devices left given holds)
-    ends_saved_part wrote saved = inr (opened.doc, opens, inr (saves_part wrote saved))
+  -- the saving ended early, by its writer or as memory was refused
+  pub fails_saving : (f : WriteFault) (end : RunFault) → IsSaveEnd f end → AppendsPrefix held.taken holds.taken (text_of last) → Saved (text_of last) last → holds.failed ≡ of_device f
+      → Fails end depth d (devices coming taken held) (devices left given holds)
+  fails_saving write.Device end is wrote saved failed =
+      subst (λ e. Fails e depth d (devices coming taken held) (devices left given holds)) (sym is) (saves_part wrote saved, failed)
+  fails_saving write.OutOfMemory end is wrote saved failed =
+      subst (λ e. Fails e depth d (devices coming taken held) (devices left given holds)) (sym is) (inr (saves_part wrote saved))
+
+pub starts : (depth : ℕ) (d : Document) (p : Progress) → p ≡ start depth d → p ≡ start p.depth p.state.doc
+starts depth d p e = subst (λ (q : Progress). q ≡ start q.depth q.state.doc) (sym e) refl
+
+module _ (bytes : List ℕ) (depth : ℕ) (opened : MapState) (began : Edited) (is : began ≡ begun opened depth) (opens : OpensAs bytes opened.doc) (p : Progress)
+    (begins : p ≡ start began.depth began.map.doc) (before after : Devices) where
+  begins_opened : p ≡ start depth opened.doc
+  begins_opened = begins ∙ ap (λ (e : Edited). start e.depth e.map.doc) is
+
+  pub completes : (s : Summary) → AnswersAndSaves p.depth p.state.doc before after s → Completes bytes depth before after s
+  completes s h =
+      let all = subst (λ (q : Progress). AnswersAndSaves q.depth q.state.doc before after s) begins_opened h in
+      record { document = opened.doc; last = all.last; opens = opens; answers = all.answers; wrote = all.wrote; sent = all.sent; saved = all.saved }
+
+  ends_opened : (f : RunFault) → Fails f depth opened.doc before after → Ends f bytes depth before after
+  ends_opened (fault.Open f) h = absurd h
+  ends_opened fault.Read h = (opened.doc, opens, h.0, h.1)
+  ends_opened fault.Write h = (opened.doc, opens, h.0, h.1, h.2)
+  ends_opened fault.Save h = (opened.doc, opens, h.0, h.1)
+  ends_opened fault.OutOfMemory h = inr (opened.doc, opens, h)
+
+  pub ends : (f : RunFault) → Fails f p.depth p.state.doc before after → Ends f bytes depth before after
+  ends f h = ends_opened f (subst (λ (q : Progress). Fails f q.depth q.state.doc before after) begins_opened h)

@@ -2,7 +2,7 @@
 use Rattle.kit_words.proofs.Common.{Result, Ok, Err, OnErr, ◌≡◌, ◌≢◌, ℕ, ◌+◌, take, length, List, [], ◌∷◌, ◌++◌, Option}
 use Rattle.kit_words.proofs.Common.{None, Some, refl, sym, ap, ap₂, subst, ◌∙◌, arith, append_assoc, inl, inr, ◌⊎◌}
 use Rattle.kit_words.proofs.Common.{MatchBool, Bool, true, false, cond, ◌==◌, take_all, Keeps, Appends-nil}
-use Rattle.kit_words.proofs.Common.{Appends-kept}
+use Rattle.kit_words.proofs.Common.{Appends, Appends-kept}
 use Rattle.std.proofs.Common.{append-nil}
 use Rattle.ring_machine.specs.Common.{Document, Show}
 use Rattle.undo_ring.specs.Common.{command_of, Edited, machine_of}
@@ -16,7 +16,7 @@ use Rattle.device_io.proofs.Common.{Appends-none}
 use Rattle.script_runner.specs.Common.{Meaning, Asked, reply_text, state_after, answered_by, refused_by, ShowsSaved}
 use Rattle.script_runner.specs.Common.{RepliedLine, IsShownSaved, meaning_of_said, Progress, KeptMeans, LineStep}
 use Rattle.script_runner.specs.Common.{ByteStep, Feeds, IsReplyFront, PutsPart, IsPartAt, FeedsPart, Told, Finishes}
-use Rattle.script_runner.specs.Common.{PutsLast, Counts, Summary}
+use Rattle.script_runner.specs.Common.{PutsLast, LastStep, Counts, Summary}
 
 pub OnErr-by : {A E : Type 0} (r : Result A E) {P : Type 0} → P → OnErr r P
 OnErr-by (Ok x) h = tt
@@ -118,12 +118,18 @@ Feeds-append (x ∷ bs) cs p q r s t h k =
 pub put_none : (p : Progress) (a b : Option (List ℕ)) → Keeps a b → PutsLast p a b
 put_none p a b k = ([], Appends-none a b k, inl refl)
 
-pub put_last : (p q : Progress) (a b c : Option (List ℕ)) → (length p.line == 0) ≡ false → Told a b (λ text. LineStep false p text q) → Keeps b c → PutsLast p a c
-put_last p q a b c some h k =
+-- the last line was answered, and the writer has what it put
+pub put_last : (p q : Progress) (a b c : Option (List ℕ)) → Told a b (λ text. LastStep p text q) → Keeps b c → PutsLast p a c
+put_last p q a b c h k =
     let (text, put, step) = h in
-    let (m, means, done) = step in
-    let whole : take (length text) (reply_text p.depth p.state m) ≡ text = ap (take (length text)) (sym done.told) ∙ take_all (length text) text (omega arith) in
-    (text, Appends-kept a b c text put k, inr (not_empty p.line some, (m, length text, means, sym whole)))
+    by (length p.line == 0) refl text put step
+  where
+    by : (t : Bool) → (length p.line == 0) ≡ t → (text : List ℕ) → Appends a b text → MatchBool t ((text ≡ []) × (q ≡ p)) (LineStep false p text q) → PutsLast p a c
+    by true e text put step = (text, Appends-kept a b c text put k, inl step.0)
+    by false e text put step =
+        let (m, means, done) = step in
+        let whole : take (length text) (reply_text p.depth p.state m) ≡ text = ap (take (length text)) (sym done.told) ∙ take_all (length text) text (omega arith) in
+        (text, Appends-kept a b c text put k, inr (not_empty p.line e, (m, length text, means, sym whole)))
 
 -- some of the reply to the line, which is not empty
 pub put_some : (p : Progress) (a b : Option (List ℕ)) → (length p.line == 0) ≡ false → PutsPart false p a b → PutsLast p a b
@@ -135,17 +141,20 @@ put_some p a b some h =
     by part (inl none) = inl none
     by part (inr front) = inr (not_empty p.line some, front)
 
-last_none : (p : Progress) (t : Bool) → t ≡ true → MatchBool t ((let none : List ℕ = [] in none ≡ []) × (p ≡ p)) (LineStep false p [] p)
-last_none p t e = subst (λ b. MatchBool b ((let none : List ℕ = [] in none ≡ []) × (p ≡ p)) (LineStep false p [] p)) (sym e) (refl, refl)
+-- there is no last line
+pub last_none : (p : Progress) (a : Option (List ℕ)) → (length p.line == 0) ≡ true → Told a a (λ text. LastStep p text p)
+last_none p a e = ([], Appends-nil a, subst (λ t. MatchBool t ((let none : List ℕ = [] in none ≡ []) × (p ≡ p)) (LineStep false p [] p)) (sym e) (refl, refl))
 
-pub finished_none : (p : Progress) (a b : Option (List ℕ)) (s : Summary) (d : Document) → (length p.line == 0) ≡ true → Keeps a b → Counts p s → d ≡ p.state.doc → Told a b (λ text. Finishes p text s d)
-finished_none p a b s d e k n l = ([], Appends-none a b k, (p, last_none p (length p.line == 0) e, n, l))
-
-pub finished_line : (p q : Progress) (a b c : Option (List ℕ)) (s : Summary) (d : Document) → (length p.line == 0) ≡ false → Told a b (λ text. LineStep false p text q) → Keeps b c
-    → Counts q s → d ≡ q.state.doc → Told a c (λ text. Finishes p text s d)
-finished_line p q a b c s d e h k n l =
+-- the last line is answered
+pub last_line : (p q : Progress) (a b : Option (List ℕ)) → (length p.line == 0) ≡ false → Told a b (λ text. LineStep false p text q) → Told a b (λ text. LastStep p text q)
+last_line p q a b e h =
     let (text, put, step) = h in
-    (text, Appends-kept a b c text put k, (q, subst (λ t. MatchBool t ((text ≡ []) × (q ≡ p)) (LineStep false p text q)) (sym e) step, n, l))
+    (text, put, subst (λ t. MatchBool t ((text ≡ []) × (q ≡ p)) (LineStep false p text q)) (sym e) step)
+
+pub finished : (p q : Progress) (a b c : Option (List ℕ)) (s : Summary) (d : Document) → Told a b (λ text. LastStep p text q) → Keeps b c → Counts q s → d ≡ q.state.doc → Told a c (λ text. Finishes p text s d)
+finished p q a b c s d h k n l =
+    let (text, put, step) = h in
+    (text, Appends-kept a b c text put k, (q, step, n, l))
 
 -- ---- after a fault
 

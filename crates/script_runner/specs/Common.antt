@@ -2,10 +2,11 @@
 pub use Rattle.script_runner.specs.Answers.{answer_text, numbers_text, polygon_text, polygons_text, position_text}
 pub use Rattle.script_runner.specs.Answers.{refusal_text, ring_text, segment_text, spaced_numbers}
 pub use Rattle.script_runner.specs.Devices.{Devices, Reader, Writer, devices, devices_of, reader_of, writer_of}
-pub use Rattle.script_runner.specs.Ended.{Answers, Halts, IsBuildEnd, IsOpenEnd}
-pub use Rattle.script_runner.specs.Finish.{Counts, Finishes, PutsLast}
+pub use Rattle.script_runner.specs.Ended.{Answers, AnswersAndSaves, Fails, Halts, IsAnswerEnd, IsBuildEnd, IsOpenEnd}
+pub use Rattle.script_runner.specs.Ended.{IsSaveEnd}
+pub use Rattle.script_runner.specs.Finish.{Counts, Finishes, LastStep, PutsLast}
 pub use Rattle.script_runner.specs.Outcome.{AnswersAll, AnswersLines, AnswersPart, AnswersUpTo, Completes, Ends}
-pub use Rattle.script_runner.specs.Outcome.{IsFront, IsNextLine, IsUnopened, OpensAs, Runs, SavesPart}
+pub use Rattle.script_runner.specs.Outcome.{IsFront, IsNextLine, IsUnopened, LacksMemory, OpensAs, Runs, SavesPart}
 pub use Rattle.script_runner.specs.Progress.{ByteStep, Feeds, FeedsPart, IsPartAt, IsReplyFront, KeptMeans, LineStep}
 pub use Rattle.script_runner.specs.Progress.{Progress, PutsPart, Told, line_at, more, start}
 pub use Rattle.script_runner.specs.Replies.{IsShown, IsShownSaved, Replied, RepliedLine, TellsFault, meaning_of_said}

@@ -1,12 +1,16 @@
 -- What the steps of a run leave, for the proof of the run alone.
 use Rattle.std.specs.Prelude.{◌≡◌, ◌≢◌, ℕ, List, true}
+use Rattle.std.specs.Io.KnownBytes.{Appends}
 use Rattle.ring_machine.specs.Common.{Document}
 use Rattle.topo_reader.specs.Common.{IsFault}
+use Rattle.map_text.specs.Common.{text_of, Saved}
+use Rattle.topo_writer.specs.declared.fault.WriteFault.{WriteFault}
+use Rattle.topo_writer.specs.declared.fault.WriteFault.TheVariants as write
 use Rattle.topo_outline.specs.declared.fault.OpenFault.TheVariants as opening
 use Rattle.arc_store.specs.declared.fault.BuildFault.{BuildFault}
 use Rattle.arc_store.specs.declared.fault.BuildFault.TheVariants as build
-use Rattle.script_runner.specs.Devices.{Reader, Writer, devices}
-use Rattle.script_runner.specs.Outcome.{IsUnopened, AnswersAll, AnswersLines, AnswersPart}
+use Rattle.script_runner.specs.Devices.{Devices, Reader, Writer, devices}
+use Rattle.script_runner.specs.Outcome.{IsUnopened, AnswersAll, AnswersLines, AnswersPart, SavesPart, LacksMemory}
 use Rattle.script_runner.specs.declared.runner.Summary.{Summary}
 use Rattle.script_runner.specs.declared.fault.RunFault.{RunFault}
 use Rattle.script_runner.specs.declared.fault.RunFault.TheVariants as fault
@@ -29,6 +33,33 @@ Halts fault.Write depth d coming left taken given =
 Halts fault.Save depth d coming left taken given = ⊥
 Halts fault.OutOfMemory depth d coming left taken given =
     (held : Writer) → AnswersPart depth d (devices coming taken held) (devices left given held)
+
+-- the script was answered, and the text of the last document was saved and sent on
+pub record AnswersAndSaves (depth : ℕ) (d : Document) (before after : Devices) (summary : Summary) : Type 0 where
+  pub last : Document
+  pub answers : AnswersAll depth d last before after summary
+  pub wrote : Appends before.saved.taken after.saved.taken (text_of last)
+  pub sent : after.saved.flushed ≡ true
+  pub saved : Saved (text_of last) last
+
+-- how far the answers or the saving came, where either ended early
+abbrev pub Fails : RunFault → ℕ → Document → Devices → Devices → Type 0
+Fails (fault.Open f) depth d before after = ⊥
+Fails fault.Read depth d before after = AnswersLines depth d before after × (after.saved ≡ before.saved)
+Fails fault.Write depth d before after =
+    AnswersPart depth d before after × (after.answers.failed ≡ true) × (after.saved ≡ before.saved)
+Fails fault.Save depth d before after = SavesPart depth d before after × (after.saved.failed ≡ true)
+Fails fault.OutOfMemory depth d before after = LacksMemory depth d before after
+
+-- the end of a run whose answers were not all written
+abbrev pub IsAnswerEnd : WriteFault → RunFault → Type 0
+IsAnswerEnd write.Device end = end ≡ fault.Write
+IsAnswerEnd write.OutOfMemory end = end ≡ fault.OutOfMemory
+
+-- the end of a run whose map was not all saved
+abbrev pub IsSaveEnd : WriteFault → RunFault → Type 0
+IsSaveEnd write.Device end = end ≡ fault.Save
+IsSaveEnd write.OutOfMemory end = end ≡ fault.OutOfMemory
 
 -- why a map was not opened, want of memory apart
 abbrev pub IsOpenEnd : RunFault → List ℕ → Type 0

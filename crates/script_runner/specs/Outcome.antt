@@ -67,10 +67,11 @@ pub record AnswersUpTo (depth : ℕ) (d : Document) (before after : Devices) : T
       (replies depth (opened_state d) meanings ++ part)
 
 -- the reader failed, and all that came was fed; or a byte came past the limit of a script. No answer was
--- cut off
+-- cut off, and all were sent on: the writer is as it was, or has sent on all that it took
 pub record AnswersLines (depth : ℕ) (d : Document) (before after : Devices) : Type 0 where
   pub lines : AnswersUpTo depth d before after
   pub whole : lines.part ≡ []
+  pub sent : (after.answers ≡ before.answers) ⊎ (after.answers.flushed ≡ true)
   pub cause : ((lines.further ≡ []) × (after.script.failed ≡ true))
       ⊎ ((length lines.came ≡ 1073741824) × (0 < length lines.further))
 

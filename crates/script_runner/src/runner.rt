@@ -1,7 +1,6 @@
 //! What is kept between two bytes of a script.
 ghost use Rattle.std.specs.Prelude.{◌≡◌, ◌≤◌, ◌<◌, ◌+◌, ◌^◌, ◌∷◌, ◌++◌, if◌then◌else◌};
 ghost use Rattle.std.specs.Prelude.{[], length, false, true, OnOk, OnErr, IfOk};
-ghost use Rattle.std.specs.Io.KnownBytes.{Keeps};
 ghost use Rattle.device_io.specs.Common.{Stands};
 ghost use Rattle.script_runner.specs.Runs.{without_return, answered_by, NoFeed};
 ghost use Rattle.script_runner.specs.Replies.{meaning_of_said};
@@ -12,6 +11,7 @@ ghost use Rattle.script_runner.specs.Progress.{KeptMeans, LineStep, Feeds, Feeds
 ghost use Rattle.script_runner.specs.Progress.{Told, start};
 
 use crate::sending::send_reply;
+use arc_store::Map;
 use device_io::Sink;
 use memchr::memchr;
 use script_lines::{Line, LineFault, parse_line};
@@ -204,52 +204,68 @@ impl<'a, A: Allocator + Copy> Runner<'a, A> {
         Ok(())
     }
 
-    ghost use Rattle.script_runner.specs.Finish.{Finishes, PutsLast, Counts};
-
-    /// Sends the answers on, and answers the counts and the map with its history.
-    fn flush<W: Sink>(
-        self,
+    /// Takes the next bytes of a script, at least one, answers each line that ends in them, and sends the
+    /// answers on.
+    pub(crate) fn feed_piece<W: Sink>(
+        &mut self,
+        piece: &[u8],
         out: &mut W,
-    ) -> Result<(Summary, Editor<'a, TreeIndex<A>, A>), WriteFault>
-        requires { W.has_failed out.old ≡ false }
-        ensures kept { Keeps (W.taken out.old) (W.taken out.new) }
+    ) -> Result<(), WriteFault>
+        requires works { W.has_failed out.old ≡ false }
+        requires some { 0 < length piece.now }
+        requires bytes { self.old.bytes + length piece.now < 2 ^ 62 }
+        ensures ok { OnOk result (Told (W.taken out.old) (W.taken out.new)
+            (λ text. Feeds self.old piece.now text self.new)) }
+        ensures bytes { OnOk result (self.new.bytes ≡ self.old.bytes + length piece.now) }
         ensures sent { OnOk result (W.is_flushed out.new ≡ true) }
-        ensures ends { IfOk result
-            (λ done. Counts self.entry done.0 × (done.1.map.doc ≡ self.entry.state.doc)) }
+        ensures cut { OnErr result
+            (FeedsPart (W.taken out.old) (W.taken out.new) self.old piece.now) }
         ensures stands { Stands W.Sink of_device out.new result }
     {
+        self.feed(piece, out)?;
         out.flush()?;
-        let Runner {
-            heap: _,
-            editor,
-            line: _,
-            over: _,
-            text: _,
-            answered,
-            refused,
-            bytes: _,
-        } = self;
-        Ok((Summary { answered, refused }, editor))
+        Ok(())
     }
 
-    /// Answers a last line that no line feed ends, and sends the answers on. Answers the counts and
-    /// the map with its history.
-    pub(crate) fn finish<W: Sink>(
-        mut self,
-        out: &mut W,
-    ) -> Result<(Summary, Editor<'a, TreeIndex<A>, A>), WriteFault>
+    ghost use Rattle.script_runner.specs.Finish.{Finishes, LastStep, PutsLast};
+
+    /// Answers a last line that no line feed ends.
+    fn answer_last<W: Sink>(&mut self, out: &mut W) -> Result<(), WriteFault>
         requires works { W.has_failed out.old ≡ false }
-        requires bytes { self.bytes < 2 ^ 63 }
-        ensures ok { IfOk result (λ done. Told (W.taken out.old) (W.taken out.new)
-            (λ text. Finishes self.entry text done.0 done.1.map.doc)) }
-        ensures cut { OnErr result (PutsLast self.entry (W.taken out.old) (W.taken out.new)) }
-        ensures sent { OnOk result (W.is_flushed out.new ≡ true) }
+        requires bytes { self.old.bytes < 2 ^ 63 }
+        ensures ok { OnOk result (Told (W.taken out.old) (W.taken out.new)
+            (λ text. LastStep self.old text self.new)) }
+        ensures cut { OnErr result (PutsLast self.old (W.taken out.old) (W.taken out.new)) }
         ensures stands { Stands W.Sink of_device out.new result }
     {
         if self.line.as_slice().is_empty() {
-            return self.flush(out);
+            return Ok(());
         }
-        self.answer(false, out)?;
-        self.flush(out)
+        self.answer(false, out)
+    }
+
+    /// Answers a last line that no line feed ends, and sends the answers on. Answers the counts.
+    pub(crate) fn finish<W: Sink>(&mut self, out: &mut W) -> Result<Summary, WriteFault>
+        requires works { W.has_failed out.old ≡ false }
+        requires bytes { self.old.bytes < 2 ^ 63 }
+        ensures ok { IfOk result (λ summary. Told (W.taken out.old) (W.taken out.new)
+            (λ text. Finishes self.old text summary self.new.state.doc)) }
+        ensures cut { OnErr result (PutsLast self.old (W.taken out.old) (W.taken out.new)) }
+        ensures sent { OnOk result (W.is_flushed out.new ≡ true) }
+        ensures stands { Stands W.Sink of_device out.new result }
+    {
+        self.answer_last(out)?;
+        out.flush()?;
+        Ok(Summary {
+            answered: self.answered,
+            refused: self.refused,
+        })
+    }
+
+    /// The map as it is now.
+    pub(crate) fn map(&self) -> &Map<'a, TreeIndex<A>, A>
+        ensures { result.now.doc ≡ self.now.state.doc }
+    {
+        self.editor.map()
     }
 }

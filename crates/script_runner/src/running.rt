@@ -1,11 +1,13 @@
-ghost use Rattle.std.specs.Prelude.{◌≡◌, ◌≤◌, [], length, false, true, OnOk, IfOk, IfErr, None};
+ghost use Rattle.std.specs.Prelude.{◌≡◌, ◌≤◌, length, false, true, OnOk, IfOk, IfErr, None};
 ghost use Rattle.ring_machine.specs.Common.{features};
 ghost use Rattle.device_io.specs.Common.{Sends};
 ghost use Rattle.map_text.specs.Common.{text_of, Saved};
 ghost use Rattle.topo_writer.specs.Common.{of_device};
 ghost use Rattle.script_runner.specs.Devices.{reader_of, writer_of, devices_of};
 ghost use Rattle.script_runner.specs.Outcome.{OpensAs, Completes, Ends};
-ghost use Rattle.script_runner.specs.Ended.{Answers, Halts, IsOpenEnd, IsBuildEnd};
+ghost use Rattle.script_runner.specs.Progress.{start};
+ghost use Rattle.script_runner.specs.Ended.{Answers, AnswersAndSaves, Halts, Fails};
+ghost use Rattle.script_runner.specs.Ended.{IsOpenEnd, IsBuildEnd, IsAnswerEnd, IsSaveEnd};
 
 use crate::fault::RunFault;
 use crate::runner::{Runner, Summary};
@@ -35,6 +37,26 @@ fn not_built<'a>(fault: BuildFault) -> RunFault<'a>
     }
 }
 
+/// The end of a run whose answers were not all written.
+fn not_answered<'a>(fault: WriteFault) -> RunFault<'a>
+    ensures { IsAnswerEnd fault result }
+{
+    match fault {
+        WriteFault::Device => RunFault::Write,
+        WriteFault::OutOfMemory => RunFault::OutOfMemory,
+    }
+}
+
+/// The end of a run whose map was not all saved.
+fn not_saved<'a>(fault: WriteFault) -> RunFault<'a>
+    ensures { IsSaveEnd fault result }
+{
+    match fault {
+        WriteFault::Device => RunFault::Save,
+        WriteFault::OutOfMemory => RunFault::OutOfMemory,
+    }
+}
+
 /// Opens a map, where no two of its segments conflict. Its index has no cells, so that the bound on
 /// the tests of an edit counts pairs of segments whose boxes meet, each once.
 fn open<'a, A: Allocator + Copy>(
@@ -60,27 +82,23 @@ fn open<'a, A: Allocator + Copy>(
     }
 }
 
-/// Answers each line of a script, piece by piece as it comes. Answers the counts and the map with its
-/// history.
+/// Answers each line of a script, piece by piece as it comes, and sends the answers on before the next
+/// piece is read. Answers the counts.
 fn answer_script<'a, A: Allocator + Copy, R: Source, W: Sink>(
-    alloc: A,
-    heap: Global,
-    editor: Editor<'a, TreeIndex<A>, A>,
+    runner: &mut Runner<'_, A>,
     script: &mut R,
     out: &mut W,
-) -> Result<(Summary, Editor<'a, TreeIndex<A>, A>), RunFault<'a>>
-    requires numbered { editor.map.next ≡ length (features editor.map.doc) }
-    requires fresh { editor.past ≡ [] }
+) -> Result<Summary, RunFault<'a>>
+    requires begins { runner.old ≡ start runner.old.depth runner.old.state.doc }
     requires reader { R.has_failed script.old ≡ false }
     requires writer { W.has_failed out.old ≡ false }
-    ensures done { IfOk result (λ done. Answers editor.entry.depth editor.entry.map.doc
-        done.1.map.doc (reader_of R.Source script.old) (reader_of R.Source script.new)
-        (writer_of W.Sink out.old) (writer_of W.Sink out.new) done.0) }
-    ensures halted { IfErr result (λ fault. Halts fault editor.entry.depth editor.entry.map.doc
+    ensures done { IfOk result (λ summary. Answers runner.old.depth runner.old.state.doc
+        runner.new.state.doc (reader_of R.Source script.old) (reader_of R.Source script.new)
+        (writer_of W.Sink out.old) (writer_of W.Sink out.new) summary) }
+    ensures halted { IfErr result (λ fault. Halts fault runner.old.depth runner.old.state.doc
         (reader_of R.Source script.old) (reader_of R.Source script.new)
         (writer_of W.Sink out.old) (writer_of W.Sink out.new)) }
 {
-    let mut runner = Runner::new(alloc, heap, editor);
     let mut room = [0u8; PIECE];
     let mut left = MAX_SCRIPT;
     loop {
@@ -90,16 +108,17 @@ fn answer_script<'a, A: Allocator + Copy, R: Source, W: Sink>(
         };
         if n == 0 {
             return match runner.finish(out) {
-                Ok(done) => Ok(done),
-                Err(WriteFault::Device) => Err(RunFault::Write),
-                Err(WriteFault::OutOfMemory) => Err(RunFault::OutOfMemory),
+                Ok(summary) => Ok(summary),
+                Err(fault) => Err(not_answered(fault)),
             };
         }
+        if left == 0 {
+            return Err(RunFault::Read);
+        }
         let taken = n.min(left);
-        match runner.feed(&room[..taken], out) {
+        match runner.feed_piece(&room[..taken], out) {
             Ok(()) => {}
-            Err(WriteFault::Device) => return Err(RunFault::Write),
-            Err(WriteFault::OutOfMemory) => return Err(RunFault::OutOfMemory),
+            Err(fault) => return Err(not_answered(fault)),
         }
         if taken < n {
             return Err(RunFault::Read);
@@ -124,11 +143,40 @@ fn save<A: Allocator + Copy, V: Sink>(
     Ok(())
 }
 
+/// Answers each line of a script, and saves the map after it.
+fn answer_and_save<'a, A: Allocator + Copy, R: Source, W: Sink, V: Sink>(
+    alloc: A,
+    runner: &mut Runner<'_, A>,
+    script: &mut R,
+    out: &mut W,
+    saved: &mut V,
+) -> Result<Summary, RunFault<'a>>
+    requires begins { runner.old ≡ start runner.old.depth runner.old.state.doc }
+    requires reader { R.has_failed script.old ≡ false }
+    requires writer { W.has_failed out.old ≡ false }
+    requires saver { V.has_failed saved.old ≡ false }
+    ensures done { IfOk result (λ summary. AnswersAndSaves runner.old.depth runner.old.state.doc
+        (devices_of R.Source W.Sink V.Sink script.old out.old saved.old)
+        (devices_of R.Source W.Sink V.Sink script.new out.new saved.new) summary) }
+    ensures fault { IfErr result (λ fault. Fails fault runner.old.depth runner.old.state.doc
+        (devices_of R.Source W.Sink V.Sink script.old out.old saved.old)
+        (devices_of R.Source W.Sink V.Sink script.new out.new saved.new)) }
+{
+    let summary = match answer_script(runner, script, out) {
+        Ok(summary) => summary,
+        Err(fault) => return Err(fault),
+    };
+    match save(alloc, runner.map(), saved) {
+        Ok(()) => Ok(summary),
+        Err(fault) => Err(not_saved(fault)),
+    }
+}
+
 /// Answers each line of a script on a map, piece by piece as the script comes, and saves the map.
 ///
 /// The map is TopoJSON 1.0 of the editor's profile. Opening comes first; then each line is
-/// answered in order, with a line feed, before the next piece is read; after the last line `out`
-/// is flushed, and then the text of the map goes to `saved`, which is flushed too. A line ends with
+/// answered in order, with a line feed, and `out` is flushed before the next piece is read and after the
+/// last line; then the text of the map goes to `saved`, which is flushed too. A line ends with
 /// a line feed, before which one carriage return is dropped, and a last line without a line feed
 /// counts where it is not empty. A line of more than 8,192 bytes is a bad line. The newest `depth`
 /// changes can be taken back. `heap` holds decoded texts while the map is opened, and the id and
@@ -164,13 +212,6 @@ pub fn run<'a, A: Allocator + Copy, R: Source, W: Sink, V: Sink>(
         Ok(editor) => editor,
         Err(_) => return Err(RunFault::OutOfMemory),
     };
-    let (summary, last) = match answer_script(alloc, heap, editor, script, out) {
-        Ok(done) => done,
-        Err(fault) => return Err(fault),
-    };
-    match save(alloc, last.map(), saved) {
-        Ok(()) => Ok(summary),
-        Err(WriteFault::Device) => Err(RunFault::Save),
-        Err(WriteFault::OutOfMemory) => Err(RunFault::OutOfMemory),
-    }
+    let mut runner = Runner::new(alloc, heap, editor);
+    answer_and_save(alloc, &mut runner, script, out, saved)
 }

@@ -34,7 +34,7 @@ const MIXED: &str =
 
 /// What is listed of that script, line by line.
 const LISTED: &str =
-    "3\trefused no vertex\tmove 1 1 2 2\n7\tbad line\t mend\t\n8\trefused no feature\tarea 9\n10\tbad line\trename 0 C\n";
+    "3\trefused no vertex\tmove 1 1 2 2\t1 1\n7\tbad line\t mend\t\tspace at the start\n8\trefused no feature\tarea 9\t9\n10\tbad line\trename 0 C\tnot a JSON string\n";
 
 /// The files of a folder before each run, and texts that a file may hold then.
 const FILES: &[(&str, &str)] = &[
@@ -49,9 +49,13 @@ const FILES: &[(&str, &str)] = &[
     ("bad.txt", "mend 10 10\n"),
     ("undone.txt", "move 0 0 1 1\nmove 10 10 12 12\nundo\nundo\n"),
     ("mixed.txt", MIXED),
+    ("cut_off.txt", "move 10 10 12 12"),
+    ("cut_remark.txt", "move 10 10 12 12\n# end"),
+    ("returned.txt", "move 10 10 12 12\r\n\r\n"),
+    ("empty.txt", ""),
     ("none.list", ""),
-    ("refused.list", "2\trefused no vertex\tmove 1 1 2 2\n"),
-    ("bad.list", "1\tbad line\tmend 10 10\n"),
+    ("refused.list", "2\trefused no vertex\tmove 1 1 2 2\t1 1\n"),
+    ("bad.list", "1\tbad line\tmend 10 10\tunknown word\n"),
     ("mixed.list", LISTED),
 ];
 
@@ -120,6 +124,33 @@ border_edit @cut.json @missing.txt --out @. => 3 @.=no script fault;
 border_edit @cut.json @. --out @. => 2 @.=no open: not json at 1;
 border_edit @squares.json @. --out @. => 3 @.=no script fault;";
 
+/// The same of scripts that are cut off, and with `--strict`.
+const STRICT: &str = "\
+# A script that is cut off in its last line is answered, and the map saved.
+border_edit @squares.json @cut_off.txt --out @made.json => 0 @made.json=moved.json
+border_edit @squares.json @empty.txt --out @made.json => 0 @made.json=squares.json
+# With --strict FILE is written only where no line was refused or bad, and the last one has its line feed.
+border_edit @squares.json @accepted.txt --out @made.json --strict => 0 @made.json=moved.json
+border_edit @squares.json @returned.txt --out @saved.json --strict => 0 @saved.json=moved.json
+border_edit @squares.json @empty.txt --out @made.json --strict => 0 @made.json=squares.json
+border_edit @squares.json @refused.txt --out @saved.json --strict => 1 @saved.json=saved.json not saved: 1 line was refused;
+border_edit @squares.json @refused.txt --out @made.json --strict => 1 @made.json=no not saved: 1 line was refused;
+border_edit @squares.json @bad.txt --out @squares.json --strict => 1 @squares.json=squares.json not saved: 1 line was refused;
+border_edit @squares.json @mixed.txt --out @saved.json --strict => 1 @saved.json=saved.json not saved: 4 lines were refused;
+border_edit @squares.json @cut_off.txt --out @saved.json --strict => 1 @saved.json=saved.json not saved: the last line of the script has no line feed;
+border_edit @squares.json @cut_remark.txt --out @made.json --strict => 1 @made.json=no not saved: the last line of the script has no line feed;
+border_edit @squares.json @refused.txt --out @. --strict => 1 @.=no not saved: 1 line was refused;
+border_edit @squares.json @accepted.txt --out @. --strict => 3 @.=no save fault;
+border_edit @cut.json @refused.txt --out @saved.json --strict => 2 @saved.json=saved.json open: not json at 1;
+border_edit @squares.json @. --out @saved.json --strict => 3 @saved.json=saved.json script fault;
+border_edit @squares.json @refused.txt --out @made.json --strict --progress => 1 @made.json=no opening @squares.json;not saved: 1 line was refused;
+# FILE2 tells which lines were refused also where FILE was left for them.
+border_edit @squares.json @refused.txt --out @saved.json --strict --refused @made.txt => 1 @made.txt=refused.list not saved: 1 line was refused;
+border_edit @squares.json @mixed.txt --out @made.json --strict --refused @saved.json => 1 @saved.json=mixed.list not saved: 4 lines were refused;
+border_edit @squares.json @cut_off.txt --out @saved.json --strict --refused @made.txt => 1 @made.txt=none.list not saved: the last line of the script has no line feed;
+border_edit @squares.json @refused.txt --out @saved.json --strict --refused @. => 3 @saved.json=saved.json refused fault;
+border_edit @squares.json @accepted.txt --out @squares.json --strict --refused @. => 3 @squares.json=moved.json refused fault;";
+
 /// The same, where the answers can't be written.
 const UNANSWERED: &str = "\
 border_edit @squares.json @accepted.txt --out @saved.json => 3 @saved.json=saved.json write fault;
@@ -129,7 +160,8 @@ border_edit @missing.json @missing.txt --out @. => 3 @.=no map fault;
 border_edit @cut.json @missing.txt --out @. => 3 @.=no script fault;
 border_edit @cut.json @. --out @. => 2 @.=no open: not json at 1;
 border_edit @squares.json @. --out @. => 3 @.=no script fault;
-border_edit @squares.json @accepted.txt --out @. => 3 @.=no write fault;";
+border_edit @squares.json @accepted.txt --out @. => 3 @.=no write fault;
+border_edit @squares.json @refused.txt --out @saved.json --strict => 3 @saved.json=saved.json write fault;";
 
 /// A writer of answers that are not looked at. It takes all, or none.
 #[derive(Drop)]
@@ -225,6 +257,17 @@ fn each_run_ends_as_its_line_says(rt: HostRuntime) -> Result<(), Fail> {
     for line in RUNS.lines() {
         assert!(rt;
             line.starts_with('#') || ends_so(&rt, "runs", false, line)?,
+            "{line}"
+        );
+    }
+    Ok(())
+}
+
+#[test]
+fn a_strict_run_saves_only_what_was_accepted(rt: HostRuntime) -> Result<(), Fail> {
+    for line in STRICT.lines() {
+        assert!(rt;
+            line.starts_with('#') || ends_so(&rt, "strict", false, line)?,
             "{line}"
         );
     }

@@ -13,17 +13,20 @@ pub(crate) fn given(alloc: Global, line: &str) -> Result<Vec<String>, AllocError
     Ok(given)
 }
 
-/// Words, and what they are read as: MAP, SCRIPT, FILE, how many changes are kept, FILE2, and whether
-/// it is told what is begun; or the status that they stop the program with.
+/// Words, and what they are read as: MAP, SCRIPT, FILE, how many changes are kept, FILE2, whether it is
+/// told what is begun, and whether each line is to be accepted; or the status that they stop the program
+/// with.
 const READ: &str = "\
-border_edit map.json script.txt --out saved.json => map.json script.txt saved.json 100 - false
-border_edit --out saved.json map.json script.txt => map.json script.txt saved.json 100 - false
-border_edit map.json --out=saved.json script.txt => map.json script.txt saved.json 100 - false
-border_edit m s --out f --undo 2 => m s f 2 - false
-border_edit --undo 1 m s --out f => m s f 1 - false
-border_edit m --undo=1000 s --out f => m s f 1000 - false
-border_edit m - --out f --refused list.txt --progress => m - f 100 list.txt true
-border_edit --progress --refused=list.txt m - --out=f => m - f 100 list.txt true
+border_edit map.json script.txt --out saved.json => map.json script.txt saved.json 100 - false false
+border_edit --out saved.json map.json script.txt => map.json script.txt saved.json 100 - false false
+border_edit map.json --out=saved.json script.txt => map.json script.txt saved.json 100 - false false
+border_edit m s --out f --undo 2 => m s f 2 - false false
+border_edit --undo 1 m s --out f => m s f 1 - false false
+border_edit m --undo=1000 s --out f => m s f 1000 - false false
+border_edit m - --out f --refused list.txt --progress => m - f 100 list.txt true false
+border_edit --progress --refused=list.txt m - --out=f => m - f 100 list.txt true false
+border_edit m s --out f --strict => m s f 100 - false true
+border_edit --strict --progress m - --refused l --out f => m - f 100 l true true
 border_edit => 64
 border_edit map.json => 64
 border_edit map.json script.txt => 64
@@ -41,6 +44,8 @@ border_edit m s --undo 2 => 64
 border_edit m s --out f --refused => 64
 border_edit m s --out f --refused a --refused b => 64
 border_edit m s --out f --refused f => 64
+border_edit m s --out f --strict yes => 64
+border_edit m s --out f --strict=yes => 64
 border_edit --help => 0
 border_edit --version => 0
 border_edit map.json -h => 0";
@@ -57,8 +62,8 @@ fn read(alloc: Global, line: &str) -> Result<String, AllocError> {
             let map = words.map.as_str();
             let script = words.script.as_str();
             let out = words.out.as_str();
-            let (depth, progress) = (words.depth, words.progress);
-            format!(in alloc; "{map} {script} {out} {depth} {refused} {progress}")
+            let (depth, progress, strict) = (words.depth, words.progress, words.strict);
+            format!(in alloc; "{map} {script} {out} {depth} {refused} {progress} {strict}")
         }
         Err(error) => {
             let status = Stop::from(error).status();

@@ -3,7 +3,7 @@ use Rattle.clap.specs.Simple.{app_of_fields}
 use Rattle.clap.specs.Words.{Rule, app_of, new_app, new_rule, rule_of, with_rule}
 use Rattle.clap.specs.declared.builder.action.ArgAction.TheVariants.{Set, SetTrue}
 use Rattle.clap.specs.declared.builder.arg.Arg.{Arg}
-use Rattle.edit_program.specs.Common.{map_rule, script_rule, out_rule, undo_rule, refused_rule, progress_rule}
+use Rattle.edit_program.specs.Common.{map_rule, script_rule, out_rule, undo_rule, refused_rule, progress_rule, strict_rule}
 use Rattle.program_ends.specs.Common.{with_version}
 use Rattle.edit_program.proofs.command_line.command.Goals as goal
 
@@ -73,16 +73,25 @@ returns c =
     let progress_local : c.action-progress.result.global ≡ false =
     ap is_global c.action-progress.ensures ∙ (ap is_global c.help-6.ensures
     ∙ (ap is_global c.long-4.ensures ∙ c.new-6.ensures.optional.1)) in
-    let new_is : app_of c.new-7.result ≡ new_app (codes "border_edit") = search rules in
+    let strict_new : rule_of c.new-7.result ≡ new_rule (codes "strict") = search rules in
+    let strict_long : rule_of c.long-5.result ≡ record (new_rule (codes "strict")) { long = Some (codes "strict") } =
+    long_is c.new-7.result c.long-5.result _ _ _ c.long-5.ensures (search rules) strict_new in
+    let strict_is : rule_of c.action-strict.result ≡ strict_rule =
+    ap rule_of c.action-strict.ensures ∙ ap switched (ap rule_of c.help-7.ensures ∙ strict_long) in
+    let strict_local : c.action-strict.result.global ≡ false =
+    ap is_global c.action-strict.ensures ∙ (ap is_global c.help-7.ensures
+    ∙ (ap is_global c.long-5.ensures ∙ c.new-7.ensures.optional.1)) in
+    let new_is : app_of c.new-8.result ≡ new_app (codes "border_edit") = search rules in
     let about_is : app_of c.about.result ≡ new_app (codes "border_edit") = ap app_of_fields c.about.ensures ∙ new_is in
     let version_is : app_of c.version.result ≡ with_version (new_app (codes "border_edit")) =
     ap app_of_fields c.version.ensures ∙ ap with_version about_is in
     let after_is : app_of c.after_help.result ≡ with_version (new_app (codes "border_edit")) =
     ap app_of_fields c.after_help.ensures ∙ version_is in
-    c.in_ok-command.ensures.shape progress_local
+    c.in_ok-command.ensures.shape strict_local
+    ∙ ap₂ with_rule (c.in_ok-arg-6.ensures.shape progress_local
     ∙ ap₂ with_rule (c.in_ok-arg-5.ensures.shape refused_local
     ∙ ap₂ with_rule (c.in_ok-arg-4.ensures.shape undo_local
     ∙ ap₂ with_rule (c.in_ok-arg-3.ensures.shape out_local
     ∙ ap₂ with_rule (c.in_ok-arg-2.ensures.shape script_local
     ∙ ap₂ with_rule (c.in_ok-arg.ensures.shape map_local
-    ∙ ap₂ with_rule after_is map_is) script_is) out_is) undo_is) refused_is) progress_is
+    ∙ ap₂ with_rule after_is map_is) script_is) out_is) undo_is) refused_is) progress_is) strict_is

@@ -38,3 +38,8 @@ pub returns-clause-progress : goal.returns-clause-progress
 returns-clause-progress c =
     flag_is _ c.in_ok-matches.matches _ (codes "progress") _ c.get_flag.result
     c.in_ok-command.ensures c.in_ok-matches.ensures.ok.2 (search rules) c.get_flag.ensures.none c.get_flag.ensures.value c.get_flag.ensures.other
+
+pub returns-clause-strict : goal.returns-clause-strict
+returns-clause-strict c =
+    flag_is _ c.in_ok-matches.matches _ (codes "strict") _ c.get_flag-2.result
+    c.in_ok-command.ensures c.in_ok-matches.ensures.ok.2 (search rules) c.get_flag-2.ensures.none c.get_flag-2.ensures.value c.get_flag-2.ensures.other

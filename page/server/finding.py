@@ -1,0 +1,20 @@
+"""The three programs. Each is found when it is needed first, since one that is not proved takes minutes to build."""
+import programs
+
+
+class Programs:
+    """Paths of the programs, and whether they are proved."""
+
+    def __init__(self):
+        self.found = {}
+
+    def path(self, name):
+        """The path of a program."""
+        if name not in self.found:
+            self.found[name] = programs.find(name)
+        return self.found[name][0]
+
+    @property
+    def are_proved(self):
+        """Whether all that were needed so far are proved."""
+        return all(is_proved for _, is_proved in self.found.values())

@@ -1,0 +1,41 @@
+"""What the other two programs do for a map that does not open: its faults, its picture, and mending it."""
+import subprocess
+
+from child import environment
+
+
+def run(program, *arguments):
+    """A program that has run to its end; its status, standard output, and what it left on standard error."""
+    command = [program, *map(str, arguments)]
+    done = subprocess.run(command, stdin=subprocess.DEVNULL, capture_output=True, env=environment())
+    return done.returncode, done.stdout, done.stderr.decode(errors="replace").strip()
+
+
+def lines_of(report):
+    """The lines of a report of border_mend."""
+    return report.decode(errors="replace").split("\n")[:-1]
+
+
+def findings(border_mend, map_path):
+    """All that stops a map from opening, and whether border_mend can read the map."""
+    status, report, _ = run(border_mend, map_path)
+    return lines_of(report), status in (0, 1)
+
+
+def picture(border_show, map_path):
+    """A map with segments in conflict as SVG; nothing where the map can't be drawn."""
+    drawn = map_path.with_name("picture.svg")
+    status, _, _ = run(border_show, map_path, "--out", drawn)
+    return drawn.read_bytes() if status == 0 else None
+
+
+def mend(border_mend, map_path, mended_path, digits):
+    """Mends a map. The report, and why it can't be mended: nothing where it was."""
+    arguments = [] if digits is None else ["--digits", digits]
+    status, report, why = run(border_mend, map_path, "--out", mended_path, *arguments)
+    return lines_of(report), None if status == 0 else without_open(why) or f"border_mend ended with status {status}"
+
+
+def without_open(text):
+    """The fault of a map, as the programs tell it on standard error."""
+    return text.removeprefix("open: ")

@@ -1,0 +1,372 @@
+"""The page's server: who may ask, and what is answered.
+
+Everything is below /TOKEN/, on the loopback address alone.
+
+| Request | Takes | Answers |
+|---|---|---|
+| GET, no name; each file of the page | | the page |
+| GET `document`, `script`, `picture` | | the text of the map; the log as a script; a map that does not open as SVG |
+| `begin` | | `owner`, `name`, `out`, `proved`, `opens`; then either what is edited or what stops it |
+| of a map that opens | | `log`, `counts` (when it was opened), `undos` (how many are possible), `unsaved` |
+| of one that does not | | `fault`, `findings`, `mendable` |
+| `edit` | `owner`, `act`, `lines` | `answers` up to a refusal, `accepted`, `entries` of the log, `undos`, `unsaved` |
+| `try` | `owner`, `line` | `answer` |
+| `ask` | `owner`, `lines` | `answers` |
+| `save` | `owner`, `force` | `file`, `bytes` |
+| `mend` | `owner`, perhaps `digits` | `report`, `opens` |
+| `alive`, `leave` | `owner` | nothing |
+
+The others are POST with JSON. What is not done is answered with `reason`: 400 for what makes no sense, 403 for
+who may not ask, 404 for a name that there is not, 409 for what can't be done now, with `force` if it can be forced
+and `closed` if a newer page has the map, and 500 after border_edit has ended.
+"""
+import http.server
+import json
+import pathlib
+import re
+import secrets
+import sys
+import threading
+import traceback
+
+from child import Ended
+from session import MOST_EDITS, MOST_LINE, Lost, Refusal
+from visits import Visits
+
+WEB = pathlib.Path(__file__).resolve().parent.parent / "web"
+KINDS = {".html": "text/html; charset=utf-8", ".css": "text/css; charset=utf-8",
+         ".js": "text/javascript; charset=utf-8"}
+POLICY = ("default-src 'none'; script-src 'self'; style-src 'self'; img-src 'self' blob: data:; "
+          "connect-src 'self'; base-uri 'none'; form-action 'none'; frame-ancestors 'none'")
+HEADERS = {"Cache-Control": "no-store", "X-Content-Type-Options": "nosniff", "Referrer-Policy": "no-referrer",
+           "Cross-Origin-Opener-Policy": "same-origin", "Cross-Origin-Resource-Policy": "same-origin"}
+# A picture may have a style of its own, and nothing more.
+PICTURE_POLICY = "default-src 'none'; style-src 'unsafe-inline'; frame-ancestors 'none'; sandbox"
+
+VERTEX_EDITS = {"move", "insert", "remove"}
+EDITS = VERTEX_EDITS | {"thin", "split", "merge", "rename", "delete"}
+QUESTIONS = {"area", "rings", "at", "neighbours", "count"}
+MOST_BODY = 1 << 20
+MOST_LINES = 2000
+# Decimals that border_mend keeps, at most.
+MOST_DIGITS = 24
+
+
+class BadRequest(Exception):
+    """A request that no page of ours sends: its status and why."""
+
+    def __init__(self, status, reason):
+        super().__init__(reason)
+        self.status = status
+
+
+class NoPage(Exception):
+    """The last page is closed, and nothing is unsaved."""
+
+
+def static_files(folder):
+    """What is served, by name: a table that is made once, so that no path is ever made of a request."""
+    table = {path.name: path for path in sorted(folder.glob("*.js"))}
+    return {**table, "style.css": folder / "style.css", "": folder / "index.html"}
+
+
+def is_line(line, commands):
+    """Whether a text is one line that begins with one of these commands. No more of it is looked at here."""
+    if not isinstance(line, str) or "\n" in line or "\r" in line:
+        return False
+    try:
+        return len(line.encode()) <= MOST_LINE and line.split(" ", 1)[0] in commands
+    except UnicodeEncodeError:
+        return False
+
+
+def lines_in(given, commands, least, most):
+    """The lines of a request."""
+    lines = given.get("lines")
+    if not isinstance(lines, list) or not least <= len(lines) <= most:
+        raise BadRequest(400, f"from {least} to {most} lines are taken")
+    if not all(is_line(line, commands) for line in lines):
+        raise BadRequest(400, "no such line")
+    return lines
+
+
+def edits_in(given):
+    """The lines of a request that edits; those that take changes back stand in a request of their own."""
+    lines = lines_in(given, EDITS | {"undo"}, 1, MOST_LINES)
+    undos = lines.count("undo")
+    if undos not in (0, len(lines)):
+        raise BadRequest(400, "edits and undos in one request")
+    if undos == 0 and len(lines) > MOST_EDITS:
+        raise BadRequest(400, f"at most {MOST_EDITS} edits are taken at once")
+    return lines
+
+
+def number_in(given, name, most):
+    """A whole number of a request, from 0 on."""
+    number = given.get(name)
+    if type(number) is not int or not 0 <= number <= most:
+        raise BadRequest(400, f"no number {name}")
+    return number
+
+
+class Server(http.server.ThreadingHTTPServer):
+    """The session, who may see it, and when it is over."""
+
+    daemon_threads = True
+    # connections that may wait to be taken: a page loads its files by many at once
+    request_queue_size = 64
+
+    def __init__(self, port, session):
+        super().__init__(("127.0.0.1", port), Handler)
+        self.session = session
+        self.token = secrets.token_urlsafe(24)
+        self.files = static_files(WEB)
+        self.hosts = tuple(f"{host}:{self.server_port}" for host in ("127.0.0.1", "localhost"))
+        self.visits = Visits()
+        # what is done with the session is done by one request after the other
+        self.lock = threading.Lock()
+        self.has_warned = False
+        # called when the first page has come
+        self.on_first_page = lambda: None
+
+    @property
+    def address(self):
+        return f"http://127.0.0.1:{self.server_port}/{self.token}/"
+
+    def begin(self):
+        """What a new page needs to know."""
+        owner = self.visits.begin()
+        self.has_warned = False
+        if owner == 1:
+            self.on_first_page()
+        return {"owner": owner, **self.session.begin()}
+
+    def service_actions(self):
+        """Ends the server where no page is there any more. It is called twice a second."""
+        # while a request is under way its page is there, even if it was not heard for long
+        if self.lock.acquire(blocking=False):
+            try:
+                self._end_or_stay()
+            finally:
+                self.lock.release()
+
+    def _end_or_stay(self):
+        """Ends the server, or says once why it stays, if its last page is closed."""
+        if not self.visits.is_over():
+            return
+        if not self.session.is_unsaved:
+            raise NoPage
+        if not self.has_warned:
+            self.has_warned = True
+            print(f"edit: the page is closed, and there are unsaved edits: {self.address} shows them again, "
+                  "and Ctrl+C ends and leaves them as a script", file=sys.stderr, flush=True)
+
+    def handle_error(self, request, client_address):
+        """A browser that leaves while it is answered is no fault."""
+        if not isinstance(sys.exc_info()[1], ConnectionError):
+            traceback.print_exc()
+
+
+class Handler(http.server.BaseHTTPRequestHandler):
+    """One connection of a browser."""
+
+    protocol_version = "HTTP/1.1"
+    # seconds for which a connection may be silent
+    timeout = 120
+    # head and body go out in one piece, at once: else the system waits 40 ms for the answer to the first one
+    wbufsize = -1
+    disable_nagle_algorithm = True
+
+    def version_string(self):
+        """The server's name in answers, without versions."""
+        return "border_edit"
+
+    def log_message(self, *_):
+        """Nothing is written for a request."""
+
+    def send(self, status, body, kind="application/json; charset=utf-8", policy=POLICY):
+        """Sends an answer: bytes, or what becomes JSON."""
+        if not isinstance(body, bytes):
+            body = json.dumps(body).encode()
+        self.send_response(status)
+        own = {"Content-Type": kind, "Content-Length": str(len(body)), "Content-Security-Policy": policy}
+        for name, value in {**own, **HEADERS}.items():
+            self.send_header(name, value)
+        if self.close_connection:
+            self.send_header("Connection", "close")
+        self.end_headers()
+        if self.command != "HEAD":
+            self.wfile.write(body)
+
+    def send_error(self, code, message=None, explain=None):
+        """What a request is answered of which nothing more is read."""
+        self.close_connection = True
+        self.send(code, {"reason": message or "no such request"})
+
+    # ---- who may ask
+
+    def name(self):
+        """What is asked for behind the token. Only our page may ask."""
+        token, slash, name = self.path[1:].partition("/")
+        is_ours = slash and secrets.compare_digest(token.encode(), self.server.token.encode())
+        if not (is_ours and self._is_from_here(name)):
+            raise BadRequest(403, "not from this page")
+        return name
+
+    def _is_from_here(self, name):
+        """Whether the browser says that no other site makes it ask."""
+        hosts = self.server.hosts
+        if self.headers.get("Host") not in hosts:
+            return False
+        origin = self.headers.get("Origin")
+        if origin is not None and origin not in ["http://" + host for host in hosts]:
+            return False
+        if self.headers.get("Sec-Fetch-Site", "none") in ("none", "same-origin"):
+            return True
+        # the file that leads to the page is another site, and may do no more than that
+        leads = (self.command, name, self.headers.get("Sec-Fetch-Mode"),
+                 self.headers.get("Sec-Fetch-Dest", "document"))
+        return leads == ("GET", "", "navigate", "document")
+
+    # ---- what is answered
+
+    def do_GET(self):
+        self._guarded(self._get)
+
+    def do_POST(self):
+        self._guarded(self._post)
+
+    def _guarded(self, does):
+        """Answers a request, also where something is wrong with it."""
+        try:
+            does()
+        except BadRequest as bad:
+            self.send_error(bad.status, str(bad))
+        except Refusal as refusal:
+            self.send(409, {"reason": str(refusal), "force": refusal.force})
+        except Lost as lost:
+            self.send(500, {"reason": str(lost)})
+        except Ended as ended:
+            self.send(500, {"reason": f"border_edit ended, and this was not done: {ended}"})
+        except (ConnectionError, TimeoutError):
+            # the browser is gone
+            raise
+        except OSError as fault:
+            self.send_error(500, f"this was not done: {fault.strerror}")
+        except Exception:
+            traceback.print_exc()
+            self.send_error(500, "this was not done, by a mistake in the server; its terminal has more")
+
+    def _get(self):
+        """Answers a GET."""
+        name, server = self.name(), self.server
+        server.visits.hear()
+        if name in server.files:
+            path = server.files[name]
+            self.send(200, path.read_bytes(), KINDS[path.suffix])
+        elif name == "document":
+            with server.lock:
+                text = server.session.document()
+                server.visits.hear()
+            self.send(200, text)
+        elif name == "script":
+            with server.lock:
+                text = server.session.script()
+            self.send(200, text, "text/plain; charset=utf-8")
+        elif name == "picture":
+            self._send_picture()
+        else:
+            raise BadRequest(404, "no such name")
+
+    def _send_picture(self):
+        """Sends the picture of a map that does not open."""
+        with self.server.lock:
+            drawn = self.server.session.picture()
+        if drawn is None:
+            raise BadRequest(404, "there is no picture of this map")
+        self.send(200, drawn, "image/svg+xml", PICTURE_POLICY)
+
+    def _post(self):
+        """Answers a POST."""
+        name = self.name()
+        given = self._body(name)
+        with self.server.lock:
+            # written as JSON here, since the next request may change the log
+            status, body = self._answer(name, given)
+            body = json.dumps(body).encode()
+        self.send(status, body)
+
+    def _answer(self, name, given):
+        """Status and answer of a POST."""
+        visits = self.server.visits
+        if name == "begin":
+            return 200, self.server.begin()
+        if name == "leave":
+            visits.leave(given.get("owner"))
+            return 200, {}
+        if name not in ANSWERS:
+            raise BadRequest(404, "no such name")
+        if given.get("owner") != visits.owner:
+            return 409, {"reason": "this map was opened in another page", "closed": True}
+        answer = ANSWERS[name](self.server.session, given)
+        # after what may have taken long, so that its page is not taken for one that is gone
+        visits.hear()
+        return 200, answer
+
+    def _body(self, name):
+        """What the body of a request says."""
+        kind = self.headers.get("Content-Type", "").split(";")[0].strip().lower()
+        # a browser sends a page's last call as it likes; it says no more than who leaves
+        if kind != "application/json" and not (name == "leave" and kind == "text/plain"):
+            raise BadRequest(403, "not from this page")
+        length = self.headers.get("Content-Length", "")
+        if not re.fullmatch("[0-9]+", length):
+            raise BadRequest(411, "no length")
+        if len(length) > 9 or int(length) > MOST_BODY:
+            raise BadRequest(413, "too long")
+        body = self.rfile.read(int(length))
+        if len(body) < int(length):
+            raise BadRequest(400, "half a request")
+        try:
+            given = json.loads(body)
+        except (ValueError, RecursionError):
+            raise BadRequest(400, "not JSON") from None
+        if not isinstance(given, dict):
+            raise BadRequest(400, "no object")
+        return given
+
+
+def edit(session, given):
+    """Lines that edit: all of them, or none."""
+    return session.edit(number_in(given, "act", 2 ** 53), edits_in(given))
+
+
+def attempt(session, given):
+    """What the answer to an edit of a vertex would be."""
+    line, = lines_in({"lines": [given.get("line")]}, VERTEX_EDITS, 1, 1)
+    return {"answer": session.attempt(line)}
+
+
+def ask(session, given):
+    """Questions about the map."""
+    return {"answers": session.ask(lines_in(given, QUESTIONS, 0, MOST_LINES))}
+
+
+def save(session, given):
+    """Writes FILE."""
+    size = session.save(given.get("force") is True)
+    return {"bytes": size, "file": session.file}
+
+
+def mend(session, given):
+    """Mends a map that does not open."""
+    return session.mend(None if given.get("digits") is None else number_in(given, "digits", MOST_DIGITS))
+
+
+def alive(session, given):
+    """The page says that it is there."""
+    return {}
+
+
+# What the page that has the map can ask by POST.
+ANSWERS = {"edit": edit, "try": attempt, "ask": ask, "save": save, "mend": mend, "alive": alive}

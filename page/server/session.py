@@ -1,0 +1,314 @@
+"""A map that is edited: the log of its edits, saving it, and opening it again after border_edit has ended."""
+import collections
+import contextlib
+import hashlib
+import os
+import pathlib
+import shutil
+import tempfile
+import time
+
+import mending
+import saving
+from child import DEPTH, Child, Ended
+
+# Bytes of a map that opens.
+MOST_BYTES = 67_108_864
+# Lines of a request that edits. Taking back those of a refused request can push as many older changes out of what
+# border_edit keeps, so that fewer can be taken back by the page.
+MOST_EDITS = 250
+MOST_UNDOS = DEPTH - MOST_EDITS
+# Bytes of a line of a script.
+MOST_LINE = 8192
+
+
+class Refusal(Exception):
+    """What is asked for can't be done: why, and whether it is done when it is asked for with force."""
+
+    def __init__(self, reason, force=False):
+        super().__init__(reason)
+        self.force = force
+
+
+class Lost(Exception):
+    """border_edit does not have the map of the log; nothing is edited or saved any more."""
+
+
+def is_accepted(answer):
+    """Whether an edit was accepted."""
+    return answer.startswith("ok")
+
+
+def is_change(line, answer):
+    """Whether an edit can be taken back: a thinning that left nothing out can't."""
+    return is_accepted(answer) and not (line.startswith("thin") and answer == "ok 0")
+
+
+def shown(name):
+    """A file name that may stand in a line of text."""
+    return "".join(letter if letter.isprintable() else "?" for letter in str(name))
+
+
+def comment(text):
+    """A line of a script that is skipped; a longer one than a script may have is cut off."""
+    return f"# {text}".encode()[:MOST_LINE].decode(errors="ignore")
+
+
+class Session:
+    """A map, what was done to it, and the file that it is saved in."""
+
+    def __init__(self, programs, map_path, out):
+        """`programs` finds the three programs."""
+        self.programs, self.out = programs, out
+        # as they are shown
+        self.name, self.file = shown(map_path.name), shown(out)
+        self.log = []
+        # numbers of the states that can be gone back to, the last one that of the map as it is
+        self.states = collections.deque([0], maxlen=MOST_UNDOS + 1)
+        self.newest_state = self.saved_state = 0
+        self.child = self.lost = self.fault = self.mended_by = None
+        self.findings, self.is_mendable = [], False
+        self.scratch = pathlib.Path(tempfile.mkdtemp(prefix="border_edit-"))
+        try:
+            # the map is copied, so that it may be saved over, and the log run again from it
+            self.base = self.scratch / "map.json"
+            digest = self._copy(map_path)
+            # what FILE holds, as far as is known here, and what was written in it
+            self.seen = digest if out == map_path else saving.fingerprint(out)
+            self.written = None
+            self._open(self.base)
+        except BaseException:
+            self.end()
+            raise
+
+    def _copy(self, map_path):
+        """Copies the map, or as much of it as shows that it is too large. What tells later whether it was changed."""
+        digest = hashlib.blake2b()
+        with open(self.base, "wb") as file:
+            for piece in saving.pieces(map_path, MOST_BYTES + 1):
+                digest.update(piece)
+                file.write(piece)
+        return digest.hexdigest()
+
+    def _open(self, base):
+        """Opens a map; where it does not open, tells what stops it."""
+        child = Child(self.programs.path("border_edit"), base)
+        try:
+            self.counts = child.ask(["count"])[0]
+        except Ended as ended:
+            if ended.status != 2:
+                raise
+            self.fault = mending.without_open(str(ended))
+            self.findings, self.is_mendable = mending.findings(self.programs.path("border_mend"), base)
+        else:
+            self.base, self.child = base, child
+
+    # ---- what is there
+
+    @property
+    def is_unsaved(self):
+        """Whether the map differs from the one that was opened, or saved last."""
+        return self.child is not None and self.states[-1] != self.saved_state
+
+    @property
+    def undos(self):
+        """How many changes can be taken back."""
+        return len(self.states) - 1
+
+    def begin(self):
+        """What a page needs to know at first."""
+        known = {"name": self.name, "out": self.file, "proved": self.programs.are_proved}
+        if self.child is None:
+            stops = {"fault": self.fault, "findings": self.findings, "mendable": self.is_mendable}
+            return {**known, "opens": False, **stops}
+        return {**known, "opens": True, "log": self.log, "counts": self.counts, **self._state()}
+
+    def _state(self):
+        """What changes with each edit."""
+        return {"undos": self.undos, "unsaved": self.is_unsaved}
+
+    def ask(self, lines):
+        """The answers to questions."""
+        return self._with_child(lambda: self.child.ask(lines))
+
+    def document(self):
+        """The text of the map."""
+        return self._with_child(lambda: self.child.document())
+
+    def picture(self):
+        """A map that does not open as SVG; nothing where it opens, or can't be drawn."""
+        return mending.picture(self.programs.path("border_show"), self.base) if self.child is None else None
+
+    def script(self):
+        """The log as a script: what was refused is a comment."""
+        rows = [f"# Edits of {self.name} as it was when it was opened."]
+        if self.mended_by is not None:
+            rows.append(f"# It was mended: border_mend {self.name} --out MENDED{self.mended_by}")
+        base = self.name if self.mended_by is None else "MENDED"
+        rows.append(f"# To make them again: border_edit {base} THIS --out FILE --undo {DEPTH}")
+        for entry in self.log:
+            line, answer = entry["line"], entry["answer"]
+            rows.append(line if is_accepted(answer) else comment(f"{answer}: {line}"))
+        return "".join(row + "\n" for row in rows).encode()
+
+    # ---- editing
+
+    def edit(self, act, lines):
+        """Does edits one after the other, all of them or none, and puts them in the log."""
+        self._must_be_open()
+        if lines[0] == "undo":
+            return self._take_back(act, lines)
+        answers, undone = self._with_child(lambda: self._all_or_none(lines))
+        accepted = is_accepted(answers[-1])
+        entries = self._entries(act, lines, answers)
+        if accepted:
+            self._count(sum(map(is_change, lines, answers)))
+        elif any(line.startswith("split") for line in lines[:len(answers) - 1]):
+            # the number of the new feature is used up, so whoever runs the log again must make that feature too
+            entries += self._entries(act, ["undo"] * undone, ["ok"] * undone)
+        else:
+            entries = entries[-1:]
+        return self._logged(entries, answers, accepted)
+
+    def _all_or_none(self, lines):
+        """The answers up to the first refusal, and how many changes were then taken back."""
+        answers = []
+        for line in lines:
+            answers += self.child.ask([line])
+            if not is_accepted(answers[-1]):
+                break
+        else:
+            return answers, 0
+        undone = sum(map(is_change, lines, answers))
+        self._undo(undone)
+        return answers, undone
+
+    def _count(self, changes):
+        """Each change leads to a state that there was not yet."""
+        for _ in range(changes):
+            self.newest_state += 1
+            self.states.append(self.newest_state)
+
+    def _take_back(self, act, lines):
+        """As many changes are taken back as there are lines `undo`; none where fewer are kept."""
+        kept = min(len(lines), self.undos)
+        if kept < len(lines):
+            answers = ["ok"] * kept + ["refused nothing to undo"]
+            return self._logged(self._entries(act, lines[-1:], answers[-1:]), answers, False)
+        self._with_child(lambda: self._undo(kept))
+        for _ in lines:
+            self.states.pop()
+        return self._logged(self._entries(act, lines, ["ok"] * kept), ["ok"] * kept, True)
+
+    def attempt(self, line):
+        """What the answer to an edit of a vertex would be. It is taken back at once, and is not in the log."""
+        return self._with_child(lambda: self._attempt(line))
+
+    def _attempt(self, line):
+        """The answer to an edit, which is taken back if it was accepted."""
+        answer, = self.child.ask([line])
+        if is_accepted(answer):
+            self._undo(1)
+        return answer
+
+    def _undo(self, count):
+        """Takes back changes, which border_edit keeps by what was counted here."""
+        if self.child.ask(["undo"] * count) != ["ok"] * count:
+            raise self._lose("border_edit did not take a change back")
+
+    @staticmethod
+    def _entries(act, lines, answers):
+        return [{"line": line, "answer": answer, "act": act} for line, answer in zip(lines, answers)]
+
+    def _logged(self, entries, answers, accepted):
+        self.log += entries
+        return {"answers": answers, "accepted": accepted, "entries": entries, **self._state()}
+
+    # ---- after border_edit has ended
+
+    def _with_child(self, does):
+        """What a call answers that talks with border_edit. If the program ends meanwhile, a new one runs the log
+        again, and the call is made once more: nothing that it did is in the log yet."""
+        self._must_be_open()
+        try:
+            return does()
+        except Ended:
+            self._run_again()
+            return does()
+
+    def _must_be_open(self):
+        """Refuses what can't be done without a map that opens."""
+        if self.lost:
+            raise Lost(self.lost)
+        if self.child is None:
+            raise Refusal("the map does not open")
+
+    def _run_again(self):
+        """Starts border_edit again, with the edits of the log."""
+        self.child.end()
+        self.child = Child(self.programs.path("border_edit"), self.base)
+        done = [entry for entry in self.log if is_accepted(entry["answer"])]
+        if self.child.ask([entry["line"] for entry in done]) != [entry["answer"] for entry in done]:
+            raise self._lose("border_edit ended, and when it was started again its answers were other ones")
+
+    def _lose(self, reason):
+        self.lost = reason
+        return Lost(reason)
+
+    # ---- saving and mending
+
+    def save(self, force):
+        """Writes FILE. The bytes that it has then."""
+        text = self.document()
+        now = self._look(force, len(text))
+        try:
+            if now is not None and now != self.written:
+                saving.keep_original(self.out)
+            saving.replace(self.out, [text])
+            self.seen = self.written = hashlib.blake2b(text).hexdigest()
+            saving.sync_folder(self.out.parent)
+        except OSError as fault:
+            raise Refusal(f"{self.file} can't be written: {fault.strerror}") from None
+        self.saved_state = self.states[-1]
+        return len(text)
+
+    def _look(self, force, size):
+        """What FILE holds before it is written over. Refuses where the user should be asked first."""
+        if why := saving.why_not_writable(self.out):
+            raise Refusal(why)
+        now = saving.fingerprint(self.out)
+        if now != self.seen and not force:
+            raise Refusal(f"{self.file} was changed by another program since it was opened or saved here", True)
+        if size > MOST_BYTES and not force:
+            raise Refusal(f"the map has {size:,} bytes; of more than {MOST_BYTES:,} it can't be opened again", True)
+        return now
+
+    def mend(self, digits):
+        """Mends a map that does not open, and opens what was made of it. The report of border_mend."""
+        if self.child is not None:
+            raise Refusal("the map opens")
+        mended = self.scratch / "mended.json"
+        report, why = mending.mend(self.programs.path("border_mend"), self.base, mended, digits)
+        if why:
+            raise Refusal(f"the map can't be mended: {why}")
+        self._open(mended)
+        self.mended_by, self.saved_state = "" if digits is None else f" --digits {digits}", None
+        return {"report": report, "opens": self.child is not None}
+
+    # ---- the end
+
+    def leave_script(self):
+        """Leaves the log as a script, in the folder of FILE if that is possible. Its path."""
+        name = os.fsdecode(os.fsencode(self.out.name)[:200]) + time.strftime(".unsaved-%Y%m%d-%H%M%S.txt")
+        for folder in (self.out.parent, os.path.expanduser("~"), tempfile.gettempdir()):
+            left = pathlib.Path(folder, name)
+            with contextlib.suppress(OSError):
+                saving.replace(left, [self.script()])
+                return left
+        return None
+
+    def end(self):
+        """Ends border_edit, and removes what was kept meanwhile."""
+        if self.child is not None:
+            self.child.end()
+        shutil.rmtree(self.scratch, ignore_errors=True)

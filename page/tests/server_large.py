@@ -1,0 +1,48 @@
+"""Maps as large as maps may be."""
+import time
+
+from server_maps import of_squares
+from server_runs import Served, folder
+
+# Bytes of a map that opens, at most.
+MOST = 67_108_864
+# Seconds that all of it may take on a busy machine; on one with nothing else to do it takes some five.
+PATIENCE = 180
+
+
+def of_bytes(size, rows):
+    """A map of so many bytes, of which the properties have so many line feeds."""
+    kept = '["features 1 vertices 4 segments 4",\n' + "123456789,\n" * rows + '0,"{fill}"]'
+    text = of_squares([('"A"', kept)])
+    return text.replace("{fill}", "x" * (size - len(text) + len("{fill}")))
+
+
+def as_large_as_may_be(checks):
+    """A map of 64 MiB opens, comes back byte for byte, is edited, and is saved."""
+    text = of_bytes(MOST, 1_000_000).encode()
+    with folder() as files:
+        path = files / "map.json"
+        path.write_bytes(text)
+        checks.same("bytes", len(text), MOST)
+        began = time.monotonic()
+        with Served(path) as page:
+            checks.same("opens", page.begin()["opens"], True)
+            checks.same("its text", page.get("document") == (200, text), True)
+            checks.same("an edit", page.edit('rename 0 "B"'), (["ok"], True))
+            checks.same("saved", page.post("save"), (200, {"bytes": MOST, "file": str(path)}))
+            checks.same("what is saved", path.read_bytes() == text.replace(b'"id":"A"', b'"id":"B"'), True)
+            checks.same("what was there", (files / "map.json.orig").read_bytes() == text, True)
+        checks.same("in time", time.monotonic() - began < PATIENCE, True)
+
+
+def larger(checks):
+    """Of a file of a tebibyte no more is read than shows that it is too large."""
+    with folder() as files:
+        path = files / "map.json"
+        with open(path, "wb") as file:
+            file.truncate(1 << 40)
+        with Served(path, "--out", files / "out.json") as page:
+            checks.same("the fault", page.begin()["fault"], "too large bytes")
+
+
+GROUPS = [as_large_as_may_be, larger]

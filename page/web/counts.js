@@ -1,0 +1,110 @@
+// @ts-check
+/** How many features, vertices and segments a map has, as `count` of border_edit says it, kept up to date by each change. */
+
+/** @typedef {import("./pieces.js").Pieces} Pieces */
+/** @typedef {import("./pieces.js").Piece} Piece */
+/** @typedef {{features: number, vertices: number, segments: number}} Counts */
+
+/**
+ * Counts by walking the map. Between its two ends a piece has vertices that no other piece has, since arcs are cut where
+ * borders meet; ends may stand in several pieces.
+ * @param {Pieces} map
+ * @returns {Counts}
+ */
+export function countAll(map) {
+  let inner = 0, segments = 0, used = 0;
+  for (const { xy, users } of map.pieces) {
+    if (!users.length) continue;
+    used++;
+    inner += innerVertices(xy);
+    segments += xy.length / 2 - 1;
+  }
+  const ends = new Float64Array(4 * used);
+  let at = 0;
+  for (const { xy, users } of map.pieces) {
+    if (!users.length) continue;
+    ends.set([xy[0], xy[1], xy[xy.length - 2], xy[xy.length - 1]], at);
+    at += 4;
+  }
+  return { features: map.features.size, vertices: inner + distinct(ends), segments };
+}
+
+/** @param {Float64Array} xy */
+const innerVertices = xy => Math.max(0, xy.length / 2 - 2);
+
+/**
+ * How many different positions there are among some: a table of hashes, of which at most half is filled.
+ * @param {Float64Array} xy
+ */
+function distinct(xy) {
+  const mask = 2 ** Math.ceil(Math.log2(xy.length + 2)) - 1, table = new Int32Array(mask + 1).fill(-1);
+  let count = 0;
+  for (let i = 0; i < xy.length; i += 2) {
+    const x = xy[i], y = xy[i + 1];
+    let at = (Math.imul(x % 4294967296, 0x9e3779b1) ^ Math.imul((y % 4294967296) + 0x7f4a7c15, 0x85ebca6b)) >>> 0;
+    at = (at ^ (at >>> 15)) & mask;
+    while (table[at] >= 0 && (xy[table[at]] !== x || xy[table[at] + 1] !== y)) at = (at + 1) & mask;
+    if (table[at] < 0) { table[at] = i; count++; }
+  }
+  return count;
+}
+
+/**
+ * The counts after a change, from those before it and the pieces that it changed.
+ * @param {Pieces} map
+ * @param {import("./pieces.js").Before} before
+ * @returns {Counts}
+ */
+export function recounted(map, before) {
+  let { vertices, segments } = before.counts;
+  const changed = changedPieces(map, before);
+  /** @type {Map<string, {x: number, y: number, was: boolean, is: boolean}>} */
+  const ends = new Map();
+  for (const i of changed) {
+    for (const [piece, sign] of /** @type {[Piece | undefined, number][]} */ ([[before.pieces.get(i), -1], [map.pieces[i], 1]])) {
+      if (!piece || !piece.users.length) continue;
+      segments += sign * (piece.xy.length / 2 - 1);
+      vertices += sign * innerVertices(piece.xy);
+      for (const at of [0, piece.xy.length - 2]) noteEnd(ends, piece.xy[at], piece.xy[at + 1], sign);
+    }
+  }
+  for (const { x, y, was, is } of ends.values()) {
+    if (was !== is && !map.places(x, y).some(([i]) => !changed.has(i))) vertices += is ? 1 : -1;
+  }
+  return { features: map.features.size, vertices, segments };
+}
+
+/**
+ * @param {Map<string, {x: number, y: number, was: boolean, is: boolean}>} ends
+ * @param {number} x
+ * @param {number} y
+ * @param {number} sign
+ */
+function noteEnd(ends, x, y, sign) {
+  const key = `${x} ${y}`, end = ends.get(key) || { x, y, was: false, is: false };
+  ends.set(key, end);
+  if (sign < 0) end.was = true; else end.is = true;
+}
+
+/**
+ * The pieces that go another way, came into use, or went out of it.
+ * @param {Pieces} map
+ * @param {import("./pieces.js").Before} before
+ * @returns {Set<number>}
+ */
+function changedPieces(map, before) {
+  /** @type {Set<number>} */
+  const changed = new Set();
+  for (const [i, old] of before.pieces) {
+    const now = map.pieces[i], wasUsed = Boolean(old && old.users.length), isUsed = now.users.length > 0;
+    if (wasUsed !== isUsed || (isUsed && old && old.xy !== now.xy)) changed.add(i);
+  }
+  return changed;
+}
+
+/**
+ * How many vertices a thinning leaves, from its answer.
+ * @param {Counts} counts before it
+ * @param {string} answer `ok N`
+ */
+export const verticesLeft = (counts, answer) => counts.vertices - Number(answer.split(" ")[1] || 0);

@@ -1,0 +1,56 @@
+// @ts-check
+/** Saving, files that the browser saves, and a file that is drawn below the map. */
+import { confirmed } from "./dialogs.js";
+import { by, give } from "./dom.js";
+import { linesOf } from "./underlay.js";
+import { TEXT } from "./words.js";
+
+export class Files {
+  /**
+   * @param {import("./editor.js").Editor} editor
+   * @param {import("./panel.js").Panel} panel
+   * @param {string} name of the map
+   */
+  constructor(editor, panel, name) {
+    this.editor = editor;
+    this.panel = panel;
+    this.name = name;
+  }
+
+  /**
+   * Writes the file.
+   * @param {boolean=} force
+   * @returns {Promise<void>}
+   */
+  async save(force = false) {
+    if (!this.editor.canEdit || !this.editor.isUnsaved) return;
+    this.panel.put("", TEXT.saving, "", true);
+    try {
+      const { file, bytes } = await this.editor.save(force);
+      this.panel.said(TEXT.saved(file, bytes));
+    } catch (fault) {
+      const { canForce, message, status } = /** @type {any} */ (fault);
+      this.panel.hideNote();
+      if (canForce && (await confirmed(TEXT.saveAll(message), TEXT.saveAnyway))) { await this.save(true); return; }
+      if (status === 409 && !canForce) this.panel.note(TEXT.notSaved, message); else if (!canForce) this.editor.fail(fault);
+    }
+  }
+
+  async script() { give("edits.txt", "text/plain", await this.editor.talk.text("script")); }
+
+  async download() { give(this.name, "application/json", await this.editor.talk.text("document")); }
+
+  /** @param {File | undefined} file */
+  async underlay(file) {
+    if (!file) return;
+    try {
+      const lines = linesOf(JSON.parse(await file.text()), this.editor.model.transform);
+      this.editor.view.underlay = lines;
+      this.panel.said(TEXT.underlay(lines.length, file.name));
+    } catch (fault) {
+      this.panel.note("", TEXT.noUnderlay(file.name));
+    }
+    by("underlayFile").value = "";
+    this.editor.view.change();
+  }
+}

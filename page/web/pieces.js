@@ -1,0 +1,395 @@
+// @ts-check
+/**
+ * Borders in short pieces, and the features over them. Each border stands here once, so a change of a piece is a change of
+ * all features that have it. Whatever changes notes first what was there, so that it can be taken back.
+ */
+import { Boxes, NOTHING, boxOf, union } from "./boxes.js";
+import { eachFeature, layerNames, polygonsOf, waysOf } from "./topology.js";
+import { countAll, recounted } from "./counts.js";
+
+/** @typedef {import("./boxes.js").Box} Box */
+/** @typedef {import("./topology.js").Way} Way */
+/** @typedef {import("./counts.js").Counts} Counts */
+/**
+ * A part of a border. `users` has the number of a feature once for each ring that takes the piece. Positions are never
+ * written over: a change gives the piece another way.
+ * @typedef {{xy: Way, users: number[]}} Piece
+ */
+/**
+ * Pieces one after another; ~i is piece i from its end to its beginning.
+ * @typedef {number[]} Ring
+ */
+/**
+ * `collection` is -1 where the feature is a layer by itself.
+ * @typedef {{num: number, id: any, properties: any, polygons: Ring[][],
+ *   collection: number, layer: number, box: Box}} Feature
+ */
+/** @typedef {{name: string, isShown: boolean}} Layer */
+/**
+ * What was there before a change.
+ * @typedef {{pieces: Map<number, Piece | undefined>, features: Map<number, Feature | undefined>,
+ *   order: number[], counts: Counts}} Before
+ */
+
+/** the most segments of a piece */
+const PIECE = 64;
+
+/**
+ * The piece that a ring takes, whichever way it goes.
+ * @param {number} ref
+ */
+export const pieceOf = ref => ref < 0 ? ~ref : ref;
+
+/** @param {Ring} ring */
+export const piecesOf = ring => new Set(ring.map(pieceOf));
+
+export class Pieces {
+  /** @type {Piece[]} */
+  pieces = [];
+  /** @type {Map<number, Feature>} */
+  features = new Map();
+  /**
+   * numbers of the features in the order of the text
+   * @type {number[]}
+   */
+  order = [];
+  /** @type {Layer[]} */
+  layers = [];
+  /** @type {Counts} */
+  counts = { features: 0, vertices: 0, segments: 0 };
+  /** pieces by place */
+  index = new Boxes(0, () => NOTHING);
+  /** features by place: `slots` has the number of the feature in each slot, `slotOf` the slot of each feature */
+  areas = this.index;
+  /** @type {number[]} */
+  slots = [];
+  /** @type {Map<number, number>} */
+  slotOf = new Map();
+  /**
+   * what was there before the change under way
+   * @type {Before | null}
+   */
+  before = null;
+
+  /**
+   * @param {any} topology
+   * @param {number[]=} numbers of its features, in the order of the text; 0, 1, 2, .. where none are given
+   */
+  constructor(topology, numbers) {
+    this.transform = topology.transform;
+    this.load(topology, numbers);
+  }
+
+  /**
+   * Takes another text of the map. A layer that was hidden stays so.
+   * @param {any} topology
+   * @param {number[]=} numbers
+   */
+  load(topology, numbers) {
+    this.features = new Map();
+    this.order = [];
+    const hidden = new Set(this.layers.filter(layer => !layer.isShown).map(layer => layer.name));
+    this.layers = layerNames(topology).map(name => ({ name, isShown: !hidden.has(name) }));
+    const firsts = this.loadPieces(topology);
+    eachFeature(topology, (object, collection, layer) => {
+      const num = numbers ? numbers[this.order.length] : this.order.length;
+      const polygons = polygonsOf(object).map(polygon => polygon.map(ring => refsOf(ring, firsts)));
+      const feature = { num, id: object.id, properties: object.properties, polygons, collection, layer, box: NOTHING };
+      this.features.set(num, feature);
+      this.order.push(num);
+      this.use(feature);
+    });
+    this.counts = countAll(this);
+    this.loadIndexes();
+  }
+
+  /**
+   * Cuts the arcs into pieces.
+   * @param {any} topology
+   * @returns {number[]} the first piece of each arc, and the end of the last one
+   */
+  loadPieces(topology) {
+    this.pieces = [];
+    const firsts = [];
+    for (const way of waysOf(topology)) {
+      firsts.push(this.pieces.length);
+      const last = way.length / 2 - 1;
+      for (let i = 0; i < last; i += PIECE) {
+        this.pieces.push({ xy: way.subarray(2 * i, 2 * Math.min(i + PIECE, last) + 2), users: [] });
+      }
+    }
+    firsts.push(this.pieces.length);
+    return firsts;
+  }
+
+  loadIndexes() {
+    const boxes = this.pieces.map(piece => boxOf(piece.xy));
+    this.index = new Boxes(boxes.length, i => boxes[i]);
+    for (const feature of this.features.values()) feature.box = boxOfRings(feature, i => boxes[i]);
+    const all = [...this.features.values()].filter(feature => feature.polygons.length);
+    this.slots = all.map(feature => feature.num);
+    this.slotOf = new Map(this.slots.map((num, slot) => [num, slot]));
+    this.areas = new Boxes(all.length, slot => all[slot].box);
+  }
+
+  /** @returns {Box} the box of all features, of hidden layers too */
+  extent() {
+    let box = NOTHING;
+    for (const feature of this.features.values()) box = union(box, feature.box);
+    return box;
+  }
+
+  /**
+   * A feature that is known to be there.
+   * @param {number} num
+   * @returns {Feature}
+   */
+  feature(num) {
+    const feature = this.features.get(num);
+    if (!feature) throw new Error(`no feature ${num}`);
+    return feature;
+  }
+
+  // ---- rings and places
+
+  /**
+   * Where a piece begins, in the direction of a ring.
+   * @param {number} ref
+   * @returns {[number, number]}
+   */
+  start(ref) {
+    const { xy } = this.pieces[pieceOf(ref)], at = ref < 0 ? xy.length - 2 : 0;
+    return [xy[at], xy[at + 1]];
+  }
+
+  /**
+   * The positions of a ring, each once: x, y, x, y, ..
+   * @param {Ring} ring
+   * @returns {number[]}
+   */
+  positions(ring) {
+    /** @type {number[]} */
+    const out = [];
+    for (const ref of ring) {
+      const { xy } = this.pieces[pieceOf(ref)], step = ref < 0 ? -2 : 2;
+      for (let at = ref < 0 ? xy.length - 2 : 0; at >= 0 && at < xy.length; at += step) {
+        const end = out.length;
+        if (end === 0 || out[end - 2] !== xy[at] || out[end - 1] !== xy[at + 1]) out.push(xy[at], xy[at + 1]);
+      }
+    }
+    while (out.length > 2 && out[0] === out[out.length - 2] && out[1] === out[out.length - 1]) out.length -= 2;
+    return out;
+  }
+
+  /**
+   * Each place where a position stands, in hidden layers too: the piece, and the number of the vertex in it.
+   * @param {number} x
+   * @param {number} y
+   * @returns {[number, number][]}
+   */
+  places(x, y) {
+    /** @type {[number, number][]} */
+    const found = [];
+    this.index.search([x, y, x, y], i => {
+      const { xy, users } = this.pieces[i];
+      if (users.length) for (let k = 0; k < xy.length; k += 2) if (xy[k] === x && xy[k + 1] === y) found.push([i, k / 2]);
+    });
+    return found;
+  }
+
+  /**
+   * The positions next to a vertex, each once.
+   * @param {number} x
+   * @param {number} y
+   * @returns {[number, number][]}
+   */
+  neighbours(x, y) {
+    /** @type {Map<string, [number, number]>} */
+    const found = new Map();
+    for (const [i, k] of this.places(x, y)) {
+      const { xy } = this.pieces[i];
+      for (const next of [2 * k - 2, 2 * k + 2]) {
+        if (next >= 0 && next < xy.length) found.set(`${xy[next]} ${xy[next + 1]}`, [xy[next], xy[next + 1]]);
+      }
+    }
+    return [...found.values()];
+  }
+
+  // ---- changes
+
+  /** @param {Feature} feature */
+  use(feature) {
+    for (const polygon of feature.polygons) for (const ring of polygon) for (const ref of ring) {
+      this.notePiece(pieceOf(ref));
+      this.pieces[pieceOf(ref)].users.push(feature.num);
+    }
+  }
+
+  /** @param {Feature} feature */
+  leave(feature) {
+    for (const polygon of feature.polygons) for (const ring of polygon) for (const ref of ring) {
+      this.notePiece(pieceOf(ref));
+      const { users } = this.pieces[pieceOf(ref)];
+      users.splice(users.indexOf(feature.num), 1);
+    }
+  }
+
+  /** @param {number} i */
+  notePiece(i) {
+    if (!this.before || this.before.pieces.has(i)) return;
+    const piece = this.pieces[i];
+    this.before.pieces.set(i, piece && { xy: piece.xy, users: piece.users.slice() });
+  }
+
+  /** @param {number} num */
+  noteFeature(num) {
+    if (this.before && !this.before.features.has(num)) this.before.features.set(num, this.features.get(num));
+  }
+
+  /**
+   * @param {number} i
+   * @param {Way} xy
+   */
+  setWay(i, xy) {
+    this.notePiece(i);
+    this.pieces[i].xy = xy;
+    this.index.put(i, boxOf(xy));
+    this.widen(i);
+  }
+
+  /**
+   * Makes the boxes of the features with a piece hold it.
+   * @param {number} i
+   */
+  widen(i) {
+    const box = boxOf(this.pieces[i].xy);
+    for (const num of this.pieces[i].users) {
+      const feature = this.features.get(num);
+      if (!feature) continue;
+      feature.box = union(feature.box, box);
+      this.putArea(feature);
+    }
+  }
+
+  /**
+   * A piece that no feature has yet.
+   * @param {Way} xy
+   * @returns {number}
+   */
+  addPiece(xy) {
+    const i = this.pieces.length;
+    this.notePiece(i);
+    this.pieces.push({ xy, users: [] });
+    this.index.put(i, boxOf(xy));
+    return i;
+  }
+
+  /** @param {Feature} feature */
+  putArea(feature) {
+    let slot = this.slotOf.get(feature.num);
+    if (slot === undefined) {
+      slot = this.slots.length;
+      this.slots.push(feature.num);
+      this.slotOf.set(feature.num, slot);
+    }
+    if (feature.polygons.length) this.areas.put(slot, feature.box);
+  }
+
+  /**
+   * Puts a feature in the place of what has its number.
+   * @param {Feature} feature
+   */
+  setFeature(feature) {
+    this.dropFeature(feature.num);
+    this.features.set(feature.num, feature);
+    this.use(feature);
+    feature.box = boxOfRings(feature, i => boxOf(this.pieces[i].xy));
+    this.putArea(feature);
+  }
+
+  /** @param {number} num */
+  dropFeature(num) {
+    this.noteFeature(num);
+    const old = this.features.get(num);
+    if (old) this.leave(old);
+    this.features.delete(num);
+  }
+
+  /**
+   * A feature with another id.
+   * @param {number} num
+   * @param {any} id
+   */
+  setId(num, id) {
+    this.noteFeature(num);
+    this.features.set(num, { ...this.feature(num), id });
+  }
+
+  /**
+   * Makes a change, and answers what was there before. Where the change fails, nothing is changed.
+   * @param {() => void} change
+   * @returns {Before}
+   */
+  noted(change) {
+    const before = { pieces: new Map(), features: new Map(), order: this.order, counts: this.counts };
+    this.before = before;
+    try {
+      change();
+      this.counts = recounted(this, before);
+    } catch (fault) {
+      this.before = null;
+      this.restore(before);
+      throw fault;
+    }
+    this.before = null;
+    return before;
+  }
+
+  /** @param {Before} before */
+  restore({ pieces, features, order, counts }) {
+    for (const [i, piece] of pieces) {
+      this.pieces[i] = piece || { xy: new Float64Array(0), users: [] };
+      if (piece) this.index.put(i, boxOf(piece.xy));
+    }
+    for (const [num, feature] of features) {
+      if (feature) this.features.set(num, feature); else this.features.delete(num);
+    }
+    this.order = order;
+    this.counts = counts;
+    for (const i of pieces.keys()) this.widen(i);
+  }
+}
+
+/**
+ * The box of the outer rings of a feature.
+ * @param {Feature} feature
+ * @param {(i: number) => Box} boxOfPiece
+ * @returns {Box}
+ */
+function boxOfRings(feature, boxOfPiece) {
+  let x0 = Infinity, y0 = Infinity, x1 = -Infinity, y1 = -Infinity;
+  for (const [outer] of feature.polygons) for (const ref of outer || []) {
+    const box = boxOfPiece(pieceOf(ref));
+    x0 = Math.min(x0, box[0]);
+    y0 = Math.min(y0, box[1]);
+    x1 = Math.max(x1, box[2]);
+    y1 = Math.max(y1, box[3]);
+  }
+  return [x0, y0, x1, y1];
+}
+
+/**
+ * A ring of arc indexes as a ring of pieces.
+ * @param {number[]} arcs
+ * @param {number[]} firsts the first piece of each arc
+ * @returns {Ring}
+ */
+function refsOf(arcs, firsts) {
+  const refs = [];
+  for (const arc of arcs) {
+    const first = firsts[arc < 0 ? ~arc : arc], end = firsts[(arc < 0 ? ~arc : arc) + 1];
+    if (arc >= 0) for (let i = first; i < end; i++) refs.push(i);
+    else for (let i = end - 1; i >= first; i--) refs.push(~i);
+  }
+  return refs;
+}
