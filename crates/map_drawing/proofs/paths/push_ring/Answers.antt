@@ -1,7 +1,8 @@
-use Rattle.kit_words.proofs.Common.{◌++◌, ap, ◌∙◌, sym, take, append_assoc, codes, take_all}
+use Rattle.kit_words.proofs.Common.{◌++◌, pos, ap, ◌∙◌, sym, take, get_or, append_assoc, codes, take_all}
 use Rattle.std.proofs.Common.{append-nil}
 use Rattle.std.specs.Prelude.{flat_map}
 use Rattle.map_drawing.specs.Common.{point_text}
+use Rattle.map_drawing.specs.declared.points.Point.{Point}
 use Rattle.map_drawing.proofs.MappedLists.{flat_more}
 use Rattle.map_drawing.proofs.paths.push_ring.Goals as goal
 
@@ -10,10 +11,14 @@ loop-point-init g c = c.in_ok-extend_from_slice.ensures.items ∙ sym (append-ni
 
 pub loop-point-preserved : goal.loop-point-preserved
 loop-point-preserved g c =
+    let ring = c.args.ring.now in
+    let i = c.loop-point.point-index in
     let begun = c.args.text.now.items ++ codes "M" in
-    let so_far = flat_map point_text (take c.loop-point.point-index c.args.ring.now) in
-    c.in_ok-push_point.ensures ∙ ap (λ z. z ++ point_text c.point-item.result) c.loop-point.invariant ∙ append_assoc begun so_far (point_text c.point-item.result)
-    ∙ ap (λ z. begun ++ z) (sym (flat_more point_text c.args.ring.now c.loop-point.point-index c.point-item.result c.loop-point-test.true c.point-item.is))
+    let so_far = flat_map point_text (take i ring) in
+    let origin : Point = record { x = pos 0; y = pos 0 } in
+    let next = point_text (get_or ring i origin) in
+    c.in_ok-push_point.ensures ∙ ap (λ z. z ++ next) c.loop-point.invariant ∙ append_assoc begun so_far next
+    ∙ ap (λ z. begun ++ z) (sym (flat_more point_text ring i origin c.loop-point-test.true))
 
 pub returns : goal.returns
 returns g c =
