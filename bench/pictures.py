@@ -3,8 +3,8 @@
 
 The pictures are made by the built programs border_edit, border_show and border_mend (`rt ci` leaves
 them); others can be named. Then `--maps N` maps with drawn ids are drawn too, alone and as what an edit did. Each
-picture has to be well-formed XML with whole numbers alone, in which each feature's title is what a
-model here makes of its id, and the same bytes again when it is drawn again. Damaged, deep and huge
+picture has to be well-formed XML with whole numbers alone, in which each feature's title is its number
+and what a model here makes of its id, and the same bytes again when it is drawn again. Damaged, deep and huge
 maps have to end with the fault that border_edit has for them, or, where it names a conflict, with a
 picture that names it. There is one line for each that is wrong; the status is 0 where none is.
 """
@@ -127,7 +127,7 @@ def fault_of(bytes_, ids):
     if not is_whole(root):
         return "a number is not whole"
     titles = ["".join(node.data for node in title.childNodes) for title in root.getElementsByTagName("title")]
-    wanted = [shown(token) for token in ids]
+    wanted = [f"#{number} {shown(token)}" for number, token in enumerate(ids)]
     return None if titles == wanted else f"titles {titles!r}, and not {wanted!r}"
 
 

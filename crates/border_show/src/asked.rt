@@ -2,6 +2,7 @@
 
 use map_drawing::View;
 use program_ends::{FileArgument, Role};
+use std::alloc::{AllocError, Global};
 
 /// What the words of the program ask for.
 #[derive(Debug, Drop)]
@@ -16,7 +17,27 @@ pub struct Words {
     pub view: View,
 }
 
+/// The last part of a path.
+fn file_name(path: &str) -> &str {
+    match path.rsplit_once('/') {
+        Some((_, name)) => name,
+        None => path,
+    }
+}
+
 impl Words {
+    /// What stands above the picture: the name of the file, or those before and after an edit.
+    pub(crate) fn title(&self, alloc: Global) -> Result<String, AllocError> {
+        let before = file_name(self.before.as_str());
+        match &self.after {
+            Some(after) => {
+                let after = file_name(after.as_str());
+                format!(in alloc; "{before} \u{2192} {after}")
+            }
+            None => String::from_str(alloc, before),
+        }
+    }
+
     /// The files that the words name, the one that is written first.
     pub(crate) fn files(&self) -> [FileArgument<'_>; 3] {
         [

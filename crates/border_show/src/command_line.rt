@@ -38,7 +38,7 @@ fn command<'a>(alloc: Global) -> Result<Command<'a>, AllocError> {
         .action(ArgAction::Set);
     let ids = Arg::new(alloc, "ids")
         .long("ids")
-        .help("Writes the ids in the features")
+        .help("Writes the number and the id of each feature in it")
         .action(ArgAction::SetTrue);
     Command::new(alloc, "border_show")
         .version(VERSION)

@@ -25,7 +25,8 @@ fn draw_read<E: Write>(rt: &HostRuntime, words: &Words, errors: &mut E) -> Resul
         Some(after) => (Some(first.as_slice()), after.as_slice()),
         None => (None, first.as_slice()),
     };
-    let outcome = show(rt.alloc(), seed, before, map, words.view);
+    let title = words.title(rt.alloc())?;
+    let outcome = show(rt.alloc(), seed, before, map, words.view, title.as_str());
     let ending = ending_of_drawing(&outcome);
     Ok(end_with_file(rt, ending, words.out.as_str(), errors))
 }

@@ -30,6 +30,7 @@ pub(crate) fn show<'a>(
     before: Option<&'a [u8]>,
     bytes: &'a [u8],
     view: View,
+    title: &str,
 ) -> Result<Vec<u8>, OpenFault<'a>>
     ensures { IfErr result (λ fault. IsFault bytes.now fault
         ⊎ IsSomeAnd before.entry (λ before. IsFault before.now fault)) }
@@ -42,7 +43,7 @@ pub(crate) fn show<'a>(
     let view = View { conflict, ..view };
     let map = or_return!(read(heap, heap, bytes));
     match &before {
-        Some(before) => Ok(draw_change(heap, heap, before, &map, view)?),
-        None => Ok(draw_map(heap, heap, &map, view)?),
+        Some(before) => Ok(draw_change(heap, heap, before, &map, view, title)?),
+        None => Ok(draw_map(heap, heap, &map, view, title)?),
     }
 }

@@ -20,18 +20,19 @@ struct Picture {
     others: &'static [&'static str],
 }
 
-/// y grows upwards from the corner of the map.
+/// The map is drawn in hundredths of a pixel from its upper left corner, under the name of its file.
 const WHOLE: Picture = Picture {
     is_part: false,
     has_ids: false,
     is_marked: false,
     shown: &[
-        r#"<svg x="20" y="20" width="960" height="523" viewBox="0 0 22 12">
-<g transform="translate(0 12) scale(1 -1)">
-<g class="narrow" stroke-width="1">
-<path class="plain" d="M 1 1 11 1 11 11 1 11z"><title>A</title></path>
-<path class="plain" d="M 11 1 21 1 21 11 11 11z"><title>#1</title></path>
-</g>
+        r#"<text class="head" x="20" y="30">a&lt;b&gt;.json</text>"#,
+        ">2 grid units</text>",
+        r#"<svg x="20" y="40" width="960" height="523" viewBox="0 0 96000 52300">
+<rect class="gap" width="100%" height="100%"/>
+<g stroke-width="100">
+<path class="plain" d="M 4363 47941 48000 47941 48000 4358 4363 4358z"><title>#0 A</title></path>
+<path class="plain" d="M 48000 47941 91636 47941 91636 4358 48000 4358z"><title>#1</title></path>
 </g>
 </svg>
 </svg>
@@ -40,26 +41,27 @@ const WHOLE: Picture = Picture {
     others: &[],
 };
 
-/// A part has the features that meet it.
+/// A part has the features that meet it, without what is far beyond it.
 const PART: Picture = Picture {
     is_part: true,
     has_ids: true,
     is_marked: false,
     shown: &[
-        r#"viewBox="0 0 4 4""#,
-        r#"d="M -8 -8 2 -8 2 2 -8 2z"><title>#1</title>"#,
+        r#"viewBox="0 0 72000 72000""#,
+        r#"d="M -1000 73000 36000 73000 36000 36000 -1000 36000z"><title>#1</title>"#,
+        r#"<text class="name" x="320" y="583">#1</text>"#,
     ],
-    others: &["<title>A</title>", r#"class="name""#],
+    others: &["<title>#0 A</title>", "#0 A</text>"],
 };
 
-/// Ids are written in the features.
+/// Numbers and ids are written in the features.
 const WITH_IDS: Picture = Picture {
     is_part: false,
     has_ids: true,
     is_marked: false,
     shown: &[
-        r#"<text class="name" x="281" y="285">A</text>"#,
-        r#"<text class="name" x="718" y="285">#1</text>"#,
+        r#"<text class="name" x="281" y="304">#0 A</text>"#,
+        r#"<text class="name" x="718" y="304">#1</text>"#,
     ],
     others: &[],
 };
@@ -69,9 +71,9 @@ const MARKED: Picture = Picture {
     has_ids: false,
     is_marked: true,
     shown: &[
-        r#"<path class="conflict" stroke-width="3" d="M 1 1 11 11M 1 11 11 1"/>"#,
+        r#"<path class="conflict" stroke-width="300" d="M 4363 47941 48000 4358M 4363 4358 48000 47941"/>"#,
         "conflict 0 0 10 10 / 0 10 10 0</text>",
-        r#"<circle cx="281" cy="281" r="14"/>"#,
+        r#"<circle cx="281" cy="301" r="14"/>"#,
     ],
     others: &[],
 };
@@ -123,7 +125,7 @@ fn conflict<R: Abort>(rt: &R) -> Conflict {
 /// The picture of a map.
 fn drawn<R: Abort>(rt: &R, alloc: Global, map: &str, view: View) -> Vec<u8> {
     let map = read_map(alloc, alloc, map).expect(rt, "it is read");
-    draw_map(alloc, alloc, &map, view).expect(rt, MEMORY)
+    draw_map(alloc, alloc, &map, view, "a<b>.json").expect(rt, MEMORY)
 }
 
 /// The picture shows what it is to show.
@@ -159,7 +161,12 @@ fn squares_are_drawn(rt: HostRuntime) {
 fn a_map_without_rings_is_drawn(rt: HostRuntime) {
     for map in EMPTY {
         let text = drawn(&rt, rt.alloc(), *map, ALL);
-        shows(&rt, text.as_slice(), &[r#"viewBox="0 0 1 1""#], &["<path"]);
+        shows(
+            &rt,
+            text.as_slice(),
+            &[r#"viewBox="0 0 72000 72000""#],
+            &[r#"<path class="plain""#],
+        );
     }
 }
 
@@ -168,7 +175,7 @@ fn see_id<R: Abort>(rt: &R, alloc: Global, (id, written): &(&str, &str)) {
     let map = format!(in alloc;
         r#"{{"type":"Topology","objects":{{"a":{{"type":"Polygon","id":{id},"arcs":[[0]]}}}},"arcs":[[[0,0],[1,0],[0,1],[0,0]]]}}"#
     ).expect(rt, MEMORY);
-    let title = format!(in alloc; "<title>{written}</title>").expect(rt, MEMORY);
+    let title = format!(in alloc; "<title>#0 {written}</title>").expect(rt, MEMORY);
     let text = drawn(rt, alloc, map.as_str(), ALL);
     shows(rt, text.as_slice(), &[title.as_str()], &[]);
 }
@@ -183,7 +190,7 @@ fn any_id_is_written_as_text(rt: HostRuntime) {
 /// Draws the squares in a heap that may refuse a growth.
 fn draw<A: Allocator + Copy>(heap: A, alloc: Global) -> Result<Vec<u8, A>, AllocError> {
     match read_map(heap, alloc, SQUARES) {
-        Some(map) => draw_map(heap, alloc, &map, ALL),
+        Some(map) => draw_map(heap, alloc, &map, ALL, "a"),
         None => Err(AllocError),
     }
 }

@@ -41,13 +41,13 @@ pub quotient_sign : (a d : ℤ) → FitsSigned w64 a → FitsSigned w64 d → po
 quotient_sign a d f g h up = subst (λ (z : ℤ). pos 0 ≤ℤ z) (sym (quotient_is a d f g h)) (sign_of a d h up)
 
 -- a product of small numbers
-pub product_fits : (a b : ℤ) → unsigned_abs a ≤ 9000000000000 → unsigned_abs b ≤ 960 → FitsSigned w64 (a *ℤ b)
-product_fits a b h k = fits_signed_mul w64 a b 9000000000000 960 h k (omega arith)
+pub product_fits : (a b : ℤ) → unsigned_abs a ≤ 9000000000000 → unsigned_abs b ≤ 96000 → FitsSigned w64 (a *ℤ b)
+product_fits a b h k = fits_signed_mul w64 a b 9000000000000 96000 h k (omega arith)
 
-pub product_small : (a b : ℤ) → unsigned_abs a ≤ 9000000000000 → unsigned_abs b ≤ 960 → unsigned_abs (a *ℤ b) ≤ 9000000000000000
+pub product_small : (a b : ℤ) → unsigned_abs a ≤ 9000000000000 → unsigned_abs b ≤ 96000 → unsigned_abs (a *ℤ b) ≤ 900000000000000000
 product_small a b h k = omega (arith, unsigned_abs-mul a b, mul-le-mul h k)
 
 -- what the code's product is
-pub product_is : (a b : ℤ) → FitsSigned w64 a → FitsSigned w64 b → unsigned_abs a ≤ 9000000000000 → unsigned_abs b ≤ 960
+pub product_is : (a b : ℤ) → FitsSigned w64 a → FitsSigned w64 b → unsigned_abs a ≤ 9000000000000 → unsigned_abs b ≤ 96000
     → to_z w64 (of_z w64 (to_z w64 (of_z w64 a) *ℤ to_z w64 (of_z w64 b))) ≡ a *ℤ b
 product_is a b f g h k = let both = product_fits a b h k in simp to_z-of_z

@@ -1,25 +1,25 @@
--- The paths of rings and of segments (SVG 1.1, 8.3): positions in grid units from the least corner of
--- the window.
-use Rattle.std.specs.Prelude.{ℕ, ◌-ℤ◌, List, ◌++◌, codes, flat_map}
+-- The paths of rings and of lines (SVG 1.1, 8.3): points in hundredths of a pixel from the upper left
+-- corner of the map.
+use Rattle.std.specs.Prelude.{ℕ, List, ◌++◌, codes, flat_map, Vec}
 use Rattle.svg_text.specs.Common.{pair_text}
-use Rattle.grid_geometry.specs.Common.{Position, Segment}
-use Rattle.map_drawing.specs.declared.window.Window.{Window}
+use Rattle.map_drawing.specs.declared.points.Point.{Point}
 
--- a position behind a space
-abbrev pub point_text : Window → Position → List ℕ
-point_text w p = codes " " ++ pair_text (p.x -ℤ w.x) (p.y -ℤ w.y)
+-- a point behind a space
+abbrev pub point_text : Point → List ℕ
+point_text p = codes " " ++ pair_text p.x p.y
 
 -- a closed ring
-abbrev pub ring_text : Window → List Position → List ℕ
-ring_text w ring = codes "M" ++ flat_map (point_text w) ring ++ codes "z"
+abbrev pub ring_text : List Point → List ℕ
+ring_text ring = codes "M" ++ flat_map point_text ring ++ codes "z"
 
--- the rings of a polygon, and those of polygons
-abbrev pub rings_text : Window → List (List Position) → List ℕ
-rings_text w rings = flat_map (ring_text w) rings
+-- the points of a ring
+abbrev pub points_of : {A : Type 0} → Vec Point A → List Point
+points_of ring = ring.items
 
-abbrev pub polygons_text : Window → List (List (List Position)) → List ℕ
-polygons_text w polygons = flat_map (rings_text w) polygons
+-- rings
+abbrev pub rings_text : List (List Point) → List ℕ
+rings_text rings = flat_map ring_text rings
 
--- a segment from its lesser end to its greater
-abbrev pub segment_text : Window → Segment → List ℕ
-segment_text w s = codes "M" ++ point_text w s.lo ++ point_text w s.hi
+-- a line between two points
+abbrev pub line_text : Point → Point → List ℕ
+line_text from to = codes "M" ++ point_text from ++ point_text to

@@ -20,6 +20,11 @@ fn ring_area(ring: &[Pos]) -> Option<i128>
     Some(area2(ring).abs())
 }
 
+/// Whether a ring turns clockwise.
+pub(crate) fn is_clockwise(ring: &[Pos]) -> bool {
+    ring.len() <= MOST_POSITIONS && area2(ring) < 0
+}
+
 /// Twice the area of a polygon: that of its outer ring less those of its holes (RFC 7946, 3.1.6).
 fn rings_area<A: Allocator + Copy>(rings: &[Vec<Pos, A>]) -> Option<i128>
     ensures { IfSome result (λ area. area ≡ polygon_area (map positions_of rings.now)) }

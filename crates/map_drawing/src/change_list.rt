@@ -1,11 +1,12 @@
 // The list of what an edit changed.
 ghost use Rattle.std.specs.Prelude.{◌≤◌, ◌≤ℤ◌, pos};
 
+use crate::amounts::{half, percent, signed_half};
 use crate::areas::area;
 use crate::changes::Change;
 use crate::layout::ROW;
 use crate::map_picture::Picture;
-use crate::names::name;
+use crate::names::{name, number};
 use crate::shapes::Shape;
 use std::alloc::{AllocError, Allocator};
 use svg_text::push_words;
@@ -13,14 +14,20 @@ use svg_text::push_words;
 /// The most changes that are listed.
 const MOST_CHANGES: usize = 100;
 
-/// How far from the left each column stands; those of areas end there.
+/// How far from the left each column stands; those of numbers end there.
 const DONE: i64 = 20;
 
-const FEATURE: i64 = 120;
+const NUMBER: i64 = 130;
 
-const BEFORE: i64 = 720;
+const FEATURE: i64 = 145;
 
-const AFTER: i64 = 980;
+const BEFORE: i64 = 560;
+
+const AFTER: i64 = 730;
+
+const DIFFERENCE: i64 = 900;
+
+const PERCENT: i64 = 980;
 
 /// How many of so many changes are listed.
 fn listed(changes: usize) -> usize
@@ -53,24 +60,53 @@ impl<A: Allocator + Copy> Picture<A> {
     /// Appends the heads of the columns.
     fn push_head(&mut self, y: i64) -> Result<(), AllocError> {
         push_words(&mut self.text, "head", DONE, y, b"edit")?;
+        push_words(&mut self.text, "head number", NUMBER, y, b"number")?;
         push_words(&mut self.text, "head", FEATURE, y, b"feature")?;
-        push_words(
-            &mut self.text,
-            "head number",
-            BEFORE,
-            y,
-            b"twice the area before",
-        )?;
-        push_words(&mut self.text, "head number", AFTER, y, b"after")
+        push_words(&mut self.text, "head number", BEFORE, y, b"area before")?;
+        push_words(&mut self.text, "head number", AFTER, y, b"area after")?;
+        push_words(&mut self.text, "head number", DIFFERENCE, y, b"difference")?;
+        push_words(&mut self.text, "head number", PERCENT, y, b"%")
     }
 
     /// Appends the area of a feature where it is known.
-    fn push_area(&mut self, x: i64, y: i64, shape: &Shape<'_, A>) -> Result<(), AllocError> {
-        let words = match area(shape.polygons) {
-            Some(area) => format!(in self.alloc; "{area}")?,
-            None => String::new(self.alloc),
-        };
-        push_words(&mut self.text, "number", x, y, words.as_bytes())
+    fn push_area(&mut self, x: i64, y: i64, twice: Option<i128>) -> Result<(), AllocError> {
+        if let Some(twice) = twice {
+            let words = half(self.alloc, twice)?;
+            push_words(&mut self.text, "number", x, y, words.as_slice())?;
+        }
+        Ok(())
+    }
+
+    /// Appends how an area changed.
+    fn push_difference(&mut self, y: i64, before: i128, after: i128) -> Result<(), AllocError> {
+        let difference = after.saturating_sub(before);
+        if difference != 0 {
+            let words = signed_half(self.alloc, difference)?;
+            push_words(&mut self.text, "number", DIFFERENCE, y, words.as_slice())?;
+            let words = percent(self.alloc, difference, before)?;
+            push_words(&mut self.text, "number", PERCENT, y, words.as_slice())?;
+        }
+        Ok(())
+    }
+
+    /// Appends the areas of a feature before and after.
+    fn push_areas(&mut self, y: i64, change: &Change<'_, A>) -> Result<(), AllocError> {
+        let before = change.before.and_then(|shape| area(shape.polygons));
+        let after = change.after.and_then(|shape| area(shape.polygons));
+        self.push_area(BEFORE, y, before)?;
+        self.push_area(AFTER, y, after)?;
+        match (before, after) {
+            (Some(before), Some(after)) => self.push_difference(y, before, after),
+            _ => Ok(()),
+        }
+    }
+
+    /// Appends the number of a feature and what it is called.
+    fn push_called(&mut self, y: i64, shape: &Shape<'_, A>) -> Result<(), AllocError> {
+        let number = number(self.alloc, shape)?;
+        push_words(&mut self.text, "number", NUMBER, y, number.as_slice())?;
+        let name = name(self.alloc, self.heap, shape)?;
+        push_words(&mut self.text, "plain", FEATURE, y, name.as_slice())
     }
 
     /// Appends the line of a change.
@@ -78,19 +114,16 @@ impl<A: Allocator + Copy> Picture<A> {
         let (class, done, shape) = match (&change.before, &change.after) {
             (Some(before), None) => ("gone", "gone", before),
             (None, Some(after)) => ("new", "new", after),
-            (Some(_), Some(after)) => ("plain", "changed", after),
+            (Some(before), Some(after)) => if before.polygons == after.polygons {
+                ("plain", "renamed", after)
+            } else {
+                ("plain", "changed", after)
+            },
             (None, None) => return Ok(()),
         };
-        let name = name(self.alloc, self.heap, shape)?;
         push_words(&mut self.text, class, DONE, y, done.as_bytes())?;
-        push_words(&mut self.text, "plain", FEATURE, y, name.as_slice())?;
-        if let Some(before) = &change.before {
-            self.push_area(BEFORE, y, before)?;
-        }
-        if let Some(after) = &change.after {
-            self.push_area(AFTER, y, after)?;
-        }
-        Ok(())
+        self.push_called(y, shape)?;
+        self.push_areas(y, change)
     }
 
     /// Appends how many changes are not listed, or that there is none.

@@ -1,43 +1,129 @@
 // The picture of what an edit did.
-ghost use Rattle.std.specs.List.Sorted.{IsSorted};
-ghost use Rattle.grid_geometry.specs.Common.{segment_cmp};
-
-use crate::bounds::Bounds;
 use crate::change_list::rows_of;
-use crate::changes::{changed, changes};
+use crate::changes::{Change, changes};
+use crate::cutting::cut_line;
 use crate::map_picture::{Look, Picture};
-use crate::paths::push_segment;
+use crate::paths::push_line;
+use crate::runs::{Run, runs, uncovered};
+use crate::seen::is_change_seen;
 use crate::segments::segments;
-use crate::shapes::{View, bounds_of, shapes};
-use crate::sorted::missing;
-use grid_geometry::Seg;
+use crate::shapes::{Shape, View, bounds_of, shapes};
+use crate::straight::straight_features;
+use crate::units::Units;
 use std::alloc::{AllocError, Allocator, Global};
 use topo_reader::RawDoc;
 
+/// The features whose changes are seen, before and after the edit.
+#[derive(Drop)]
+struct Seen<'r, A: Allocator + Copy> {
+    before: Vec<Shape<'r, A>, A>,
+    after: Vec<Shape<'r, A>, A>,
+}
+
+impl<'r, A: Allocator + Copy> Seen<'r, A> {
+    /// Whether the feature of this number after the edit is among them.
+    fn has(&self, number: usize) -> bool {
+        self.after.iter().any(|shape| shape.number == number)
+    }
+}
+
 impl<A: Allocator + Copy> Picture<A> {
-    /// Appends a segment if the window shows some of it.
-    fn push_shown(&mut self, segment: Seg) -> Result<(), AllocError> {
-        let window = self.layout.window;
-        if window.meets(&Bounds::of(segment.lo).with(segment.hi)) {
-            push_segment(&mut self.text, &window, segment)?;
+    /// Whether a change is seen in the picture. A name that changed leaves the region as it was.
+    fn sees(&self, change: &Change<'_, A>) -> Result<bool, AllocError> {
+        match (&change.before, &change.after) {
+            (Some(before), Some(after)) => is_change_seen(self.alloc, &self.layout, before, after),
+            _ => Ok(true),
         }
-        Ok(())
     }
 
-    /// Appends a path of the segments that are none of the others, each once. Both ascend.
-    fn push_borders(&mut self, look: Look, these: &[Seg], others: &[Seg]) -> Result<(), AllocError>
-        requires { IsSorted segment_cmp others.now }
-    {
-        let marks = missing(self.alloc, these, others)?;
+    /// The features of the changes that are seen.
+    fn seen<'r>(&self, changes: &[Change<'r, A>]) -> Result<Seen<'r, A>, AllocError> {
+        let mut before = Vec::new(self.alloc);
+        let mut after = Vec::new(self.alloc);
+        for change in changes {
+            if self.sees(change)? {
+                if let Some(shape) = change.before {
+                    before.push(shape)?;
+                }
+                if let Some(shape) = change.after {
+                    after.push(shape)?;
+                }
+            }
+        }
+        Ok(Seen { before, after })
+    }
+
+    /// Whether the part that is drawn shows some of a feature that changed.
+    fn shows(&self, change: &Change<'_, A>) -> bool {
+        self.meets(change.before.as_ref()) || self.meets(change.after.as_ref())
+    }
+
+    /// Whether the part that is drawn has a common point with the box of a feature.
+    fn meets(&self, shape: Option<&Shape<'_, A>>) -> bool {
+        match shape.and_then(|shape| shape.bounds()) {
+            Some(bounds) => self.layout.window.meets(&bounds),
+            None => self.view.part.is_none() && shape.is_some(),
+        }
+    }
+
+    /// The changes of which the part that is drawn shows some.
+    fn in_sight<'r>(&self, changes: &[Change<'r, A>]) -> Result<Vec<Change<'r, A>, A>, AllocError> {
+        let mut shown = Vec::new(self.alloc);
+        for change in changes {
+            if self.shows(change) {
+                shown.push(*change)?;
+            }
+        }
+        Ok(shown)
+    }
+
+    /// Appends a path of runs.
+    fn push_runs(&mut self, look: Look, runs: &[Run]) -> Result<(), AllocError> {
+        let sides = self.layout.sides();
         self.open_lines(look)?;
-        let mut last = None;
-        for (segment, is_missing) in these.iter().zip(marks.as_slice()) {
-            if *is_missing && last != Some(*segment) {
-                self.push_shown(*segment)?;
-                last = Some(*segment);
+        for run in runs {
+            let (from, to) = (self.layout.point(run.from), self.layout.point(run.to));
+            if let Some((from, to)) = cut_line(&sides, from, to) {
+                push_line(&mut self.text, from, to)?;
             }
         }
         self.text.extend_from_slice(b"\"/>\n")
+    }
+
+    /// Appends the borders of features that lie on none of the borders of the other map.
+    fn push_borders(
+        &mut self,
+        look: Look,
+        these: &[Shape<'_, A>],
+        others: &[Shape<'_, A>],
+    ) -> Result<(), AllocError> {
+        let these = segments(self.alloc, these)?;
+        let others = segments(self.alloc, others)?;
+        let these = runs(self.alloc, these.as_slice())?;
+        let others = runs(self.alloc, others.as_slice())?;
+        let left = uncovered(self.alloc, these.as_slice(), others.as_slice())?;
+        self.push_runs(look, left.as_slice())
+    }
+
+    /// Appends the map after the edit, with the features filled whose change is seen, and over it the borders
+    /// that are gone and new.
+    fn push_edit(
+        &mut self,
+        old: &[Shape<'_, A>],
+        new: &[Shape<'_, A>],
+        changes: &[Change<'_, A>],
+    ) -> Result<(), AllocError> {
+        let seen = self.seen(changes)?;
+        for shape in new {
+            let look = if seen.has(shape.number) {
+                Look::Changed
+            } else {
+                Look::Kept
+            };
+            self.push_shape(shape, look)?;
+        }
+        self.push_borders(Look::Gone, seen.before.as_slice(), new)?;
+        self.push_borders(Look::New, seen.after.as_slice(), old)
     }
 }
 
@@ -45,36 +131,29 @@ impl<A: Allocator + Copy> Picture<A> {
 /// new, the changed features filled, and a list of them. The two segments in conflict that the view
 /// names are marked.
 ///
-/// A feature is changed where the other map has none with the same `id` and the same rings. `heap`
-/// holds decoded ids; `alloc` all else. An error says that a growth was refused.
+/// A feature is changed where the other map has none with the same `id` and the same region, wherever
+/// their vertices are. One whose change is less than a pixel is listed and not filled. `heap` holds
+/// decoded ids; `alloc` all else. An error says that a growth was refused.
 pub fn draw_change<'m, 'a, A: Allocator + Copy>(
     alloc: A,
     heap: Global,
     before: &'m RawDoc<'a, A>,
     after: &'m RawDoc<'a, A>,
     view: View,
+    title: &str,
 ) -> Result<Vec<u8, A>, AllocError> {
-    let before = shapes(alloc, before)?;
-    let after = shapes(alloc, after)?;
-    let (old, new) = (before.as_slice(), after.as_slice());
-    let gone = changed(alloc, old, new)?;
-    let made = changed(alloc, new, old)?;
-    let list = changes(alloc, old, gone.as_slice(), new, made.as_slice())?;
-    let bounds = bounds_of(bounds_of(None, old), new);
-    let mut picture = Picture::open(alloc, heap, view, bounds, rows_of(list.len()) + 1)?;
-    for (shape, is_changed) in new.iter().zip(made.as_slice()) {
-        let look = if *is_changed {
-            Look::Changed
-        } else {
-            Look::Kept
-        };
-        picture.push_shape(shape, look)?;
-    }
-    let old_borders = segments(alloc, old)?;
-    let new_borders = segments(alloc, new)?;
-    picture.push_borders(Look::Gone, old_borders.as_slice(), new_borders.as_slice())?;
-    picture.push_borders(Look::New, new_borders.as_slice(), old_borders.as_slice())?;
-    picture.close_map(new)?;
+    let old_regions = straight_features(alloc, before.polygons.as_slice())?;
+    let new_regions = straight_features(alloc, after.polygons.as_slice())?;
+    let old = shapes(alloc, before, old_regions.as_slice())?;
+    let new = shapes(alloc, after, new_regions.as_slice())?;
+    let changes = changes(alloc, old.as_slice(), new.as_slice())?;
+    let bounds = bounds_of(bounds_of(None, old.as_slice()), new.as_slice());
+    let units = Units::of(after.transform, bounds, view.part);
+    let mut picture = Picture::of_part(alloc, heap, view, bounds, &units);
+    let list = picture.in_sight(changes.as_slice())?;
+    picture.open(&units, title, rows_of(list.len()) + 1)?;
+    picture.push_edit(old.as_slice(), new.as_slice(), changes.as_slice())?;
+    picture.close_map(new.as_slice())?;
     picture.push_list(list.as_slice())?;
     picture.close()
 }

@@ -2,18 +2,25 @@
 ghost use Rattle.std.specs.Prelude.{◌≤ℤ◌, pos};
 
 use crate::bounds::Bounds;
-use crate::layout::{Layout, MARGIN, ROW, WIDTH};
-use crate::names::name;
-use crate::paths::push_polygons;
-use crate::shapes::{Shape, View, bounds_of, shapes};
+use crate::labels::{Label, widest_row};
+use crate::layout::{Layout, MARGIN, PIXEL, ROW, WIDTH};
+use crate::names::{number, number_and_id};
+use crate::outlines::push_outline;
+use crate::paths::push_rings;
+use crate::points::Point;
+use crate::rows::{Row, Stretch};
+use crate::shapes::{Shape, View, bounds_of, by_size, shapes};
 use crate::styles::prelude;
+use crate::units::Units;
 use crate::window::Window;
 use std::alloc::{AllocError, Allocator, Global};
 use svg_text::{
-    close_group, close_picture, open_picture, open_turned, open_view, push_attribute, push_escaped,
-    push_words,
+    close_group, close_picture, open_picture, open_view, push_attribute, push_escaped, push_words,
 };
 use topo_reader::RawDoc;
+
+/// How far the line of the title is from the top.
+const TITLE: i64 = 30;
 
 /// How a feature or a border looks.
 #[derive(Clone, Copy, Debug, PartialEq, Eq)]
@@ -62,41 +69,42 @@ pub(crate) struct Picture<A: Allocator + Copy> {
 }
 
 impl<A: Allocator + Copy> Picture<A> {
-    /// Begins a picture of what has these bounds, with so many lines of a list below it.
-    pub(crate) fn open(
+    /// A picture of what has these bounds, or of the part that the view names, with nothing in it.
+    pub(crate) fn of_part(
         alloc: A,
         heap: Global,
         view: View,
         bounds: Option<Bounds>,
-        rows: i64,
-    ) -> Result<Picture<A>, AllocError>
-        requires { (pos 0 ≤ℤ rows) × (rows ≤ℤ pos 104) }
-    {
-        let layout = Layout::new(view.part.unwrap_or(Window::of(bounds)));
-        let mut text = Vec::new(alloc);
-        open_picture(&mut text, WIDTH, layout.first_line() + ROW * rows + MARGIN)?;
-        text.extend_from_slice(prelude().as_bytes())?;
-        let mut picture = Picture {
+        units: &Units,
+    ) -> Picture<A> {
+        let window = view.part.unwrap_or(Window::of(bounds));
+        Picture {
             alloc,
             heap,
             view,
-            layout,
-            text,
-        };
-        picture.open_map()?;
-        Ok(picture)
+            layout: Layout::new(window, units.ratio),
+            text: Vec::new(alloc),
+        }
+    }
+
+    /// Begins the picture, with a title and a bar of length above the map and so many lines of a list below.
+    pub(crate) fn open(&mut self, units: &Units, title: &str, rows: i64) -> Result<(), AllocError>
+        requires { (pos 0 ≤ℤ rows) × (rows ≤ℤ pos 104) }
+    {
+        let height = self.layout.first_line() + ROW * rows + MARGIN;
+        open_picture(&mut self.text, WIDTH, height)?;
+        self.text.extend_from_slice(prelude().as_bytes())?;
+        push_words(&mut self.text, "head", MARGIN, TITLE, title.as_bytes())?;
+        self.push_bar(units)?;
+        self.open_map()
     }
 
     /// Begins the map.
     fn open_map(&mut self) -> Result<(), AllocError> {
-        let (window, place) = (self.layout.window, self.layout.place);
-        open_view(&mut self.text, place, window.width, window.height)?;
-        open_turned(&mut self.text, window.height)?;
-        self.text.extend_from_slice(b"<g")?;
-        if self.layout.is_narrow() {
-            self.text.extend_from_slice(b" class=\"narrow\"")?;
-        }
-        push_attribute(&mut self.text, "stroke-width", self.layout.line())?;
+        let (width, height) = (self.layout.width(), self.layout.height());
+        open_view(&mut self.text, self.layout.place, width, height)?;
+        self.text.extend_from_slice(b"<rect class=\"gap\" width=\"100%\" height=\"100%\"/>\n<g")?;
+        push_attribute(&mut self.text, "stroke-width", PIXEL)?;
         self.text.extend_from_slice(b">\n")
     }
 
@@ -107,7 +115,8 @@ impl<A: Allocator + Copy> Picture<A> {
         self.text.extend_from_slice(b"\"")
     }
 
-    /// Appends a feature, if the window shows some of it. Its name is shown where one points at it.
+    /// Appends a feature, if the window shows some of it. Its number and its `id` are shown where one points
+    /// at it.
     pub(crate) fn push_shape(
         &mut self,
         shape: &Shape<'_, A>,
@@ -117,25 +126,83 @@ impl<A: Allocator + Copy> Picture<A> {
         if let Some(bounds) = shape.bounds()
             && window.meets(&bounds)
         {
+            let rings = self.outline(shape)?;
             self.open_path(look)?;
             self.text.extend_from_slice(b" d=\"")?;
-            push_polygons(&mut self.text, &window, shape.polygons)?;
+            push_rings(&mut self.text, rings.as_slice())?;
             self.text.extend_from_slice(b"\"><title>")?;
-            let name = name(self.alloc, self.heap, shape)?;
+            let name = number_and_id(self.alloc, self.heap, shape)?;
             push_escaped(&mut self.text, name.as_slice())?;
             self.text.extend_from_slice(b"</title></path>\n")?;
         }
         Ok(())
     }
 
-    /// Appends the name of a feature in its middle, where that is shown.
-    fn push_name(&mut self, shape: &Shape<'_, A>) -> Result<(), AllocError> {
-        if let Some(middle) = shape.middle()
-            && self.layout.window.has(middle)
-        {
-            let name = name(self.alloc, self.heap, shape)?;
-            let (x, y) = (self.layout.across(middle), self.layout.down(middle) + 4);
-            push_words(&mut self.text, "name", x, y, name.as_slice())?;
+    /// The rings of a feature as they are drawn.
+    fn outline(&self, shape: &Shape<'_, A>) -> Result<Vec<Vec<Point, A>, A>, AllocError> {
+        let mut rings = Vec::new(self.alloc);
+        push_outline(&mut rings, self.alloc, &self.layout, shape.polygons)?;
+        Ok(rings)
+    }
+
+    /// Appends words at the place of a label, if it covers none of those that stand already.
+    fn push_at(
+        &mut self,
+        label: Label,
+        words: &[u8],
+        labels: &mut Vec<Label, A>,
+    ) -> Result<(), AllocError> {
+        if label.is_free(labels.as_slice()) {
+            let (x, y) = self.layout.pixel(label.base());
+            push_words(&mut self.text, "name", x, y, words)?;
+            labels.push(label)?;
+        }
+        Ok(())
+    }
+
+    /// Appends the number and the `id` of a feature in a stretch of a row, or the number alone, if there is
+    /// room for it.
+    fn push_within(
+        &mut self,
+        shape: &Shape<'_, A>,
+        (row, stretch): (Row, Stretch),
+        labels: &mut Vec<Label, A>,
+    ) -> Result<(), AllocError> {
+        let whole = number_and_id(self.alloc, self.heap, shape)?;
+        if let Some(label) = Label::within(row, stretch, whole.as_slice()) {
+            return self.push_at(label, whole.as_slice(), labels);
+        }
+        let short = number(self.alloc, shape)?;
+        match Label::within(row, stretch, short.as_slice()) {
+            Some(label) => self.push_at(label, short.as_slice(), labels),
+            None => Ok(()),
+        }
+    }
+
+    /// Appends the label of a feature where it is widest.
+    fn push_label(
+        &mut self,
+        shape: &Shape<'_, A>,
+        labels: &mut Vec<Label, A>,
+    ) -> Result<(), AllocError> {
+        let rings = self.outline(shape)?;
+        let ends = Stretch {
+            left: 0,
+            right: self.layout.width(),
+        };
+        let height = self.layout.height();
+        match widest_row(self.alloc, rings.as_slice(), ends, height)? {
+            Some(place) => self.push_within(shape, place, labels),
+            None => Ok(()),
+        }
+    }
+
+    /// Appends the labels of features, the largest features first.
+    fn push_labels(&mut self, shapes: &[Shape<'_, A>]) -> Result<(), AllocError> {
+        let shapes = by_size(self.alloc, shapes)?;
+        let mut labels = Vec::new(self.alloc);
+        for shape in &shapes {
+            self.push_label(shape, &mut labels)?;
         }
         Ok(())
     }
@@ -147,12 +214,9 @@ impl<A: Allocator + Copy> Picture<A> {
             self.push_conflict(conflict)?;
         }
         close_group(&mut self.text)?;
-        close_group(&mut self.text)?;
         close_picture(&mut self.text)?;
         if self.view.has_ids {
-            for shape in shapes {
-                self.push_name(shape)?;
-            }
+            self.push_labels(shapes)?;
         }
         if let Some(conflict) = self.view.conflict {
             self.push_fault(conflict)?;
@@ -168,7 +232,7 @@ impl<A: Allocator + Copy> Picture<A> {
     }
 }
 
-/// The picture of a map. The two segments in conflict that the view names are marked.
+/// The picture of a map under this title. The two segments in conflict that the view names are marked.
 ///
 /// `heap` holds decoded ids; `alloc` all else. An error says that a growth was refused.
 pub fn draw_map<A: Allocator + Copy>(
@@ -176,10 +240,13 @@ pub fn draw_map<A: Allocator + Copy>(
     heap: Global,
     map: &RawDoc<'_, A>,
     view: View,
+    title: &str,
 ) -> Result<Vec<u8, A>, AllocError> {
-    let shapes = shapes(alloc, map)?;
+    let shapes = shapes(alloc, map, map.polygons.as_slice())?;
     let bounds = bounds_of(None, shapes.as_slice());
-    let mut picture = Picture::open(alloc, heap, view, bounds, 0)?;
+    let units = Units::of(map.transform, bounds, view.part);
+    let mut picture = Picture::of_part(alloc, heap, view, bounds, &units);
+    picture.open(&units, title, 0)?;
     for shape in &shapes {
         picture.push_shape(shape, Look::Plain)?;
     }

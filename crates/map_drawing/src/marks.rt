@@ -1,7 +1,9 @@
 // What is drawn over the borders.
 use crate::bounds::Bounds;
+use crate::cutting::{Side, cut_line};
+use crate::layout::PIXEL;
 use crate::map_picture::{Look, Picture};
-use crate::paths::push_segment;
+use crate::paths::push_line;
 use grid_geometry::{Pos, Seg};
 use std::alloc::{AllocError, Allocator};
 use svg_text::{push_attribute, push_words};
@@ -30,21 +32,29 @@ const RADIUS: i64 = 14;
 impl<A: Allocator + Copy> Picture<A> {
     /// Appends the beginning of a path of lines, up to its positions. What is gone is dashed.
     pub(crate) fn open_lines(&mut self, look: Look) -> Result<(), AllocError> {
-        let line = self.layout.line();
         self.open_path(look)?;
-        push_attribute(&mut self.text, "stroke-width", 3 * line)?;
+        push_attribute(&mut self.text, "stroke-width", 3 * PIXEL)?;
         if look == Look::Gone {
-            push_attribute(&mut self.text, "stroke-dasharray", 7 * line)?;
+            push_attribute(&mut self.text, "stroke-dasharray", 7 * PIXEL)?;
         }
         self.text.extend_from_slice(b" d=\"")
     }
 
+    /// Appends a segment as far as it is not far beyond what is shown.
+    fn push_segment(&mut self, sides: &[Side; 4], segment: Seg) -> Result<(), AllocError> {
+        let (from, to) = (self.layout.point(segment.lo), self.layout.point(segment.hi));
+        if let Some((from, to)) = cut_line(sides, from, to) {
+            push_line(&mut self.text, from, to)?;
+        }
+        Ok(())
+    }
+
     /// Appends both segments of a conflict.
     pub(crate) fn push_conflict(&mut self, conflict: Conflict) -> Result<(), AllocError> {
-        let window = self.layout.window;
+        let sides = self.layout.sides();
         self.open_lines(Look::Conflict)?;
-        push_segment(&mut self.text, &window, conflict.first)?;
-        push_segment(&mut self.text, &window, conflict.second)?;
+        self.push_segment(&sides, conflict.first)?;
+        self.push_segment(&sides, conflict.second)?;
         self.text.extend_from_slice(b"\"/>\n")
     }
 
@@ -55,8 +65,9 @@ impl<A: Allocator + Copy> Picture<A> {
             && self.layout.window.has(middle)
         {
             self.text.extend_from_slice(b"<circle")?;
-            push_attribute(&mut self.text, "cx", self.layout.across(middle))?;
-            push_attribute(&mut self.text, "cy", self.layout.down(middle))?;
+            let (x, y) = self.layout.pixel(self.layout.point(middle));
+            push_attribute(&mut self.text, "cx", x)?;
+            push_attribute(&mut self.text, "cy", y)?;
             push_attribute(&mut self.text, "r", RADIUS)?;
             self.text.extend_from_slice(b"/>\n")?;
         }

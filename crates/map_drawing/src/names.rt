@@ -1,7 +1,7 @@
 // What features are called.
 
 use crate::shapes::Shape;
-use json_spans::{Span, TextFault, text};
+use json_spans::{Span, TextFault, members, text};
 use std::alloc::{AllocError, Allocator, Global};
 
 /// The most bytes of a name that are shown.
@@ -49,14 +49,56 @@ fn id_text<A: Allocator>(alloc: A, heap: Global, id: &[u8]) -> Result<Vec<u8, A>
     }
 }
 
-/// What a feature is called: by what its `id` stands for, and without one by its number.
+/// Whether a member of `properties` names its feature.
+fn is_name(name: &[u8]) -> bool {
+    matches!(name, b"\"name\"" | b"\"Name\"" | b"\"NAME\"")
+}
+
+/// The text of the member of `properties` that names a feature: the first string called `name`.
+fn name_of(properties: &[u8]) -> Option<&[u8]> {
+    let object = Span {
+        text: properties,
+        at: 0,
+    };
+    for (name, value) in members(object) {
+        if is_name(name.text) && matches!(value.text, [b'"', ..]) {
+            return Some(value.text);
+        }
+    }
+    None
+}
+
+/// The number of a feature, as it is written in the picture.
+pub(crate) fn number<A: Allocator + Copy>(
+    alloc: A,
+    shape: &Shape<'_, A>,
+) -> Result<Vec<u8, A>, AllocError> {
+    Ok(format!(in alloc; "#{}", shape.number)?.into_bytes())
+}
+
+/// The number of a feature, and behind it what its `id` stands for.
+pub(crate) fn number_and_id<A: Allocator + Copy>(
+    alloc: A,
+    heap: Global,
+    shape: &Shape<'_, A>,
+) -> Result<Vec<u8, A>, AllocError> {
+    let mut words = number(alloc, shape)?;
+    if let Some(id) = shape.id {
+        let id = id_text(alloc, heap, id)?;
+        words.push(b' ')?;
+        words.extend_from_slice(id.as_slice())?;
+    }
+    Ok(words)
+}
+
+/// What a feature is called: by its property `name`, or without one by its `id`; nothing without both.
 pub(crate) fn name<A: Allocator + Copy>(
     alloc: A,
     heap: Global,
     shape: &Shape<'_, A>,
 ) -> Result<Vec<u8, A>, AllocError> {
-    match shape.id {
-        Some(id) => id_text(alloc, heap, id),
-        None => Ok(format!(in alloc; "#{}", shape.number)?.into_bytes()),
+    match shape.properties.and_then(name_of).or(shape.id) {
+        Some(value) => id_text(alloc, heap, value),
+        None => Ok(Vec::new(alloc)),
     }
 }

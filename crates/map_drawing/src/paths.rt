@@ -1,82 +1,55 @@
-// The paths of rings and of segments.
+// The paths of rings and of lines.
 ghost use Rattle.std.specs.Prelude.{◌≡◌, ◌++◌, OnOk, map};
-ghost use Rattle.topo_reader.specs.Common.{positions_of, polygon_positions};
-ghost use Rattle.map_drawing.specs.Paths.{point_text, ring_text, rings_text, polygons_text, segment_text};
+ghost use Rattle.map_drawing.specs.Paths.{point_text, points_of, ring_text, rings_text, line_text};
 
-use crate::window::Window;
-use grid_geometry::{Pos, Seg};
+use crate::points::Point;
 use std::alloc::{AllocError, Allocator};
 use svg_text::push_pair;
 
-/// Appends a position behind a space.
-fn push_point<A: Allocator>(
-    text: &mut Vec<u8, A>,
-    window: &Window,
-    pos: Pos,
-) -> Result<(), AllocError>
-    ensures { OnOk result (text.new.items ≡ text.old.items ++ point_text window.now pos) }
+/// Appends a point behind a space.
+fn push_point<A: Allocator>(text: &mut Vec<u8, A>, point: Point) -> Result<(), AllocError>
+    ensures { OnOk result (text.new.items ≡ text.old.items ++ point_text point) }
 {
     text.extend_from_slice(b" ")?;
-    push_pair(text, window.right(pos), window.up(pos))?;
+    push_pair(text, point.x, point.y)?;
     Ok(())
 }
 
 /// Appends a closed ring.
-fn push_ring<A: Allocator>(
-    text: &mut Vec<u8, A>,
-    window: &Window,
-    ring: &[Pos],
-) -> Result<(), AllocError>
-    ensures { OnOk result (text.new.items ≡ text.old.items ++ ring_text window.now ring.now) }
+fn push_ring<A: Allocator>(text: &mut Vec<u8, A>, ring: &[Point]) -> Result<(), AllocError>
+    ensures { OnOk result (text.new.items ≡ text.old.items ++ ring_text ring.now) }
 {
     text.extend_from_slice(b"M")?;
-    for pos in ring {
-        push_point(text, window, *pos)?;
+    for point in ring {
+        push_point(text, *point)?;
     }
     text.extend_from_slice(b"z")?;
     Ok(())
 }
 
-/// Appends the rings of a polygon.
-fn push_rings<A: Allocator, B: Allocator + Copy>(
+/// Appends rings.
+pub(crate) fn push_rings<A: Allocator, B: Allocator + Copy>(
     text: &mut Vec<u8, A>,
-    window: &Window,
-    rings: &[Vec<Pos, B>],
+    rings: &[Vec<Point, B>],
 ) -> Result<(), AllocError>
-    ensures { OnOk result (text.new.items
-        ≡ text.old.items ++ rings_text window.now (map positions_of rings.now)) }
+    ensures { OnOk result (text.new.items ≡ text.old.items ++ rings_text (map points_of rings.now)) }
 {
     for ring in rings {
-        push_ring(text, window, ring.as_slice())?;
+        push_ring(text, ring.as_slice())?;
     }
     Ok(())
 }
 
-/// Appends the rings of polygons.
-pub(crate) fn push_polygons<A: Allocator, B: Allocator + Copy>(
+/// Appends a line.
+pub(crate) fn push_line<A: Allocator>(
     text: &mut Vec<u8, A>,
-    window: &Window,
-    polygons: &[Vec<Vec<Pos, B>, B>],
+    from: Point,
+    to: Point,
 ) -> Result<(), AllocError>
-    ensures { OnOk result (text.new.items
-        ≡ text.old.items ++ polygons_text window.now (map polygon_positions polygons.now)) }
-{
-    for rings in polygons {
-        push_rings(text, window, rings.as_slice())?;
-    }
-    Ok(())
-}
-
-/// Appends a segment.
-pub(crate) fn push_segment<A: Allocator>(
-    text: &mut Vec<u8, A>,
-    window: &Window,
-    segment: Seg,
-) -> Result<(), AllocError>
-    ensures { OnOk result (text.new.items ≡ text.old.items ++ segment_text window.now segment) }
+    ensures { OnOk result (text.new.items ≡ text.old.items ++ line_text from to) }
 {
     text.extend_from_slice(b"M")?;
-    push_point(text, window, segment.lo)?;
-    push_point(text, window, segment.hi)?;
+    push_point(text, from)?;
+    push_point(text, to)?;
     Ok(())
 }

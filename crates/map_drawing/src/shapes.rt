@@ -4,6 +4,7 @@ ghost use Rattle.grid_geometry.specs.Common.{Position};
 ghost use Rattle.map_drawing.specs.Windows.{IsWithin, AreWithin};
 ghost use Rattle.map_drawing.specs.Shapes.{ShapeIn};
 
+use crate::areas::area;
 use crate::bounds::Bounds;
 use crate::extents::with_polygons;
 use crate::marks::Conflict;
@@ -31,6 +32,8 @@ pub(crate) struct Shape<'r, A: Allocator + Copy> {
     pub(crate) number: usize,
     /// The text of its `id`.
     pub(crate) id: Option<&'r [u8]>,
+    /// The text of its `properties`.
+    pub(crate) properties: Option<&'r [u8]>,
     /// Its polygons.
     pub(crate) polygons: &'r [Vec<Vec<Pos, A>, A>],
 }
@@ -42,12 +45,6 @@ impl<'r, A: Allocator + Copy> Shape<'r, A> {
     /// What it is compared by.
     pub(crate) fn key(&self) -> Key<'r, A> {
         (self.id, self.polygons)
-    }
-
-    /// A position in the middle of its bounds.
-    pub(crate) fn middle(&self) -> Option<Pos> {
-        let bounds = self.bounds()?;
-        bounds.middle_with(&bounds)
     }
 
     /// The least and the greatest coordinates of its rings.
@@ -72,6 +69,7 @@ fn push_leaves<'r, A: Allocator + Copy>(
             shapes.push(Shape {
                 number,
                 id: feature.head.id,
+                properties: feature.head.properties,
                 polygons: polygons.as_slice(),
             })?;
         }
@@ -79,14 +77,15 @@ fn push_leaves<'r, A: Allocator + Copy>(
     Ok(())
 }
 
-/// The features of a map in the order of its text.
+/// The features of a map in the order of its text, with these polygons.
 pub(crate) fn shapes<'r, A: Allocator + Copy>(
     alloc: A,
     map: &'r RawDoc<'_, A>,
+    polygons: &'r [Vec<Vec<Vec<Pos, A>, A>, A>],
 ) -> Result<Vec<Shape<'r, A>, A>, AllocError> {
     let mut shapes = Vec::new(alloc);
     for layer in &map.layers {
-        push_leaves(&mut shapes, layer.items.as_slice(), map.polygons.as_slice())?;
+        push_leaves(&mut shapes, layer.items.as_slice(), polygons)?;
     }
     Ok(shapes)
 }
@@ -104,4 +103,22 @@ pub(crate) fn bounds_of<A: Allocator + Copy>(
         bounds = with_polygons(bounds, shape.polygons);
     }
     bounds
+}
+
+/// The features, the one with the largest area first.
+pub(crate) fn by_size<'r, A: Allocator + Copy>(
+    alloc: A,
+    shapes: &[Shape<'r, A>],
+) -> Result<Vec<Shape<'r, A>, A>, AllocError> {
+    let mut sized = Vec::new(alloc);
+    for shape in shapes {
+        let area = area(shape.polygons).unwrap_or(0);
+        sized.push((0i128.saturating_sub(area), shape.number, *shape))?;
+    }
+    sized.sort_unstable_by_key(|(size, number, _)| (*size, *number));
+    let mut found = Vec::new(alloc);
+    for (_, _, shape) in &sized {
+        found.push(*shape)?;
+    }
+    Ok(found)
 }

@@ -3,16 +3,17 @@
 
 /// What both kinds of picture have, before anything is drawn.
 const COMMON: &str = "<style>
-path{fill:#f6f6f2;stroke:#555;fill-rule:evenodd;stroke-linejoin:round}
-path.kept{stroke:#bbb}
-path.changed{fill:#fae8a0;stroke:#bbb}
+path{fill:#d9d4b8;fill-opacity:.5;stroke:#555;fill-rule:evenodd;stroke-linejoin:round}
+path.kept{stroke:#999}
+path.changed{fill:#f2b800;stroke:#999}
 path.gone,path.conflict{fill:none;stroke:#d55e00}
 path.new{fill:none;stroke:#0072b2}
-.narrow path{vector-effect:non-scaling-stroke}
+path.bar{fill:none;stroke:#222}
+rect.gap{fill:#dcecf5}
 circle{fill:none;stroke:#d55e00;stroke-width:2}
 text{font-family:sans-serif;font-size:13px;fill:#222}
 text.name{font-size:11px;text-anchor:middle;paint-order:stroke;stroke:#fff;stroke-width:3px}
-text.number{text-anchor:end}
+text.number{text-anchor:end;font-size:12px}
 text.head{font-weight:bold}
 text.gone{fill:#a84a00}
 text.new{fill:#005a8c}

@@ -3,7 +3,7 @@ use Rattle.std.specs.Prelude.{flat_map}
 use Rattle.map_drawing.specs.Common.{point_text}
 use Rattle.map_drawing.proofs.paths.push_ring.Given as goal
 
--- the positions so far
-abbrev pub invariant-loop-pos : goal.invariant-loop-pos
-invariant-loop-pos g l =
-    l.text.items ≡ (l.fn.text.items ++ codes "M") ++ flat_map (point_text l.window) (take l.pos-index l.ring)
+-- the points so far
+abbrev pub invariant-loop-point : goal.invariant-loop-point
+invariant-loop-point g l =
+    l.text.items ≡ (l.fn.text.items ++ codes "M") ++ flat_map point_text (take l.point-index l.ring)

@@ -1,7 +1,6 @@
 use Rattle.kit_words.proofs.Common.{◌++◌, ap, ap₂, ◌∙◌, sym, map, take, append_assoc, take_all, flat_mapped_more}
 use Rattle.std.proofs.Common.{append-nil}
-use Rattle.topo_reader.specs.Common.{positions_of}
-use Rattle.map_drawing.specs.Common.{ring_text, rings_text}
+use Rattle.map_drawing.specs.Common.{points_of, ring_text, rings_text}
 use Rattle.map_drawing.proofs.paths.push_rings.Goals as goal
 
 pub loop-ring-init : goal.loop-ring-init
@@ -9,15 +8,14 @@ loop-ring-init g c = sym (append-nil c.args.text.now.items)
 
 pub loop-ring-preserved : goal.loop-ring-preserved
 loop-ring-preserved g c =
-    let w = c.args.window.now in
     let old = c.args.text.now.items in
     let rings = c.args.rings.now in
     let i = c.loop-ring.ring-index in
-    c.in_ok-push_ring.ensures ∙ ap₂ (λ t ps. t ++ ring_text w ps) c.loop-ring.invariant c.as_slice.ensures.value
-    ∙ append_assoc old (rings_text w (map positions_of (take i rings))) (ring_text w c.ring-item.result.items)
-    ∙ ap (λ z. old ++ z) (sym (flat_mapped_more (ring_text w) positions_of rings i c.ring-item.result c.loop-ring-test.true c.ring-item.is))
+    c.in_ok-push_ring.ensures ∙ ap₂ (λ t ps. t ++ ring_text ps) c.loop-ring.invariant c.as_slice.ensures.value
+    ∙ append_assoc old (rings_text (map points_of (take i rings))) (ring_text c.ring-item.result.items)
+    ∙ ap (λ z. old ++ z) (sym (flat_mapped_more ring_text points_of rings i c.ring-item.result c.loop-ring-test.true c.ring-item.is))
 
 pub returns : goal.returns
 returns g c =
     c.loop-ring.invariant
-    ∙ ap (λ rs. c.args.text.now.items ++ rings_text c.args.window.now (map positions_of rs)) (take_all c.loop-ring.ring-index c.args.rings.now c.loop-ring-test.false)
+    ∙ ap (λ rs. c.args.text.now.items ++ rings_text (map points_of rs)) (take_all c.loop-ring.ring-index c.args.rings.now c.loop-ring-test.false)

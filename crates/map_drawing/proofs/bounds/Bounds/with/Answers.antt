@@ -1,4 +1,4 @@
-use Rattle.kit_words.proofs.Common.{◌≤◌, unsigned_abs, arith, ints}
+use Rattle.kit_words.proofs.Common.{arith, ints}
 use Rattle.map_drawing.proofs.LeastLemmas.{lesser, greater}
 use Rattle.map_drawing.proofs.bounds.Bounds.with.Goals as goal
 

@@ -1,0 +1,112 @@
+// Where the names of features stand.
+use crate::points::Point;
+use crate::rows::{Row, Stretch};
+use crate::seen::rows_of;
+use std::alloc::{AllocError, Allocator};
+
+/// How high a label is, in hundredths of a pixel.
+const LABEL: i64 = 1_300;
+
+/// How far its letters go up from its base line, in hundredths of a pixel.
+const RISE: i64 = 1_000;
+
+/// How wide a character is at most as a rule, in hundredths of a pixel.
+const LETTER: i64 = 720;
+
+/// How many rows of a feature are looked at for the widest one.
+const ROWS: i64 = 9;
+
+/// The place of a label.
+#[derive(Clone, Copy, Debug)]
+pub(crate) struct Label {
+    /// Its upper and its lower side.
+    row: Row,
+    /// Its left and its right side.
+    stretch: Stretch,
+}
+
+/// How many characters a text of UTF-8 has.
+fn characters(words: &[u8]) -> usize {
+    words.iter().filter(|byte| **byte & 0xC0 != 0x80).count()
+}
+
+/// How wide a text is, in hundredths of a pixel.
+fn width_of(words: &[u8]) -> i64 {
+    let count = i64::try_from(characters(words)).unwrap_or(i64::MAX);
+    count.saturating_add(1).saturating_mul(LETTER)
+}
+
+impl Label {
+    /// The place of these words in the middle of a stretch of a row, if they are no wider.
+    pub(crate) fn within(row: Row, stretch: Stretch, words: &[u8]) -> Option<Label> {
+        let width = width_of(words);
+        let left = stretch.width().saturating_sub(width);
+        if left < 0 {
+            return None;
+        }
+        let left = stretch.left.saturating_add(left / 2);
+        let right = left.saturating_add(width);
+        Some(Label {
+            row,
+            stretch: Stretch { left, right },
+        })
+    }
+
+    /// Whether it covers some of another.
+    fn covers(&self, other: &Label) -> bool {
+        self.row.top < other.row.bottom
+            && other.row.top < self.row.bottom
+            && self.stretch.left < other.stretch.right
+            && other.stretch.left < self.stretch.right
+    }
+
+    /// The middle of the base line of its words.
+    pub(crate) fn base(&self) -> Point {
+        Point {
+            x: self.stretch.left.saturating_add(self.stretch.width() / 2),
+            y: self.row.top.saturating_add(RISE),
+        }
+    }
+
+    /// Whether it covers none of these.
+    pub(crate) fn is_free(&self, others: &[Label]) -> bool {
+        !others.iter().any(|other| self.covers(other))
+    }
+}
+
+/// The row of a label at so many parts of nine from the top of these rows.
+fn row_at(rows: Row, part: i64) -> Row {
+    let room = rows.bottom.saturating_sub(rows.top).saturating_sub(LABEL);
+    let top = rows
+        .top
+        .saturating_add(room.saturating_mul(part) / (ROWS - 1));
+    Row {
+        top,
+        bottom: top.saturating_add(LABEL),
+    }
+}
+
+/// The row of the height of a label in which a feature is widest, and where it is so wide: among nine
+/// rows, the nearest to the middle where several are as wide. None where it is lower than a label.
+pub(crate) fn widest_row<A: Allocator + Copy>(
+    alloc: A,
+    rings: &[Vec<Point, A>],
+    ends: Stretch,
+    height: i64,
+) -> Result<Option<(Row, Stretch)>, AllocError> {
+    let rows = rows_of(rings, height);
+    let mut best = None;
+    let mut most: i64 = 0;
+    for part in [4, 3, 5, 2, 6, 1, 7, 0, 8] {
+        let row = row_at(rows, part);
+        if rows.top <= row.top
+            && row.bottom <= rows.bottom
+            && let Some(stretch) = row.widest(alloc, rings, ends)?
+            && most < stretch.width()
+        {
+            best = Some((row, stretch));
+            most = stretch.width();
+        }
+    }
+    Ok(best)
+}

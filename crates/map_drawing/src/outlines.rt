@@ -1,0 +1,39 @@
+// The rings of a feature as they are drawn.
+use crate::cutting::{Side, cut_ring};
+use crate::layout::Layout;
+use crate::points::Point;
+use grid_geometry::Pos;
+use std::alloc::{AllocError, Allocator};
+
+/// The points of a ring. A vertex at the point of the one before it adds nothing.
+fn points<A: Allocator + Copy>(
+    alloc: A,
+    layout: &Layout,
+    ring: &[Pos],
+) -> Result<Vec<Point, A>, AllocError> {
+    let mut points = Vec::new(alloc);
+    let mut last = None;
+    for pos in ring {
+        let point = layout.point(*pos);
+        if last != Some(point) {
+            points.push(point)?;
+            last = Some(point);
+        }
+    }
+    Ok(points)
+}
+
+/// Appends the rings of polygons, without what is far beyond what is shown.
+pub(crate) fn push_outline<A: Allocator + Copy>(
+    rings: &mut Vec<Vec<Point, A>, A>,
+    alloc: A,
+    layout: &Layout,
+    polygons: &[Vec<Vec<Pos, A>, A>],
+) -> Result<(), AllocError> {
+    let sides: [Side; 4] = layout.sides();
+    for ring in polygons.iter().flatten() {
+        let points = points(alloc, layout, ring.as_slice())?;
+        rings.push(cut_ring(alloc, &sides, points)?)?;
+    }
+    Ok(())
+}

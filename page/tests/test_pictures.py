@@ -1,0 +1,313 @@
+#!/usr/bin/python3
+"""Renders pictures of border_show in a headless Chromium, and compares where things stand with a second drawing.
+
+The second drawing is computed here from the topology alone, with fractions: where each feature's middle and the gap lie,
+in pixels of the picture. On grids of 10 to 10^12 units the pixel at the middle of a feature has that feature's fill, the
+pixel in a gap has none, each label stands inside its polygon and none covers another. Needs Chromium, chromedriver and
+selenium. The program is the one that BORDER_SHOW names, or else the one that page/programs.py finds. There is a line for
+each check; the last one says how many passed and failed.
+"""
+import importlib.util
+import json
+import os
+import pathlib
+import shutil
+import struct
+import subprocess
+import sys
+import tempfile
+import zlib
+from fractions import Fraction
+
+from selenium import webdriver
+from selenium.webdriver.chrome.service import Service
+
+TOP = pathlib.Path(__file__).resolve().parents[2]
+GRIDS = (10, 10**6, 3 * 10**7, 10**9, 10**12)
+
+# The features of the drawn map, on a grid of ten units: a square with a hole, two that fill a column beside it with a gap
+# between them, and a crescent whose box has its middle outside it.
+FEATURES = {
+    "hollow": [[(0, 0), (4, 0), (4, 10), (0, 10)], [(2, 4), (2, 5), (3, 5), (3, 4)]],
+    "lower": [[(4, 0), (7, 0), (7, 4), (4, 4)]],
+    "upper": [[(4, 5), (7, 5), (7, 10), (4, 10)]],
+    "crescent": [[(7, 0), (10, 0), (10, 10), (7, 10), (7, 8), (9, 8), (9, 2), (7, 2)]],
+}
+# A place inside each feature, and places inside none.
+INSIDE = {"hollow": (1, 7), "lower": (5, 2), "upper": (5, 8), "crescent": (Fraction(19, 2), 5)}
+OUTSIDE = {"the hole": (Fraction(5, 2), Fraction(9, 2)), "the gap": (5, Fraction(9, 2))}
+
+# A colour for each feature, so that a pixel tells whose it is.
+COLOURS = ((200, 0, 0), (0, 160, 0), (0, 0, 200), (160, 0, 160))
+PAINT = """
+const [colours] = arguments;
+document.querySelectorAll('path.plain').forEach((path, i) => {
+    path.style.fill = `rgb(${colours[i].join(',')})`;
+    path.style.fillOpacity = 1;
+});
+document.querySelectorAll('text').forEach(text => { text.style.display = 'none'; });
+const view = document.querySelector('svg > svg');
+return ['x', 'y', 'width', 'height'].map(name => Number(view.getAttribute(name)));
+"""
+LABELS = """
+return [...document.querySelectorAll('text.name')].map(text => {
+    const box = text.getBBox();
+    return [text.textContent, box.x, box.y, box.x + box.width, box.y + box.height];
+});
+"""
+NUMBERS = """
+const found = [];
+for (const name of ['d', 'transform', 'viewBox', 'x', 'y', 'width', 'height', 'cx', 'cy', 'stroke-width'])
+    document.querySelectorAll(`[${name}]`).forEach(element => found.push(element.getAttribute(name)));
+return found;
+"""
+
+
+def program():
+    """The path of border_show."""
+    if "BORDER_SHOW" in os.environ:
+        return os.path.abspath(os.environ["BORDER_SHOW"])
+    place = TOP / "page/programs.py"
+    if not place.exists():
+        raise SystemExit("BORDER_SHOW has to name the program border_show")
+    spec = importlib.util.spec_from_file_location("programs", place)
+    programs = importlib.util.module_from_spec(spec)
+    spec.loader.exec_module(programs)
+    return programs.find("border_show")[0]
+
+
+def start_browser():
+    options = webdriver.ChromeOptions()
+    for word in ("--headless=new", "--no-sandbox", "--window-size=1100,1000", "--hide-scrollbars", "--disable-dev-shm-usage",
+                 "--no-first-run", "--disable-background-networking", "--no-proxy-server", "--force-device-scale-factor=1"):
+        options.add_argument(word)
+    return webdriver.Chrome(service=Service(shutil.which("chromedriver")), options=options)
+
+
+# ---- pixels
+
+def unfiltered(kind, line, above, step):
+    """A line of a PNG without its filter (PNG, 9.2)."""
+    line = bytearray(line)
+    for i, byte in enumerate(line):
+        left, up = (line[i - step] if i >= step else 0), above[i]
+        corner = above[i - step] if i >= step else 0
+        guess = left + up - corner
+        nearest = min((abs(guess - left), 0, left), (abs(guess - up), 1, up), (abs(guess - corner), 2, corner))[2]
+        line[i] = (byte + (0, left, up, (left + up) // 2, nearest)[kind]) % 256
+    return line
+
+
+def pixels_of(png):
+    """The lines of a PNG with eight bits for each of red, green and blue, and how many bytes a pixel has."""
+    at, data, width, step = 8, b"", 0, 0
+    while at < len(png):
+        size, kind = struct.unpack(">I4s", png[at:at + 8])
+        body = png[at + 8:at + 8 + size]
+        if kind == b"IHDR":
+            width, _, bits, colour = struct.unpack(">IIBB", body[:10])
+            assert bits == 8 and colour in (2, 6)
+            step = 3 if colour == 2 else 4
+        data += body if kind == b"IDAT" else b""
+        at += size + 12
+    data, lines, above = zlib.decompress(data), [], bytes(width * step)
+    for start in range(0, len(data), width * step + 1):
+        above = unfiltered(data[start], data[start + 1:start + 1 + width * step], above, step)
+        lines.append(above)
+    return lines, step
+
+
+def colour_at(pixels, x, y):
+    lines, step = pixels
+    x = int(x) * step
+    return tuple(lines[int(y)][x:x + 3])
+
+
+# ---- the second drawing
+
+def topology_of(features, unit):
+    """The features as a topology, with a grid of so many units for each of theirs."""
+    arcs, geometries = [], []
+    for name, rings in features.items():
+        numbers = []
+        for ring in rings:
+            numbers.append([len(arcs)])
+            arcs.append([[x * unit, y * unit] for x, y in [*ring, ring[0]]])
+        geometries.append({"type": "Polygon", "id": name, "arcs": numbers})
+    return {"type": "Topology", "objects": {"land": {"type": "GeometryCollection", "geometries": geometries}}, "arcs": arcs}
+
+
+class Drawing:
+    """Where positions stand in the picture of a map whose coordinates lie between two numbers: in a box of the picture, with
+    a margin of a fortieth of the greater extent and a unit of the grid round them."""
+
+    def __init__(self, least, most, unit, box):
+        self.least, self.unit, self.box = least * unit, unit, box
+        extent = (most - least) * unit
+        self.margin = extent // 40 + 1
+        self.extent = extent + 2 * self.margin
+
+    def place(self, position):
+        x, y, width, height = self.box
+        right, up = (coordinate * self.unit - self.least + self.margin for coordinate in position)
+        return float(x + right * width / Fraction(self.extent)), float(y + (self.extent - up) * height / Fraction(self.extent))
+
+
+def is_in(position, rings):
+    """Whether a position is inside an odd number of rings."""
+    (x, y), inside = position, False
+    for ring in rings:
+        for (a, b), (c, d) in zip(ring, ring[1:] + ring[:1]):
+            if (b > y) != (d > y) and x < a + (y - b) * (c - a) / (d - b):
+                inside = not inside
+    return inside
+
+
+def is_box_in(box, rings):
+    """Whether a box of pixels lies in rings of pixels: points along its sides do, half a pixel further in."""
+    left, top, right, bottom = box[0] + 0.5, box[1] + 0.5, box[2] - 0.5, box[3] - 0.5
+    steps = [k / 16 for k in range(17)]
+    sides = [(left + (right - left) * k, y) for k in steps for y in (top, bottom)]
+    sides += [(x, top + (bottom - top) * k) for k in steps for x in (left, right)]
+    return all(is_in(point, rings) for point in sides)
+
+
+def do_meet(one, other):
+    return one[0] < other[2] and other[0] < one[2] and one[1] < other[3] and other[1] < one[3]
+
+
+# ---- checks
+
+class Checks:
+    passed = failed = 0
+
+    def that(self, holds, what):
+        self.passed, self.failed = self.passed + bool(holds), self.failed + (not holds)
+        print("ok" if holds else "FAILED", what, flush=True)
+
+
+def show(driver, picture):
+    driver.get(picture.as_uri())
+
+
+def check_numbers(checks, driver, what):
+    """No number of a picture is over a few hundred thousand."""
+    text = " ".join(driver.execute_script(NUMBERS)).replace("%", "")
+    numbers = [abs(int(word)) for word in "".join(c if c.isdigit() else " " for c in text).split()]
+    checks.that(numbers and max(numbers) < 300_000, f"{what}: no number is over 300,000")
+
+
+def check_labels(checks, driver, drawing, what):
+    labels = driver.execute_script(LABELS)
+    checks.that({text for text, *_ in labels} == {f"#{n} {name}" for n, name in enumerate(FEATURES)},
+                f"{what}: each feature has its number and its id")
+    for text, *box in labels:
+        rings = [[drawing.place(position) for position in ring] for ring in FEATURES[text.split()[-1]]]
+        checks.that(is_box_in(box, rings), f"{what}: the label {text} is inside its polygon")
+    checks.that(not any(do_meet(a[1:], b[1:]) for n, a in enumerate(labels) for b in labels[:n]),
+                f"{what}: no label covers another")
+
+
+def check_grid(checks, driver, show_map, folder, grid):
+    """The map on a grid of so many units."""
+    unit, what = grid // 10, f"grid {grid:,}"
+    (folder / "map.json").write_text(json.dumps(topology_of(FEATURES, unit)))
+    subprocess.run([show_map, folder / "map.json", "--ids", "--out", folder / "map.svg"], check=True, timeout=120)
+    show(driver, folder / "map.svg")
+    check_numbers(checks, driver, what)
+    labels = driver.execute_script(LABELS)
+    drawing = Drawing(0, 10, unit, driver.execute_script(PAINT, COLOURS))
+    pixels = pixels_of(driver.get_screenshot_as_png())
+    for colour, (name, position) in zip(COLOURS, INSIDE.items()):
+        checks.that(colour_at(pixels, *drawing.place(position)) == colour, f"{what}: {name} is where it is")
+    for name, position in OUTSIDE.items():
+        checks.that(colour_at(pixels, *drawing.place(position)) not in COLOURS, f"{what}: {name} has no fill")
+    assert labels is not None
+    show(driver, folder / "map.svg")
+    check_labels(checks, driver, drawing, what)
+
+
+def check_title(checks, driver, show_map, folder):
+    """The name of the file stands above the map, whatever characters it has."""
+    place = folder / "a <b> & \"c\".json"
+    place.write_text(json.dumps(topology_of(FEATURES, 1)))
+    subprocess.run([show_map, place, "--out", folder / "title.svg"], check=True, timeout=120)
+    show(driver, folder / "title.svg")
+    texts = driver.execute_script("return [...document.querySelectorAll('text')].map(text => text.textContent)")
+    checks.that(place.name in texts, "the name of the file is the title")
+    checks.that(any(text.endswith(" grid units") for text in texts), "a bar of length has its unit")
+
+
+def table(driver):
+    """The rows of the list of changes, by the lines that the texts stand in."""
+    rows = driver.execute_script("return [...document.querySelectorAll('svg > text')].map(text => "
+                                 "[Number(text.getAttribute('y')), text.textContent])")
+    lines = {}
+    for y, text in rows:
+        lines.setdefault(y, []).append(text)
+    return [lines[y] for y in sorted(lines)]
+
+
+def check_edit(checks, driver, show_map, folder, edit, rows, filled, what):
+    """What an edit did: these rows are listed, so many features are filled, and borders are drawn where they changed."""
+    after = edit({name: [list(ring) for ring in rings] for name, rings in FEATURES.items()})
+    (folder / "before.json").write_text(json.dumps(topology_of(FEATURES, 1000)))
+    (folder / "after.json").write_text(json.dumps(topology_of(after, 1000)))
+    command = [show_map, folder / "before.json", folder / "after.json", "--out", folder / "edit.svg"]
+    subprocess.run(command, check=True, timeout=120)
+    show(driver, folder / "edit.svg")
+    found = [row for row in table(driver) if row[0] in ("gone", "new", "changed", "renamed")]
+    checks.that(found == rows, f"{what}: {found}")
+    count = driver.execute_script("return document.querySelectorAll('path.changed').length")
+    checks.that(count == filled, f"{what}: {count} filled")
+
+
+def with_vertex(features):
+    """A vertex in the middle of a straight side."""
+    features["lower"][0].insert(1, (5, 0))
+    return features
+
+
+def renamed(features):
+    return {"other" if name == "lower" else name: rings for name, rings in features.items()}
+
+
+def moved(features):
+    features["upper"][0][2] = (6, 10)
+    return features
+
+
+def without(features):
+    del features["lower"]
+    return features
+
+
+# An edit, the rows that it is listed by, and how many features are filled. Areas are on a grid of 1,000 units for each.
+EDITS = (
+    ("a vertex in a straight side", with_vertex, [], 0),
+    ("a rename", renamed, [["renamed", "#1", "other", "12,000,000", "12,000,000"]], 0),
+    ("a moved vertex", moved,
+     [["changed", "#2", "upper", "15,000,000", "12,500,000", "-2,500,000", "-16.66%"]], 1),
+    ("a deleted feature", without, [["gone", "#1", "lower", "12,000,000"]], 0),
+)
+
+
+def main():
+    checks, show_map = Checks(), program()
+    driver = start_browser()
+    try:
+        with tempfile.TemporaryDirectory() as name:
+            folder = pathlib.Path(name)
+            for grid in GRIDS:
+                check_grid(checks, driver, show_map, folder, grid)
+            check_title(checks, driver, show_map, folder)
+            for what, edit, rows, filled in EDITS:
+                check_edit(checks, driver, show_map, folder, edit, rows, filled, what)
+    finally:
+        driver.quit()
+    print(f"{checks.passed} passed, {checks.failed} failed")
+    return 1 if checks.failed else 0
+
+
+if __name__ == "__main__":
+    sys.exit(main())
