@@ -2,8 +2,9 @@
 ghost use Rattle.std.specs.Prelude.{◌≡◌, false, []};
 
 use device_io::{FromReader, Sink, Source, ToWriter};
-use edit_program::{NotedAnswers, NotedScript, RefusedLines, ScriptTail, Words};
-use edit_program::{ending_of_run, strict_ending};
+use edit_program::{
+    NotedAnswers, NotedScript, RefusedLines, ScriptTail, Words, ending_of_run, strict_ending,
+};
 use program_ends::{Ending, Stop, end, hash_seed, map_bytes, replace_file};
 use script_runner::{RunFault, Summary, run};
 use std::alloc::Allocator;
@@ -124,7 +125,14 @@ impl Editing<'_> {
         let mut saved = ToWriter::new(room_for_saved(alloc, self.map.len()));
         let depth = self.words.depth;
         let outcome = run(
-            alloc, alloc, self.seed, self.map, &mut script, depth, &mut answers, &mut saved,
+            alloc,
+            alloc,
+            self.seed,
+            self.map,
+            &mut script,
+            depth,
+            &mut answers,
+            &mut saved,
         );
         let saved = saved.writer.as_slice();
         let ending = ending_of(self.words, &outcome, saved, script.source().is_whole());

@@ -65,6 +65,17 @@ lists_none old new waits rows = record {
   rows = refl;
 }
 
+-- what came changed neither the lines that wait nor the rows
+pub lists_same : (old mid new : RefusedLines) → waiting_of new ≡ waiting_of mid → rows_of new ≡ rows_of mid → Lists old mid
+    → Lists old new
+lists_same old mid new waits rows before = record {
+  answered = before.answered;
+  more = before.more;
+  waited = before.waited ∙ ap (λ (z : List ScriptLine). before.answered ++ z) (sym waits);
+  listed = rows ∙ before.listed;
+  rows = before.rows;
+}
+
 -- one more answer has come
 pub lists_more : (old mid new : RefusedLines) → Lists old mid → ListsFirst mid new → Lists old new
 lists_more old mid new before then = record {

@@ -15,11 +15,11 @@ use Rattle.edit_program.specs.declared.refused_lines.RefusedLines.{RefusedLines}
 -- ---- lines
 
 -- the line with these bytes too, or so many of them as there is room for
-pub record Gains (old : ScriptLine) (bytes : List ℕ) (new : ScriptLine) : Type 0 where
+pub record Gains (old : ScriptLine) (more : List ℕ) (new : ScriptLine) : Type 0 where
   pub number : new.number ≡ old.number
-  pub bytes : new.bytes.items ≡ old.bytes.items ++ take (8192 - length old.bytes.items) bytes
+  pub bytes : new.bytes.items ≡ old.bytes.items ++ take (8192 - length old.bytes.items) more
   pub ended : new.is_ended ≡ old.is_ended
-  pub over : new.is_over ≡ (old.is_over || nat_lt (8192 - length old.bytes.items) (length bytes))
+  pub over : new.is_over ≡ (old.is_over || nat_lt (8192 - length old.bytes.items) (length more))
 
 -- what of a line is read: its bytes without the carriage return before its line feed; of one that was cut
 -- all that is kept

@@ -22,36 +22,36 @@ fn command<'a>(alloc: Global) -> Result<Command<'a>, clap::Error>
     ensures { IfOk result (λ command. app_of command ≡ program) }
 {
     let map = Arg::new(alloc, "MAP")
-        .help("The TopoJSON topology to open")
+        .help("The TopoJSON map to open")
         .required(true)
         .action(ArgAction::Set);
     let script = Arg::new(alloc, "SCRIPT")
-        .help("The script of editing commands, one a line; - is standard input")
+        .help("The script, one command a line; - is standard input")
         .required(true)
         .action(ArgAction::Set);
     let out = Arg::new(alloc, "out")
         .long("out")
         .value_name("FILE")
-        .help("The file that the edited map is saved in")
+        .help("Save the edited map in this file; it may be MAP")
         .required(true)
         .action(ArgAction::Set);
     let undo = Arg::new(alloc, "undo")
         .long("undo")
         .value_name("N")
-        .help("How many changes can be taken back, from 1 to 1000; 100 if absent")
+        .help("How many changes undo can revert, from 1 to 1000; 100 by default")
         .action(ArgAction::Set);
     let refused = Arg::new(alloc, "refused")
         .long("refused")
         .value_name("FILE2")
-        .help("The file that each refused or bad line is written in, with its number, its answer and why")
+        .help("Write each refused or bad line to this file, with its number, answer and reason")
         .action(ArgAction::Set);
     let progress = Arg::new(alloc, "progress")
         .long("progress")
-        .help("Tell on standard error, where that is a terminal, what is begun")
+        .help("Report progress on standard error if it is a terminal")
         .action(ArgAction::SetTrue);
     let strict = Arg::new(alloc, "strict")
         .long("strict")
-        .help("Write FILE only where no line was refused or bad and the last one has its line feed")
+        .help("Save FILE only if no line was refused or bad and the last one ends with a line feed")
         .action(ArgAction::SetTrue);
     let command = Command::new(alloc, "border_edit")
         .about(ABOUT)

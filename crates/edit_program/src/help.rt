@@ -2,7 +2,7 @@
 
 /// What the program does.
 pub(crate) const ABOUT: &str =
-    "Edits the shared borders of a TopoJSON map by a script, and prints an answer a line";
+    "Edits the shared borders of a TopoJSON map by a script, and prints one answer per line";
 
 /// The lines of a script, the statuses, and two examples. The lines are those of the table in
 /// docs/FORMATS.md.

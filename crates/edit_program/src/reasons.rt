@@ -1,4 +1,6 @@
 //! Why a line of a script is a bad one.
+ghost use Rattle.std.specs.Prelude.{◌≡◌, IsUtf8};
+
 use std::fmt::{Display, Formatter, Result as FmtResult, Write};
 use std::str;
 
@@ -197,7 +199,9 @@ fn fault_of(arguments: &[Argument], tail: &[u8]) -> Result<(), Reason> {
 }
 
 /// Why a line that says nothing is a bad one.
-pub(crate) fn reason_of(line: &[u8]) -> Reason {
+pub(crate) fn reason_of(line: &[u8]) -> Reason
+    ensures { ¬ IsUtf8 line.now → result ≡ Reason.NotUtf8 }
+{
     if str::from_utf8(line).is_err() {
         return Reason::NotUtf8;
     }

@@ -4,6 +4,7 @@ use crate::rows::push_row;
 use crate::script_line::ScriptLine;
 use std::alloc::{AllocError, AllocFailed, Global};
 use std::collections::VecDeque;
+use std::io::Error;
 use std::mem;
 
 /// What came can't be listed: there was no memory, or an answer came before its line.
@@ -18,6 +19,12 @@ impl From<AllocError> for NotListed {
 
 impl<T: Drop> From<AllocFailed<T>> for NotListed {
     fn from(_error: AllocFailed<T>) -> NotListed {
+        NotListed
+    }
+}
+
+impl From<Error> for NotListed {
+    fn from(_error: Error) -> NotListed {
         NotListed
     }
 }
@@ -119,13 +126,15 @@ impl RefusedLines {
         };
         match self.notes.refusal() {
             Some(answer) => {
-                push_row(self.alloc, &mut self.rows, &line, answer).map_err(|_| NotListed)
+                push_row(self.alloc, &mut self.rows, &line, answer)?;
+                Ok(())
             }
             None => Ok(()),
         }
     }
 
     /// Takes the next bytes of the answers. After an error the list lacks something.
+    #[tactic(auto, using(crate::proofs::ListingLemmas::lists_none))]
     pub fn take_answers(&mut self, piece: &[u8]) -> Result<(), NotListed>
         ensures { OnOk result (Lists self.old self.new) }
     {

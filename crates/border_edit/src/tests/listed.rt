@@ -21,8 +21,16 @@ type Row = (&'static [u8], &'static [u8], &'static [u8]);
 
 const ROWS: &[Row] = &[
     (b"", b"", b""),
-    (b"undo", b"refused nothing to undo\n", b"1\trefused nothing to undo\tundo\t\n"),
-    (b"\n\r\n#\nx\r\n", b"bad line\n", b"4\tbad line\tx\tunknown word\n"),
+    (
+        b"undo",
+        b"refused nothing to undo\n",
+        b"1\trefused nothing to undo\tundo\t\n",
+    ),
+    (
+        b"\n\r\n#\nx\r\n",
+        b"bad line\n",
+        b"4\tbad line\tx\tunknown word\n",
+    ),
     // A carriage return alone is a line at the end, and no empty one.
     (
         b"count\n\r",
@@ -46,7 +54,11 @@ const ROWS: &[Row] = &[
         b"1\tbad line\t\xff\tnot UTF-8\n2\tbad line\t#\xff\tnot UTF-8\n",
     ),
     // A line may hold a tab; the last one of a row stands before the last column.
-    (b"a\tb\n", b"bad line\n", b"1\tbad line\ta\tb\tunknown word\n"),
+    (
+        b"a\tb\n",
+        b"bad line\n",
+        b"1\tbad line\ta\tb\tunknown word\n",
+    ),
 ];
 
 #[test]
