@@ -190,7 +190,7 @@ fn any_id_is_written_as_text(rt: HostRuntime) {
 /// Draws the squares in a heap that may refuse a growth.
 fn draw<A: Allocator + Copy>(heap: A, alloc: Global) -> Result<Vec<u8, A>, AllocError> {
     match read_map(heap, alloc, SQUARES) {
-        Some(map) => draw_map(heap, alloc, &map, ALL, "a"),
+        Some(map) => draw_map(heap, alloc, &map, ALL, "a<b>.json"),
         None => Err(AllocError),
     }
 }
