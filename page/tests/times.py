@@ -1,21 +1,23 @@
 #!/usr/bin/env python3
-"""Measures how long the page of ./edit takes for what a user does, in Chromium without a window, with its server.
+"""Measures how long the page of ./edit takes for what a user does, in Chromium without a window.
 
 For examples/columbus.json there is the time from the start of ./edit until the map is drawn; the browser runs
-already. For maps that bench/maps.py makes there are also the memory of the page, of border_edit and of the server,
-then the drags of vertices, the splits, merges and undos, and a thinning that leaves out most vertices. Times of
-drags, splits, merges and undos are medians. An edit ends when the page has its answers and has changed its map;
-`drawn` is when the screen shows that too, with some features in sight.
+already. For maps that bench/maps.py makes there are also the memory of the page, of border_edit and of the
+server, then drags of vertices, splits, merges and undos, and a thinning that leaves out most vertices. Times
+of drags, splits, merges and undos are medians. An edit ends when the page has its answers and has changed its
+map; `request` is the part until the server has answered, and `drawn` is when the screen shows the edit, with
+some features in sight.
 
-Each figure stands beside what is wanted for a map of that size. It fails where a figure is over three times what is
-wanted, since machines differ, where border_edit refuses an edit, or where the page reports an error. The last line
-is `N passed, M failed`, the status 1 where something failed.
+Each figure stands beside what is wanted for a map of that size. The script fails where a figure is over three
+times what is wanted, since machines differ, where border_edit refuses an edit, or where the page reports an
+error. The last line is `N passed, M failed`, the status 1 where something failed.
 """
 import argparse
 import collections
 import os
 import pathlib
 import shutil
+import signal
 import statistics
 import sys
 import time
@@ -57,7 +59,9 @@ FIGURES = {
     "undo": Figure("s", {1_000_000: 0.05}),
     "undo, drawn": Figure("s", {}),
     "thin": Figure("s", {1_000_000: 3}),
+    "thin, request": Figure("s", {}),
     "undo of thin": Figure("s", {1_000_000: 3}),
+    "undo of thin, request": Figure("s", {}),
     "memory, heap of the page": Figure("MB", {1_000_000: 152}),
     "memory, border_edit": Figure("MB", {1_000_000: 311}),
     "memory, server": Figure("MB", {1_000_000: 44}),
@@ -68,9 +72,10 @@ DRAWN = f"""const done = arguments[0], look = () => {{
   if ({OPEN} && {STILL}) done(performance.timeOrigin + performance.now()); else requestAnimationFrame(look);
 }};
 look();"""
-# Notes in `times` what the newest drag took, and measures an act of the editor.
+# Notes in `times.newest` what the newest request of an edit and the newest drag took; `times.act` measures an
+# act of the editor.
 MEASURES = """
-const { view, talk } = editor, drag = {};
+const { view, talk } = editor, newest = {};
 const isDrawn = () => !editor.pending && !tools.held && !view.wanted && !view.drawing && !view.overWanted;
 const drawn = () => new Promise(done => {
   const look = () => { if (isDrawn()) done(performance.now()); else requestAnimationFrame(look); };
@@ -79,28 +84,29 @@ const drawn = () => new Promise(done => {
 const postNow = talk.postNow.bind(talk), edit = editor.edit.bind(editor);
 talk.postNow = async (name, body) => {
   const begun = performance.now(), said = await postNow(name, body);
-  if (name === "edit") drag.request = performance.now() - begun;
+  if (name === "edit") newest.request = performance.now() - begun;
   return said;
 };
 editor.edit = async line => {
   const isKept = await edit(line);
-  drag.answer = performance.now() - drag.released;
+  newest.answer = performance.now() - newest.released;
   return isKept;
 };
 addEventListener("pointerup", async e => {
-  drag.released = e.timeStamp;
-  drag.drawn = await drawn() - e.timeStamp;
+  Object.assign(newest, { released: e.timeStamp, request: null, answer: null, drawn: null });
+  newest.drawn = await drawn() - e.timeStamp;
 }, true);
 window.times = {
-  drag,
+  newest,
   act: async work => {
     const begun = performance.now(), isKept = await work(), ended = performance.now() - begun;
-    const entry = editor.log[editor.log.length - 1];
-    return { isKept, answer: entry.answer, ended, drawn: await drawn() - begun, vertices: editor.vertices };
+    const { answer } = editor.log[editor.log.length - 1], { vertices } = editor, { request } = newest;
+    return { isKept, answer, vertices, request, ended, drawn: await drawn() - begun };
   },
 };"""
 # The number of a feature and the positions of its outer ring, of the feature at a share of all.
-RING = """const all = [...editor.model.features.values()], feature = all[Math.floor(arguments[0] * all.length)];
+RING = """const all = [...editor.model.features.values()];
+const feature = all[Math.floor(arguments[0] * all.length)];
 const at = editor.model.positions(feature.polygons[0][0]);
 return [feature.num, Array.from({ length: at.length / 2 }, (_, i) => [at[2 * i], at[2 * i + 1]])];"""
 
@@ -190,9 +196,11 @@ def dragged(page, figures, share):
     count = len(page.log())
     page.drag(at, (at[0] + WAY[0], at[1] + WAY[1]))
     entries = page.log()[count:]
-    is_moved = [(line.split()[:3], answer) for line, answer in entries] == [(["move", *map(str, vertex)], "ok")]
+    moves = [entry for entry in entries if entry[0].startswith(f"move {vertex[0]} {vertex[1]} ")]
+    is_moved = entries == moves and [answer for _, answer in moves] == ["ok"]
     figures.check(f"a drag of {vertex} moves it: {entries}", is_moved)
-    return page.js("return times.drag")
+    page.wait("times.newest.drawn")
+    return page.js("return times.newest")
 
 
 def measure_drags(page, figures, made):
@@ -202,8 +210,7 @@ def measure_drags(page, figures, made):
 
 
 def measure_cuts(page, figures, made):
-    """Splits features from the middle of the lower line to that of the upper one, and merges the parts. Takes both
-    back."""
+    """Splits features from the middle of the lower line to that of the upper one, and merges their parts."""
     splits, merges, undos = [], [], []
     for i in range(CUTS):
         number, positions = ring(page, (i + 0.5) / CUTS)
@@ -221,10 +228,11 @@ def measure_thinning(page, figures, made):
     left = thinned["vertices"]
     print(f"  {before - left:,} of {before:,} vertices are left out", flush=True)
     figures.check(f"{made.path.name}: most vertices are left out, {left} of {before} stay", left < before / 2)
-    figures.give(made, "thin", thinned["ended"] / 1000)
     taken_back = undo(page, figures)
     figures.check(f"{made.path.name}: the vertices are back", taken_back["vertices"] == before)
-    figures.give(made, "undo of thin", taken_back["ended"] / 1000)
+    for name, found in (("thin", thinned), ("undo of thin", taken_back)):
+        figures.give(made, name, found["ended"] / 1000)
+        figures.give(made, f"{name}, request", found["request"] / 1000)
 
 
 def resident(process):
@@ -286,10 +294,13 @@ def measure_map(figures, made):
 
 
 def main():
-    parser = argparse.ArgumentParser(description=__doc__, formatter_class=argparse.RawDescriptionHelpFormatter)
+    form = argparse.RawDescriptionHelpFormatter
+    parser = argparse.ArgumentParser(description=__doc__, formatter_class=form)
     parser.add_argument("--sizes", nargs="*", type=int, default=[43_000, 1_000_000],
                         help="vertices of the maps that are made")
     given = parser.parse_args()
+    # so that the server and the browser end too
+    signal.signal(signal.SIGTERM, lambda number, _: sys.exit(128 + number))
     # so that a program that has to be built is not built while time is taken
     os.environ.update({name.upper(): programs.find(name)[0] for name in PROGRAMS})
     made, figures = [Map(maps.made_map("bricks", size, 1).path, size) for size in given.sizes], Figures()
