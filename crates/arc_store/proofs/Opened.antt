@@ -25,7 +25,8 @@ use Rattle.map_opening.proofs.FlatLists.{length-all_rings}
 use Rattle.map_opening.proofs.NestedLists.{put_again}
 use Rattle.map_frame.specs.Common.{Framed, polygon_numbers, feature_numbers, CanStand}
 use Rattle.map_frame.specs.Opened as frame
-use Rattle.map_frame.proofs.BuiltAlike.{can_stand, lengths_of}
+use Rattle.map_frame.proofs.BuiltAlike.{lengths_of}
+use Rattle.arc_store.proofs.Standing.{can_stand}
 use Rattle.map_frame.proofs.BuiltNumbers.{layers_length}
 use Rattle.feature_exchange.specs.Common.{Holds, stored_in, Stored, ring_under, document_of}
 use Rattle.feature_exchange.proofs.Whole.{map_holds}

@@ -9,7 +9,7 @@ use Rattle.grid_geometry.specs.Common.{Position}
 use Rattle.ring_machine.specs.Common.{Text, Command, Move, Insert, Remove, Thin, Split, Merge, Rename, Delete, Undo}
 use Rattle.ring_machine.specs.Common.{Area, At, Neighbours, Rings, Count, Show}
 use Rattle.topo_outline.specs.Common.{IsName}
-use Rattle.map_text.specs.Common.{string_text}
+use Rattle.edit_records.specs.Common.{string_text}
 use Rattle.script_lines.specs.Lines.{is_comment}
 use Rattle.script_lines.specs.Common.{spaced, spaced_position, spaced_token, spaced_path, most_bound}
 use Rattle.script_lines.specs.Common.{ArePositions, AreFeatures, AreNaming, word_of, AskedWith, Asks, Says, is_letter}

@@ -2,7 +2,7 @@
 use Rattle.std.specs.Prelude.{◌≡◌, ℕ, List, Option, None, Some, MatchOption, IsSomeAnd}
 use Rattle.ring_machine.specs.Common.{Command, Undo, Rings, Count, Show}
 use Rattle.script_lines.specs.Lines.{word_of, AskedWith, Says}
-use Rattle.undo_ring.specs.Common.{command_of, IsSound}
+use Rattle.edit_records.specs.Common.{command_of, IsSound}
 use Rattle.script_lines.specs.declared.lines.Line.{Line}
 use Rattle.script_lines.specs.declared.lines.Line.TheVariants as said
 use Rattle.script_lines.specs.declared.lines.LineFault.{LineFault}

@@ -6,7 +6,7 @@ use Rattle.grid_geometry.specs.Common.{Position, InRange}
 use Rattle.ring_machine.specs.Common.{Text, Command, Move, Insert, Remove, Thin, Split, Merge, Rename, Delete, Undo}
 use Rattle.ring_machine.specs.Common.{Area, At, Neighbours, Rings, Count, Show}
 use Rattle.topo_outline.specs.Common.{IsName}
-use Rattle.map_text.specs.Common.{string_text}
+use Rattle.edit_records.specs.Common.{string_text}
 
 -- a number behind its space: 0, or digits of which the first is not 0, perhaps behind a minus
 abbrev pub spaced : ℤ → List ℕ

@@ -1,5 +1,5 @@
 use std::alloc::AllocError;
-use undo_ring::Command;
+use edit_records::Command;
 
 /// What a line of a script asks.
 #[derive(Debug, Drop)]

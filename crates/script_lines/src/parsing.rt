@@ -1,6 +1,6 @@
 ghost use Rattle.std.specs.Prelude.{◌≡◌, ◌∷◌, [], IfOk, MatchResult, Option};
 ghost use Rattle.std.specs.Prelude.{Some, None};
-ghost use Rattle.map_text.specs.Common.{string_text};
+ghost use Rattle.edit_records.specs.Common.{string_text};
 ghost use Rattle.ring_machine.specs.Command.{Split as Cut, Rename as Name, Thin as Thinning};
 ghost use Rattle.script_lines.specs.Lines.{ArePositions, AreFeatures, AskedWith, Asks, Says};
 ghost use Rattle.script_lines.specs.Lines.{is_comment};
@@ -12,11 +12,10 @@ use crate::paths::read_path;
 use crate::words::{
     behind, spaced_feature, spaced_position, spaced_token, split_word, wide_number,
 };
-use arc_store::{IdText, Path};
+use edit_records::{Command, IdText, Path};
 use grid_geometry::Pos;
 use std::alloc::{AllocError, Global};
 use std::str;
-use undo_ring::Command;
 
 /// The most that the bound of a thinning may be: twice the area of the whole grid, which no
 /// triangle is over.

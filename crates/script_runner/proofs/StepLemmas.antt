@@ -5,9 +5,10 @@ use Rattle.kit_words.proofs.Common.{MatchBool, Bool, true, false, cond, ◌==◌
 use Rattle.kit_words.proofs.Common.{Appends, Appends-kept}
 use Rattle.std.proofs.Common.{append-nil}
 use Rattle.ring_machine.specs.Common.{Document, Show}
-use Rattle.undo_ring.specs.Common.{command_of, Edited, machine_of}
-use Rattle.undo_ring.specs.declared.command.Command.{Command}
-use Rattle.undo_ring.specs.declared.command.Command.TheVariants as command
+use Rattle.undo_ring.specs.Common.{Edited, machine_of}
+use Rattle.edit_records.specs.Common.{command_of}
+use Rattle.edit_records.specs.declared.command.Command.{Command}
+use Rattle.edit_records.specs.declared.command.Command.TheVariants as command
 use Rattle.script_lines.specs.declared.lines.Line.{Line}
 use Rattle.script_lines.specs.declared.lines.Line.TheVariants as said
 use Rattle.script_lines.proofs.Common.{not_empty}

@@ -14,4 +14,5 @@ pub use fault::RunFault;
 pub use runner::Summary;
 pub use running::run;
 pub use script_lines::{Line, LineFault, parse_line};
-pub use undo_ring::{Answer, Command};
+pub use edit_records::Command;
+pub use undo_ring::Answer;

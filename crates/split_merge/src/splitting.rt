@@ -8,11 +8,12 @@ ghost use Rattle.local_planarity.specs.Common.{most_for};
 ghost use Rattle.arc_store.specs.Common.{Refuses, Edits, edit_begun, split_map, IsRecorded};
 ghost use Rattle.split_merge.specs.Conditions.{place_refusals, early_refusals};
 ghost use Rattle.split_merge.specs.Untested.{is_early};
-ghost use Rattle.map_text.specs.Common.{string_text};
+ghost use Rattle.edit_records.specs.Common.{string_text};
 
 use crate::id_text::json_string;
 use crate::path_way::check_path;
-use arc_store::{EditFault, IdText, Map, Path};
+use arc_store::{EditFault, Map};
+use edit_records::{IdText, Path};
 use grid_geometry::Pos;
 use ring_parts::first_cut;
 use segment_index::SegIndex;

@@ -17,11 +17,12 @@ use Rattle.ring_boxes.specs.Common.{Covers, IsCovered, Keeps}
 use Rattle.arc_store.specs.Common.{IsSameMap}
 use Rattle.arc_store.specs.State.{State as MapState}
 use Rattle.arc_store.specs.declared.fault.EditFault.{EditFault}
-use Rattle.undo_ring.specs.Common.{refusal_of, with_past, StopsOn, RefusesOn, AnswersMap, command_of, AreCovered}
+use Rattle.undo_ring.specs.Common.{refusal_of, with_past, StopsOn, RefusesOn, AnswersMap, AreCovered}
+use Rattle.edit_records.specs.Common.{command_of}
 use Rattle.undo_ring.specs.Common.{IsKnown, HasGrown, IsReady, touched_by, HasCome, Follows, Near}
 use Rattle.undo_ring.specs.declared.answer.Answer.{Answer as Told}
-use Rattle.undo_ring.specs.declared.command.Command.{Command as Asked}
-use Rattle.undo_ring.specs.declared.command.Command.TheVariants as told
+use Rattle.edit_records.specs.declared.command.Command.{Command as Asked}
+use Rattle.edit_records.specs.declared.command.Command.TheVariants as told
 use Rattle.point_queries.specs.Common.{CoversFeature}
 use Rattle.undo_ring.proofs.Recording.{handed}
 use Rattle.undo_ring.proofs.RingOrigins.{put_from, ins_from, del_from, thinned_from, thinned_over_from, renamed_from, take_out_from, cut_from, join_from}

@@ -13,7 +13,7 @@ use Rattle.ring_machine.specs.Common.{split_state}
 use Rattle.ring_machine.specs.Command as machine
 use Rattle.ring_machine.proofs.Common.{step-move, step-insert, step-remove, step-thin, step-split, step-merge}
 use Rattle.ring_machine.proofs.Common.{step-rename, step-delete}
-use Rattle.map_text.specs.Common.{string_text}
+use Rattle.edit_records.specs.Common.{string_text}
 use Rattle.edit_records.specs.Common.{Record, Takes}
 use Rattle.arc_store.specs.Common.{Edits, IsSameMap, edit_begun, split_map, IsRecorded, Refuses}
 use Rattle.arc_store.specs.State.{State as MapState}

@@ -3,7 +3,6 @@ pub use Rattle.undo_ring.specs.Answered.{AcceptsOn, AnswersMap, FailsOn, IsGrown
 pub use Rattle.undo_ring.specs.Answered.{StopsOn, done_of, is_change, made_of, past_after, with_past}
 pub use Rattle.undo_ring.specs.Answers.{answer_of, refusal_of}
 pub use Rattle.undo_ring.specs.Boxed.{AreCovered, Follows, HasCome, HasGrown, IsKnown, IsReady, touched_by}
-pub use Rattle.undo_ring.specs.Commands.{IsSound, command_of}
 pub use Rattle.undo_ring.specs.Edited.{Applies, Edited, EditsVertices, Fails, IsCutShort, IsSame, IsUndone, LacksMemory}
 pub use Rattle.undo_ring.specs.Edited.{Refuses, StaysDone, begun, machine_of}
 pub use Rattle.undo_ring.specs.Trails.{IsTrail, edited_by, kept}

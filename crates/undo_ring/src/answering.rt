@@ -2,16 +2,16 @@
 ghost use Rattle.std.specs.Prelude.{◌≡◌, ◌≤◌, ◌∷◌, length, List, None, IfOk, IfSome, OnOk};
 ghost use Rattle.ring_machine.specs.Common.{Split, Rename, Thin, Area, At, Neighbours, Document};
 ghost use Rattle.ring_machine.specs.Common.{rings, border_at, inside_at};
-ghost use Rattle.map_text.specs.Common.{string_text};
+ghost use Rattle.edit_records.specs.Common.{string_text};
 ghost use Rattle.ring_boxes.specs.Common.{Covers};
 ghost use Rattle.undo_ring.specs.Boxed.{IsKnown, IsReady};
-ghost use Rattle.undo_ring.specs.Commands.{command_of, IsSound};
+ghost use Rattle.edit_records.specs.Commands.{command_of, IsSound};
 ghost use Rattle.undo_ring.specs.Answered.{AnswersMap, done_of, made_of};
 
 use crate::answer::Answer;
-use crate::command::Command;
 use crate::near::Near;
-use arc_store::{EditFault, IdText, Map, Path};
+use arc_store::{EditFault, Map};
+use edit_records::{Command, IdText, Path};
 use edit_vertex::{insert_vertex, move_vertex, remove_vertex, thin};
 use grid_geometry::Pos;
 use point_queries::{At as Found, QueryFault, area2_of, at, at_near, neighbours};

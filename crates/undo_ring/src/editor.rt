@@ -1,15 +1,15 @@
 ghost use Rattle.std.specs.Prelude.{◌≡◌, ◌≤◌, OnOk, IfOk, IfErr};
 ghost use Rattle.ring_machine.specs.Common.{KeepsSides};
-ghost use Rattle.undo_ring.specs.Commands.{command_of, IsSound};
+ghost use Rattle.edit_records.specs.Commands.{command_of, IsSound};
 ghost use Rattle.undo_ring.specs.Edited.{begun, Applies, EditsVertices, Fails, IsUndone, StaysDone};
 ghost use Rattle.undo_ring.specs.Trails.{kept};
 
 use crate::answer::Answer;
 use crate::answering::answer_near;
-use crate::command::Command;
 use crate::near::{Near, touched_by};
 use arc_store::{EditFault, Map, Record};
 use circular_buffer::HeapCircularBuffer;
+use edit_records::Command;
 use segment_index::SegIndex;
 use std::alloc::{Allocator, Global};
 use std::marker::Model;

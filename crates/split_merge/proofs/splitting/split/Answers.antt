@@ -5,7 +5,7 @@ use Rattle.segment_index.specs.Common.{times_by}
 use Rattle.local_planarity.specs.Common.{most_for}
 use Rattle.arc_store.specs.Common.{edit_begun, IsRecorded, State}
 use Rattle.arc_store.proofs.Common.{keeps_last}
-use Rattle.map_text.specs.Common.{string_text}
+use Rattle.edit_records.specs.Common.{string_text}
 use Rattle.split_merge.specs.Common.{is_early}
 use Rattle.split_merge.proofs.SplitConditions.{areas_add_up}
 use Rattle.split_merge.proofs.Recording.{SplitsAlong, split_recorded}

@@ -5,7 +5,7 @@ use Rattle.local_planarity.specs.Common.{most_for}
 use Rattle.arc_store.specs.Common.{Refuses}
 use Rattle.arc_store.proofs.Common.{is_refused}
 use Rattle.split_merge.specs.Common.{early_refusals, is_early}
-use Rattle.map_text.specs.Common.{string_text}
+use Rattle.edit_records.specs.Common.{string_text}
 use Rattle.split_merge.proofs.FirstRefusal.{refuses_first}
 use Rattle.split_merge.proofs.Recording.{SplitsAlong}
 use Rattle.split_merge.proofs.Late.{split_late, not_early}
