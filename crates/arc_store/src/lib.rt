@@ -32,9 +32,9 @@ mod restore;
 mod spot;
 
 pub use edit_record::Record;
+pub use edit_records::{IdText, Path};
 pub use fault::{BuildFault, EditFault};
 pub use feature_exchange::RingIter;
-pub use edit_records::{IdText, Path};
 pub use map::Map;
 pub use map_frame::{FeatureView, FrameView, ItemIter, ItemView, RingName};
 pub use marked_map::MarkedMap;

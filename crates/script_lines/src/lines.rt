@@ -1,5 +1,5 @@
-use std::alloc::AllocError;
 use edit_records::Command;
+use std::alloc::AllocError;
 
 /// What a line of a script asks.
 #[derive(Debug, Drop)]

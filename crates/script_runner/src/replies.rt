@@ -9,12 +9,12 @@ ghost use Rattle.script_runner.specs.Replies.{Replied, TellsFault};
 
 use crate::texts::{push_features, push_number, push_position, push_segment};
 use arc_store::EditFault;
+use edit_records::Command;
 use grid_geometry::{Pos, Seg};
 use itoa::Integer;
 use point_queries::{At, Numbers};
 use segment_index::TreeIndex;
 use std::alloc::{AllocError, Allocator};
-use edit_records::Command;
 use undo_ring::{Answer, Editor, UndoFault};
 
 /// Appends the pair of segments in conflict.
