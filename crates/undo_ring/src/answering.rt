@@ -3,7 +3,7 @@ ghost use Rattle.std.specs.Prelude.{◌≡◌, ◌≤◌, ◌∷◌, length, Lis
 ghost use Rattle.ring_machine.specs.Common.{Split, Rename, Thin, Area, At, Neighbours, Document};
 ghost use Rattle.ring_machine.specs.Common.{rings, border_at, inside_at};
 ghost use Rattle.edit_records.specs.Common.{string_text};
-ghost use Rattle.ring_boxes.specs.Common.{Covers};
+ghost use Rattle.ring_boxes.specs.Common.{CoversRings};
 ghost use Rattle.undo_ring.specs.Boxed.{IsKnown, IsReady};
 ghost use Rattle.edit_records.specs.Commands.{command_of, IsSound};
 ghost use Rattle.undo_ring.specs.Answered.{AnswersMap, done_of, made_of};
@@ -129,7 +129,7 @@ fn found_at<'a, I: SegIndex, A: Allocator + Copy>(
     boxes: Option<&RingBoxes<A>>,
     position: Pos,
 ) -> Result<Found<A>, AllocError>
-    requires { IfSome boxes (λ b. Covers b.now (rings map.now.doc)) }
+    requires { IfSome boxes (λ b. CoversRings b.now (rings map.now.doc)) }
     ensures inside { IfOk result (λ at. at.inside ≡ inside_at map.now.doc position) }
     ensures border { IfOk result (λ at. at.border ≡ border_at map.now.doc position) }
 {
@@ -146,7 +146,7 @@ fn at_on<'a, I: SegIndex, A: Allocator + Copy>(
     boxes: Option<&RingBoxes<A>>,
     position: Pos,
 ) -> Result<Answer<A>, EditFault>
-    requires { IfSome boxes (λ b. Covers b.now (rings map.now.doc)) }
+    requires { IfSome boxes (λ b. CoversRings b.now (rings map.now.doc)) }
     ensures { AnswersMap map.now map.now (At position) result }
 {
     match found_at(alloc, map, boxes, position) {
@@ -177,7 +177,7 @@ fn answer<'a, I: SegIndex, A: Allocator + Copy>(
     boxes: Option<&RingBoxes<A>>,
     command: Command,
 ) -> Result<Answer<A>, EditFault>
-    requires covered { IfSome boxes (λ b. Covers b.now (rings map.old.doc)) }
+    requires covered { IfSome boxes (λ b. CoversRings b.now (rings map.old.doc)) }
     requires taken { map.old.last ≡ None }
     requires sound { IsSound command }
     ensures { AnswersMap map.old map.new (command_of command) result }
