@@ -2,15 +2,15 @@
 """Runs the built program border_edit to each of its ends, and looks at FILE before and after; and runs all three programs
 on files of all kinds (bench/file_ends.py).
 
-The tests of the crate call what stands below `main`. Here the program itself is called: with words, on
-files, on devices that are full, with little memory, and with a terminal as standard error. Compared are
-the status, the answers, what stands on standard error, and what FILE holds at the end, and FILE2 where
-one is named; and no other file may be left.
+Tests of the crates call what `main` calls. Here the program itself is called: with arguments, on files, on devices
+that are full, with little memory, and with a terminal as standard error. The rows of bench/edit_ends.txt are run, and
+those below, of which are compared the status, the answers, what is on standard error, and what FILE holds at the end,
+and FILE2 where one is named; and no other file may be left.
 
 Without a C compiler the ends without a seed are left out, and that is said.
 
 The programs have to stand already (`rt ci` leaves them); others can be named. There is one line for
-each end that differs; the status is 0 where none does.
+each end that differs, and a last one that counts them; the status is 0 where none does.
 """
 import argparse
 import collections
@@ -25,6 +25,7 @@ import subprocess
 import sys
 import tempfile
 
+import edit_ends
 import file_ends
 import running
 
@@ -263,7 +264,7 @@ def main():
     words = argparse.ArgumentParser(description=__doc__.split("\n", 1)[0])
     running.add_programs(words, "edit", "show", "mend")
     programs = vars(words.parse_args())
-    count, wrong = file_ends.told(programs)
+    count, wrong = map(sum, zip(file_ends.told(programs), edit_ends.told(programs["edit"])))
     if not compiler():
         print("no compiler: the ends without a seed are left out")
     for row in ends():
@@ -274,7 +275,7 @@ def main():
         if fault:
             wrong += 1
             print(f"{row.what}: {fault}")
-    print(f"{count} ends, {wrong} differ")
+    print(f"{count - wrong} passed, {wrong} failed")
     return 1 if wrong else 0
 
 

@@ -205,6 +205,3 @@ pub(crate) fn edit<W: Write + Drop, E: Write>(
         Err(stop) => end(Ending::of_stop(&stop), errors),
     }
 }
-
-#[cfg(test)]
-mod tests;

@@ -5,7 +5,7 @@ use std::alloc::{AllocError, Global};
 use std::test::Fail;
 
 /// Words as the program is given them, its own name first, from a line with one space between them.
-pub(crate) fn given(alloc: Global, line: &str) -> Result<Vec<String>, AllocError> {
+fn given(alloc: Global, line: &str) -> Result<Vec<String>, AllocError> {
     let mut given = Vec::new(alloc);
     for word in line.split(' ') {
         given.push(String::from_str(alloc, word)?)?;
