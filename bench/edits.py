@@ -195,33 +195,36 @@ def verdicts(crate, room):
     return found
 
 
-def try_portion(page, crate, names, room, kit):
+def try_portion(top, crate, names, room, kit):
     """Tries edits of a crate in a copy of the crates, and writes what came of them."""
     folders = room / "crates" / crate / "inner-edits", room / "crates" / crate / "must-fail"
     for folder in folders:
         shutil.rmtree(folder, ignore_errors=True)
         folder.mkdir()
         for name in names:
-            shutil.copy(page.top / "crates" / crate / "inner-edits" / f"{name}.edit", folder)
+            shutil.copy(top / "crates" / crate / "inner-edits" / f"{name}.edit", folder)
     stands = what_stands(room, crate, names, kit)
     found = verdicts(crate, room)
+    # (another run may have written the page meanwhile)
+    page = Page(top)
     page.rows.update({name: Row(*stands[name], found[name]) for name in stands if name in found})
     page.write()
 
 
-def try_crate(page, crate, names, room, kit, anew):
+def try_crate(top, crate, names, room, kit, anew):
     """Tries edits of a crate, those that were not tried on what stands or all. Returns whether all are refused then."""
-    stands = what_stands(page.top, crate, names, kit)
+    page, stands = Page(top), what_stands(top, crate, names, kit)
     untried = [name for name in names if anew or page.lack(f"{crate}/{name}", stands[f"{crate}/{name}"])]
     if untried and not (room / "crates").exists():
-        copy_crates(page.top, room)
+        copy_crates(top, room)
     for start in range(0, len(untried), PORTION):
-        try_portion(page, crate, untried[start:start + PORTION], room, kit)
-    lacks = [name for name in stands if page.lack(name, stands[name])]
-    if not lacks:
+        try_portion(top, crate, untried[start:start + PORTION], room, kit)
+    page, stands = Page(top), what_stands(top, crate, names, kit)
+    is_tried = not any(page.lack(name, stands[name]) for name in stands)
+    if is_tried:
         page.waiting.discard(crate)
     page.write()
-    return not lacks and all(page.is_refused(name) for name in stands)
+    return is_tried and all(page.is_refused(name) for name in stands)
 
 
 def main(words=None, top=TOP):
@@ -238,7 +241,7 @@ def main(words=None, top=TOP):
         return compare(top, kit())
     signal.signal(signal.SIGTERM, lambda number, _: sys.exit(128 + number))
     with tempfile.TemporaryDirectory() as room:
-        refused = [try_crate(Page(top), name, edits[name], pathlib.Path(room), kit(), options.anew)
+        refused = [try_crate(top, name, edits[name], pathlib.Path(room), kit(), options.anew)
                    for name in options.names or edits]
     return 0 if all(refused) else 1
 
