@@ -13,8 +13,8 @@ the crate changes:
 
 The page is bench/edits.txt. It has a row for each edit that was tried: its name, the kit, a sum of the crate's sources,
 a sum of the edit's text, and the verdict. The sources are the files of the crate's src, specs and proofs. Those of the
-crates below are not among them: the crate is proved from their contracts and definitions, and where these change in a
-way that matters, its own files change too. A crate after `to try:` has edits that were not tried yet.
+crates below are not among them, though the crate is proved from their contracts and definitions: where a definition
+changes that its contracts cite, its edits are tried --anew. A crate after `to try:` has edits that were not tried yet.
 
 To try edits, the crates are copied, these edits put in the place of the others, and `rt must-fail` called, which proves
 a crate first unless it was proved before on this machine. RT_JOBS=1 has it try one at a time. The page is written after
@@ -107,7 +107,7 @@ class Page:
                 sys.exit(f"{PAGE}:{number}: this is no row")
 
     def write(self):
-        """Writes what is true of an edit that is there, and leaves out a crate once all of its edits were tried."""
+        """Writes the page, without rows of edits and names of crates that are gone."""
         edits = inner_edits(self.top)
         there = {f"{crate}/{name}" for crate, names in edits.items() for name in names}
         self.rows = {name: row for name, row in self.rows.items() if name in there}
