@@ -41,6 +41,16 @@ HELP = (TOP / "crates/edit_program/src/help.rt").read_text()
 SHARED = (TOP / "crates/program_ends/src/lib.rt").read_text()
 VERSION = "border_edit " + re.search('VERSION: &str = "(.*)"', SHARED).group(1) + "\n"
 
+# What a second line says at a terminal, after the path of the file that the first one is about.
+ADVICE = {
+    "not json": "it is cut off or damaged there, or is no JSON file",
+    "not a topology": "it is no TopoJSON topology, whose `type` is `Topology`",
+    "not whole": "`border_mend MAP --out NEW` puts its coordinates on a grid of whole numbers",
+    "conflict": "`border_mend MAP` lists all that keeps it from opening; with `--out NEW` it mends the map",
+    "read": "can it be read? Look at its name and its permissions",
+    "write": "can it be written? Look at its folder, its permissions and the space on the disk",
+}
+
 # What stands on standard error, or standard output, where its text is not fixed: something.
 SOME = object()
 
@@ -56,6 +66,10 @@ FILES = {
     "refused.txt": "move 1 1 2 2\narea 0\n",
     "bad.txt": "mend 1 1\n",
     "cut.json": "{",
+    "other.json": '{"type":"FeatureCollection"}',
+    "halves.json": '{"type":"Topology","objects":{"a":{"type":"Polygon","arcs":[[0]]}},"arcs":[[[0,0.5],[1,0],[1,1],[0,0.5]]]}',
+    "crossing.json": '{"type":"Topology","objects":{"a":{"type":"Polygon","arcs":[[0]]}},'
+                     '"arcs":[[[0,0],[10,10],[10,0],[0,10],[0,0]]]}',
     "long.txt": "document\n" * 100,
     "undone.txt": "move 0 0 1 1\nmove 10 10 12 12\nundo\nundo\n",
     "cut.txt": "move 10 10 12 12\narea 0",
@@ -132,11 +146,33 @@ def ends():
     yield Row("progress to no terminal", progress, 1, answers, "", SAVED)
     yield Row("no progress", progress[:-1], 1, answers, "", SAVED, terminal=True)
     unopened = words("cut.json", "refused.txt", "saved.json", "--progress")
-    said = "opening cut.json\nopen: not json at 1\n"
+    said = f"opening cut.json\nopen: not json at 1\ncut.json: {ADVICE['not json']}\n"
     yield Row("progress, not opened", unopened, 2, "", said, KEPT, terminal=True)
+    yield from advised_ends(words, listing)
 
     for map_file, script in ("squares.json", "accepted.txt"), ("none.json", "none.txt"):
         yield Row(f"no seed, {map_file}", words(map_file, script), 3, "", "no random seed\n", KEPT, unseeded=True)
+
+
+def advised_ends(words, listing):
+    """Ends at a terminal, where a second line says what can be done."""
+    refused = "refused no vertex\n200\n"
+    for map_file, status, said, advice in (
+        ("cut.json", 2, "open: not json at 1", "not json"), ("other.json", 2, "open: not a topology", "not a topology"),
+        ("halves.json", 2, "open: not whole at 79", "not whole"),
+        ("crossing.json", 2, "open: conflict 0 0 10 10 / 0 10 10 0", "conflict"), ("none.json", 3, "map fault", "read"),
+    ):
+        told = f"{said}\n{map_file}: {ADVICE[advice]}\n"
+        yield Row(f"advice, {map_file}", words(map_file, "refused.txt"), status, "", told, KEPT, terminal=True)
+    for script, out, list_file, answered, kept, said, path, advice in (
+        ("none.txt", "saved.json", "list.txt", "", KEPT, "script fault", "none.txt", "read"),
+        ("refused.txt", ".", "list.txt", refused, KEPT, "save fault", ".", "write"),
+        ("refused.txt", "saved.json", "none/list.txt", refused, SAVED, "refused fault", "none/list.txt", "write"),
+    ):
+        told = f"{said}\n{path}: {ADVICE[advice]}\n"
+        yield Row(f"advice, {said}", listing(script, list_file, out), 3, answered, told, kept, terminal=True)
+    full = words("squares.json", "refused.txt")
+    yield Row("no advice, full output", full, 3, None, "write fault\n", KEPT, output="/dev/full", terminal=True)
 
 
 def strict_ends(words):

@@ -1,0 +1,95 @@
+//! What a person at a terminal is told beside the line on standard error: the file that it is about, and what can be
+//! done.
+ghost use Rattle.std.specs.Prelude.{◌≡◌};
+ghost use Rattle.program_ends.specs.Advice.{subject_of};
+
+use crate::diagnostic::Diagnostic;
+use crate::ending::Ending;
+use std::io::Write;
+use topo_outline::OpenFault;
+
+/// The file that a line is about, by what it is to the run.
+#[derive(Clone, Copy, Debug, PartialEq, Eq)]
+pub enum Subject {
+    /// The map that is read.
+    Map,
+    /// The script.
+    Script,
+    /// The file that is saved.
+    File,
+    /// The list of refused lines.
+    List,
+}
+
+/// The paths of a run's files, each empty where the run has none.
+#[derive(Clone, Copy, Debug)]
+pub struct Paths<'a> {
+    pub map: &'a str,
+    pub script: &'a str,
+    pub file: &'a str,
+    pub list: &'a str,
+}
+
+impl Paths<'_> {
+    /// The path of a file.
+    fn path(&self, subject: Subject) -> &str {
+        match subject {
+            Subject::Map => self.map,
+            Subject::Script => self.script,
+            Subject::File => self.file,
+            Subject::List => self.list,
+        }
+    }
+}
+
+/// What can be done about a map with this fault.
+fn map_advice(fault: &OpenFault<'_>) -> &'static str {
+    match fault {
+        OpenFault::NotJson { .. } => "it is cut off or damaged there, or is no JSON file",
+        OpenFault::NotTopology => "it is no TopoJSON topology, whose `type` is `Topology`",
+        OpenFault::NotWhole { .. } | OpenFault::OutOfRange { .. } => {
+            "`border_mend MAP --out NEW` puts its coordinates on a grid of whole numbers"
+        }
+        OpenFault::RingShort { .. } | OpenFault::RingRepeats { .. } | OpenFault::Conflict { .. } =>
+            {
+                "`border_mend MAP` lists all that keeps it from opening; with `--out NEW` it mends the map"
+            }
+        _ => "docs/FORMATS.md says what a map may have",
+    }
+}
+
+impl Diagnostic<'_> {
+    /// The file that the line is about, where it is about one.
+    pub fn subject(&self) -> Option<Subject>
+        ensures { result ≡ subject_of self.now }
+    {
+        match self {
+            Diagnostic::Open(_) | Diagnostic::Map => Some(Subject::Map),
+            Diagnostic::Script => Some(Subject::Script),
+            Diagnostic::Save => Some(Subject::File),
+            Diagnostic::Refused => Some(Subject::List),
+            _ => None,
+        }
+    }
+
+    /// What can be done about the file that the line is about.
+    fn advice(&self) -> &'static str {
+        match self {
+            Diagnostic::Open(fault) => map_advice(fault),
+            Diagnostic::Map | Diagnostic::Script =>
+                "can it be read? Look at its name and its permissions",
+            _ => "can it be written? Look at its folder, its permissions and the space on the disk",
+        }
+    }
+}
+
+/// Writes a second line under that of an ending, for a person at a terminal: the path of the file that the line is
+/// about, and what can be done. Writes nothing where the ending has no line, or one that is about no file.
+pub fn advise<E: Write>(ending: &Ending<'_>, paths: &Paths<'_>, errors: &mut E) {
+    if let Some(line) = ending.line
+        && let Some(subject) = line.subject()
+    {
+        let (path, advice) = (paths.path(subject), line.advice());
+        let _ = writeln!(errors, "{path}: {advice}");
+    }
+}
