@@ -5,7 +5,7 @@ use device_io::{FromReader, Sink, Source, ToWriter};
 use edit_program::{
     NotedAnswers, NotedScript, RefusedLines, ScriptTail, Words, ending_of_run, strict_ending,
 };
-use program_ends::{Ending, Paths, Stop, advise, end, hash_seed, map_bytes, replace_file};
+use program_ends::{Ending, Errors, Paths, Stop, hash_seed, map_bytes, replace_file};
 use script_runner::{RunFault, Summary, run};
 use std::alloc::Allocator;
 use std::cell::RefCell;
@@ -16,27 +16,10 @@ use std::io::{BufWriter, Read, Write};
 /// The SCRIPT that is standard input.
 pub(crate) const STANDARD_INPUT: &str = "-";
 
-/// Standard error, which may be a terminal.
-struct Errors<'e, E> {
-    writer: &'e mut E,
-    is_terminal: bool,
-}
-
-impl<E: Write> Errors<'_, E> {
-    /// Reports on a terminal what is begun, and with which file, where the arguments ask for it.
-    fn report(&mut self, words: &Words, begun: &str, path: &str) {
-        if words.progress && self.is_terminal {
-            let _ = writeln!(self.writer, "{begun} {path}");
-        }
-    }
-
-    /// Writes the line of an ending, and on a terminal what can be done; the status.
-    fn end(&mut self, words: &Words, ending: Ending<'_>) -> u8 {
-        let status = end(ending, self.writer);
-        if self.is_terminal {
-            advise(&ending, &paths_of(words), self.writer);
-        }
-        status
+/// Reports on a terminal what is begun, and with which file, where the arguments ask for it.
+fn report<E: Write>(words: &Words, begun: &str, path: &str, errors: &mut Errors<'_, E>) {
+    if words.progress && errors.is_terminal {
+        let _ = writeln!(errors.writer, "{begun} {path}");
     }
 }
 
@@ -65,7 +48,7 @@ fn save<'a, E: Write>(
         return ending;
     };
     let file = words.out.as_str();
-    errors.report(words, "saving", file);
+    report(words, "saving", file, errors);
     ending.once_written(replace_file(rt, file, text))
 }
 
@@ -136,7 +119,7 @@ impl Editing<'_> {
         let saved = saved.writer.as_slice();
         let ending = ending_of(self.words, &outcome, saved, script.is_whole());
         let ending = save(self.rt, self.words, ending, errors);
-        errors.end(self.words, ending)
+        errors.end(ending, &paths_of(self.words))
     }
 
     /// The same, and writes the refused lines in FILE2.
@@ -176,7 +159,7 @@ impl Editing<'_> {
             Ok(lines) => list(self.rt, ending, path, lines.rows()),
             Err(_) => ending,
         };
-        errors.end(self.words, ending)
+        errors.end(ending, &paths_of(self.words))
     }
 
     /// Runs a script that comes from a reader.
@@ -206,7 +189,7 @@ fn edit_files<W: Write + Drop, E: Write>(
     errors: &mut Errors<'_, E>,
 ) -> Result<u8, Stop> {
     let seed = hash_seed(rt)?;
-    errors.report(words, "opening", words.map.as_str());
+    report(words, "opening", words.map.as_str(), errors);
     let map = map_bytes(rt, words.map.as_str())?;
     let map = map.as_slice();
     let editing = Editing {
@@ -240,6 +223,6 @@ pub(crate) fn edit<W: Write + Drop, E: Write>(
     };
     match edit_files(rt, words, answers, &mut errors) {
         Ok(status) => status,
-        Err(stop) => errors.end(words, Ending::of_stop(&stop)),
+        Err(stop) => errors.end(Ending::of_stop(&stop), &paths_of(words)),
     }
 }

@@ -83,13 +83,32 @@ impl Diagnostic<'_> {
     }
 }
 
-/// Writes a second line under that of an ending, for a person at a terminal: the path of the file that the line is
-/// about, and what can be done. Writes nothing where the ending has no line, or one that is about no file.
-pub fn advise<E: Write>(ending: &Ending<'_>, paths: &Paths<'_>, errors: &mut E) {
-    if let Some(line) = ending.line
-        && let Some(subject) = line.subject()
+/// Standard error, which may be a terminal.
+pub struct Errors<'e, E> {
+    pub writer: &'e mut E,
+    pub is_terminal: bool,
+}
+
+impl<E: Write> Errors<'_, E> {
+    /// Writes the path of the file that a line is about, and what can be done; nothing where it is about no file.
+    fn advise(&mut self, line: &Diagnostic<'_>, paths: &Paths<'_>) {
+        if let Some(subject) = line.subject() {
+            let (path, advice) = (paths.path(subject), line.advice());
+            let _ = writeln!(self.writer, "{path}: {advice}");
+        }
+    }
+
+    /// Writes the line of an ending and, on a terminal, a second one: the path of the file that the line is about, and
+    /// what can be done. Answers the status.
+    pub fn end(&mut self, ending: Ending<'_>, paths: &Paths<'_>) -> u8
+        ensures { result ≡ ending.entry.status }
     {
-        let (path, advice) = (paths.path(subject), line.advice());
-        let _ = writeln!(errors, "{path}: {advice}");
+        if let Some(line) = ending.line {
+            let _ = writeln!(self.writer, "{line}");
+            if self.is_terminal {
+                self.advise(&line, paths);
+            }
+        }
+        ending.status
     }
 }

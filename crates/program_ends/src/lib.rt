@@ -11,7 +11,7 @@ mod replacing;
 mod stop;
 mod texts;
 
-pub use advice::{Paths, Subject, advise};
+pub use advice::{Errors, Paths, Subject};
 pub use diagnostic::Diagnostic;
 pub use ending::Ending;
 pub use files::{end, end_stopped, given_words, hash_seed, map_bytes};
