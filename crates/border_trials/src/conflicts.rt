@@ -9,10 +9,10 @@ use local_planarity::{
     Leaving, TestCount, crosses_on_way, fill, first_conflict, first_conflict_near, holds_other,
     near_move,
 };
-use refusing_allocator::Refusing;
 use segment_index::{GridIndex, ListIndex, SegIndex};
 use std::alloc::{AllocError, Allocator, Global};
 use std::process::Abort;
+use test_aids::Refusing;
 
 /// A position, by its coordinates.
 type Place = (i64, i64);

@@ -4,10 +4,10 @@ use crate::squares::{
     LEFT, MEMORY, RIGHT, add, are_rings, goes_along, insert, insert_chain, key, remove, vertex_keys,
 };
 use linked_list_allocator::LocalHeap;
-use refusing_allocator::Refusing;
 use ring_store::Borders;
 use std::alloc::{AllocError, Allocator, Global};
 use std::process::Abort;
+use test_aids::Refusing;
 use vertex_index::VertexKey;
 
 /// More than the growths of any run below.

@@ -1,9 +1,9 @@
 //! Squares that share a side, and calls on their borders.
-use fixed_seed::fixed_seed;
 use grid_geometry::Pos;
 use ring_store::{Borders, Neighbours, Put};
 use std::alloc::{AllocError, Allocator, Global};
 use std::process::Abort;
+use test_aids::fixed_seed;
 use vertex_index::{VertexKey, Vertices};
 
 /// Two squares, each counted by its four vertices: the side of vertices 1 and 2 is in both.

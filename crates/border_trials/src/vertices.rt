@@ -1,10 +1,9 @@
 // A key through the changes of its vertex, and calls that are refused memory.
 use crate::squares::MEMORY;
-use fixed_seed::fixed_seed;
 use grid_geometry::Pos;
-use refusing_allocator::Refusing;
 use std::alloc::{Allocator, Global};
 use std::process::Abort;
+use test_aids::{Refusing, fixed_seed};
 use vertex_index::{AddFault, ShiftFault, VertexKey, Vertices};
 
 /// More than the growths of any run below.

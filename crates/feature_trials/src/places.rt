@@ -5,13 +5,13 @@ ghost use Rattle.ring_machine.specs.Parts.{rings};
 ghost use Rattle.ring_boxes.specs.Covering.{CoversRings};
 
 use arc_store::Map;
-use fixed_seed::fixed_seed;
 use grid_geometry::Pos;
 use point_queries::{At, at, at_near, boxes_of};
 use ring_boxes::RingBoxes;
 use segment_index::TreeIndex;
 use std::alloc::Global;
 use std::process::Abort;
+use test_aids::fixed_seed;
 use topo_reader::read;
 
 // a square with a square hole, in it a smaller square with a hole, and in that a square

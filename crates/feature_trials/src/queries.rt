@@ -1,12 +1,12 @@
 // Neighbours of features, and the features at positions, on maps made by hand.
 use crate::squares::map_of;
 use arc_store::Map;
-use given_maps::UNION_ABOVE;
 use grid_geometry::Pos;
 use point_queries::{Numbers, QueryFault, at, neighbours};
 use segment_index::GridIndex;
 use std::alloc::Global;
 use std::process::Abort;
+use test_aids::UNION_ABOVE;
 
 // two squares with a common side
 const SQUARES: &str =

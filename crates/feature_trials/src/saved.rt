@@ -4,7 +4,6 @@ use crate::drawn::{Drawn, Tally, draw};
 use crate::squares::{map_of, squares_text};
 use arc_store::Map;
 use device_io::{FromReader, ToWriter};
-use fixed_seed::fixed_seed;
 use grid_geometry::Seg;
 use script_runner::run;
 use segment_index::GridIndex;
@@ -13,6 +12,7 @@ use std::process::Abort;
 use std::str;
 use std::str::Utf8Error;
 use std::test::Fail;
+use test_aids::fixed_seed;
 
 /// How many edits are drawn.
 const COUNT: u32 = 1000;

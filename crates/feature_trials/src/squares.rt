@@ -3,11 +3,11 @@ ghost use Rattle.std.specs.Prelude.{◌≡◌};
 ghost use Rattle.std.specs.FinSet as set;
 
 use arc_store::Map;
-use fixed_seed::fixed_seed;
 use grid_geometry::Rect;
 use segment_index::GridIndex;
 use std::alloc::{AllocError, Global};
 use std::process::Abort;
+use test_aids::fixed_seed;
 use topo_reader::read;
 
 /// How many squares a row has, and a column.

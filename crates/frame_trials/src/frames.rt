@@ -6,9 +6,9 @@ ghost use Rattle.ring_machine.specs.WellFormed.{are_distinct};
 ghost use Rattle.map_frame.specs.Numbers.{feature_numbers};
 
 use map_frame::{FeatureTexts, Frame, Id, ItemView};
-use refusing_allocator::Refusing;
 use std::alloc::{AllocError, Allocator, Global};
 use std::process::Abort;
+use test_aids::Refusing;
 use topo_outline::Form;
 use topo_reader::read;
 

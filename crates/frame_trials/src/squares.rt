@@ -7,14 +7,13 @@ ghost use Rattle.feature_exchange.specs.Laid.{AreThere};
 ghost use Rattle.ring_store.specs.Tables.{AreStanding};
 
 use feature_exchange::{LaidRing, gather_rings, lay_rings, take_out_rings};
-use fixed_seed::fixed_seed;
 use grid_geometry::Pos;
-use refusing_allocator::Refusing;
 use ring_store::{Borders, Counted, RingTables};
 use segment_index::ListIndex;
 use std::alloc::{AllocError, Allocator, Global};
 use std::hash::RandomState;
 use std::process::Abort;
+use test_aids::{Refusing, fixed_seed};
 use vertex_index::{VertexKey, Vertices};
 
 /// More than the growths of any run below.

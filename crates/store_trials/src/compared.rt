@@ -8,12 +8,12 @@ use crate::edits::{Answer, Edit};
 use crate::maps::{HOLES, Pair, map_over};
 use crate::plain::{is_like, make_both, plain_map};
 use arc_store::{EditFault, Map};
-use given_maps::{COLUMBUS, UNION_ABOVE};
 use grid_geometry::{Pos, Rect};
 use plain_rings::PlainMap;
 use segment_index::{GridIndex, ListIndex, SegIndex};
 use std::alloc::Global;
 use std::process::Abort;
+use test_aids::{COLUMBUS, UNION_ABOVE};
 
 // two neighbours with a gap between them
 const TWO_RUNS: &str =

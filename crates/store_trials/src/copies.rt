@@ -5,10 +5,10 @@ use crate::growths::{MANY, first_growth, refused_map, shown_after};
 use crate::maps::THREE;
 use crate::shown::shows;
 use arc_store::Map;
-use refusing_allocator::Refusing;
 use segment_index::SegIndex;
 use std::alloc::{Allocator, Global};
 use std::process::Abort;
+use test_aids::Refusing;
 
 /// The edits of the map, and then of the copy.
 const MOVE: Edit = Edit::Move((10, 0), (11, 1));

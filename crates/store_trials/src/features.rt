@@ -2,10 +2,10 @@
 use crate::edits::{Edit, is_told, make};
 use crate::maps::{HOLES, Pair, TWO, in_list};
 use arc_store::{ItemView, Map};
-use given_maps::TWO_SQUARES;
 use segment_index::ListIndex;
 use std::alloc::Global;
 use std::process::Abort;
+use test_aids::TWO_SQUARES;
 
 // a square, and below it a polygon with a dent, each the geometry of its layer
 const ALONE: &str =

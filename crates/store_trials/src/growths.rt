@@ -6,10 +6,10 @@ use crate::plain::{is_like, make_both, plain_map};
 use crate::shown::{shown, shows};
 use arc_store::{EditFault, Map};
 use grid_geometry::Rect;
-use refusing_allocator::Refusing;
 use segment_index::{GridIndex, SegIndex};
 use std::alloc::{Allocator, Global};
 use std::process::Abort;
+use test_aids::Refusing;
 
 /// More than the growths of any run below.
 pub(crate) const MANY: u64 = 2000;

@@ -3,11 +3,11 @@ ghost use Rattle.std.specs.Prelude.{◌≡◌};
 ghost use Rattle.std.specs.FinSet as set;
 
 use arc_store::Map;
-use fixed_seed::fixed_seed;
 use grid_geometry::{Pos, Rect};
 use segment_index::{GridIndex, ListIndex, SegIndex};
 use std::alloc::{Allocator, Global};
 use std::process::Abort;
+use test_aids::fixed_seed;
 use topo_reader::read;
 
 /// Two neighbours, and one that shares a long border with both; a junction has three neighbours.

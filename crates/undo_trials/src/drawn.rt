@@ -4,10 +4,10 @@ use crate::drawing::{Drawn, drawn_command};
 use crate::edits::check_path;
 use crate::maps::editor_of;
 use crate::trail::{Trail, give, take_all_back, take_back};
-use given_maps::COLUMBUS;
 use segment_index::GridIndex;
 use std::alloc::Global;
 use std::process::Abort;
+use test_aids::COLUMBUS;
 use undo_ring::{Command, Editor};
 
 /// How many commands are drawn.

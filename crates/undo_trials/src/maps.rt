@@ -4,12 +4,11 @@ ghost use Rattle.topo_reader.specs.Document.{IsOfRings};
 ghost use Rattle.topo_reader.specs.DocumentView.{view_raw};
 
 use arc_store::Map;
-use fixed_seed::fixed_seed;
-use refusing_allocator::Refusing;
 use segment_index::GridIndex;
 use std::alloc::{Allocator, Global};
 use std::hash::RandomState;
 use std::process::Abort;
+use test_aids::{Refusing, fixed_seed};
 use topo_reader::{RawDoc, read};
 use undo_ring::Editor;
 

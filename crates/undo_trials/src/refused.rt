@@ -4,11 +4,10 @@ use crate::edits::{EACH_KIND, Edit, is_made};
 use crate::maps::{MANY, SQUARES, editor_of, first_growth, map_of};
 use crate::written::{Counts, counts_of, is_written, written};
 use arc_store::Map;
-use given_maps::TWO_SQUARES;
-use refusing_allocator::Refusing;
 use segment_index::{GridIndex, SegIndex};
 use std::alloc::{Allocator, Global};
 use std::process::Abort;
+use test_aids::{Refusing, TWO_SQUARES};
 use undo_ring::{Editor, UndoFault};
 
 /// How many changes an editor keeps.

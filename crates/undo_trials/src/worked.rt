@@ -4,10 +4,10 @@ ghost use Rattle.std.specs.Prelude.{◌≤◌};
 use crate::edits::{EACH_KIND, Edit, check_path, command_of};
 use crate::maps::{SQUARES, editor_of};
 use crate::trail::{Trail, give, take_all_back};
-use given_maps::TWO_SQUARES;
 use segment_index::GridIndex;
 use std::alloc::Global;
 use std::process::Abort;
+use test_aids::TWO_SQUARES;
 use undo_ring::Editor;
 
 /// Gives the edits to the editor, which accepts them, and then takes back as many as are kept.

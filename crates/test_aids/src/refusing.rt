@@ -2,13 +2,8 @@
 //!
 //! A test makes its call with the first growth refused, then with the second, and so on, until
 //! none was refused.
-#![tactic(auto)]
-
 ghost use Rattle.std.specs.Prelude.{◌≡◌, false};
-ghost use Rattle.refusing_allocator.specs.Refusals.{nth_refused};
-
-#[cfg(test)]
-mod tests;
+ghost use Rattle.test_aids.specs.Refusals.{nth_refused};
 
 use std::alloc::{AllocError, Allocator};
 use std::cell::Cell;

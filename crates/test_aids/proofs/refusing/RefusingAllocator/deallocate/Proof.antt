@@ -1,11 +1,11 @@
 -- The block goes back to the inner allocator, and no growth is counted.
-use Rattle.refusing_allocator.proofs.Steps.{◌≡◌, ℕ, ◌+◌, ◌^◌, ◌<◌, List, [], ◌∷◌, refl, w64, Bor, Ura, Ty, Args, Fn, a_type, dnil, dcons, Val, vunit, vint, vptr, inst_fn, SProp, ent, id⊢, never_e, Lft, Share, ftrue, ffalse, fsep, flft, froom, Memory, size, align, capped, up, Routine, WpFn, Tables, Logic, Item, ‵, raw, ◌⊛◌, later, given, ◌$◌, ◌∵◌, !, qed, by, move, keep, use1, split, split3, join, learn, fsplit, fjoin, feq_i, suffices, await, done, stop, fld, addr, unit_lit, of_opd, no_more, and_then, returns, enter, alloc_all, pass_all, free_all, look_at, get, through, sets, lands_as, ◌⊑◌, ⊑_trans, Fun, fact, tables, tables_of, fm_of, WpFn-mono, yes, owns, shr_vals, unhide, bounded, param, uint_vals, uint_Tells, Ptr, block_ptr, null_ptr, ptr_val, rawptr_vals, rawptr_Tells, usize, RawPtr, RefOf, Slot, plain, types_at, heard, nothing, calls_at, Ended, Clauses, triple_of, Triple, entered, Stays, stay_dropped, walk_of, ends_at, walked, Goes-dropped, walk_Meets, Al, α, seen}
+use Rattle.test_aids.proofs.Steps.{◌≡◌, ℕ, ◌+◌, ◌^◌, ◌<◌, List, [], ◌∷◌, refl, w64, Bor, Ura, Ty, Args, Fn, a_type, dnil, dcons, Val, vunit, vint, vptr, inst_fn, SProp, ent, id⊢, never_e, Lft, Share, ftrue, ffalse, fsep, flft, froom, Memory, size, align, capped, up, Routine, WpFn, Tables, Logic, Item, ‵, raw, ◌⊛◌, later, given, ◌$◌, ◌∵◌, !, qed, by, move, keep, use1, split, split3, join, learn, fsplit, fjoin, feq_i, suffices, await, done, stop, fld, addr, unit_lit, of_opd, no_more, and_then, returns, enter, alloc_all, pass_all, free_all, look_at, get, through, sets, lands_as, ◌⊑◌, ⊑_trans, Fun, fact, tables, tables_of, fm_of, WpFn-mono, yes, owns, shr_vals, unhide, bounded, param, uint_vals, uint_Tells, Ptr, block_ptr, null_ptr, ptr_val, rawptr_vals, rawptr_Tells, usize, RawPtr, RefOf, Slot, plain, types_at, heard, nothing, calls_at, Ended, Clauses, triple_of, Triple, entered, Stays, stay_dropped, walk_of, ends_at, walked, Goes-dropped, walk_Meets, Al, α, seen}
 use Rattle.std.proofs.alloc.Calls.{token, gives_key, Gives, at_gives, Gives-goes, Gives-Gives}
-use Rattle.refusing_allocator.specs.contracts.Refusing as refusing
-use Rattle.refusing_allocator.specs.contracts.RefusingAllocator.deallocate as F
-use Rattle.refusing_allocator.specs.contracts.RefusingAllocator.deallocate.Key as key
-use Rattle.refusing_allocator.proofs.RefusingAllocator.deallocate.Statement as stated
-use Rattle.refusing_allocator.proofs.RefusingAllocator.deallocate.Code as code
+use Rattle.test_aids.specs.contracts.refusing.Refusing as refusing
+use Rattle.test_aids.specs.contracts.refusing.RefusingAllocator.deallocate as F
+use Rattle.test_aids.specs.contracts.refusing.RefusingAllocator.deallocate.Key as key
+use Rattle.test_aids.proofs.refusing.RefusingAllocator.deallocate.Statement as stated
+use Rattle.test_aids.proofs.refusing.RefusingAllocator.deallocate.Code as code
 
 module _ (Z : Al) where
   abbrev args : Args

@@ -1,18 +1,18 @@
 -- One growth is counted first. Where it is the one to refuse, the answer is `Err`, which the
 -- trait allows at any call; else it is what the inner allocator answers.
-use Rattle.refusing_allocator.proofs.Steps.{◌≡◌, ℕ, ◌+◌, ◌^◌, ◌<◌, true, false, List, [], ◌∷◌, Ok, Err, refl, w64, Bor, Ura, Ty, Args, Fn, a_type, dnil, dcons, Val, vbool, vint, vptr, inst_fn, SProp, ent, id⊢, Lft, Share, ftrue, flft, Memory, size, align, capped, up, Routine, WpFn, Tables, Logic, Sq, prop, ‵, raw, ◌⊛◌, some, later, given, at_ret, ◌$◌, ◌∵◌, !, qed, move, keep, use0, use1, use2, split, join, pick, learn, fsplit, fjoin, suffices, await, done, agg, stop, fld, addr, lit, no_more, and_then, first, branches, skips, exec, returns, returns_within, enter, alloc_all, pass_all, free_all, look_at, get, through, sets, lands_as, env, ◌⊑◌, ⊑_trans, Fun, fact, tables, tables_of, fm_of, WpFn-mono, yes, owns, shr_vals, unhide, bounded, param, uint_vals, uint_Tells, block_ptr, usize, RefOf, Slot, plain, types_at, heard, nothing, calls_at, Ended, Clauses, triple_of, Triple, entered, cited, Stays, stay_dropped, walk_of, ends_at, walked, Goes-dropped, walk_Meets, Al, α, seen}
+use Rattle.test_aids.proofs.Steps.{◌≡◌, ℕ, ◌+◌, ◌^◌, ◌<◌, true, false, List, [], ◌∷◌, Ok, Err, refl, w64, Bor, Ura, Ty, Args, Fn, a_type, dnil, dcons, Val, vbool, vint, vptr, inst_fn, SProp, ent, id⊢, Lft, Share, ftrue, flft, Memory, size, align, capped, up, Routine, WpFn, Tables, Logic, Sq, prop, ‵, raw, ◌⊛◌, some, later, given, at_ret, ◌$◌, ◌∵◌, !, qed, move, keep, use0, use1, use2, split, join, pick, learn, fsplit, fjoin, suffices, await, done, agg, stop, fld, addr, lit, no_more, and_then, first, branches, skips, exec, returns, returns_within, enter, alloc_all, pass_all, free_all, look_at, get, through, sets, lands_as, env, ◌⊑◌, ⊑_trans, Fun, fact, tables, tables_of, fm_of, WpFn-mono, yes, owns, shr_vals, unhide, bounded, param, uint_vals, uint_Tells, block_ptr, usize, RefOf, Slot, plain, types_at, heard, nothing, calls_at, Ended, Clauses, triple_of, Triple, entered, cited, Stays, stay_dropped, walk_of, ends_at, walked, Goes-dropped, walk_Meets, Al, α, seen}
 use Rattle.std.proofs.Common.{Bool}
 use mir.Syntax.{Body}
 use Rattle.std.proofs.VecSteps.Shapes.{after}
 use Rattle.std.proofs.alloc.Calls.{Answer, answer_val, Answer-typed, Answer-Ok, Answer-err, takes_key, Takes, at_takes, Answered, Takes-goes, Takes-gives, answers}
-use Rattle.refusing_allocator.proofs.CountLemmas.{Counts, at_counts, Counts-goes, Counts-gives}
-use Rattle.refusing_allocator.proofs.is_refused.Symbol as counted
-use Rattle.refusing_allocator.proofs.is_refused.Met as counts
-use Rattle.refusing_allocator.specs.contracts.Refusing as refusing
-use Rattle.refusing_allocator.specs.contracts.RefusingAllocator.allocate as F
-use Rattle.refusing_allocator.specs.contracts.RefusingAllocator.allocate.Key as key
-use Rattle.refusing_allocator.proofs.RefusingAllocator.allocate.Statement as stated
-use Rattle.refusing_allocator.proofs.RefusingAllocator.allocate.Code as code
+use Rattle.test_aids.proofs.CountLemmas.{Counts, at_counts, Counts-goes, Counts-gives}
+use Rattle.test_aids.proofs.refusing.is_refused.Symbol as counted
+use Rattle.test_aids.proofs.refusing.is_refused.Met as counts
+use Rattle.test_aids.specs.contracts.refusing.Refusing as refusing
+use Rattle.test_aids.specs.contracts.refusing.RefusingAllocator.allocate as F
+use Rattle.test_aids.specs.contracts.refusing.RefusingAllocator.allocate.Key as key
+use Rattle.test_aids.proofs.refusing.RefusingAllocator.allocate.Statement as stated
+use Rattle.test_aids.proofs.refusing.RefusingAllocator.allocate.Code as code
 
 module _ (Z : Al) where
   abbrev args : Args
@@ -108,5 +108,5 @@ allocate_spec 𝓤 𝓛 𝓜 𝓡 wired Y L g d d' met _ =
     (walked 𝓛 (ended Z) (stayed Z) held runs
     (λ κs. (shr_vals, (uint_vals w64, (uint_vals w64, tt)))) (λ κs. ((λ r vs s. s.0), (uint_Tells w64, (uint_Tells w64, tt))))
     (λ κs qs bounds a τ are. walk Z 𝓛 𝓜.mem 𝓡.returns 𝓣 (met.allocate d')
-    (cited 𝓤 𝓛.H _ 𝓜 𝓡 𝓡.env counted.name (𝓡.env counted.name) refl (counts.met 𝓤 𝓛 𝓜 𝓡 (code.calls-refusing_allocator::is_refused 𝓡.env wired)))
+    (cited 𝓤 𝓛.H _ 𝓜 𝓡 𝓡.env counted.name (𝓡.env counted.name) refl (counts.met 𝓤 𝓛 𝓜 𝓡 (code.calls-test_aids::refusing::is_refused 𝓡.env wired)))
     κs.0 κs.1.0 qs.0 qs.1.0 bounds.0 a.0 a.1.0 a.1.1.0 τ are.1.0.1 are.1.1.0.1)))

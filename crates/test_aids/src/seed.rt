@@ -1,6 +1,4 @@
 //! A seed for tests, by which positions are hashed alike in each run.
-#![tactic(auto)]
-
 use std::hash::RandomState;
 use std::io::Result as IoResult;
 use std::random::RandomSource;

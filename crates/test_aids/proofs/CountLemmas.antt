@@ -17,7 +17,7 @@ use denote.Steps.{nothing, only}
 use denote.Triple.Statement.{Contract}
 use denote.Triple.Spec.{triple_of}
 use Rattle.std.specs.contracts.cell.Cell as cell
-use Rattle.refusing_allocator.specs.contracts.is_refused as callee
+use Rattle.test_aids.specs.contracts.refusing.is_refused as callee
 
 abbrev Counter : RattleType
 Counter = cell.the_row u64

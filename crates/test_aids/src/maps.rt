@@ -1,5 +1,4 @@
 //! Maps that tests of several crates open.
-#![tactic(auto)]
 
 /// The first sixteen of the 49 neighbourhoods of Columbus, Ohio, without their properties: 265 vertices. Of the
 /// data set `columbus` of spData, CC0.
