@@ -8,6 +8,6 @@ mod seed;
 #[cfg(test)]
 mod tests;
 
-pub use maps::{COLUMBUS, TWO_SQUARES, UNION_ABOVE};
+pub use maps::{TWO_SQUARES, UNION_ABOVE};
 pub use refusing::Refusing;
 pub use seed::fixed_seed;
