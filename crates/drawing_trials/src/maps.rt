@@ -2,9 +2,9 @@
 use crate::pictures::{ALL, MEMORY, read_map, shows};
 use grid_geometry::{Pos, Seg};
 use map_drawing::{Conflict, View, Window, draw_map};
-use refusing_allocator::Refusing;
 use std::alloc::{AllocError, Allocator, Global};
 use std::process::Abort;
+use test_aids::Refusing;
 
 /// Two squares with a common side.
 const SQUARES: &str =

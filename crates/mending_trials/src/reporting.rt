@@ -1,10 +1,9 @@
 // A small map, mended with its report and its places.
-use fixed_seed::fixed_seed;
 use mend_report::{Asked, LookFault, Remade, RemakeFault, RepairFault, Texts, mend_map};
-use refusing_allocator::Refusing;
 use std::alloc::{Allocator, Global};
 use std::process::Abort;
 use std::test::Fail;
+use test_aids::{Refusing, fixed_seed};
 
 /// A square whose sides cross.
 const BOW_TIE: &str =

@@ -1,10 +1,9 @@
 // Small maps, saved.
-use fixed_seed::fixed_seed;
 use map_saving::{SaveFault, saved_text};
-use refusing_allocator::Refusing;
 use std::alloc::{Allocator, Global};
 use std::process::Abort;
 use std::test::Fail;
+use test_aids::{Refusing, fixed_seed};
 use topo_reader::read;
 
 /// Two squares with a common side that stands twice, and the text in which it stands once.

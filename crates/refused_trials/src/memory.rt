@@ -2,9 +2,9 @@
 use crate::maps::{TRIANGLE_INSIDE, TWO_SQUARES};
 use crate::told::{Told, holds, tell, tell_by};
 use device_io::FromReader;
-use refusing_allocator::Refusing;
 use std::alloc::Global;
 use std::process::Abort;
+use test_aids::Refusing;
 
 /// More than the growths of any run below.
 const MANY: u64 = 10_000;

@@ -2,10 +2,10 @@
 ghost use Rattle.std.specs.Prelude.{◌≡◌, ◌≤◌, false};
 
 use device_io::{FailAt, FromReader, Sink, Source, ToWriter};
-use fixed_seed::fixed_seed;
 use script_runner::{RunFault, Summary, run};
 use std::alloc::{Allocator, Global};
 use std::process::Abort;
+use test_aids::fixed_seed;
 
 /// What a run gave to its two writers, and how it ended: the counts, or the line of the fault.
 #[derive(Drop)]

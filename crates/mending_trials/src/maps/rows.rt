@@ -1,11 +1,11 @@
 // Small maps whose mended ones are known.
 use super::told::told;
 use map_mending::{MendFault, mend};
-use refusing_allocator::Refusing;
 use segment_index::TreeIndex;
 use std::alloc::{Allocator, Global};
 use std::process::Abort;
 use std::test::Fail;
+use test_aids::Refusing;
 use topo_reader::read_walks;
 
 /// Each map, and what it is told as once it is mended.

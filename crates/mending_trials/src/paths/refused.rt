@@ -1,9 +1,9 @@
 // Memory is refused, at each growth in turn.
 use super::told::{segments, told};
-use refusing_allocator::Refusing;
 use segment_index::ListIndex;
 use segment_paths::{PathFault, find_paths};
 use std::test::Fail;
+use test_aids::Refusing;
 
 /// More than the growths of the run below.
 const MANY: u64 = 300;

@@ -1,7 +1,7 @@
 //! Each growth is refused in turn.
 use super::made::{Given, told};
-use refusing_allocator::Refusing;
 use std::test::Fail;
+use test_aids::Refusing;
 use walk_faults::FindFault;
 
 /// A map with a finding of each kind.

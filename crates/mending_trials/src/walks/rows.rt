@@ -1,11 +1,11 @@
 // Small polygons whose mended ones are known.
 use super::given::{Given, Parts, Walks, lines, paths, walks};
 use grid_geometry::{Pos, Seg};
-use refusing_allocator::Refusing;
 use segment_paths::SegmentPath;
 use std::alloc::{AllocError, Allocator, Global};
 use std::process::Abort;
 use std::test::Fail;
+use test_aids::Refusing;
 use walk_mending::{bounding_segments, laid_walk, mended_polygon};
 
 /// A polygon's walks, the paths along which they are led, and what stands in its place.
