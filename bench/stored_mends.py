@@ -4,7 +4,10 @@
     worked.txt   the maps of bench/worked_maps.txt, mended by hand, as they are and in a frame of texts that have to stay:
                  reports, places and saved texts, as bench/mended.py and bench/topology.py work them out; where a polygon
                  is taken apart, the saved text is one of some, since no promise says in which order its parts stand
-    drawn.txt    drawn maps: their findings by the search over all pairs of bench/looking.py, and the places of some
+    drawn.txt    drawn maps, and two on which a search for paths may end too early: their findings by the search over all
+                 pairs of bench/looking.py, the places of some, and that each is mended
+    parted.txt   drawn polygons of which no two segments cross, and how their areas change: a polygon that is taken apart has
+                 what an odd number of its rings surrounds
 
 No answer is the program's own. The other files there are written by hand. A line is told for each file; the status is 0
 where they hold what they must.
@@ -17,12 +20,17 @@ import random
 
 import damaged
 import looking
-from mended import Old, check, finding_lines, places_of
-from topology import read, saved_text, with_features
+import loose_maps
+from mended import Old, area_of, check, does_count, finding_lines, is_simple, places_of
+from topology import edges, read, saved_text, with_features
 
 DATA = pathlib.Path(__file__).resolve().parent.parent / "crates/stored_mends/data"
 # How many maps are drawn; of each so many, one has its places.
-MAPS, PLACED = 150, 5
+MAPS, PLACED = 300, 10
+# How many polygons are drawn along the lines of a grid: how many positions its side has, how far these are from each
+# other, and the steps.
+POLYGONS, SIDE, STEP = 200, 5, 6
+STEPS = [(1, 0), (0, 1), (1, 1), (-1, 0), (0, -1), (-1, -1)]
 ABOUT = "# Written by bench/stored_mends.py, which says where the answers come from.\n"
 
 
@@ -105,22 +113,81 @@ def worked_cases():
 
 # ---- drawn maps
 
-def drawn(number, has_places):
-    """The case of a drawn map, with places or without."""
-    topology, features = looking.drawn(random.Random(number), 2, 4)
+def searched(name, text, features, placed=None):
+    """The case of a map whose findings were searched for among all pairs; each map is mended."""
     lines = looking.report(features)
-    placed = told(looking.places(features, topology["transform"])) if has_places else "none"
-    answers = ("status", str(int(lines[0] != "opens"))), ("report", lines), ("places", placed)
-    asked = [] if has_places else [("plain", "")]
-    return case(f"drawn {number}", ("map", told(topology)), *asked, *answers)
+    asked = [] if placed else [("plain", "")]
+    answers = ("status", str(int(lines[0] != "opens"))), ("report", lines), ("places", placed or "none"), ("ends", "mended")
+    return case(name, ("map", text), *asked, *answers)
 
 
 def drawn_cases():
+    for name, rings in loose_maps.KNOTS.items():
+        yield searched(name, loose_maps.plain(rings), [[[ring]] for ring in rings])
     for number in range(MAPS):
-        yield drawn(number, number % PLACED == 0)
+        topology, features = looking.drawn(random.Random(number), 2, 4)
+        placed = None if number % PLACED else told(looking.places(features, topology["transform"]))
+        yield searched(f"drawn {number}", told(topology), features, placed)
 
 
-FILES = {"worked.txt": worked_cases, "drawn.txt": drawn_cases}
+# ---- drawn polygons that are taken apart
+
+def is_on_grid(place):
+    return all(0 <= c < SIDE for c in place)
+
+
+def towards(place, goal):
+    """One step along a line of the grid, along x first."""
+    k = 0 if place[0] != goal[0] else 1
+    step = (goal[k] > place[k]) - (goal[k] < place[k])
+    return (place[0] + step, place[1]) if k == 0 else (place[0], place[1] + step)
+
+
+def drawn_walk(draw):
+    """A closed walk: steps along lines of a grid or one diagonal of its squares, of which no two cross, and the way back."""
+    first = place = draw.randrange(SIDE), draw.randrange(SIDE)
+    walk = [place]
+    for _ in range(draw.randrange(14)):
+        x, y = draw.choice(STEPS)
+        if is_on_grid((place[0] + x, place[1] + y)):
+            place = place[0] + x, place[1] + y
+            walk.append(place)
+    while place != first:
+        place = towards(place, first)
+        walk.append(place)
+    return [(STEP * x, STEP * y) for x, y in (walk if len(walk) > 1 else 2 * walk)]
+
+
+def middles():
+    """A position in the middle of each triangle of the grid."""
+    for x, y in itertools.product(range(0, STEP * (SIDE - 1), STEP), repeat=2):
+        yield from ((x + 4, y + 2), (x + 2, y + 4))
+
+
+def is_inside(walks, place):
+    """Whether an odd number of edges passes to the right of a position."""
+    return sum(does_count(place, a, b) for walk in walks for a, b in edges(walk)) % 2 == 1
+
+
+def parted(name, draw):
+    """The case of a polygon on a grid: its area is that of what an odd number of its rings surrounds, unless all of its
+    rings are proper: then it stays as it is."""
+    rings = [drawn_walk(draw) for _ in range(draw.randint(1, 3))]
+    walks = [looking.walk_of(ring) for ring in rings]
+    before = after = area_of([walks])
+    if not all(map(is_simple, walks)):
+        after = STEP * STEP * sum(is_inside(walks, place) for place in middles())
+    layer = {"type": "Polygon", "arcs": [[n] for n in range(len(rings))]}
+    text = told({"type": "Topology", "objects": {"land": layer}, "arcs": rings})
+    return case(name, ("map", text), ("plain", ""), ("areas", f"area 0 {before} {after} 0" if before != after else ""))
+
+
+def parted_cases():
+    for number in range(POLYGONS):
+        yield parted(f"polygon {number}", random.Random(number))
+
+
+FILES = {"worked.txt": worked_cases, "drawn.txt": drawn_cases, "parted.txt": parted_cases}
 
 
 def main():

@@ -21,18 +21,22 @@ use stored::Stored;
 enum Door {
     Report,
     Mend,
+    End,
+    Areas,
     DropLines,
     PutPoints,
     KeepDigits,
 }
 
 /// The files of cases, with what answers to them.
-const FILES: [(&str, Door, &str); 12] = [
+const FILES: [(&str, Door, &str); 14] = [
     ("worked.txt", Door::Report, "reports"),
     ("worked.txt", Door::Mend, "mended maps"),
     ("reports.txt", Door::Report, "reports"),
     ("mended.txt", Door::Mend, "mended maps"),
     ("drawn.txt", Door::Report, "reports"),
+    ("drawn.txt", Door::End, "ends of mending"),
+    ("parted.txt", Door::Areas, "changes of areas"),
     ("grids.txt", Door::Report, "reports"),
     ("grids.txt", Door::Mend, "mended maps"),
     ("faults.txt", Door::Report, "reports"),
@@ -61,6 +65,8 @@ fn compare(stored: &mut Stored<'_>, door: Door, seed: RandomState) -> Result<(),
     match door {
         Door::Report => maps::compare_report(stored),
         Door::Mend => maps::compare_mended(stored, seed),
+        Door::End => maps::compare_end(stored, seed),
+        Door::Areas => maps::compare_areas(stored, seed),
         Door::DropLines => points::compare_without_lines(stored),
         Door::PutPoints => points::compare_on_grid(stored),
         Door::KeepDigits => points::compare_digits(stored),

@@ -3,9 +3,10 @@ use crate::cases::Case;
 use crate::stored::Stored;
 use grid_reader::Wants;
 use mend_report::{
-    Asked, LookFault, Remade, RepairFault, Report, Texts, is_open, mend_map, report_map,
+    Asked, LookFault, Remade, RemakeFault, RepairFault, Report, Texts, is_open, mend_map,
+    report_map,
 };
-use std::alloc::AllocError;
+use std::alloc::{AllocError, Global};
 use std::hash::RandomState;
 
 /// What is asked of the map of a case.
@@ -82,20 +83,69 @@ fn compare_remade(
     stored.compare_any("saved", remade.text.as_slice())
 }
 
+/// What the map of a case is mended to.
+fn mended<'m>(
+    stored: &Stored<'_>,
+    seed: RandomState,
+    map: &'m str,
+    texts: &mut Texts,
+) -> Result<Remade, RepairFault<'m>> {
+    let (alloc, asked) = (stored.alloc, asked_of(&stored.case));
+    mend_map(alloc, alloc, seed, map.as_bytes(), asked, texts)
+}
+
 /// Compares what the map of a case is mended to.
 pub(crate) fn compare_mended(stored: &mut Stored<'_>, seed: RandomState) -> Result<(), AllocError> {
-    let (alloc, map) = (stored.alloc, stored.given("map")?);
-    let (asked, mut texts) = (asked_of(&stored.case), no_texts(stored));
-    match mend_map(
-        alloc,
-        alloc,
-        seed,
-        map.as_str().as_bytes(),
-        asked,
-        &mut texts,
-    ) {
+    let map = stored.given("map")?;
+    let mut texts = no_texts(stored);
+    match mended(stored, seed, map.as_str(), &mut texts) {
         Ok(remade) => compare_remade(stored, &texts, &remade),
         Err(RepairFault::Look(fault)) => compare_fault(stored, &fault),
-        Err(RepairFault::Remake(_)) => stored.compare("fault", b"not mended"),
+        Err(RepairFault::Remake(fault)) => stored.compare("fault", name_of(fault).as_bytes()),
     }
+}
+
+/// Why a map that was looked through is not mended.
+fn name_of(fault: RemakeFault) -> &'static str {
+    match fault {
+        RemakeFault::TooLarge(_) => "too large",
+        RemakeFault::Unmended { .. } => "unmended",
+        RemakeFault::Unparted { .. } => "unparted",
+        RemakeFault::OutOfMemory => "out of memory",
+    }
+}
+
+/// Compares whether the map of a case is mended, whatever its text is then.
+pub(crate) fn compare_end(stored: &mut Stored<'_>, seed: RandomState) -> Result<(), AllocError> {
+    let map = stored.given("map")?;
+    let mut texts = no_texts(stored);
+    let end = match mended(stored, seed, map.as_str(), &mut texts) {
+        Ok(_) => "mended",
+        Err(RepairFault::Look(_)) => "not read",
+        Err(RepairFault::Remake(fault)) => name_of(fault),
+    };
+    stored.compare("ends", end.as_bytes())
+}
+
+/// The lines of a report that tell of areas.
+fn area_lines(alloc: Global, report: &[u8]) -> Result<String, AllocError> {
+    let mut lines = String::new(alloc);
+    for line in str::from_utf8(report).unwrap_or("").lines() {
+        if line.starts_with("area ") {
+            lines.push_str(line)?;
+            lines.push_str("\n")?;
+        }
+    }
+    Ok(lines)
+}
+
+/// Compares how the areas of the features change as the map of a case is mended.
+pub(crate) fn compare_areas(stored: &mut Stored<'_>, seed: RandomState) -> Result<(), AllocError> {
+    let map = stored.given("map")?;
+    let mut texts = no_texts(stored);
+    if mended(stored, seed, map.as_str(), &mut texts).is_err() {
+        return stored.compare("areas", b"not mended");
+    }
+    let lines = area_lines(stored.alloc, texts.report.as_slice())?;
+    stored.compare("areas", lines.as_str().trim_end().as_bytes())
 }

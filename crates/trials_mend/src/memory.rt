@@ -1,4 +1,4 @@
-//! Each growth is refused in turn as a map is looked through, and as it is mended.
+//! Each growth is refused in turn as a map is looked through, and as one is mended.
 use fixed_seed::fixed_seed;
 use mend_report::{Asked, LookFault, RemakeFault, RepairFault, Texts, mend_map, report_map};
 use refusing_allocator::Refusing;
@@ -8,10 +8,15 @@ use std::alloc::{Allocator, Global};
 const MAP: &str =
     r#"{"type":"Topology","objects":{"land":{"type":"GeometryCollection","geometries":[{"type":"Polygon","arcs":[[0]]},{"type":"Polygon","arcs":[[1]]},{"type":"Polygon","arcs":[[2]]}]}},"arcs":[[[0,0],[5,0],[0,0]],[[0,0],[10,0],[10,10],[0,10],[0,0]],[[2,2],[12,2],[7,5],[12,8],[2,8],[7,5],[2,2]]]}"#;
 
-/// The last line of its report, and of that of mending it.
+/// A square whose sides cross.
+const BOW_TIE: &str =
+    r#"{"type":"Topology","objects":{"l":{"type":"Polygon","arcs":[[0]]}},"arcs":[[[0,0],[10,10],[10,0],[0,10],[0,0]]]}"#;
+
+/// The last lines of their reports, that of the bow tie as it is mended.
 const LOOKED: &str = "counts short 1 repeats 1 on 1 cross 4\n";
 
-const MENDED: &str = "counts short 1 repeats 1 on 1 cross 4 paths 5 parts 2 areas 1\n";
+const MENDED: &str =
+    "parts 0 0 2\narea 0 0 100 0\ncounts short 0 repeats 0 on 0 cross 1 paths 2 parts 1 areas 1\n";
 
 /// More than the growths of any call.
 const MANY: u64 = 4000;
@@ -49,7 +54,7 @@ fn mend<A: Allocator + Copy>(alloc: Global, heap: A) -> End {
     };
     let mut texts = Texts::new(heap, true);
     let asked = Asked::with_most(1000);
-    match mend_map(heap, alloc, seed, MAP.as_bytes(), asked, &mut texts) {
+    match mend_map(heap, alloc, seed, BOW_TIE.as_bytes(), asked, &mut texts) {
         Ok(_) => told(&texts, MENDED),
         Err(RepairFault::Look(LookFault::OutOfMemory)) => End::OutOfMemory,
         Err(RepairFault::Remake(RemakeFault::OutOfMemory)) => End::OutOfMemory,
@@ -87,5 +92,5 @@ fn each_growth_of_looking_is_refused_in_turn(rt: HostRuntime) {
 
 #[test]
 fn each_growth_of_mending_is_refused_in_turn(rt: HostRuntime) {
-    assert!(rt; count_growths(rt.alloc(), true).is_some_and(|count| count > 100));
+    assert!(rt; count_growths(rt.alloc(), true).is_some_and(|count| count > 30));
 }
