@@ -1,13 +1,13 @@
 #!/usr/bin/env python3
-"""Runs the built program border_edit to each of its ends, and looks at FILE before and after; and runs all three programs
-on files of all kinds (bench/file_ends.py).
+"""Runs the built program border_edit to each of its ends, and looks at FILE before and after; and runs border_mend to each
+of its ends (bench/mend_ends.py), and all three programs on files of all kinds (bench/file_ends.py).
 
 Tests of the crates call what `main` calls. Here the program itself is called: with arguments, on files, on devices
 that are full, with little memory, and with a terminal as standard error. The rows of bench/edit_ends.txt are run, and
 those below, of which are compared the status, the answers, what is on standard error, and what FILE holds at the end,
 and FILE2 where one is named; and no other file may be left.
 
-Without a C compiler the ends without a seed are left out, and that is said.
+Without a C compiler the ends without a seed, and those without memory for standard output, are left out, and that is said.
 
 The programs have to stand already (`rt ci` leaves them); others can be named. There is one line for
 each end that differs, and a last one that counts them; the status is 0 where none does.
@@ -20,13 +20,13 @@ import pathlib
 import pty
 import re
 import resource
-import shutil
 import subprocess
 import sys
 import tempfile
 
 import edit_ends
 import file_ends
+import mend_ends
 import running
 
 TOP = pathlib.Path(__file__).resolve().parent.parent
@@ -206,14 +206,10 @@ def strict_ends(words):
     yield Row("strict, no list", strict("refused.txt", "--refused", "."), 3, refused, "refused fault\n", KEPT)
 
 
-def compiler():
-    return shutil.which("cc") or shutil.which("gcc")
-
-
 def unseeded(folder):
     """A library with which a program is given no random bytes."""
     library = folder / "unseeded.so"
-    subprocess.run([compiler(), "-shared", "-fPIC", "-x", "c", "-", "-o", library], input=UNSEEDED.encode(), check=True)
+    subprocess.run([file_ends.compiler(), "-shared", "-fPIC", "-x", "c", "-", "-o", library], input=UNSEEDED.encode(), check=True)
     return library
 
 
@@ -300,11 +296,12 @@ def main():
     words = argparse.ArgumentParser(description=__doc__.split("\n", 1)[0])
     running.add_programs(words, "edit", "show", "mend")
     programs = vars(words.parse_args())
-    count, wrong = map(sum, zip(file_ends.told(programs), edit_ends.told(programs["edit"])))
-    if not compiler():
-        print("no compiler: the ends without a seed are left out")
+    of_files = file_ends.told(programs, [*file_ends.rows(), *mend_ends.rows()])
+    count, wrong = map(sum, zip(of_files, edit_ends.told(programs["edit"])))
+    if not file_ends.compiler():
+        print("no compiler: the ends without a seed or memory are left out")
     for row in ends():
-        if row.unseeded and not compiler():
+        if row.unseeded and not file_ends.compiler():
             continue
         count += 1
         fault = faults(programs["edit"], row)
