@@ -1,10 +1,10 @@
 //! The most that may be found, the most that may be inserted, and a map that is not saved.
-use test_aids::fixed_seed;
 use map_saving::{SaveFault, saved_text};
 use segment_index::{ListIndex, TreeIndex};
 use segment_paths::{PathFault, find_paths};
 use std::alloc::Global;
 use std::test::Fail;
+use test_aids::fixed_seed;
 use topo_reader::{RawDoc, read, read_walks};
 use walk_faults::{FindFault, find_at_most};
 use walk_mending::bounding_segments;

@@ -1,8 +1,7 @@
 //! Each growth is refused in turn as a map is looked through, and as one is mended.
-use test_aids::fixed_seed;
 use mend_report::{Asked, LookFault, RemakeFault, RepairFault, Texts, mend_map, report_map};
-use test_aids::Refusing;
 use std::alloc::{Allocator, Global};
+use test_aids::{Refusing, fixed_seed};
 
 /// A map with a finding of each kind.
 const MAP: &str =
