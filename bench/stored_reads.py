@@ -265,12 +265,21 @@ def page_text():
     return "\n".join(page()) + "\n"
 
 
-def faults():
+def store():
+    for name in MADE:
+        (DATA / name).write_text(made(name))
+    PAGE.write_text(page_text())
+
+
+def faults_by_hand():
     for name, of in BY_HAND.items():
         for title, text, want in rows(name):
             found = of(text)
             if found != want:
                 yield f"{name}: {title}: {coded(text)}: {want} is stored, {found} is found"
+
+
+def faults_made():
     for name in MADE:
         if (DATA / name).read_text() != made(name):
             yield f"{name}: not as it is made here"
@@ -280,14 +289,12 @@ def faults():
 
 def main():
     parser = argparse.ArgumentParser(description=__doc__, formatter_class=argparse.RawDescriptionHelpFormatter)
-    parser.add_argument("--store", action="store_true", help="write the files that are made here")
-    if parser.parse_args().store:
-        for name in MADE:
-            (DATA / name).write_text(made(name))
-        PAGE.write_text(page_text())
-    found = list(faults())
-    print(*found, sep="\n", end="\n" if found else "")
-    print(f"{len(found)} differ")
+    parser.add_argument("--store", action="store_true", help="write what is made here, in place of comparing it")
+    is_stored = parser.parse_args().store
+    if is_stored:
+        store()
+    found = [*faults_by_hand(), *([] if is_stored else faults_made())]
+    print(*found, f"{len(found)} differ", sep="\n")
     return 1 if found else 0
 
 

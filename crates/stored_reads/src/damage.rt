@@ -101,7 +101,7 @@ pub(crate) fn of_places(
     want: &str,
 ) -> Result<String, AllocError> {
     let mut found = String::from_str(alloc, "no place")?;
-    for place in first..text.len().min(last.saturating_add(1)) {
+    for place in first..=last {
         found = reader.of_bytes(alloc, text, place, place)?;
         if found.as_str() != want {
             break;

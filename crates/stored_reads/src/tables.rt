@@ -76,7 +76,7 @@ fn ends(range: &str) -> (&str, &str) {
 }
 
 fn count_from(first: usize, last: usize) -> usize {
-    last.saturating_sub(first).saturating_add(1)
+    last.saturating_add(1).saturating_sub(first)
 }
 
 /// The answer to one text.
@@ -113,6 +113,7 @@ fn of_damaged(
     let (first, last) = ends(key);
     let first = first.parse::<usize>().unwrap_or(usize::MAX);
     let last = last.parse::<usize>().unwrap_or(0);
+    let last = last.min(text.len().saturating_sub(1));
     Ok(Found {
         answer: of_places(alloc, reader, text, (first, last), want)?,
         texts: count_from(first, last).saturating_mul(256),
