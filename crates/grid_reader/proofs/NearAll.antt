@@ -7,7 +7,7 @@ use Rattle.json_spans.specs.Common.{Node, items, kind_of}
 use Rattle.topo_outline.specs.Common.{is_list, is_number, not_whole, out_of_range, bad_position, ◌>>=◌, each}
 use Rattle.topo_reader.specs.Common.{has_two}
 use Rattle.topo_reader.proofs.Common.{bind_ok, demand_ok, ok_same}
-use Rattle.exact_decimals.specs.Common.{Parts, parts_of, fine}
+use Rattle.decimal_texts.specs.Common.{Parts, parts_of, fine}
 use Rattle.grid_reader.specs.Common.{Wants, FinePosition, origin, is_within, summed, coordinate, two_of, pair_of, pair}
 use Rattle.grid_reader.specs.Common.{fine_position, before_next, fine_positions, fine_arc, fine_arcs, xy, coordinates}
 use Rattle.grid_reader.specs.Common.{greater, greatest_from, furthest, most_decimals, lesser, fitting, digits_of}

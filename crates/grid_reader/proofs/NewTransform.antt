@@ -24,10 +24,10 @@ use Rattle.map_text.proofs.MembersSeen.{seen_value, value_seen, all_seen, object
 use Rattle.map_text.proofs.ReadingPlaces.{node_there}
 use Rattle.grid_reader.specs.Common.{two_of, says, value_named, both_numbers, two_numbers, two_in, there, number}
 use Rattle.topo_reader.proofs.Common.{bind_ok, ok_same}
-use Rattle.exact_decimals.specs.Common.{Parts, parts_of, unsigned, behind_integer, with_exponent, exponent_of}
-use Rattle.exact_decimals.specs.Common.{digits_of, behind_digits, shifted_text}
-use Rattle.exact_decimals.proofs.Values.{front_passes}
-use Rattle.exact_decimals.proofs.Written.{shifted_number}
+use Rattle.decimal_texts.specs.Common.{Parts, parts_of, unsigned, behind_integer, with_exponent, exponent_of}
+use Rattle.decimal_texts.specs.Common.{digits_of, behind_digits, shifted_text}
+use Rattle.decimal_texts.proofs.Values.{front_passes}
+use Rattle.decimal_texts.proofs.Written.{shifted_number}
 use Rattle.grid_reader.specs.Common.{transform_text, one_shifted, divided, transform_on}
 
 -- ---- the text, of four numbers

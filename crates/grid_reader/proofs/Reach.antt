@@ -3,7 +3,7 @@ use mir.Syntax.{w128}
 use mir.Val.{SFits}
 use Rattle.kit_words.proofs.Common.{◌≡◌, ℕ, ◌-◌, ◌<◌, ◌≤◌, ◌^◌, false, arith, ℤ, pos, negsuc, ◌+ℤ◌, unsigned_abs, ints}
 use Rattle.kit_words.proofs.Common.{lt-leb}
-use Rattle.exact_decimals.proofs.Common.{power_mono}
+use Rattle.decimal_texts.proofs.Common.{power_mono}
 use Rattle.grid_reader.specs.Common.{is_within}
 
 pub power_fits : (finer : ℕ) → 10 ^ (36 - finer) ≤ 10 ^ 36

@@ -16,9 +16,9 @@ use Rattle.topo_reader.specs.Common.{Arc, IsSum}
 use Rattle.topo_reader.specs.Positions as editor
 use Rattle.topo_reader.proofs.Common.{bind_ok, demand_ok, ok_same}
 use Rattle.topo_reader.proofs.MeaningOfArcs.{small_step}
-use Rattle.exact_decimals.specs.Common.{Parts, parts_of, fine, decimals, rounded}
-use Rattle.exact_decimals.proofs.Wholes.{whole_has_parts, whole_is_fine}
-use Rattle.exact_decimals.proofs.Zeros.{zeros_all}
+use Rattle.decimal_texts.specs.Common.{Parts, parts_of, fine, decimals, rounded}
+use Rattle.decimal_texts.proofs.Wholes.{whole_has_parts, whole_is_fine}
+use Rattle.decimal_texts.proofs.Zeros.{zeros_all}
 use Rattle.grid_reader.specs.Common.{Wants, FinePosition, is_within, summed, coordinate, two_of, pair_of, pair}
 use Rattle.grid_reader.specs.Common.{fine_position, xy, coordinates, greater, greatest_from, most_decimals, lesser}
 use Rattle.grid_reader.specs.Common.{fitting, furthest, digits_of, on_grid, arcs_on, finer_by, has_further, is_whole}

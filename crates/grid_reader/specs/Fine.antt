@@ -5,7 +5,7 @@ use Rattle.json_spans.specs.Common.{Node, items, kind_of}
 use Rattle.topo_outline.specs.Common.{is_list, is_number, Fault, not_whole, out_of_range, bad_position, ◌>>=◌, each}
 use Rattle.topo_outline.specs.Common.{demand}
 use Rattle.topo_reader.specs.Common.{has_two}
-use Rattle.exact_decimals.specs.Common.{Parts, parts_of, fine}
+use Rattle.decimal_texts.specs.Common.{Parts, parts_of, fine}
 use Rattle.grid_reader.specs.declared.wants.Wants.{Wants}
 
 -- a position, in units of 10^-24

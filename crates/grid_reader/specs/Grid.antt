@@ -4,7 +4,7 @@ use Rattle.std.specs.List.{flat_map, fold, filter}
 use Rattle.json_spans.specs.Common.{Node, items}
 use Rattle.grid_geometry.specs.Common.{Position, position}
 use Rattle.topo_reader.specs.Common.{Arc}
-use Rattle.exact_decimals.specs.Common.{decimals, rounded, is_rounded}
+use Rattle.decimal_texts.specs.Common.{decimals, rounded, is_rounded}
 use Rattle.grid_reader.specs.declared.wants.Wants.{Wants}
 use Rattle.grid_reader.specs.Fine.{FinePosition}
 

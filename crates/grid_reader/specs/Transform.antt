@@ -5,7 +5,7 @@ use Rattle.json_spans.specs.Common.{Node, items, members, kind_of, decoded}
 use Rattle.ring_machine.specs.Common.{Text}
 use Rattle.topo_outline.specs.Common.{is_list, is_number, Fault, bad_member, ◌>>=◌}
 use Rattle.grid_reader.specs.Fine.{two_of}
-use Rattle.exact_decimals.specs.Common.{Parts, parts_of, shifted_text}
+use Rattle.decimal_texts.specs.Common.{Parts, parts_of, shifted_text}
 
 -- ---- what stands in a transform
 

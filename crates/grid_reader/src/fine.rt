@@ -2,14 +2,14 @@
 ghost use Rattle.std.specs.Prelude.{◌≡◌, ◌≤◌, ◌^◌, true, Some, option_map, IfOk, unsigned_abs};
 ghost use Rattle.json_spans.specs.Common.{node, items};
 ghost use Rattle.topo_outline.specs.Common.{Gives};
-ghost use Rattle.exact_decimals.specs.Common.{parts};
+ghost use Rattle.decimal_texts.specs.Common.{parts};
 ghost use Rattle.grid_reader.specs.Fine.{origin, is_within, summed, coordinate, two_of, pair_of, fine_position, before_next, fine_positions, fine_arc, fine_arcs};
 ghost use Rattle.grid_reader.specs.Seen.{fine_seen, arc_seen, arcs_seen};
 ghost use Rattle.topo_reader.specs.Common.{has_two};
 
 use crate::fine_pos::FinePos;
 use crate::wants::Wants;
-use exact_decimals::{Decimal, decimal_of};
+use decimal_texts::{Decimal, decimal_of};
 use json_spans::{Kind, Span, at, bytes, items, kind};
 use std::alloc::Allocator;
 use topo_outline::OpenFault;

@@ -2,7 +2,7 @@
 ghost use Rattle.std.specs.Prelude.{◌≡◌, ◌≤◌, ◌*◌, ◌+◌, ◌^◌, map, length, unsigned_abs, IfOk, IfSome, ◌-◌, ◌*ℤ◌, pos};
 ghost use Rattle.std.specs.List.{filter, list_all, AllByRecursion};
 ghost use Rattle.json_spans.specs.Common.{node, items};
-ghost use Rattle.exact_decimals.specs.Common.{decimals, rounded};
+ghost use Rattle.decimal_texts.specs.Common.{decimals, rounded};
 ghost use Rattle.topo_reader.specs.Common.{positions_of};
 ghost use Rattle.grid_reader.specs.Grid.{greater, lesser, greatest_from, most_decimals, furthest, fitting, digits_of, on_grid, is_moved, moved, has_further, heights};
 ghost use Rattle.grid_reader.specs.Near.{IsNear};
@@ -12,7 +12,7 @@ ghost use Rattle.grid_reader.specs.Wholes.{is_whole, has_wholes, all_whole};
 use crate::fine::DIGITS;
 use crate::fine_pos::FinePos;
 use crate::wants::Wants;
-use exact_decimals::{decimals, is_rounded, rounded};
+use decimal_texts::{decimals, is_rounded, rounded};
 use grid_geometry::Pos;
 use json_spans::{Span, items, whole};
 use std::alloc::{AllocError, Allocator};

@@ -2,12 +2,12 @@
 ghost use Rattle.std.specs.Prelude.{◌≡◌, ◌≤◌, Ok, option_map, IfOk, None, Some, codes};
 ghost use Rattle.json_spans.specs.Common.{node, items, members, decoded};
 ghost use Rattle.topo_outline.specs.Common.{Gives};
-ghost use Rattle.exact_decimals.specs.Common.{parts, shifted_text};
+ghost use Rattle.decimal_texts.specs.Common.{parts, shifted_text};
 ghost use Rattle.grid_reader.specs.Transform.{says, value_named, two_numbers, two_in, transform_text, divided, transform_on, number};
 ghost use Rattle.grid_reader.specs.TransformView.{view_transform};
 
 use crate::fine::two;
-use exact_decimals::{Decimal, decimal_of, push_shifted};
+use decimal_texts::{Decimal, decimal_of, push_shifted};
 use json_spans::{Kind, Span, TextFault, bytes, kind, members, text};
 use std::alloc::{AllocError, Allocator, Global};
 use topo_outline::{OpenFault, Token};

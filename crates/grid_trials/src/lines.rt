@@ -1,6 +1,6 @@
 //! Texts, and the same without their lines.
 
-use line_dropping::without_lines;
+use decimal_texts::without_lines;
 use std::alloc::Global;
 
 // A text, what is left of it, and how many lines it had.

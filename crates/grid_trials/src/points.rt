@@ -1,6 +1,6 @@
 //! Texts, and the same with their points on a grid.
 
-use point_rounding::{PointFault, rounded_points};
+use decimal_texts::{PointFault, rounded_points};
 use std::alloc::Global;
 
 /// A text, the grid, and what it becomes.

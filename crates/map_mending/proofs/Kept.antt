@@ -8,7 +8,7 @@ use Rattle.ring_machine.specs.Common.{begins_least, segment_of}
 use Rattle.ring_machine.proofs.Common.{canonical_parts, In, any_in, in_any, in_contains, contains_in, in_flat}
 use Rattle.ring_machine.proofs.Common.{in_mapped, in_swap, all_in, has-in, in-flat_map, segment_eq-true, in_permuted}
 use Rattle.ring_machine.proofs.JoinedRing.{start_in}
-use Rattle.snap_geometry.specs.Common.{is_near}
+use Rattle.segment_paths.specs.Common.{is_near}
 use Rattle.topo_reader.specs.Common.{Polygons, is_simple}
 use Rattle.walk_faults.specs.Common.{walk_segments, is_closed_ring}
 use Rattle.walk_faults.proofs.Common.{vertex_side}

@@ -3,7 +3,7 @@ use Rattle.std.specs.Prelude.{◌≡◌, List, ◌++◌, map, Contains, IsTrue}
 use Rattle.std.specs.List.{AllZip, list_all}
 use Rattle.grid_geometry.specs.Common.{Position, Segment, Edge, edges}
 use Rattle.ring_machine.specs.Common.{Feature, Document, features, rings_of, segment_of}
-use Rattle.snap_geometry.specs.Common.{is_near}
+use Rattle.segment_paths.specs.Common.{is_near}
 use Rattle.topo_reader.specs.Common.{is_simple}
 use Rattle.segment_paths.specs.Common.{Path, segments_of}
 use Rattle.walk_mending.specs.Common.{laid, KeepsInOrder, is_position_of, is_odd_in}

@@ -8,8 +8,8 @@ use Rattle.topo_outline.specs.Common.{leaves}
 use Rattle.topo_reader.specs.Common.{Polygons, Opened, document_of}
 use Rattle.topo_reader.proofs.Common.{rings_within, rings_document, sum_within}
 use Rattle.segment_paths.specs.Common.{Path}
-use Rattle.area_changes.specs.declared.change.AreaChange.{AreaChange}
-use Rattle.area_changes.specs.Common.{changes_from}
+use Rattle.map_mending.specs.declared.change.AreaChange.{AreaChange}
+use Rattle.map_mending.specs.Common.{changes_from}
 use Rattle.map_mending.specs.declared.parted.Parted.{Parted}
 use Rattle.map_mending.specs.Common.{MendsPolygon, joined, TellsParted, polygons_of}
 use Rattle.map_mending.proofs.Whole.{polygons_read}

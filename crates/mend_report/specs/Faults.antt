@@ -6,9 +6,9 @@ use Rattle.segment_paths.specs.Common.{Path}
 use Rattle.map_mending.specs.Common.{MendedBy, Mended, IsMendFault}
 use Rattle.map_mending.specs.declared.fault.MendFault.{MendFault}
 use Rattle.map_mending.specs.declared.fault.MendFault.TheVariants as mending
-use Rattle.map_saving.specs.Common.{IsUnsaved}
-use Rattle.map_saving.specs.declared.fault.SaveFault.{SaveFault}
-use Rattle.map_saving.specs.declared.fault.SaveFault.TheVariants as saving
+use Rattle.mend_report.specs.Unsaved.{IsUnsaved}
+use Rattle.mend_report.specs.declared.save_fault.SaveFault.{SaveFault}
+use Rattle.mend_report.specs.declared.save_fault.SaveFault.TheVariants as saving
 use Rattle.mend_report.specs.declared.remaking.RemakeFault.{RemakeFault}
 use Rattle.mend_report.specs.declared.remaking.RemakeFault.TheVariants.{TooLarge, Unmended, Unparted, OutOfMemory}
 

@@ -9,10 +9,10 @@ use Rattle.walk_faults.specs.Common.{Found}
 use Rattle.walk_faults.specs.declared.findings.Findings.{Findings}
 use Rattle.place_text.specs.Common.{IsPlaceText}
 use Rattle.map_text.specs.Common.{Saved, text_of}
-use Rattle.area_changes.specs.Common.{changes_from}
+use Rattle.map_mending.specs.Common.{changes_from}
 use Rattle.segment_paths.specs.Common.{paths_seen}
 use Rattle.map_mending.specs.Common.{MendedBy, NeedsNoMending, Mended, Parts, polygons_of, VerticesStay, AllStayNear}
-use Rattle.map_saving.specs.Common.{OpensAgain}
+use Rattle.mend_report.specs.Opens.{OpensAgain}
 use Rattle.mend_report.specs.Faults.{IsRemakeFault}
 use Rattle.mend_report.specs.Looking.{OpensOn, IsEnd, EndsLook}
 use Rattle.mend_report.specs.Report.{mended_report}

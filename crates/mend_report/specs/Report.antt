@@ -1,7 +1,7 @@
 -- The report of what keeps a map from opening: a fact a line.
 use Rattle.std.specs.Prelude.{ℕ, Bool, ◌&&◌, ◌==◌, List, [], ◌++◌, length, take, codes, decimal, flat_map, if◌then◌else◌}
 use Rattle.std.specs.Fmt.{signed_decimal}
-use Rattle.area_changes.specs.declared.change.AreaChange.{AreaChange}
+use Rattle.map_mending.specs.declared.change.AreaChange.{AreaChange}
 use Rattle.grid_geometry.specs.Common.{position_text, segment_text}
 use Rattle.grid_reader.specs.declared.told.Told.{Told}
 use Rattle.map_mending.specs.declared.parted.Parted.{Parted}

@@ -1,5 +1,8 @@
 //! The report of a map: all that keeps it from opening in the editor, a fact a line, and where; and
 //! how it is mended, so that it opens. From bytes to texts: no file is known here.
+//!
+//! The text of a mended map is given once it has opened: the map is built, written, and its text read
+//! and built again.
 #![tactic(auto)]
 
 // The value of a result, or a return of its fault: what `?` does where it converts nothing. The
@@ -34,9 +37,13 @@ mod lines;
 mod looking;
 mod remaking;
 mod report;
+mod save_fault;
+mod saving;
 mod texts;
 
 pub use asked::{Asked, Report};
 pub use looking::LookFault;
 pub use remaking::{Remade, RemakeFault};
 pub use report::{RepairFault, Texts, is_open, mend_map, report_map};
+pub use save_fault::SaveFault;
+pub use saving::saved_text;

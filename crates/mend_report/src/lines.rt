@@ -7,10 +7,9 @@ ghost use Rattle.mend_report.specs.Report.{opens_line, decimals_line, heights_li
 ghost use Rattle.segment_paths.specs.Common.{path_seen};
 
 use crate::texts::{push_number, push_position, push_ring, push_segment};
-use area_changes::AreaChange;
 use grid_geometry::Pos;
 use grid_reader::Told;
-use map_mending::Parted;
+use map_mending::{AreaChange, Parted};
 use segment_paths::SegmentPath;
 use std::alloc::{AllocError, Allocator};
 use topo_outline::RingAt;

@@ -5,10 +5,9 @@ ghost use Rattle.walk_faults.specs.Common.{features_seen};
 ghost use Rattle.mend_report.specs.Remaking.{IsRemade};
 ghost use Rattle.mend_report.specs.Faults.{IsRemakeFault};
 
-use area_changes::{AreaChange, area_changes};
+use crate::{SaveFault, saved_text};
 use grid_geometry::{Pos, Seg};
-use map_mending::{MendFault, Mending, Parted, mend};
-use map_saving::{SaveFault, saved_text};
+use map_mending::{AreaChange, MendFault, Mending, Parted, area_changes, mend};
 use segment_index::TreeIndex;
 use segment_paths::SegmentPath;
 use std::alloc::{AllocError, Allocator, Global};

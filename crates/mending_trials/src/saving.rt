@@ -1,6 +1,6 @@
 // Small maps, saved.
 use fixed_seed::fixed_seed;
-use map_saving::{SaveFault, saved_text};
+use mend_report::{SaveFault, saved_text};
 use refusing_allocator::Refusing;
 use std::alloc::{Allocator, Global};
 use std::process::Abort;

@@ -2,7 +2,7 @@
 use Rattle.std.specs.Prelude.{◌≡◌, ℕ, List, [], ◌∷◌, ◌++◌, map, take, Option, Some, None, unwrap_or, slice_get}
 use Rattle.std.specs.List.{AllZip}
 use Rattle.grid_geometry.specs.Common.{Position}
-use Rattle.snap_geometry.specs.Common.{IsRoundedCrossing}
+use Rattle.segment_paths.specs.Common.{IsRoundedCrossing}
 use Rattle.topo_outline.specs.declared.fault.RingAt.{RingAt}
 use Rattle.walk_faults.specs.declared.findings.Crossing.{Crossing}
 use Rattle.walk_faults.specs.declared.findings.Findings.{Findings}

@@ -6,7 +6,7 @@ ghost use Rattle.place_text.specs.Places.{walk_at, short_place, repeat_place, to
 ghost use Rattle.place_text.specs.Places.{crossing_place, AreCrossings, ArePlaces};
 
 use grid_geometry::Pos;
-use snap_geometry::rounded_crossing;
+use segment_paths::rounded_crossing;
 use std::alloc::{AllocError, Allocator};
 use topo_outline::RingAt;
 use walk_faults::{Crossing, Findings, Repeat, Touch};

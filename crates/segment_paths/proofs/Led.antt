@@ -6,7 +6,7 @@ use Rattle.kit_words.proofs.Common.{list_all-append, All-push, All-same, All-nil
 use Rattle.grid_geometry.specs.Common.{Position, position_cmp, position_eq, Segment, segment, segment_cmp, segment_lt}
 use Rattle.grid_geometry.proofs.Common.{position_eq-same}
 use Rattle.segment_index.proofs.Common.{segment_total}
-use Rattle.snap_geometry.specs.Common.{is_near, along}
+use Rattle.segment_paths.specs.Near.{is_near, along}
 use Rattle.segment_paths.specs.Common.{Path, IsWay, IsKnown, vertex, ArePaths, segments_of, links_of, path_seen}
 use Rattle.segment_paths.specs.Common.{paths_seen, SegmentPath, IsStop, IsPiece, AreWays}
 use Rattle.segment_paths.specs.declared.ways.Ways.{Ways}

@@ -1,5 +1,7 @@
 -- The words of this crate that others cite most, passed on from one place. Declares nothing.
+pub use Rattle.segment_paths.specs.Crossing.{IsRounded, IsRoundedBetween, IsRoundedCrossing, before, beside, whole}
 pub use Rattle.segment_paths.specs.Faults.{HasMore, IsPathFault, StillConflict}
+unfoldable pub use Rattle.segment_paths.specs.Near.{along, is_above_falling, is_near, meets_square}
 pub use Rattle.segment_paths.specs.Paths.{ArePaths, IsKnown, IsWay, Path, crossing, inner_of, inner_positions, links_of}
 pub use Rattle.segment_paths.specs.Paths.{segments_of, vertex}
 pub use Rattle.segment_paths.specs.Seen.{path_seen, paths_seen}

@@ -5,7 +5,8 @@ use Rattle.std.specs.List.Sorted.{IsStrictlySortedBy}
 use Rattle.std.specs.Ordering.{int_cmp}
 use Rattle.grid_geometry.specs.Common.{Position, Segment, segment_cmp, segment_eq, is_end, cross, links}
 use Rattle.ring_machine.specs.Common.{segment_of}
-use Rattle.snap_geometry.specs.Common.{is_near, along, IsRoundedCrossing}
+use Rattle.segment_paths.specs.Near.{is_near, along}
+use Rattle.segment_paths.specs.Crossing.{IsRoundedCrossing}
 
 -- a segment, and the positions that are put between its ends, from the lesser end on
 abbrev pub Path : Type 0

@@ -7,9 +7,9 @@ ghost use Rattle.segment_paths.specs.Paths.{Path, IsKnown, ArePaths};
 ghost use Rattle.segment_paths.specs.Seen.{paths_seen};
 ghost use Rattle.segment_paths.specs.Stops.{IsPiece, IsOf};
 
+use crate::along;
 use crate::path::SegmentPath;
 use grid_geometry::{Pos, Seg};
-use snap_geometry::along;
 use std::alloc::{AllocError, Allocator};
 
 /// A link, from one position of a path to the next, and the segment whose path it is.

@@ -11,9 +11,9 @@ use crate::fault::PathFault;
 use crate::link::Piece;
 use crate::stop::{Stop, push_stop, sort_stops};
 use crate::ways::{Ways, paths_of, room_after};
+use crate::{meets_square, rounded_crossing};
 use grid_geometry::{Pos, Seg, conflict, cross};
 use segment_index::SegIndex;
-use snap_geometry::{meets_square, rounded_crossing};
 use std::alloc::{AllocError, Allocator};
 
 /// What a round finds: stops, which part links that conflict, and two segments whose paths have

@@ -6,8 +6,8 @@ ghost use Rattle.segment_paths.specs.Paths.{Path, IsKnown};
 ghost use Rattle.segment_paths.specs.Stops.{IsStop, IsPiece};
 
 use crate::link::{Piece, comes_between};
+use crate::{along, is_near};
 use grid_geometry::{Pos, Seg};
-use snap_geometry::{along, is_near};
 use std::alloc::{AllocError, Allocator};
 
 /// A position that a segment is led over. Stops are ordered by segments, and those of a segment by

@@ -4,7 +4,7 @@ ghost use Rattle.std.specs.Prelude.{length, take_while, ◌++◌, ◌∷◌, ◌
 ghost use Rattle.std.specs.List.Sorted.{IsStrictlySortedBy};
 ghost use Rattle.std.specs.List.{All};
 ghost use Rattle.grid_geometry.specs.Common.{Segment, segment_cmp, segment_eq, segment_lt};
-ghost use Rattle.snap_geometry.specs.Common.{is_near, along};
+ghost use Rattle.segment_paths.specs.Near.{is_near, along};
 ghost use Rattle.segment_paths.specs.Paths as spec;
 ghost use Rattle.segment_paths.specs.Paths.{IsKnown, IsWay, ArePaths, segments_of};
 ghost use Rattle.segment_paths.specs.Paths.{inner_positions};
@@ -14,8 +14,8 @@ ghost use Rattle.segment_paths.specs.Stops.{IsStop, IsPiece, IsOf, AreWays};
 use crate::link::{Piece, links_of, push_pieces};
 use crate::path::{SegmentPath, positions_between};
 use crate::stop::{Stop, sort_stops};
+use crate::{along, is_near};
 use grid_geometry::{Pos, Seg};
-use snap_geometry::{along, is_near};
 use std::alloc::{AllocError, Allocator};
 
 /// The paths so far of ascending segments: the stops of all of them, sorted; the paths of the
