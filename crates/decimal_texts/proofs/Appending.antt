@@ -1,5 +1,5 @@
 -- Pieces that are appended one after another.
-use Rattle.kit_words.proofs.Common.{◌≡◌, ℕ, List, ◌++◌, ap, ◌∙◌, Result, Ok, Err, append_assoc, is_ok, if◌then◌else◌}
+use Rattle.kit_words.proofs.Common.{◌≡◌, ℕ, List, ◌++◌, ap, ◌∙◌, Result, Ok, Err, is_ok, if◌then◌else◌}
 use Rattle.kit_words.proofs.Common.{OnOk, appended_two}
 
 -- what is appended where there is memory

@@ -1,5 +1,5 @@
 -- Zeros behind a number.
-use Rattle.kit_words.proofs.Common.{◌≡◌, ℕ, zero, suc, ◌+◌, ◌-◌, ◌*◌, ◌^◌, ◌≤◌, ◌<◌, ◌%◌, ◌/◌, refl, sym, ap, ◌∙◌}
+use Rattle.kit_words.proofs.Common.{◌≡◌, ℕ, zero, suc, ◌+◌, ◌-◌, ◌*◌, ◌^◌, ◌≤◌, ◌%◌, ◌/◌, refl, sym, ap, ◌∙◌}
 use Rattle.kit_words.proofs.Common.{arith, sub-one, add-one, mod-mul, pow-suc, ne_eqb, cond-true, cond-false}
 use Rattle.decimal_texts.proofs.Powers.{power_pos}
 use Rattle.std.proofs.lemmas.Bool.{eq-eqb}

@@ -1,8 +1,8 @@
 -- The text of a topology with its points on a grid of whole numbers: each coordinate is the number
 -- that it is rounded to, and all else is as it stands.
-use Rattle.std.specs.Prelude.{ℕ, ◌+◌, ◌-◌, ◌^◌, ℤ, pos, ◌*ℤ◌, unsigned_abs, nat_le, Bool, true, false, List, [], ◌∷◌, ◌++◌, length, take, drop, Option, Some, None, Result, Ok, Err}
+use Rattle.std.specs.Prelude.{ℕ, ◌-◌, ◌^◌, ℤ, pos, ◌*ℤ◌, unsigned_abs, nat_le, Bool, true, false, List, [], ◌∷◌, ◌++◌, take, drop, Option, Some, None, Result, Ok, Err}
 use Rattle.std.specs.Fmt.{signed_decimal}
-use Rattle.json_spans.specs.Common.{Node, trimmed, kind_of}
+use Rattle.json_spans.specs.Common.{Node, kind_of}
 use Rattle.json_spans.specs.declared.kinds.Kind.{Kind}
 use Rattle.json_spans.specs.declared.kinds.Kind.TheVariants as kind
 use Rattle.decimal_texts.specs.Decimal.{Parts, parts_of}

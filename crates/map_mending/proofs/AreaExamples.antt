@@ -2,7 +2,7 @@
 use Rattle.kit_words.proofs.Common.{◌≡◌, ℕ, pos, refl, List, [], ◌∷◌}
 use Rattle.grid_geometry.specs.Common.{Position, position, Segment, segment, orientation}
 use Rattle.ring_machine.specs.Common.{Feature, area_of}
-use Rattle.segment_paths.specs.Common.{Path}
+use Rattle.segment_paths.specs.Common.{PathOfSegment}
 use Rattle.topo_reader.specs.Common.{Polygons}
 use Rattle.map_mending.specs.Common.{area_in, change_of, changes_from, swept_along}
 
@@ -41,7 +41,7 @@ unfolding orientation
 over_none = refl
 
 -- two neighbours that overlap, their borders led along common positions
-abbrev paths : List Path
+abbrev paths : List PathOfSegment
 paths =
     (seg 0 10 20 7, at 5 9 ∷ at 13 8 ∷ [])
     ∷ (seg 5 8 5 20, at 5 9 ∷ [])

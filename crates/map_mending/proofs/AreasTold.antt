@@ -2,11 +2,11 @@
 use Rattle.kit_words.proofs.Common.{◌≡◌, ◌<◌, ◌+◌, ℕ, suc, sym, ap, ap₂, ◌∙◌, List, ◌++◌, map, drop, get_or, length}
 use Rattle.kit_words.proofs.Common.{arith, append_assoc, drop_all, next_drop}
 use Rattle.std.proofs.Common.{append-nil}
-use Rattle.segment_paths.specs.Common.{Path}
+use Rattle.segment_paths.specs.Common.{PathOfSegment}
 use Rattle.topo_reader.specs.Common.{Polygons}
 use Rattle.map_mending.specs.Common.{AreaChange, told_if, change_of, changes_from}
 
-module _ {X : Type 0} (paths : List Path) (seen : X → Polygons) (before after : List X) where
+module _ {X : Type 0} (paths : List PathOfSegment) (seen : X → Polygons) (before after : List X) where
   -- one feature more
   pub told_next : (i : ℕ) (x y : X) (change : AreaChange) (old new whole : List AreaChange) → i < length before → i < length after
       → x ≡ get_or before i x → y ≡ get_or after i y → change ≡ change_of paths i (seen x) (seen y) → new ≡ old ++ told_if change

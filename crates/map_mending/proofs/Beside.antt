@@ -7,7 +7,7 @@ use Rattle.grid_geometry.specs.Common.{Position, Segment, segment_eq, orientatio
 use Rattle.grid_geometry.proofs.Turns.{orientation-start}
 use Rattle.ring_machine.proofs.Common.{segment_eq-true}
 use Rattle.segment_paths.specs.Common.{is_near, along}
-use Rattle.segment_paths.specs.Common.{Path, IsWay, inner_of}
+use Rattle.segment_paths.specs.Common.{PathOfSegment, IsWay, inner_of}
 use Rattle.map_mending.specs.Common.{IsBeside}
 
 less : (x y : ℤ) → int_cmp x y ≡ Less → x <ℤ y
@@ -80,18 +80,18 @@ module _ (s : Segment) where
 
 -- ---- the path of a segment
 
-chosen : (p : Path) (s : Segment) (rest : List Position) (b : Bool) → segment_eq s p.0 ≡ b → IsWay p.0 p.1 → (0 < length rest → IsWay s rest)
+chosen : (p : PathOfSegment) (s : Segment) (rest : List Position) (b : Bool) → segment_eq s p.0 ≡ b → IsWay p.0 p.1 → (0 < length rest → IsWay s rest)
     → 0 < length (cond b p.1 rest) → IsWay s (cond b p.1 rest)
 chosen p s rest true e here later some = subst (λ (t : Segment). IsWay t p.1) (sym (segment_eq-true s p.0 e)) here
 chosen p s rest false e here later some = later some
 
-pub way_of : (paths : List Path) (s : Segment) → All (λ p. IsWay p.0 p.1) paths → 0 < length (inner_of paths s) → IsWay s (inner_of paths s)
+pub way_of : (paths : List PathOfSegment) (s : Segment) → All (λ p. IsWay p.0 p.1) paths → 0 < length (inner_of paths s) → IsWay s (inner_of paths s)
 way_of [] s h some = absurd (omega arith)
 way_of (p ∷ ps) s h some =
-    chosen p s (inner_of ps s) (segment_eq s p.0) refl (h 0 p (omega arith)) (way_of ps s (All-tail (λ (q : Path). IsWay q.0 q.1) p ps h)) some
+    chosen p s (inner_of ps s) (segment_eq s p.0) refl (h 0 p (omega arith)) (way_of ps s (All-tail (λ (q : PathOfSegment). IsWay q.0 q.1) p ps h)) some
 
 -- a position alone has none
-pub none_alone : (paths : List Path) (s : Segment) → s.lo ≡ s.hi → All (λ p. IsWay p.0 p.1) paths → inner_of paths s ≡ []
+pub none_alone : (paths : List PathOfSegment) (s : Segment) → s.lo ≡ s.hi → All (λ p. IsWay p.0 p.1) paths → inner_of paths s ≡ []
 none_alone paths s same h = by (inner_of paths s) refl
   where
     by : (inner : List Position) → inner_of paths s ≡ inner → inner_of paths s ≡ []

@@ -5,7 +5,7 @@ use Rattle.kit_words.proofs.Common.{next_drop}
 use Rattle.std.proofs.Common.{is_gt}
 use Rattle.std.specs.Prelude.{sum_by}
 use Rattle.grid_geometry.specs.Common.{Position, position_cmp, Segment, Edge, links}
-use Rattle.segment_paths.specs.Common.{Path, IsWay, inner_of}
+use Rattle.segment_paths.specs.Common.{PathOfSegment, IsWay, inner_of}
 use Rattle.map_mending.specs.Common.{triangle, swept_along, swept_by, IsBeside}
 use Rattle.map_mending.proofs.Beside.{no_triangle, none_alone}
 
@@ -40,7 +40,7 @@ along_end s from xs i sum whole l so_far =
     omega (arith, link_last (triangle s.hi) from s.hi xs i sum whole l so_far, no_triangle from s.hi)
 
 -- a position alone sweeps over nothing
-pub nothing_swept : (paths : List Path) (a : Position) → All (λ p. IsWay p.0 p.1) paths → swept_by paths (a, a) ≡ 0
+pub nothing_swept : (paths : List PathOfSegment) (a : Position) → All (λ p. IsWay p.0 p.1) paths → swept_by paths (a, a) ≡ 0
 nothing_swept paths a h =
     let s : Segment = record { lo = a; hi = a } in
     ap (λ (t : Segment). swept_along t (inner_of paths t)) (either (is_gt (position_cmp a a)) s)
@@ -51,5 +51,5 @@ nothing_swept paths a h =
     either false t = refl
 
 -- the path that was found
-pub path_found : (paths : List Path) (s t : Segment) (inner : List Position) → t ≡ s → inner ≡ inner_of paths t → inner ≡ inner_of paths s
+pub path_found : (paths : List PathOfSegment) (s t : Segment) (inner : List Position) → t ≡ s → inner ≡ inner_of paths t → inner ≡ inner_of paths s
 path_found paths s t inner same is = is ∙ ap (inner_of paths) same

@@ -4,7 +4,7 @@ use Rattle.std.specs.List.{sum_by}
 use Rattle.grid_geometry.specs.Common.{Position, Segment, orientation, Edge, links, edges}
 use Rattle.ring_machine.specs.Common.{segment_of}
 use Rattle.segment_paths.specs.Common.{along}
-use Rattle.segment_paths.specs.Common.{Path, inner_of}
+use Rattle.segment_paths.specs.Common.{PathOfSegment, inner_of}
 use Rattle.topo_reader.specs.Common.{Polygons}
 
 -- the triangle of a step along a path and the path's end
@@ -17,15 +17,15 @@ abbrev pub swept_along : Segment → List Position → ℕ
 swept_along s inner = sum_by (triangle s.hi) (links (s.lo ∷ inner ++ s.hi ∷ []))
 
 -- the same of an edge: its segment may have a path
-abbrev pub swept_by : List Path → Edge → ℕ
+abbrev pub swept_by : List PathOfSegment → Edge → ℕ
 swept_by paths e = swept_along (segment_of e) (inner_of paths (segment_of e))
 
 -- the same of walks: each edge as often as it stands in them
-abbrev pub swept_walks : List Path → List (List Position) → ℕ
+abbrev pub swept_walks : List PathOfSegment → List (List Position) → ℕ
 swept_walks paths walks = sum_by (λ walk. sum_by (swept_by paths) (edges walk)) walks
 
 -- the same of the walks of polygons
-abbrev pub swept_of : List Path → Polygons → ℕ
+abbrev pub swept_of : List PathOfSegment → Polygons → ℕ
 swept_of paths polygons = sum_by (swept_walks paths) polygons
 
 -- q is beside the segment: within half a unit of its line in x or in y, and between its ends

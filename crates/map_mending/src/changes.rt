@@ -3,7 +3,7 @@ ghost use Rattle.std.specs.Prelude.{◌≡◌, ◌≤◌, ◌++◌, map, length,
 ghost use Rattle.std.specs.List.{All};
 ghost use Rattle.std.specs.List.Sorted.{IsStrictlySortedBy};
 ghost use Rattle.grid_geometry.specs.Common.{segment_cmp};
-ghost use Rattle.segment_paths.specs.Common.{IsWay, segments_of, paths_seen};
+ghost use Rattle.segment_paths.specs.Common.{IsWay, segments_with_path, paths_seen};
 ghost use Rattle.topo_reader.specs.Common.{feature_positions};
 ghost use Rattle.map_mending.specs.Areas.{told_if, changes_from};
 
@@ -39,7 +39,7 @@ pub fn area_changes<A: Allocator + Copy>(
     before: &[Vec<Vec<Vec<Pos, A>, A>, A>],
     after: &[Vec<Vec<Vec<Pos, A>, A>, A>],
 ) -> Result<Vec<AreaChange, A>, AllocError>
-    requires ascending { IsStrictlySortedBy segment_cmp (segments_of (paths_seen paths.now)) }
+    requires ascending { IsStrictlySortedBy segment_cmp (segments_with_path (paths_seen paths.now)) }
     requires ways { All (λ p. IsWay p.0 p.1) (paths_seen paths.now) }
     requires same { length after.now ≡ length before.now }
     requires few_before { sum_by (sum_by (sum_by length)) (map feature_positions before.now)

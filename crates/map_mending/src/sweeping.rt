@@ -4,7 +4,7 @@ ghost use Rattle.std.specs.List.{All};
 ghost use Rattle.std.specs.List.Sorted.{IsStrictlySortedBy};
 ghost use Rattle.grid_geometry.specs.Common.{edges, segment_cmp};
 ghost use Rattle.segment_paths.specs.Common.{along};
-ghost use Rattle.segment_paths.specs.Common.{IsWay, segments_of, paths_seen};
+ghost use Rattle.segment_paths.specs.Common.{IsWay, segments_with_path, paths_seen};
 ghost use Rattle.topo_reader.specs.Common.{positions_of, polygon_positions};
 ghost use Rattle.map_mending.specs.Swept as spec;
 ghost use Rattle.map_mending.specs.Swept.{IsBeside};
@@ -43,7 +43,7 @@ fn swept_along(segment: Seg, inner: &[Pos]) -> u128
 
 /// What an edge sweeps over, twice as large.
 fn swept_by<A: Allocator + Copy>(paths: &[SegmentPath<A>], from: Pos, to: Pos) -> u128
-    requires ascending { IsStrictlySortedBy segment_cmp (segments_of (paths_seen paths.now)) }
+    requires ascending { IsStrictlySortedBy segment_cmp (segments_with_path (paths_seen paths.now)) }
     requires ways { All (λ p. IsWay p.0 p.1) (paths_seen paths.now) }
     ensures value { result ≡ spec.swept_by (paths_seen paths.now) (from, to) }
     ensures bound { result ≤ 36893488147419103232000000000000 }
@@ -56,7 +56,7 @@ fn swept_by<A: Allocator + Copy>(paths: &[SegmentPath<A>], from: Pos, to: Pos) -
 
 /// What the edges of a walk sweep over, twice as large.
 fn swept_walk<A: Allocator + Copy>(paths: &[SegmentPath<A>], walk: &[Pos]) -> u128
-    requires ascending { IsStrictlySortedBy segment_cmp (segments_of (paths_seen paths.now)) }
+    requires ascending { IsStrictlySortedBy segment_cmp (segments_with_path (paths_seen paths.now)) }
     requires ways { All (λ p. IsWay p.0 p.1) (paths_seen paths.now) }
     requires few { length walk.now ≤ 4000000 }
     ensures value { result ≡ sum_by (spec.swept_by (paths_seen paths.now)) (edges walk.now) }
@@ -76,7 +76,7 @@ fn swept_walk<A: Allocator + Copy>(paths: &[SegmentPath<A>], walk: &[Pos]) -> u1
 
 /// What the walks of a polygon sweep over, twice as large.
 fn swept_walks<A: Allocator + Copy>(paths: &[SegmentPath<A>], walks: &[Vec<Pos, A>]) -> u128
-    requires ascending { IsStrictlySortedBy segment_cmp (segments_of (paths_seen paths.now)) }
+    requires ascending { IsStrictlySortedBy segment_cmp (segments_with_path (paths_seen paths.now)) }
     requires ways { All (λ p. IsWay p.0 p.1) (paths_seen paths.now) }
     requires few { sum_by length (map positions_of walks.now) ≤ 4000000 }
     ensures value { result
@@ -96,7 +96,7 @@ pub(crate) fn swept<A: Allocator + Copy>(
     paths: &[SegmentPath<A>],
     polygons: &[Vec<Vec<Pos, A>, A>],
 ) -> u128
-    requires ascending { IsStrictlySortedBy segment_cmp (segments_of (paths_seen paths.now)) }
+    requires ascending { IsStrictlySortedBy segment_cmp (segments_with_path (paths_seen paths.now)) }
     requires ways { All (λ p. IsWay p.0 p.1) (paths_seen paths.now) }
     requires few { sum_by (sum_by length) (map polygon_positions polygons.now) ≤ 4000000 }
     ensures { result ≡ spec.swept_of (paths_seen paths.now) (map polygon_positions polygons.now) }

@@ -2,7 +2,7 @@
 use Rattle.std.specs.Prelude.{List, ◌⊎◌}
 use Rattle.ring_machine.specs.Common.{Document}
 use Rattle.topo_outline.specs.declared.fault.Limit.TheVariants as limit
-use Rattle.segment_paths.specs.Common.{Path}
+use Rattle.segment_paths.specs.Common.{PathOfSegment}
 use Rattle.map_mending.specs.Common.{MendedBy, Mended, IsMendFault}
 use Rattle.map_mending.specs.declared.fault.MendFault.{MendFault}
 use Rattle.map_mending.specs.declared.fault.MendFault.TheVariants as mending
@@ -14,7 +14,7 @@ use Rattle.mend_report.specs.declared.remaking.RemakeFault.TheVariants.{TooLarge
 
 -- some paths mend the document to one that is not saved, for this reason
 pub record IsMendedUnsaved (d : Document) (fault : SaveFault) : Type 0 where
-  pub paths : List Path
+  pub paths : List PathOfSegment
   pub document : Document
   pub by : MendedBy d paths
   pub mended : Mended paths d document

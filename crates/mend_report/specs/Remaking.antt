@@ -11,7 +11,7 @@ use Rattle.place_text.specs.Common.{IsPlaceText}
 use Rattle.map_text.specs.Common.{Saved, text_of}
 use Rattle.map_mending.specs.Common.{changes_from}
 use Rattle.segment_paths.specs.Common.{paths_seen}
-use Rattle.map_mending.specs.Common.{MendedBy, NeedsNoMending, Mended, Parts, polygons_of, VerticesStay, AllStayNear}
+use Rattle.map_mending.specs.Common.{MendedBy, NeedsNoMending, Mended, TellsPartedIn, polygons_by_feature, VerticesStay, AllStayNear}
 use Rattle.mend_report.specs.Opens.{OpensAgain}
 use Rattle.mend_report.specs.Faults.{IsRemakeFault}
 use Rattle.mend_report.specs.Looking.{OpensOn, IsEnd, EndsLook}
@@ -28,9 +28,9 @@ pub record IsRemade {A : Type 0} (d : Document) (remade : Remade A) : Type 0 whe
   pub document : Document
   pub mended : Mended (paths_seen remade.paths.items) d document
   pub by : MendedBy d (paths_seen remade.paths.items)
-  pub parts : Parts (paths_seen remade.paths.items) d document remade.parted.items
+  pub parts : TellsPartedIn (paths_seen remade.paths.items) d document remade.parted.items
   pub areas : remade.areas.items
-      ≡ changes_from (paths_seen remade.paths.items) 0 (polygons_of d) (polygons_of document)
+      ≡ changes_from (paths_seen remade.paths.items) 0 (polygons_by_feature d) (polygons_by_feature document)
   pub stays : NeedsNoMending d → document ≡ in_rings canonical d
   pub vertices : VerticesStay (paths_seen remade.paths.items) d document
   pub near : AllStayNear (paths_seen remade.paths.items) d document

@@ -5,7 +5,7 @@ use Rattle.map_mending.specs.declared.change.AreaChange.{AreaChange}
 use Rattle.grid_geometry.specs.Common.{position_text, segment_text}
 use Rattle.grid_reader.specs.declared.told.Told.{Told}
 use Rattle.map_mending.specs.declared.parted.Parted.{Parted}
-use Rattle.segment_paths.specs.Common.{Path}
+use Rattle.segment_paths.specs.Common.{PathOfSegment}
 use Rattle.topo_outline.specs.declared.fault.RingAt.{RingAt}
 use Rattle.walk_faults.specs.declared.findings.Crossing.{Crossing}
 use Rattle.walk_faults.specs.declared.findings.Findings.{Findings}
@@ -111,7 +111,7 @@ report_of most grid dropped found =
 -- ---- a map that was mended
 
 -- the segment goes along these positions now: "path X Y X Y .. X Y"
-abbrev pub path_line : Path → List ℕ
+abbrev pub path_line : PathOfSegment → List ℕ
 path_line p =
     codes "path " ++ (position_text p.0.lo
     ++ (flat_map (λ q. codes " " ++ position_text q) p.1
@@ -139,7 +139,7 @@ all_counts_line short repeats touches crossings paths parts areas =
 
 -- the report of what was found and of what was done about it, of each kind at most so many lines
 abbrev pub mended_report : {A : Type 0}
-    → ℕ → Told → ℕ → Findings A → List Path → List Parted → List AreaChange → List ℕ
+    → ℕ → Told → ℕ → Findings A → List PathOfSegment → List Parted → List AreaChange → List ℕ
 mended_report most grid dropped found paths parted areas =
     findings_text most grid dropped found.short.items found.repeats.items found.touches.items found.crossings.items
     ++ (lines most path_line paths ++ (lines most parts_line parted ++ (lines most area_line areas

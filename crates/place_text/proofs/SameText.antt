@@ -5,11 +5,11 @@ use Rattle.std.proofs.Common.{All}
 use Rattle.grid_geometry.specs.Common.{Position}
 use Rattle.ring_machine.specs.Common.{Text}
 use Rattle.map_text.specs.Common.{arcs_text}
-use Rattle.segment_paths.specs.Common.{Path}
+use Rattle.segment_paths.specs.Common.{PathOfSegment}
 use Rattle.topo_outline.specs.declared.fault.RingAt.{RingAt}
 use Rattle.walk_faults.specs.declared.findings.Findings.{Findings}
 use Rattle.walk_faults.specs.declared.findings.Touch.{Touch}
-use Rattle.walk_faults.specs.Common.{each_at}
+use Rattle.walk_faults.specs.Common.{flat_map_at}
 use Rattle.place_text.specs.declared.owners.Owners.{Owners}
 use Rattle.place_text.specs.Common.{Short, On, Cross, Place, Side, Telling, telling, pair_features, list_at, place_at}
 use Rattle.place_text.specs.Common.{short_place, repeat_place, touch_place, crossing_place, places_of, ArePlaces}
@@ -20,17 +20,17 @@ use Rattle.place_text.specs.Common.{topology_text, IsPlaceText}
 -- ---- elements that give the same
 
 each_agree : {X Y : Type 0} (f g : ℕ → X → List Y) (k : ℕ) (xs : List X) → ((n i : ℕ) (d : X) → i < length xs → f n (get_or xs i d) ≡ g n (get_or xs i d))
-    → each_at f k xs ≡ each_at g k xs
+    → flat_map_at f k xs ≡ flat_map_at g k xs
 each_agree f g k [] same = refl
 each_agree f g k (x ∷ xs) same =
     ap₂ (λ ys zs. ys ++ zs) (same k 0 x (omega arith)) (each_agree f g (suc k) xs (λ n i d l. same n (suc i) d (omega (arith, l))))
 
-map_each : {X Y Z : Type 0} (f : Y → Z) (h : ℕ → X → List Y) (k : ℕ) (xs : List X) → map f (each_at h k xs) ≡ each_at (λ n x. map f (h n x)) k xs
+map_each : {X Y Z : Type 0} (f : Y → Z) (h : ℕ → X → List Y) (k : ℕ) (xs : List X) → map f (flat_map_at h k xs) ≡ flat_map_at (λ n x. map f (h n x)) k xs
 map_each f h k [] = refl
-map_each f h k (x ∷ xs) = map-append f (h k x) (each_at h (suc k) xs) ∙ ap (λ z. map f (h k x) ++ z) (map_each f h (suc k) xs)
+map_each f h k (x ∷ xs) = map-append f (h k x) (flat_map_at h (suc k) xs) ∙ ap (λ z. map f (h k x) ++ z) (map_each f h (suc k) xs)
 
 mapped_agree : {X Y Z : Type 0} (f g : Y → Z) (h : ℕ → X → List Y) (k : ℕ) (xs : List X)
-    → ((n i : ℕ) (d : X) → i < length xs → map f (h n (get_or xs i d)) ≡ map g (h n (get_or xs i d))) → map f (each_at h k xs) ≡ map g (each_at h k xs)
+    → ((n i : ℕ) (d : X) → i < length xs → map f (h n (get_or xs i d)) ≡ map g (h n (get_or xs i d))) → map f (flat_map_at h k xs) ≡ map g (flat_map_at h k xs)
 mapped_agree f g h k xs same =
     map_each f h k xs ∙ each_agree (λ n x. map f (h n x)) (λ n x. map g (h n x)) k xs same ∙ sym (map_each g h k xs)
 
@@ -52,10 +52,10 @@ module _ (t u : Telling) where
       → All (λ (c : Touch). t.vertex c.pos ≡ u.vertex c.pos) found.touches.items → ((n : ℕ) → t.pair n ≡ u.pair n)
       → map (place_text t) (places_of features found crossings) ≡ map (place_text u) (places_of features found crossings)
   places_same features found crossings vertices pairs =
-      let ss = each_at (short_place features) 0 found.short.items in
-      let rs = each_at repeat_place 0 found.repeats.items in
-      let ts = each_at touch_place 0 found.touches.items in
-      let cs = each_at crossing_place 0 crossings in
+      let ss = flat_map_at (short_place features) 0 found.short.items in
+      let rs = flat_map_at repeat_place 0 found.repeats.items in
+      let ts = flat_map_at touch_place 0 found.touches.items in
+      let cs = flat_map_at crossing_place 0 crossings in
       let s : map (place_text t) ss ≡ map (place_text u) ss =
       mapped_agree (place_text t) (place_text u) (short_place features) 0 found.short.items
       (λ n i d l. short_same n (get_or found.short.items i d) (take 1 (walk_at features (get_or found.short.items i d)))) in
@@ -79,10 +79,10 @@ module _ (t u : Telling) where
   sides_same sides same =
       each_agree (λ n s. side_text t n s ∷ []) (λ n s. side_text u n s ∷ []) 0 sides (λ n i d l. side_same n (get_or sides i d) (same i d l))
 
-  path_same : (n index : ℕ) (p : Path) → t.segment p.0 ≡ u.segment p.0 → path_text t n index p ∷ [] ≡ path_text u n index p ∷ []
+  path_same : (n index : ℕ) (p : PathOfSegment) → t.segment p.0 ≡ u.segment p.0 → path_text t n index p ∷ [] ≡ path_text u n index p ∷ []
   path_same n index p e = ap (λ ns. path_text (record { vertex = t.vertex; segment = λ _. ns; pair = t.pair }) n index p ∷ []) e
 
-  layer_same : (others : ℕ) (paths : Option (List Path)) → All (λ (p : Path). t.segment p.0 ≡ u.segment p.0) (told_paths paths) → path_layer t others paths ≡ path_layer u others paths
+  layer_same : (others : ℕ) (paths : Option (List PathOfSegment)) → All (λ (p : PathOfSegment). t.segment p.0 ≡ u.segment p.0) (told_paths paths) → path_layer t others paths ≡ path_layer u others paths
   layer_same others None same = refl
   layer_same others (Some paths) same =
       ap (λ z. codes ",\"paths\":" ++ collection_text z) (each_agree (λ n p. path_text t n (others + n) p ∷ []) (λ n p. path_text u n (others + n) p ∷ []) 0 paths
@@ -90,7 +90,7 @@ module _ (t u : Telling) where
 
 -- ---- the whole text
 
-pub text_is : {A : Type 0} (transform : Option Text) (features : List (List (List (List Position)))) (found : Findings A) (paths : Option (List Path))
+pub text_is : {A : Type 0} (transform : Option Text) (features : List (List (List (List Position)))) (found : Findings A) (paths : Option (List PathOfSegment))
     (places : List Place) (sides : List Side) (owners : Owners A) (text : List ℕ) → ArePlaces features found places → sides ≡ sides_of found
     → Answers features found.touches.items sides (told_paths paths) owners.tables → map numbers_of owners.pairs.items ≡ map (pair_features features) found.crossings.items
     → text ≡ topology_text (told_by owners) transform places sides paths → IsPlaceText transform features found paths text

@@ -9,7 +9,7 @@ use Rattle.ring_machine.specs.Common.{Text}
 use Rattle.grid_geometry.specs.Common.{Position, position}
 use Rattle.map_text.specs.Common.{further, commas, comma_if, pair_text, pairs, differences, arc_text, list_text}
 use Rattle.map_text.proofs.Common.{further_push}
-use Rattle.segment_paths.specs.Common.{path_seen, paths_seen}
+use Rattle.segment_paths.specs.Common.{path_of_segment, paths_seen}
 use Rattle.segment_paths.specs.declared.path.SegmentPath.{SegmentPath}
 use Rattle.place_text.specs.Common.{pair_behind, way, ways, behind_if}
 use Rattle.place_text.proofs.Listed.{commas_next}
@@ -130,10 +130,10 @@ way_step more h f g xs i x l e old before mid end p q r =
 
 -- the arc of a path, as it is seen inside
 pub whole_way : {A : Type 0} (delta : Bool) (inside path : SegmentPath A) (inner : List Position) (old : Text) → inside ≡ path → inner ≡ inside.inner.items
-    → old ++ arc_text delta (inside.segment.lo ∷ inner ++ inside.segment.hi ∷ []) ≡ old ++ arc_text delta (way (path_seen path))
+    → old ++ arc_text delta (inside.segment.lo ∷ inner ++ inside.segment.hi ∷ []) ≡ old ++ arc_text delta (way (path_of_segment path))
 whole_way {A = A} delta inside path inner old same is_inner =
     ap (λ (z : List Position). old ++ arc_text delta (inside.segment.lo ∷ z ++ inside.segment.hi ∷ [])) is_inner
-    ∙ ap (λ (p : SegmentPath A). old ++ arc_text delta (way (path_seen p))) same
+    ∙ ap (λ (p : SegmentPath A). old ++ arc_text delta (way (path_of_segment p))) same
 
 -- ---- the list of all arcs
 

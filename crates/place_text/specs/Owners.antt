@@ -4,7 +4,7 @@ use Rattle.std.specs.List.{flat_map, list_any}
 use Rattle.grid_geometry.specs.Common.{Position, position_eq, Segment, segment_eq}
 use Rattle.walk_faults.specs.declared.findings.Crossing.{Crossing}
 use Rattle.walk_faults.specs.declared.findings.Findings.{Findings}
-use Rattle.walk_faults.specs.Common.{walk_segments, each_at}
+use Rattle.walk_faults.specs.Common.{walk_segments, flat_map_at}
 use Rattle.place_text.specs.Places.{list_at}
 
 -- ---- what a feature has, which is given by its polygons and their rings, which are walks
@@ -33,7 +33,7 @@ number_if test n x = if test x then (n ∷ []) else []
 
 -- the numbers of the features that pass, from 0: ascending, each once
 abbrev pub numbers_where : {X : Type 0} → (X → Bool) → List X → List ℕ
-numbers_where test features = each_at (number_if test) 0 features
+numbers_where test features = flat_map_at (number_if test) 0 features
 
 -- those that have the vertex
 abbrev pub vertex_features : List (List (List (List Position))) → Position → List ℕ

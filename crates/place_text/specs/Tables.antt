@@ -6,7 +6,7 @@ use Rattle.std.specs.BTreeMap.{BTreeMap, get}
 use Rattle.std.specs.Ordering.{is_eq}
 use Rattle.std.specs.declared.cmp.Ordering.{Ordering}
 use Rattle.grid_geometry.specs.Common.{Position, position_cmp, Segment, segment_cmp}
-use Rattle.segment_paths.specs.Common.{Path}
+use Rattle.segment_paths.specs.Common.{PathOfSegment}
 use Rattle.walk_faults.specs.declared.findings.Crossing.{Crossing}
 use Rattle.walk_faults.specs.declared.findings.Touch.{Touch}
 use Rattle.place_text.specs.declared.owners.Owners.{Owners}
@@ -85,11 +85,11 @@ touch_pos touch = touch.pos
 abbrev pub side_segment : Side → Segment
 side_segment side = side.segment
 
-abbrev pub path_segment : Path → Segment
+abbrev pub path_segment : PathOfSegment → Segment
 path_segment path = path.0
 
 -- the paths, if they are told
-abbrev pub told_paths : Option (List Path) → List Path
+abbrev pub told_paths : Option (List PathOfSegment) → List PathOfSegment
 told_paths None = []
 told_paths (Some paths) = paths
 
@@ -102,7 +102,7 @@ AnswersBoth features segments c =
 
 -- the tables answer as the map does
 pub record Answers {A : Type 0} (features : List (List (List (List Position))))
-    (touches : List Touch) (sides : List Side) (paths : List Path) (tables : Tables A)
+    (touches : List Touch) (sides : List Side) (paths : List PathOfSegment) (tables : Tables A)
     : Type 0 where
   pub at_touches : All (λ t. numbers_at position_cmp tables.vertices t.pos
       ≡ vertex_features features t.pos) touches

@@ -5,14 +5,14 @@ use Rattle.ring_machine.specs.Common.{Text}
 use Rattle.topo_outline.specs.declared.fault.RingAt.{RingAt}
 use Rattle.map_text.specs.Common.{list_text, pair_text, arcs_text, commas, further}
 use Rattle.walk_faults.specs.declared.findings.Findings.{Findings}
-use Rattle.walk_faults.specs.Common.{each_at}
+use Rattle.walk_faults.specs.Common.{flat_map_at}
 use Rattle.place_text.specs.declared.places.Kind.{Kind}
 use Rattle.place_text.specs.declared.places.Kind.TheVariants.{Short, Repeats, On, Cross}
 use Rattle.place_text.specs.declared.places.Place.{Place}
 use Rattle.place_text.specs.declared.sides.Side.{Side}
 use Rattle.place_text.specs.Owners.{Telling, telling}
 use Rattle.place_text.specs.Places.{ArePlaces}
-use Rattle.segment_paths.specs.Common.{Path}
+use Rattle.segment_paths.specs.Common.{PathOfSegment}
 use Rattle.place_text.specs.Sides.{sides_of, side_ends, way}
 
 -- ---- properties
@@ -66,18 +66,18 @@ side_text told n s =
 
 -- the segments, each with an arc of its own, which have the same order
 abbrev pub sides_text : Telling → List Side → List Text
-sides_text told sides = each_at (λ n s. side_text told n s ∷ []) 0 sides
+sides_text told sides = flat_map_at (λ n s. side_text told n s ∷ []) 0 sides
 
 -- the path with this number: a line of the arc with this index
-abbrev pub path_text : Telling → ℕ → ℕ → Path → Text
+abbrev pub path_text : Telling → ℕ → ℕ → PathOfSegment → Text
 path_text told n index path =
     codes "{\"type\":\"LineString\",\"properties\":{\"number\":" ++ (decimal n
     ++ (features_text (told.segment path.0)
     ++ (codes "},\"arcs\":[" ++ (decimal index ++ codes "]}"))))
 
 -- the paths, each with an arc of its own, which have the same order and come behind so many others
-abbrev pub paths_text : Telling → ℕ → List Path → List Text
-paths_text told others paths = each_at (λ n p. path_text told n (others + n) p ∷ []) 0 paths
+abbrev pub paths_text : Telling → ℕ → List PathOfSegment → List Text
+paths_text told others paths = flat_map_at (λ n p. path_text told n (others + n) p ∷ []) 0 paths
 
 -- ---- the topology (TopoJSON 1.0, 2.1)
 
@@ -92,13 +92,13 @@ collection_text geometries =
     codes "{\"type\":\"GeometryCollection\",\"geometries\":" ++ (list_text geometries ++ codes "}")
 
 -- the layer of the paths, if they are told, as a further member; so many arcs come before theirs
-abbrev pub path_layer : Telling → ℕ → Option (List Path) → Text
+abbrev pub path_layer : Telling → ℕ → Option (List PathOfSegment) → Text
 path_layer told others None = []
 path_layer told others (Some paths) =
     codes ",\"paths\":" ++ collection_text (paths_text told others paths)
 
 -- the positions of the paths, if they are told
-abbrev pub ways : Option (List Path) → List (List Position)
+abbrev pub ways : Option (List PathOfSegment) → List (List Position)
 ways None = []
 ways (Some paths) = map way paths
 
@@ -107,7 +107,7 @@ abbrev pub behind_if : Bool → List Text → Text
 behind_if more values = if more then further values else commas values
 
 -- the layers of the places, of the segments, and of the paths if they are told, and the arcs
-abbrev pub topology_text : Telling → Option Text → List Place → List Side → Option (List Path)
+abbrev pub topology_text : Telling → Option Text → List Place → List Side → Option (List PathOfSegment)
     → Text
 topology_text told transform places sides paths =
     codes "{\"type\":\"Topology\"" ++ (transform_text transform
@@ -121,7 +121,7 @@ topology_text told transform places sides paths =
 -- these paths, if they are told, each with the features that have it
 pub record IsPlaceText {A : Type 0} (transform : Option Text)
     (features : List (List (List (List Position)))) (found : Findings A)
-    (paths : Option (List Path)) (text : List ℕ) : Type 0 where
+    (paths : Option (List PathOfSegment)) (text : List ℕ) : Type 0 where
   pub places : List Place
   pub are_places : ArePlaces features found places
   pub same : text ≡ topology_text (telling features found) transform places (sides_of found) paths

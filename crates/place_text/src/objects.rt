@@ -1,7 +1,7 @@
 // The objects of a topology of places, appended to a text.
 ghost use Rattle.std.specs.Prelude.{◌≡◌, ℕ, ◌++◌, OnOk};
 ghost use Rattle.ring_machine.specs.Common.{Text};
-ghost use Rattle.segment_paths.specs.Common.{path_seen};
+ghost use Rattle.segment_paths.specs.Common.{path_of_segment};
 ghost use Rattle.map_text.specs.Common.{arc_text};
 ghost use Rattle.place_text.specs.Sides.{ends, way};
 ghost use Rattle.place_text.specs.Owners.{Telling};
@@ -134,7 +134,7 @@ impl Geometry for Side {
 
 // A path is a line too.
 impl<C: Allocator + Copy> Geometry for SegmentPath<C> {
-    ghost geometry = { λ told number index path. path_text told number index (path_seen path) };
+    ghost geometry = { λ told number index path. path_text told number index (path_of_segment path) };
 
     fn push<A: Allocator, B: Allocator + Copy>(
         &self,
@@ -168,7 +168,7 @@ pub(crate) fn push_way<A: Allocator, B: Allocator + Copy>(
     path: &SegmentPath<B>,
 ) -> Result<(), AllocError>
     ensures { OnOk result
-        (text.new.items ≡ text.old.items ++ arc_text delta (way (path_seen path.now))) }
+        (text.new.items ≡ text.old.items ++ arc_text delta (way (path_of_segment path.now))) }
 {
     let inner = path.inner.as_slice();
     let end = path.segment.hi;

@@ -3,7 +3,7 @@ use Rattle.kit_words.proofs.Common.{ℕ, ℤ, ◌≡◌, ◌≤◌, ◌<◌, ◌
 use Rattle.kit_words.proofs.Common.{w64, subst, sym, ap, ◌∙◌, false≢true, ints}
 use Rattle.grid_geometry.specs.Common.{Position, position, InRange, Segment, cross, orientation, are_split}
 use Rattle.grid_geometry.specs.Common.{are_opposite}
-use Rattle.segment_paths.specs.Common.{beside, before, whole, IsRoundedBetween, IsRoundedCrossing}
+use Rattle.segment_paths.specs.Common.{beside, beside_lesser_end, whole, IsRoundedBetween, IsRoundedCrossing}
 use Rattle.segment_paths.proofs.Widths.{narrow_is}
 
 second : (a b : Bool) → (a && b) ≡ true → b ≡ true
@@ -39,11 +39,11 @@ is_crossing s t q x y b r eb er hx hy bx by e =
     let fx : x ≡ q.x = sym (ap (λ p. p.x) e ∙ narrow_is x (omega arith)) in
     let fy : y ≡ q.y = sym (ap (λ p. p.y) e ∙ narrow_is y (omega arith)) in
     record {
-      across = subst (IsRoundedBetween s.lo.x s.hi.x (before s t) (whole s t)) fx (placed s.lo.x s.hi.x x hx);
-      upward = subst (IsRoundedBetween s.lo.y s.hi.y (before s t) (whole s t)) fy (placed s.lo.y s.hi.y y hy);
+      across = subst (IsRoundedBetween s.lo.x s.hi.x (beside_lesser_end s t) (whole s t)) fx (placed s.lo.x s.hi.x x hx);
+      upward = subst (IsRoundedBetween s.lo.y s.hi.y (beside_lesser_end s t) (whole s t)) fy (placed s.lo.y s.hi.y y hy);
     }
   where
-    placed : (u v z : ℤ) → IsRoundedBetween u v b (b + r) z → IsRoundedBetween u v (before s t) (whole s t) z
+    placed : (u v z : ℤ) → IsRoundedBetween u v b (b + r) z → IsRoundedBetween u v (beside_lesser_end s t) (whole s t) z
     placed u v z h =
-        subst (λ n. IsRoundedBetween u v (before s t) (before s t + n) z) er
+        subst (λ n. IsRoundedBetween u v (beside_lesser_end s t) (beside_lesser_end s t + n) z) er
         (subst (λ m. IsRoundedBetween u v m (m + r) z) eb h)

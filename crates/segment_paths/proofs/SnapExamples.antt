@@ -2,7 +2,7 @@
 use Rattle.kit_words.proofs.Common.{◌≡◌, ℕ, pos, negsuc, true, false, refl, arith, ints}
 use Rattle.grid_geometry.specs.Common.{Position, position, Segment, segment, orientation}
 use Rattle.segment_paths.specs.Common.{is_near, is_above_falling, meets_square, along, IsRounded, IsRoundedCrossing}
-use Rattle.segment_paths.specs.Common.{before, whole}
+use Rattle.segment_paths.specs.Common.{beside_lesser_end, whole}
 
 abbrev at : ℕ → ℕ → Position
 at x y = position (pos x) (pos y)
@@ -103,7 +103,7 @@ between_vertices = record {
   upward = record { least = omega (arith, ints); most = omega (arith, ints) };
 }
 
-a_quarter : before (seg 0 10 20 7) (seg 5 8 5 20) ≡ 60
+a_quarter : beside_lesser_end (seg 0 10 20 7) (seg 5 8 5 20) ≡ 60
 unfolding orientation
 a_quarter = refl
 

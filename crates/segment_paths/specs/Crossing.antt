@@ -13,8 +13,8 @@ beside t p = unsigned_abs (orientation t.lo t.hi p)
 
 -- how far the lesser end of s is beside the line of t, and both ends together: the crossing is at
 -- `before / whole` of the way from the lesser end to the greater one
-abbrev pub before : Segment → Segment → ℕ
-before s t = beside t s.lo
+abbrev pub beside_lesser_end : Segment → Segment → ℕ
+beside_lesser_end s t = beside t s.lo
 
 abbrev pub whole : Segment → Segment → ℕ
 whole s t = beside t s.lo + beside t s.hi
@@ -26,5 +26,5 @@ IsRoundedBetween a b part whole z =
 
 -- q is the crossing of s and t, rounded to the grid
 pub record IsRoundedCrossing (s t : Segment) (q : Position) : Type 0 where
-  pub across : IsRoundedBetween s.lo.x s.hi.x (before s t) (whole s t) q.x
-  pub upward : IsRoundedBetween s.lo.y s.hi.y (before s t) (whole s t) q.y
+  pub across : IsRoundedBetween s.lo.x s.hi.x (beside_lesser_end s t) (whole s t) q.x
+  pub upward : IsRoundedBetween s.lo.y s.hi.y (beside_lesser_end s t) (whole s t) q.y

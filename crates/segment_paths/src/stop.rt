@@ -2,7 +2,7 @@
 ghost use Rattle.std.specs.Prelude.{List, OnOk};
 ghost use Rattle.std.specs.List.{All};
 ghost use Rattle.grid_geometry.specs.Common.{Segment};
-ghost use Rattle.segment_paths.specs.Paths.{Path, IsKnown};
+ghost use Rattle.segment_paths.specs.Paths.{PathOfSegment, IsKnown};
 ghost use Rattle.segment_paths.specs.Stops.{IsStop, IsPiece};
 
 use crate::link::{Piece, comes_between};
@@ -26,7 +26,7 @@ pub(crate) fn push_stop<A: Allocator + Copy>(
     piece: &Piece,
     pos: Pos,
 ) -> Result<bool, AllocError>
-    ensures { OnOk result ((ss : List Segment) (paths : List Path)
+    ensures { OnOk result ((ss : List Segment) (paths : List PathOfSegment)
         → All (IsStop ss) stops.old.items → IsPiece ss paths piece.now → IsKnown ss pos
         → All (IsStop ss) stops.new.items) }
 {
