@@ -12,10 +12,10 @@ use Rattle.program_ends.specs.declared.diagnostic.Diagnostic.{Diagnostic}
 use Rattle.program_ends.specs.declared.diagnostic.Diagnostic.TheVariants.{Findings, TooLarge, Unmended, Unparted, NoMemory}
 
 -- the line tells why there is no report
-abbrev pub Tells : LookFault → Diagnostic → Type 0
-Tells (fault.Open f) line = IsOpen f line
-Tells fault.TooMany line = line ≡ Findings
-Tells fault.OutOfMemory line = line ≡ NoMemory
+abbrev pub TellsNoReport : LookFault → Diagnostic → Type 0
+TellsNoReport (fault.Open f) line = IsOpen f line
+TellsNoReport fault.TooMany line = line ≡ Findings
+TellsNoReport fault.OutOfMemory line = line ≡ NoMemory
 
 -- the line tells that these two segments still conflict
 abbrev pub IsUnmended : Segment → Segment → Diagnostic → Type 0
@@ -31,5 +31,5 @@ TellsUnmade mending.OutOfMemory line = line ≡ NoMemory
 
 -- the line tells why no map was mended
 abbrev pub TellsUnmended : RepairFault → Diagnostic → Type 0
-TellsUnmended (repair.Look f) line = Tells f line
+TellsUnmended (repair.Look f) line = TellsNoReport f line
 TellsUnmended (repair.Remake f) line = TellsUnmade f line

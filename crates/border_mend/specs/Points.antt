@@ -16,8 +16,8 @@ rounded_to grid text None = Ok text
 rounded_to grid text (Some digits) = rounded_points digits grid.finer text
 
 -- the text with its points on the grid that is asked for
-abbrev pub on_grid : Wants → List ℕ → Result (List ℕ) PointFault
-on_grid grid text = rounded_to grid text (point_digits grid text)
+abbrev pub points_on_grid : Wants → List ℕ → Result (List ℕ) PointFault
+points_on_grid grid text = rounded_to grid text (point_digits grid text)
 
 -- the same is asked, of a text whose points lie on the grid
 pub record AsksOfLying (before after : Asked) : Type 0 where

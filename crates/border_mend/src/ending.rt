@@ -1,7 +1,7 @@
 //! How a report ends the program: with which status, with what on standard output, and with which line.
 ghost use Rattle.std.specs.Prelude.{◌≡◌, None, Some, option_map, OnOk, OnErr, IfErr, IsSomeAnd};
-ghost use Rattle.mend_report.specs.Common.{status_of, mended_status, unmended_status};
-ghost use Rattle.border_mend.specs.Endings.{Tells, TellsUnmade, TellsUnmended};
+ghost use Rattle.mend_report.specs.Common.{report_status, mended_status, unmended_status};
+ghost use Rattle.border_mend.specs.Endings.{TellsNoReport, TellsUnmade, TellsUnmended};
 
 use mend_report::{LookFault, Remade, RemakeFault, RepairFault, Report, is_open};
 use program_ends::{Diagnostic, Ending};
@@ -9,7 +9,7 @@ use std::alloc::Allocator;
 
 /// The status that the program ends with after a report.
 fn status<A: Allocator + Copy>(outcome: &Result<Report<A>, LookFault<'_>>) -> u8
-    ensures { result ≡ status_of outcome.now }
+    ensures { result ≡ report_status outcome.now }
 {
     match outcome {
         Ok(report) if is_open(report) => 0,
@@ -21,7 +21,7 @@ fn status<A: Allocator + Copy>(outcome: &Result<Report<A>, LookFault<'_>>) -> u8
 
 /// The line that tells why there is no report.
 fn line_of<'a>(fault: &'a LookFault<'a>) -> Diagnostic<'a>
-    ensures { Tells fault.now result }
+    ensures { TellsNoReport fault.now result }
 {
     match fault {
         LookFault::Open(fault) => Diagnostic::Open(fault),
@@ -35,12 +35,12 @@ pub(crate) fn ending_of_report<'a, A: Allocator + Copy>(
     outcome: &'a Result<Report<A>, LookFault<'a>>,
     report: &'a [u8],
 ) -> Ending<'a>
-    ensures status { result.status ≡ status_of outcome.now }
+    ensures status { result.status ≡ report_status outcome.now }
     ensures printed { OnOk outcome.now
         (option_map (λ text. text.now) result.file ≡ Some report.now) }
     ensures silent { OnOk outcome.now (result.line ≡ None) }
     ensures kept { OnErr outcome.now (result.file ≡ None) }
-    ensures told { IfErr outcome.now (λ fault. IsSomeAnd result.line (Tells fault)) }
+    ensures told { IfErr outcome.now (λ fault. IsSomeAnd result.line (TellsNoReport fault)) }
 {
     let status = status(outcome);
     match outcome {

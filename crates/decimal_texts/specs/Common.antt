@@ -2,7 +2,7 @@
 pub use Rattle.decimal_texts.specs.Changes.{change}
 pub use Rattle.decimal_texts.specs.Decimal.{Parts, behind_digits, behind_integer, digits_of, exponent_of, parts_of}
 pub use Rattle.decimal_texts.specs.Decimal.{signed_small, small, unsigned, with_exponent}
-pub use Rattle.decimal_texts.specs.Dropped.{all_lines, behind, blanked, end_of, nulled, without_line}
+pub use Rattle.decimal_texts.specs.Dropped.{line_geometries, behind, blanked, end_of, nulled, without_line}
 unfoldable pub use Rattle.decimal_texts.specs.Dropped.{overwritten, range_of}
 pub use Rattle.decimal_texts.specs.Exponent.{behind_e, exponent_digits, without_sign}
 pub use Rattle.decimal_texts.specs.Fine.{decimals, fine, first_digits, is_rounded, one_if_more, reach, rounded}

@@ -49,9 +49,9 @@ abbrev pub whole_value : List ℕ → Node
 whole_value bytes = trimmed (record { at_byte = 0; bytes = bytes })
 
 -- the lines of a topology (TopoJSON 1.0, 2.2.3 and 2.2.4)
-abbrev pub all_lines : Node → List Node
-all_lines = all_geometries shape.Lines
+abbrev pub line_geometries : Node → List Node
+line_geometries = all_geometries shape.Lines
 
 -- the text without its lines
 abbrev pub without_lines : List ℕ → List ℕ
-without_lines bytes = fold without_line bytes (all_lines (whole_value bytes))
+without_lines bytes = fold without_line bytes (line_geometries (whole_value bytes))

@@ -3,7 +3,7 @@ ghost use Rattle.std.specs.Prelude.{◌≡◌, ◌⊎◌, ◌+◌, ◌-◌, ◌<
 ghost use Rattle.std.specs.List.{fold};
 ghost use Rattle.json_spans.specs.Common.{members, node, Json};
 ghost use Rattle.decimal_texts.specs.Found.{found_value};
-ghost use Rattle.decimal_texts.specs.Dropped.{all_lines, overwritten, end_of, behind, range_of, blanked, nulled, without_line, whole_value, without_lines};
+ghost use Rattle.decimal_texts.specs.Dropped.{line_geometries, overwritten, end_of, behind, range_of, blanked, nulled, without_line, whole_value, without_lines};
 
 use crate::geometries::{Shape, all_geometries, says, value_in};
 use json_spans::{ScanFault, Span, members, scan};
@@ -130,7 +130,7 @@ pub fn without_lines<A: Allocator + Copy>(
 ) -> Result<Dropped<A>, AllocError>
     ensures text { IfOk result (λ dropped.
         ((dropped.text.items ≡ without_lines bytes.now)
-        × (dropped.lines ≡ length (all_lines (whole_value bytes.now))))
+        × (dropped.lines ≡ length (line_geometries (whole_value bytes.now))))
         ⊎ ((¬ Json 100 bytes.now) × (dropped.text.items ≡ bytes.now) × (dropped.lines ≡ 0))) }
     ensures as_it_is { IfOk result (λ dropped.
         (¬ Json 100 bytes.now) → dropped.text.items ≡ bytes.now) }

@@ -10,7 +10,7 @@ use Rattle.arc_store.specs.declared.fault.BuildFault.{BuildFault}
 use Rattle.arc_store.specs.declared.fault.BuildFault.TheVariants as build
 use Rattle.mend_report.specs.declared.save_fault.SaveFault.{SaveFault}
 use Rattle.mend_report.specs.declared.save_fault.SaveFault.TheVariants.{Conflict, Unopened, OutOfMemory}
-use Rattle.mend_report.specs.Common.{IsUnopened, IsUnsaved, unbuilt, HasOpened, OpensAgain}
+use Rattle.mend_report.specs.Common.{DoesNotOpen, IsUnsaved, unbuilt, HasOpened, OpensAgain}
 
 -- what is read within the limits and is proper opens
 pub has_opened : (bytes : List ℕ) (d e : Document) → (reading : Reads bytes d) × Fits reading → e ≡ d → Proper e → HasOpened bytes
@@ -34,14 +34,14 @@ in_conflict bytes d u only c h =
     some_none u (sym c ∙ ap first_pair (sym (only h.0 (h.1).reads)) ∙ (h.1).proper.apart)
 
 -- what is told of the text of a document that does not open
-pub unsaved_fault : (bytes : List ℕ) (d : Document) (r : SaveFault) → bytes ≡ text_of d → IsUnopened bytes r → IsUnsaved d r
+pub unsaved_fault : (bytes : List ℕ) (d : Document) (r : SaveFault) → bytes ≡ text_of d → DoesNotOpen bytes r → IsUnsaved d r
 unsaved_fault bytes d (Conflict s t) e u = absurd u
 unsaved_fault bytes d Unopened e u = subst (λ (z : List ℕ). ¬ HasOpened z) e u
 unsaved_fault bytes d OutOfMemory e u = tt
 
 -- the same, handed on
 pub handed_on : {X : Type 0} (bytes : List ℕ) (d : Document) (r : SaveFault) (result : Result X SaveFault) → IsErrAnd result (λ e. e ≡ r)
-    → bytes ≡ text_of d → IsUnopened bytes r → IfErr result (IsUnsaved d)
+    → bytes ≡ text_of d → DoesNotOpen bytes r → IfErr result (IsUnsaved d)
 handed_on bytes d r (Ok x) is e u = absurd is
 handed_on bytes d r (Err f) is e u = subst (IsUnsaved d) (sym is) (unsaved_fault bytes d r e u)
 

@@ -11,7 +11,7 @@ use Rattle.topo_reader.specs.Common.{Opened, document_of, OpensIn, OpensWalks, I
 use Rattle.topo_reader.specs.Opening as reader
 use Rattle.walk_faults.specs.Common.{Found, HasMore, Opens, walks_of}
 use Rattle.walk_faults.specs.declared.findings.Findings.{Findings}
-use Rattle.mend_report.specs.Report.{is_plain}
+use Rattle.mend_report.specs.Report.{reads_unchanged}
 use Rattle.mend_report.specs.declared.asked.Asked.{Asked}
 use Rattle.mend_report.specs.declared.looking.LookFault.{LookFault}
 use Rattle.mend_report.specs.declared.looking.LookFault.TheVariants.{Open, TooMany, OutOfMemory}
@@ -40,7 +40,7 @@ HasPlaces wants bytes findings paths text =
 abbrev pub MapOpens : Asked → List ℕ → Type 0
 MapOpens asked bytes =
     (o : Opened) × (grid : Told) × OpensOn asked.grid bytes o × IsTold asked.grid bytes grid
-    × (is_plain grid ≡ true) × (asked.dropped ≡ 0) × Opens o.polygons
+    × (reads_unchanged grid ≡ true) × (asked.dropped ≡ 0) × Opens o.polygons
 
 -- the editor opens the map: its bytes are a topology of rings, no two of whose segments conflict
 abbrev pub EditorOpens : List ℕ → Type 0

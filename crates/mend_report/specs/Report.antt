@@ -15,18 +15,18 @@ use Rattle.walk_faults.specs.declared.findings.Touch.{Touch}
 -- ---- the lines
 
 -- the numbers of the feature, of the polygon and of the ring: "F P R"
-abbrev pub ring_text : RingAt → List ℕ
-ring_text r =
+abbrev pub ring_numbers : RingAt → List ℕ
+ring_numbers r =
     decimal r.feature ++ (codes " " ++ (decimal r.polygon ++ (codes " " ++ decimal r.ring)))
 
 -- the ring has fewer than three positions: "short F P R"
 abbrev pub short_line : RingAt → List ℕ
-short_line r = codes "short " ++ (ring_text r ++ codes "\n")
+short_line r = codes "short " ++ (ring_numbers r ++ codes "\n")
 
 -- the ring passes more than once through the position: "repeats F P R X Y"
 abbrev pub repeat_line : Repeat → List ℕ
 repeat_line r =
-    codes "repeats " ++ (ring_text r.ring ++ (codes " " ++ (position_text r.pos ++ codes "\n")))
+    codes "repeats " ++ (ring_numbers r.ring ++ (codes " " ++ (position_text r.pos ++ codes "\n")))
 
 -- the vertex lies on the segment and is none of its ends: "on X Y / X Y X Y"
 abbrev pub touch_line : Touch → List ℕ
@@ -56,8 +56,8 @@ is_clear short repeats touches crossings =
     length short == 0 && length repeats == 0 && length touches == 0 && length crossings == 0
 
 -- every coordinate is written as a whole number, and nothing was left out
-abbrev pub is_plain : Told → Bool
-is_plain grid = grid.whole && grid.heights == 0
+abbrev pub reads_unchanged : Told → Bool
+reads_unchanged grid = grid.whole && grid.heights == 0
 
 -- the map opens as it is: "opens"
 abbrev pub opens_line : Bool → List ℕ
@@ -92,7 +92,7 @@ lines most line xs = flat_map line (take most xs)
 abbrev pub findings_text : ℕ → Told → ℕ
     → List RingAt → List Repeat → List Touch → List Crossing → List ℕ
 findings_text most grid dropped short repeats touches crossings =
-    opens_line (is_plain grid && dropped == 0 && is_clear short repeats touches crossings)
+    opens_line (reads_unchanged grid && dropped == 0 && is_clear short repeats touches crossings)
     ++ (grid_text grid dropped ++ (lines most short_line short ++ (lines most repeat_line repeats
     ++ (lines most touch_line touches ++ lines most crossing_line crossings))))
 

@@ -1,6 +1,6 @@
 -- The status that a report ends the program with.
 use Rattle.std.specs.Prelude.{ℕ, Bool, ◌&&◌, ◌==◌, Result, Ok, Err, if◌then◌else◌}
-use Rattle.mend_report.specs.Report.{is_plain, is_clear}
+use Rattle.mend_report.specs.Report.{reads_unchanged, is_clear}
 use Rattle.mend_report.specs.declared.asked.Report.{Report}
 use Rattle.mend_report.specs.declared.remaking.Remade.{Remade}
 use Rattle.mend_report.specs.declared.remaking.RemakeFault.TheVariants as mending
@@ -12,17 +12,17 @@ use Rattle.mend_report.specs.declared.looking.LookFault.TheVariants.{Open, TooMa
 -- nothing keeps the map from opening as it is
 abbrev pub is_open : {A : Type 0} → Report A → Bool
 is_open report =
-    is_plain report.grid && report.dropped == 0
+    reads_unchanged report.grid && report.dropped == 0
     && is_clear report.findings.short.items report.findings.repeats.items
     report.findings.touches.items report.findings.crossings.items
 
 -- 0 where nothing keeps the map from opening, 1 where something does, 2 where it can't be read or not
 -- all can be listed, and 3 where a growth was refused
-abbrev pub status_of : {A : Type 0} → Result (Report A) LookFault → ℕ
-status_of (Ok report) = if is_open report then 0 else 1
-status_of (Err (Open fault)) = 2
-status_of (Err TooMany) = 2
-status_of (Err OutOfMemory) = 3
+abbrev pub report_status : {A : Type 0} → Result (Report A) LookFault → ℕ
+report_status (Ok report) = if is_open report then 0 else 1
+report_status (Err (Open fault)) = 2
+report_status (Err TooMany) = 2
+report_status (Err OutOfMemory) = 3
 
 -- 2 where a map can't be mended, and 3 where a growth was refused
 abbrev pub unmended_status : RepairFault → ℕ

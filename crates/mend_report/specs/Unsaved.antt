@@ -9,10 +9,10 @@ use Rattle.mend_report.specs.Opens.{HasOpened}
 use Rattle.map_text.specs.Common.{text_of}
 
 -- the text does not open
-abbrev pub IsUnopened : List ℕ → SaveFault → Type 0
-IsUnopened bytes (Conflict s t) = ⊥
-IsUnopened bytes Unopened = ¬ HasOpened bytes
-IsUnopened bytes OutOfMemory = Unit {0}
+abbrev pub DoesNotOpen : List ℕ → SaveFault → Type 0
+DoesNotOpen bytes (Conflict s t) = ⊥
+DoesNotOpen bytes Unopened = ¬ HasOpened bytes
+DoesNotOpen bytes OutOfMemory = Unit {0}
 
 -- the fault names the least pair of segments in conflict, or the text of the document does not open;
 -- want of memory says nothing

@@ -3,12 +3,12 @@ ghost use Rattle.std.specs.Prelude.{◌≡◌, ◌↔◌, ◌++◌, ◌&&◌, []
 ghost use Rattle.std.specs.Prelude.{option_map, IfErr, IfOk, IfSome, OnOk};
 ghost use Rattle.walk_faults.specs.Common.{features_seen, Found};
 ghost use Rattle.place_text.specs.Common.{IsPlaceText};
-ghost use Rattle.mend_report.specs.Report.{is_plain, is_clear, report_of, findings_text, grid_text, mended_report};
+ghost use Rattle.mend_report.specs.Report.{reads_unchanged, is_clear, report_of, findings_text, grid_text, mended_report};
 ghost use Rattle.mend_report.specs.Remaking.{Remakes, RemakesWhole, TellsMending, PlacesMending, IsMendEnd};
 ghost use Rattle.topo_reader.specs.Common.{view_raw};
 ghost use Rattle.segment_paths.specs.Common.{paths_seen};
 ghost use Rattle.mend_report.specs.Looking.{under, Looked, HasPlaces, MapOpens, EditorOpens, HasWalks, IsEnd};
-ghost use Rattle.mend_report.specs.Status.{is_open, status_of};
+ghost use Rattle.mend_report.specs.Status.{is_open, report_status};
 ghost use Rattle.grid_reader.specs.Common.{IsTold};
 
 use crate::asked::{Asked, Report};
@@ -27,7 +27,7 @@ use walk_faults::Findings;
 
 /// Whether every coordinate is written as a whole number, and nothing was left out.
 fn is_plain(grid: Told) -> bool
-    ensures { result ≡ is_plain grid }
+    ensures { result ≡ reads_unchanged grid }
 {
     grid.whole && grid.heights == 0
 }
@@ -175,9 +175,9 @@ pub fn report_map<'a, A: Allocator + Copy>(
     ensures grid { IfOk result (λ report. IsTold asked.grid bytes.now report.grid) }
     ensures dropped { IfOk result (λ report. report.dropped ≡ asked.dropped) }
     ensures opens { IfOk result (λ report.
-        status_of (Ok report) ≡ 0 ↔ MapOpens asked bytes.now) }
+        report_status (Ok report) ≡ 0 ↔ MapOpens asked bytes.now) }
     ensures editor { IfOk result (λ report. asked.grid.finer ≡ 0
-        → status_of (Ok report) ≡ 0 ↔ (asked.dropped ≡ 0) × EditorOpens bytes.now) }
+        → report_status (Ok report) ≡ 0 ↔ (asked.dropped ≡ 0) × EditorOpens bytes.now) }
     ensures told { IfOk result (λ report. texts.new.report.items
         ≡ texts.old.report.items ++ report_of asked.most report.grid report.dropped report.findings) }
     ensures asked { OnOk result (is_some texts.new.places ≡ is_some texts.old.places) }

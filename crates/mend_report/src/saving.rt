@@ -3,7 +3,7 @@ ghost use Rattle.std.specs.Prelude.{◌≡◌, IfOk, IfErr, OnOk};
 ghost use Rattle.map_text.specs.Common.{Saved, text_of};
 ghost use Rattle.ring_machine.specs.Common.{Proper};
 ghost use Rattle.topo_reader.specs.Common.{document_of, IsOfRings, view_raw};
-ghost use Rattle.mend_report.specs.Unsaved.{IsUnsaved, IsUnopened, unbuilt};
+ghost use Rattle.mend_report.specs.Unsaved.{IsUnsaved, DoesNotOpen, unbuilt};
 ghost use Rattle.mend_report.specs.Opens.{OpensAgain, HasOpened};
 
 use crate::save_fault::SaveFault;
@@ -60,7 +60,7 @@ fn opened<A: Allocator + Copy>(
     text: &[u8],
 ) -> Result<(), SaveFault>
     ensures opened { OnOk result (HasOpened text.now) }
-    ensures fault { IfErr result (IsUnopened text.now) }
+    ensures fault { IfErr result (DoesNotOpen text.now) }
 {
     let raw = match read(alloc, heap, text) {
         Ok(raw) => raw,

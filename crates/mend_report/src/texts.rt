@@ -1,7 +1,7 @@
 //! Numbers, rings, positions and segments, appended to a text.
 ghost use Rattle.std.specs.Prelude.{◌≡◌, ◌++◌, OnOk};
 ghost use Rattle.grid_geometry.specs.Common.{position_text, segment_text};
-ghost use Rattle.mend_report.specs.Report.{ring_text};
+ghost use Rattle.mend_report.specs.Report.{ring_numbers};
 
 use grid_geometry::{Pos, Seg};
 use itoa::{Buffer, Integer};
@@ -21,7 +21,7 @@ pub(crate) fn push_number<A: Allocator, I: Integer>(
 
 /// Appends the numbers of the feature, of the polygon and of the ring, with spaces between them.
 pub(crate) fn push_ring<A: Allocator>(text: &mut Vec<u8, A>, ring: RingAt) -> Result<(), AllocError>
-    ensures { OnOk result (text.new.items ≡ text.old.items ++ ring_text ring) }
+    ensures { OnOk result (text.new.items ≡ text.old.items ++ ring_numbers ring) }
 {
     append!(text; push_number(ring.feature) b" " push_number(ring.polygon) b" " push_number(ring.ring))
 }

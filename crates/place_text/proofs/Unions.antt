@@ -8,7 +8,7 @@ use Rattle.ring_machine.proofs.Common.{In, in-append, in_left, in_right, contain
 use Rattle.walk_faults.specs.declared.findings.Crossing.{Crossing}
 use Rattle.walk_faults.specs.Common.{ListsAll, flat_map_at}
 use Rattle.walk_faults.proofs.Common.{same_ascending}
-use Rattle.place_text.specs.Common.{number_if, numbers_where, has_segment, segment_features, pair_features}
+use Rattle.place_text.specs.Common.{number_if, numbers_where, has_edge, segment_features, pair_features}
 
 module _ {X : Type 0} where
   -- ---- they ascend
@@ -112,7 +112,7 @@ pub pair_step : {V : Type 0} (v : V → List ℕ) (features : List (List (List (
     → map v new ≡ map (pair_features features) (take (i + 1) crossings)
 pair_step v features crossings i c first second pairs new u l e p q lists so_far is =
     let here : v u ≡ pair_features features c =
-    union_is (has_segment c.first) (has_segment c.second) features (v u)
+    union_is (has_edge c.first) (has_edge c.second) features (v u)
     (subst (λ z. ListsAll nat_cmp (Contains (z ++ segment_features features c.second)) (v u)) p
     (subst (λ z. ListsAll nat_cmp (Contains (first ++ z)) (v u)) q lists)) in
     ap (map v) is ∙ map-append v pairs (u ∷ []) ∙ ap₂ (λ (ns : List (List ℕ)) (n : List ℕ). ns ++ n ∷ []) so_far here

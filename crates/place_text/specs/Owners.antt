@@ -10,8 +10,8 @@ use Rattle.place_text.specs.Places.{list_at}
 -- ---- what a feature has, which is given by its polygons and their rings, which are walks
 
 -- the positions of its walks, as often as they stand there
-abbrev pub feature_positions : List (List (List Position)) → List Position
-feature_positions polygons = flat_map (λ rings. flat_map (λ walk. walk) rings) polygons
+abbrev pub vertices_of_feature : List (List (List Position)) → List Position
+vertices_of_feature polygons = flat_map (λ rings. flat_map (λ walk. walk) rings) polygons
 
 -- the segments of the edges of its walks, as often as they stand there
 abbrev pub feature_segments : List (List (List Position)) → List Segment
@@ -19,11 +19,11 @@ feature_segments polygons = flat_map (λ rings. flat_map walk_segments rings) po
 
 -- a walk of the feature has the vertex
 abbrev pub has_vertex : Position → List (List (List Position)) → Bool
-has_vertex p feature = list_any (position_eq p) (feature_positions feature)
+has_vertex p feature = list_any (position_eq p) (vertices_of_feature feature)
 
 -- a walk of the feature has an edge with this segment
-abbrev pub has_segment : Segment → List (List (List Position)) → Bool
-has_segment s feature = list_any (segment_eq s) (feature_segments feature)
+abbrev pub has_edge : Segment → List (List (List Position)) → Bool
+has_edge s feature = list_any (segment_eq s) (feature_segments feature)
 
 -- ---- which features have it
 
@@ -41,12 +41,12 @@ vertex_features features p = numbers_where (has_vertex p) features
 
 -- those that have the segment
 abbrev pub segment_features : List (List (List (List Position))) → Segment → List ℕ
-segment_features features s = numbers_where (has_segment s) features
+segment_features features s = numbers_where (has_edge s) features
 
 -- those that have one of the two segments or both
 abbrev pub pair_features : List (List (List (List Position))) → Crossing → List ℕ
 pair_features features c =
-    numbers_where (λ feature. has_segment c.first feature || has_segment c.second feature) features
+    numbers_where (λ feature. has_edge c.first feature || has_edge c.second feature) features
 
 -- ---- what is told
 

@@ -28,15 +28,15 @@ sides_of found =
     flat_map_at touch_side 0 found.touches.items ++ flat_map_at crossing_sides 0 found.crossings.items
 
 -- the positions of a segment, as an arc has them
-abbrev pub ends : Segment → List Position
-ends s = s.lo ∷ s.hi ∷ []
+abbrev pub segment_ends : Segment → List Position
+segment_ends s = s.lo ∷ s.hi ∷ []
 
 abbrev pub side_ends : Side → List Position
-side_ends side = ends side.segment
+side_ends side = segment_ends side.segment
 
 -- the positions of the path of a segment, from the lesser end to the greater
-abbrev pub way : PathOfSegment → List Position
-way p = p.0.lo ∷ p.1 ++ p.0.hi ∷ []
+abbrev pub path_positions : PathOfSegment → List Position
+path_positions p = p.0.lo ∷ p.1 ++ p.0.hi ∷ []
 
 -- the pair that stands for a position behind another in an arc: with a transform the difference
 abbrev pub pair_behind : Bool → Position → Position → Position

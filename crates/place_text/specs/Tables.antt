@@ -28,8 +28,8 @@ once n ns = cond (is_last n (slice_get ns (length ns - 1))) ns (ns ++ n ∷ [])
 
 -- ---- one table
 
-abbrev pub numbers_of : {A : Type 0} → Vec ℕ A → List ℕ
-numbers_of numbers = numbers.items
+abbrev pub numbers_held : {A : Type 0} → Vec ℕ A → List ℕ
+numbers_held numbers = numbers.items
 
 module _ {K : Type 0} (cmp : K → K → Ordering) where
   -- one of the keys is k
@@ -46,7 +46,7 @@ module _ {K : Type 0} (cmp : K → K → Ordering) where
 
   -- what is told at k, if it is asked for
   abbrev pub numbers_in : {A : Type 0} → BTreeMap K (Vec ℕ A) → K → Option (List ℕ)
-  numbers_in table k = option_map numbers_of (get cmp table k)
+  numbers_in table k = option_map numbers_held (get cmp table k)
 
   -- what is told at k; nothing if it is not asked for
   abbrev pub numbers_at : {A : Type 0} → BTreeMap K (Vec ℕ A) → K → List ℕ
@@ -116,5 +116,5 @@ abbrev pub told_by : {A : Type 0} → Owners A → Telling
 told_by owners = record {
   vertex = numbers_at position_cmp owners.tables.vertices;
   segment = numbers_at segment_cmp owners.tables.segments;
-  pair = list_at (map numbers_of owners.pairs.items);
+  pair = list_at (map numbers_held owners.pairs.items);
 }

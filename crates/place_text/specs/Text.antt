@@ -13,7 +13,7 @@ use Rattle.place_text.specs.declared.sides.Side.{Side}
 use Rattle.place_text.specs.Owners.{Telling, telling}
 use Rattle.place_text.specs.Places.{ArePlaces}
 use Rattle.segment_paths.specs.Common.{PathOfSegment}
-use Rattle.place_text.specs.Sides.{sides_of, side_ends, way}
+use Rattle.place_text.specs.Sides.{sides_of, side_ends, path_positions}
 
 -- ---- properties
 
@@ -25,9 +25,9 @@ kind_text On = codes "\"on\""
 kind_text Cross = codes "\"cross\""
 
 -- where the walk stands of which something is found, as further members
-abbrev pub ring_text : Option RingAt → Text
-ring_text None = []
-ring_text (Some r) =
+abbrev pub ring_members : Option RingAt → Text
+ring_members None = []
+ring_members (Some r) =
     codes ",\"feature\":" ++ (decimal r.feature ++ (codes ",\"polygon\":" ++ (decimal r.polygon
     ++ (codes ",\"ring\":" ++ decimal r.ring))))
 
@@ -38,8 +38,8 @@ features_text numbers = codes ",\"features\":" ++ list_text (map decimal numbers
 -- whose a place is: that of a walk, of the features that have a vertex, or of those that have a
 -- segment of a pair
 abbrev pub whose_text : Telling → Kind → Place → Text
-whose_text told Short p = ring_text p.ring
-whose_text told Repeats p = ring_text p.ring
+whose_text told Short p = ring_members p.ring
+whose_text told Repeats p = ring_members p.ring
 whose_text told On p = features_text (told.vertex p.pos)
 whose_text told Cross p = features_text (told.pair p.number)
 
@@ -51,8 +51,8 @@ finding_text kind n =
 -- ---- geometries
 
 -- a place: a point (TopoJSON 1.0, 2.2.1)
-abbrev pub place_text : Telling → Place → Text
-place_text told p =
+abbrev pub point_of_place : Telling → Place → Text
+point_of_place told p =
     codes "{\"type\":\"Point\",\"properties\":" ++ (finding_text p.kind p.number
     ++ (whose_text told p.kind p
     ++ (codes "},\"coordinates\":" ++ (pair_text p.pos ++ codes "}"))))
@@ -82,9 +82,9 @@ paths_text told others paths = flat_map_at (λ n p. path_text told n (others + n
 -- ---- the topology (TopoJSON 1.0, 2.1)
 
 -- the transform, if there is one, as a further member: the text that was kept
-abbrev pub transform_text : Option Text → Text
-transform_text None = []
-transform_text (Some t) = codes ",\"transform\":" ++ t
+abbrev pub transform_member : Option Text → Text
+transform_member None = []
+transform_member (Some t) = codes ",\"transform\":" ++ t
 
 -- a collection of these geometries (TopoJSON 1.0, 2.2.7)
 abbrev pub collection_text : List Text → Text
@@ -100,7 +100,7 @@ path_layer told others (Some paths) =
 -- the positions of the paths, if they are told
 abbrev pub ways : Option (List PathOfSegment) → List (List Position)
 ways None = []
-ways (Some paths) = map way paths
+ways (Some paths) = map path_positions paths
 
 -- further values of a list, in which something stands before or nothing does
 abbrev pub behind_if : Bool → List Text → Text
@@ -110,8 +110,8 @@ behind_if more values = if more then further values else commas values
 abbrev pub topology_text : Telling → Option Text → List Place → List Side → Option (List PathOfSegment)
     → Text
 topology_text told transform places sides paths =
-    codes "{\"type\":\"Topology\"" ++ (transform_text transform
-    ++ (codes ",\"objects\":{\"places\":" ++ (collection_text (map (place_text told) places)
+    codes "{\"type\":\"Topology\"" ++ (transform_member transform
+    ++ (codes ",\"objects\":{\"places\":" ++ (collection_text (map (point_of_place told) places)
     ++ (codes ",\"segments\":" ++ (collection_text (sides_text told sides)
     ++ (path_layer told (length sides) paths
     ++ (codes "},\"arcs\":" ++ (arcs_text (is_some transform) (map side_ends sides ++ ways paths)

@@ -1,8 +1,8 @@
 // A polygon of walks, mended.
 ghost use Rattle.std.specs.Prelude.{◌≡◌, map, IfOk, IfSome, MatchOption};
 ghost use Rattle.ring_machine.specs.Ring as machine;
-ghost use Rattle.walk_faults.specs.Common.{rings_seen, polygons_seen};
 ghost use Rattle.walk_mending.specs.Mended.{ArePartsOf, IsMended, KeepsOddEnds, HasOdd, BoundWithoutRings};
+ghost use Rattle.ring_parts.specs.Common.{rings_seen, polygons_seen};
 
 use crate::odd::odd_segments;
 use crate::parts::{all_filled, have_exactly};

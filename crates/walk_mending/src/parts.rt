@@ -2,9 +2,10 @@
 ghost use Rattle.std.specs.Prelude.{◌≡◌, ◌&&◌, IsTrue, IfOk};
 ghost use Rattle.std.specs.List.{flat_map, list_all};
 ghost use Rattle.ring_machine.specs.Common.{is_ring};
-ghost use Rattle.walk_faults.specs.Common.{walk_segments, polygons_seen};
+ghost use Rattle.walk_faults.specs.Common.{walk_segments};
 ghost use Rattle.std.specs.List.Sorted.{IsPermutation};
 ghost use Rattle.walk_mending.specs.Mended.{rings_of_parts, has_ring};
+ghost use Rattle.ring_parts.specs.Common.{polygons_seen};
 
 use crate::segments::push_all;
 use crate::simple::are_rings;

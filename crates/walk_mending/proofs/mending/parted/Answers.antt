@@ -1,8 +1,9 @@
 use Rattle.kit_words.proofs.Common.{ap, sym, ◌∙◌, subst, flat_map, list_all, IsPermutation}
-use Rattle.walk_faults.specs.Common.{walk_segments, rings_seen, polygons_seen}
+use Rattle.walk_faults.specs.Common.{walk_segments}
 use Rattle.segment_paths.proofs.Led.{some_left}
 use Rattle.walk_mending.specs.Common.{rings_of_parts}
 use Rattle.walk_mending.proofs.Parting.{are_parts, is_filled, none_left, no_parts, some_odd}
+use Rattle.ring_parts.specs.Common.{rings_seen, polygons_seen}
 use Rattle.walk_mending.proofs.mending.parted.Goals as goal
 
 pub returns-then-exact : goal.returns-then-exact

@@ -1,7 +1,8 @@
 use Rattle.kit_words.proofs.Common.{ap, sym, ◌∙◌, subst, flat_map, take_all, IsPermutation, slice_eq-Decides}
-use Rattle.walk_faults.specs.Common.{walk_segments, polygons_seen}
+use Rattle.walk_faults.specs.Common.{walk_segments}
 use Rattle.walk_mending.specs.Common.{rings_of_parts}
 use Rattle.walk_mending.proofs.Parting.{segment_decides}
+use Rattle.ring_parts.specs.Common.{polygons_seen}
 use Rattle.walk_mending.proofs.parts.have_exactly.Goals as goal
 
 pub returns : goal.returns
