@@ -1,11 +1,13 @@
 //! How a report ends the program: with which status, with what on standard output, and with which line.
 ghost use Rattle.std.specs.Prelude.{◌≡◌, None, Some, option_map, OnOk, OnErr, IfErr, IsSomeAnd};
 ghost use Rattle.mend_report.specs.Common.{report_status, mended_status, unmended_status};
-ghost use Rattle.border_mend.specs.Endings.{TellsNoReport, TellsUnmade, TellsUnmended};
+ghost use Rattle.border_mend.specs.Endings.{TellsNoReport, TellsUnmade, TellsUnsaved, TellsUnmended};
 
-use mend_report::{LookFault, Remade, RemakeFault, RepairFault, Report, is_open};
+use map_mending::MendFault;
+use mend_report::{LookFault, Remade, RepairFault, Report, SaveFault, is_open};
 use program_ends::{Diagnostic, Ending};
 use std::alloc::Allocator;
+use topo_outline::Limit;
 
 /// The status that the program ends with after a report.
 fn status<A: Allocator + Copy>(outcome: &Result<Report<A>, LookFault<'_>>) -> u8
@@ -58,24 +60,36 @@ fn status_of_unmended(fault: &RepairFault<'_>) -> u8
     ensures { result ≡ unmended_status fault.now }
 {
     match fault {
-        RepairFault::Look(LookFault::OutOfMemory) | RepairFault::Remake(RemakeFault::OutOfMemory) =>
-            3,
+        RepairFault::Look(LookFault::OutOfMemory)
+        | RepairFault::Mend(MendFault::OutOfMemory)
+        | RepairFault::Save(SaveFault::OutOfMemory) => 3,
         _ => 2,
     }
 }
 
 /// The line that tells why a map that was looked through is not mended.
-fn line_of_remaking<'a>(fault: &'a RemakeFault) -> Diagnostic<'a>
+fn line_of_unmade<'a>(fault: &'a MendFault) -> Diagnostic<'a>
     ensures { TellsUnmade fault.now result }
 {
     match fault {
-        RemakeFault::TooLarge(what) => Diagnostic::TooLarge(*what),
-        RemakeFault::Unmended { s, t } => Diagnostic::Unmended { s, t },
-        RemakeFault::Unparted { feature, polygon } => Diagnostic::Unparted {
+        MendFault::TooLarge => Diagnostic::TooLarge(Limit::Positions),
+        MendFault::Unmended { s, t } => Diagnostic::Unmended { s, t },
+        MendFault::Unparted { feature, polygon } => Diagnostic::Unparted {
             feature: *feature,
             polygon: *polygon,
         },
-        RemakeFault::OutOfMemory => Diagnostic::NoMemory,
+        MendFault::OutOfMemory => Diagnostic::NoMemory,
+    }
+}
+
+/// The line that tells why what a map was mended to is not saved.
+fn line_of_unsaved<'a>(fault: &'a SaveFault) -> Diagnostic<'a>
+    ensures { TellsUnsaved fault.now result }
+{
+    match fault {
+        SaveFault::Conflict { s, t } => Diagnostic::Unmended { s, t },
+        SaveFault::Unopened => Diagnostic::TooLarge(Limit::Bytes),
+        SaveFault::OutOfMemory => Diagnostic::NoMemory,
     }
 }
 
@@ -85,7 +99,8 @@ fn line_of_unmended<'a>(fault: &'a RepairFault<'a>) -> Diagnostic<'a>
 {
     match fault {
         RepairFault::Look(fault) => line_of(fault),
-        RepairFault::Remake(fault) => line_of_remaking(fault),
+        RepairFault::Mend(fault) => line_of_unmade(fault),
+        RepairFault::Save(fault) => line_of_unsaved(fault),
     }
 }
 

@@ -10,7 +10,7 @@ use Rattle.grid_reader.specs.declared.wants.Wants.{Wants}
 use Rattle.grid_reader.proofs.AsWhole.{whole_on_grid, whole_told, grid_is_whole}
 use Rattle.mend_report.specs.Common.{OpensOn, MapOpens, EditorOpens, HasWalks, IsRemade, RemakesWhole, reads_unchanged}
 use Rattle.mend_report.specs.Common.{report_status, Asked, Report, LookFault, Remade}
-use Rattle.mend_report.specs.declared.report.RepairFault.{RepairFault}
+use Rattle.mend_report.specs.declared.repair_fault.RepairFault.{RepairFault}
 use Rattle.mend_report.proofs.EditorOpens.{walks_open, rings_open}
 use Rattle.mend_report.proofs.OpeningLemmas.{one}
 

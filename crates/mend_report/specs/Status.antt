@@ -3,9 +3,10 @@ use Rattle.std.specs.Prelude.{ℕ, Bool, ◌&&◌, ◌==◌, Result, Ok, Err, if
 use Rattle.mend_report.specs.Report.{reads_unchanged, is_clear}
 use Rattle.mend_report.specs.declared.asked.Report.{Report}
 use Rattle.mend_report.specs.declared.remaking.Remade.{Remade}
-use Rattle.mend_report.specs.declared.remaking.RemakeFault.TheVariants as mending
-use Rattle.mend_report.specs.declared.report.RepairFault.{RepairFault}
-use Rattle.mend_report.specs.declared.report.RepairFault.TheVariants.{Look, Remake}
+use Rattle.map_mending.specs.declared.fault.MendFault.TheVariants as mending
+use Rattle.mend_report.specs.declared.save_fault.SaveFault.TheVariants as saving
+use Rattle.mend_report.specs.declared.repair_fault.RepairFault.{RepairFault}
+use Rattle.mend_report.specs.declared.repair_fault.RepairFault.TheVariants.{Look, Mend, Save}
 use Rattle.mend_report.specs.declared.looking.LookFault.{LookFault}
 use Rattle.mend_report.specs.declared.looking.LookFault.TheVariants.{Open, TooMany, OutOfMemory}
 
@@ -29,10 +30,13 @@ abbrev pub unmended_status : RepairFault → ℕ
 unmended_status (Look (Open fault)) = 2
 unmended_status (Look TooMany) = 2
 unmended_status (Look OutOfMemory) = 3
-unmended_status (Remake (mending.TooLarge what)) = 2
-unmended_status (Remake (mending.Unmended s t)) = 2
-unmended_status (Remake (mending.Unparted feature polygon)) = 2
-unmended_status (Remake mending.OutOfMemory) = 3
+unmended_status (Mend mending.TooLarge) = 2
+unmended_status (Mend (mending.Unmended s t)) = 2
+unmended_status (Mend (mending.Unparted feature polygon)) = 2
+unmended_status (Mend mending.OutOfMemory) = 3
+unmended_status (Save (saving.Conflict s t)) = 2
+unmended_status (Save saving.Unopened) = 2
+unmended_status (Save saving.OutOfMemory) = 3
 
 -- 0 where a map was mended
 abbrev pub mended_status : {A : Type 0} → Result (Remade A) RepairFault → ℕ

@@ -6,10 +6,11 @@ ghost use Rattle.mend_report.specs.Report.{path_line, parts_line, area_line, lin
 ghost use Rattle.mend_report.specs.Report.{opens_line, decimals_line, heights_line, lines_line};
 ghost use Rattle.segment_paths.specs.Common.{path_of_segment};
 
-use crate::texts::{push_number, push_position, push_ring, push_segment};
+use crate::texts::{push_position, push_ring, push_segment};
 use grid_geometry::Pos;
 use grid_reader::Told;
 use map_mending::{AreaChange, Parted};
+use place_text::{append, push_number};
 use segment_paths::SegmentPath;
 use std::alloc::{AllocError, Allocator};
 use topo_outline::RingAt;

@@ -14,11 +14,11 @@ ghost use Rattle.grid_reader.specs.Common.{IsTold};
 use crate::asked::{Asked, Report};
 use crate::lines::{push_decimals, push_first, push_found, push_heights, push_lines, push_opens};
 use crate::looking::{LookFault, Seen, looked_through};
-use crate::remaking::{Remade, RemakeFault, remake};
-use crate::texts::push_number;
+use crate::remaking::{Remade, remake};
+use crate::repair_fault::RepairFault;
 use grid_geometry::Pos;
-use grid_reader::Told;
-use place_text::text_of_places;
+use grid_reader::{Told, or_return};
+use place_text::{append, push_number, text_of_places};
 use segment_paths::SegmentPath;
 use std::alloc::{AllocError, Allocator, Global};
 use std::hash::RandomState;
@@ -203,27 +203,6 @@ pub fn report_map<'a, A: Allocator + Copy>(
     Ok(report)
 }
 
-/// Why a map is not mended.
-#[derive(Clone, Copy, Debug)]
-pub enum RepairFault<'a> {
-    /// It was not looked through.
-    Look(LookFault<'a>),
-    /// It was, and yet is not mended.
-    Remake(RemakeFault),
-}
-
-impl<'a> From<AllocError> for RepairFault<'a> {
-    ghost use Rattle.std.specs.Prelude.{◌≡◌};
-    ghost use Rattle.mend_report.specs.declared.looking.LookFault.TheVariants.{OutOfMemory};
-    ghost use Rattle.mend_report.specs.declared.report.RepairFault.TheVariants.{Look};
-
-    ghost from_gives = { λ _ fault. fault ≡ Look OutOfMemory };
-
-    fn from(_error: AllocError) -> RepairFault<'a> {
-        RepairFault::Look(LookFault::OutOfMemory)
-    }
-}
-
 /// The map with this transform.
 fn with_transform<'x, 'a: 'x, A: Allocator + Copy>(
     transform: Option<&'x [u8]>,
@@ -275,10 +254,7 @@ pub fn mend_map<'a, A: Allocator + Copy>(
     let walks = map.polygons.clone()?;
     let transform = transform.text();
     let map = with_transform(transform, map);
-    let remade = match remake(alloc, heap, seed, map, walks.as_slice()) {
-        Ok(remade) => remade,
-        Err(fault) => return Err(RepairFault::Remake(fault)),
-    };
+    let remade = or_return!(remake(alloc, heap, seed, map, walks.as_slice()));
     let paths = Some(remade.paths.as_slice());
     let (walks, found) = (walks.as_slice(), &report.findings);
     put_places(alloc, transform, walks, found, paths, &mut texts.places)?;

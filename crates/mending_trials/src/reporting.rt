@@ -1,6 +1,7 @@
 // A small map, mended with its report and its places.
 use fixed_seed::fixed_seed;
-use mend_report::{Asked, LookFault, Remade, RemakeFault, RepairFault, Texts, mend_map};
+use map_mending::MendFault;
+use mend_report::{Asked, LookFault, Remade, RepairFault, SaveFault, Texts, mend_map};
 use refusing_allocator::Refusing;
 use std::alloc::{Allocator, Global};
 use std::process::Abort;
@@ -19,7 +20,8 @@ fn is_out_of_memory<A: Allocator + Copy>(outcome: &Result<Remade<A>, RepairFault
         outcome,
         Err(
             RepairFault::Look(LookFault::OutOfMemory)
-                | RepairFault::Remake(RemakeFault::OutOfMemory)
+                | RepairFault::Mend(MendFault::OutOfMemory)
+                | RepairFault::Save(SaveFault::OutOfMemory)
         )
     )
 }
