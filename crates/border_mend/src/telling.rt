@@ -2,9 +2,8 @@
 use crate::asked::Words;
 use crate::ending::{ending_of_mending, ending_of_report};
 use crate::points::{unread, with_points_on_grid};
-use line_dropping::{Dropped, without_lines};
+use decimal_texts::{Dropped, PointFault, without_lines};
 use mend_report::{Asked, LookFault, Remade, RepairFault, Report, Texts, mend_map, report_map};
-use point_rounding::PointFault;
 use program_ends::{Ending, Stop, end, hash_seed, map_bytes, replace_file};
 use std::alloc::Global;
 use std::hash::RandomState;

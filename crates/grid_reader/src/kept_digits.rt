@@ -3,7 +3,7 @@ ghost use Rattle.std.specs.Prelude.{◌≡◌, ◌≢◌, ◌≤◌, ◌<◌, le
 ghost use Rattle.std.specs.List.{AllByRecursion};
 ghost use Rattle.json_spans.specs.Common.{Json, node};
 ghost use Rattle.topo_outline.specs.Common.{outline, view_outline, IsPlaced};
-ghost use Rattle.grid_reader.specs.Grid.{digits_of};
+ghost use Rattle.grid_reader.specs.Grid.{decimals_kept};
 ghost use Rattle.grid_reader.specs.Near.{IsNear};
 ghost use Rattle.grid_reader.specs.PointDigits.{where_read, digits_kept, digits_at, point_digits};
 ghost use Rattle.grid_reader.specs.Seen.{arcs_seen};
@@ -37,7 +37,7 @@ fn digits_kept<A: Allocator + Copy>(
     fine: &[Vec<FinePos, A>],
 ) -> Result<Option<usize>, AllocError>
     requires near { AllByRecursion
-        (AllByRecursion (IsNear (digits_of wants (arcs_seen fine.now)) wants.finer))
+        (AllByRecursion (IsNear (decimals_kept wants (arcs_seen fine.now)) wants.finer))
         (arcs_seen fine.now) }
     requires placed { IsPlaced outline }
     ensures digits { IfOk result (λ d.

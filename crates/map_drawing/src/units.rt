@@ -3,7 +3,7 @@ ghost use Rattle.std.specs.Prelude.{◌≤ℤ◌, pos};
 
 use crate::bounds::Bounds;
 use crate::window::Window;
-use exact_decimals::decimal_of;
+use decimal_texts::decimal_of;
 use json_spans::{Items, Span, items, members};
 
 /// How many of the finest parts a unit of the map has.

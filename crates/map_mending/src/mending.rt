@@ -7,7 +7,7 @@ ghost use Rattle.map_mending.specs.Bounding.{MendedBy, NeedsNoMending};
 ghost use Rattle.map_mending.specs.Faults.{IsMendFault};
 ghost use Rattle.map_mending.specs.Laws.{VerticesStay, AllStayNear};
 ghost use Rattle.map_mending.specs.Mended.{Mended};
-ghost use Rattle.map_mending.specs.Told.{Parts};
+ghost use Rattle.map_mending.specs.Told.{TellsPartedIn};
 
 use crate::fault::MendFault;
 use crate::forms::with_polygons;
@@ -56,7 +56,7 @@ pub fn mend<'a, I: SegIndex, A: Allocator + Copy>(
         (document_of (view_raw raw.entry)) (document_of (view_raw mending.map))) }
     ensures paths { IfOk result (λ mending.
         MendedBy (document_of (view_raw raw.entry)) (paths_seen mending.paths.items)) }
-    ensures parted { IfOk result (λ mending. Parts (paths_seen mending.paths.items)
+    ensures parted { IfOk result (λ mending. TellsPartedIn (paths_seen mending.paths.items)
         (document_of (view_raw raw.entry)) (document_of (view_raw mending.map))
         mending.parted.items) }
     ensures stays { IfOk result (λ mending. NeedsNoMending (document_of (view_raw raw.entry))

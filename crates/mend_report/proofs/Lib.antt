@@ -1,3 +1,4 @@
+pub mod Reopened
 pub mod Appending
 pub mod ReportLemmas
 pub mod OpeningLemmas

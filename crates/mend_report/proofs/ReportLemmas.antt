@@ -4,7 +4,7 @@ use Rattle.std.specs.Prelude.{flat_map}
 use Rattle.grid_geometry.specs.Common.{Position, position_text}
 use Rattle.topo_reader.specs.Common.{Opened}
 use Rattle.grid_reader.specs.declared.told.Told.{Told}
-use Rattle.segment_paths.specs.Common.{path_seen, paths_seen}
+use Rattle.segment_paths.specs.Common.{path_of_segment, paths_seen}
 use Rattle.segment_paths.specs.declared.path.SegmentPath.{SegmentPath}
 use Rattle.mend_report.specs.Common.{opens_line, lines, path_line}
 use Rattle.mend_report.specs.Remaking.{TellsRemade}
@@ -35,11 +35,11 @@ told {X = X} most line xs whole old new is_whole e = e ∙ ap (λ (z : List X). 
 
 -- what is appended for the front of a list of paths
 pub led : {A : Type 0} (most : ℕ) (paths whole : List (SegmentPath A)) (old new : List ℕ) → whole ≡ paths
-    → new ≡ old ++ lines most (λ p. path_line (path_seen p)) whole → new ≡ old ++ lines most path_line (paths_seen paths)
+    → new ≡ old ++ lines most (λ p. path_line (path_of_segment p)) whole → new ≡ old ++ lines most path_line (paths_seen paths)
 led {A = A} most paths whole old new is_whole e =
-    e ∙ ap (λ (z : List (SegmentPath A)). old ++ lines most (λ p. path_line (path_seen p)) z) is_whole
-    ∙ ap (λ (z : List ℕ). old ++ z) (sym (flat_map-map path_line path_seen (take most paths)))
-    ∙ ap (λ z. old ++ flat_map path_line z) (sym (take-map path_seen most paths))
+    e ∙ ap (λ (z : List (SegmentPath A)). old ++ lines most (λ p. path_line (path_of_segment p)) z) is_whole
+    ∙ ap (λ (z : List ℕ). old ++ z) (sym (flat_map-map path_line path_of_segment (take most paths)))
+    ∙ ap (λ z. old ++ flat_map path_line z) (sym (take-map path_of_segment most paths))
 
 -- what is appended for a count, where it is known
 pub numbered : (n m : ℕ) (old new : List ℕ) → n ≡ m → new ≡ old ++ decimal n → new ≡ old ++ decimal m

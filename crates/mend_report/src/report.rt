@@ -3,22 +3,22 @@ ghost use Rattle.std.specs.Prelude.{◌≡◌, ◌↔◌, ◌++◌, ◌&&◌, []
 ghost use Rattle.std.specs.Prelude.{option_map, IfErr, IfOk, IfSome, OnOk};
 ghost use Rattle.walk_faults.specs.Common.{features_seen, Found};
 ghost use Rattle.place_text.specs.Common.{IsPlaceText};
-ghost use Rattle.mend_report.specs.Report.{is_plain, is_clear, report_of, findings_text, grid_text, mended_report};
+ghost use Rattle.mend_report.specs.Report.{reads_unchanged, is_clear, report_of, findings_text, grid_text, mended_report};
 ghost use Rattle.mend_report.specs.Remaking.{Remakes, RemakesWhole, TellsMending, PlacesMending, IsMendEnd};
 ghost use Rattle.topo_reader.specs.Common.{view_raw};
 ghost use Rattle.segment_paths.specs.Common.{paths_seen};
 ghost use Rattle.mend_report.specs.Looking.{under, Looked, HasPlaces, MapOpens, EditorOpens, HasWalks, IsEnd};
-ghost use Rattle.mend_report.specs.Status.{is_open, status_of};
+ghost use Rattle.mend_report.specs.Status.{is_open, report_status};
 ghost use Rattle.grid_reader.specs.Common.{IsTold};
 
 use crate::asked::{Asked, Report};
 use crate::lines::{push_decimals, push_first, push_found, push_heights, push_lines, push_opens};
 use crate::looking::{LookFault, Seen, looked_through};
-use crate::remaking::{Remade, RemakeFault, remake};
-use crate::texts::push_number;
+use crate::remaking::{Remade, remake};
+use crate::repair_fault::RepairFault;
 use grid_geometry::Pos;
-use grid_reader::Told;
-use place_text::text_of_places;
+use grid_reader::{Told, or_return};
+use place_text::{append, push_number, text_of_places};
 use segment_paths::SegmentPath;
 use std::alloc::{AllocError, Allocator, Global};
 use std::hash::RandomState;
@@ -27,7 +27,7 @@ use walk_faults::Findings;
 
 /// Whether every coordinate is written as a whole number, and nothing was left out.
 fn is_plain(grid: Told) -> bool
-    ensures { result ≡ is_plain grid }
+    ensures { result ≡ reads_unchanged grid }
 {
     grid.whole && grid.heights == 0
 }
@@ -175,9 +175,9 @@ pub fn report_map<'a, A: Allocator + Copy>(
     ensures grid { IfOk result (λ report. IsTold asked.grid bytes.now report.grid) }
     ensures dropped { IfOk result (λ report. report.dropped ≡ asked.dropped) }
     ensures opens { IfOk result (λ report.
-        status_of (Ok report) ≡ 0 ↔ MapOpens asked bytes.now) }
+        report_status (Ok report) ≡ 0 ↔ MapOpens asked bytes.now) }
     ensures editor { IfOk result (λ report. asked.grid.finer ≡ 0
-        → status_of (Ok report) ≡ 0 ↔ (asked.dropped ≡ 0) × EditorOpens bytes.now) }
+        → report_status (Ok report) ≡ 0 ↔ (asked.dropped ≡ 0) × EditorOpens bytes.now) }
     ensures told { IfOk result (λ report. texts.new.report.items
         ≡ texts.old.report.items ++ report_of asked.most report.grid report.dropped report.findings) }
     ensures asked { OnOk result (is_some texts.new.places ≡ is_some texts.old.places) }
@@ -201,27 +201,6 @@ pub fn report_map<'a, A: Allocator + Copy>(
         &mut texts.places,
     )?;
     Ok(report)
-}
-
-/// Why a map is not mended.
-#[derive(Clone, Copy, Debug)]
-pub enum RepairFault<'a> {
-    /// It was not looked through.
-    Look(LookFault<'a>),
-    /// It was, and yet is not mended.
-    Remake(RemakeFault),
-}
-
-impl<'a> From<AllocError> for RepairFault<'a> {
-    ghost use Rattle.std.specs.Prelude.{◌≡◌};
-    ghost use Rattle.mend_report.specs.declared.looking.LookFault.TheVariants.{OutOfMemory};
-    ghost use Rattle.mend_report.specs.declared.report.RepairFault.TheVariants.{Look};
-
-    ghost from_gives = { λ _ fault. fault ≡ Look OutOfMemory };
-
-    fn from(_error: AllocError) -> RepairFault<'a> {
-        RepairFault::Look(LookFault::OutOfMemory)
-    }
 }
 
 /// The map with this transform.
@@ -275,10 +254,7 @@ pub fn mend_map<'a, A: Allocator + Copy>(
     let walks = map.polygons.clone()?;
     let transform = transform.text();
     let map = with_transform(transform, map);
-    let remade = match remake(alloc, heap, seed, map, walks.as_slice()) {
-        Ok(remade) => remade,
-        Err(fault) => return Err(RepairFault::Remake(fault)),
-    };
+    let remade = or_return!(remake(alloc, heap, seed, map, walks.as_slice()));
     let paths = Some(remade.paths.as_slice());
     let (walks, found) = (walks.as_slice(), &report.findings);
     put_places(alloc, transform, walks, found, paths, &mut texts.places)?;

@@ -9,9 +9,9 @@ use Rattle.ring_machine.specs.Common.{Text}
 use Rattle.grid_geometry.specs.Common.{Position, position}
 use Rattle.map_text.specs.Common.{further, commas, comma_if, pair_text, pairs, differences, arc_text, list_text}
 use Rattle.map_text.proofs.Common.{further_push}
-use Rattle.segment_paths.specs.Common.{path_seen, paths_seen}
+use Rattle.segment_paths.specs.Common.{path_of_segment, paths_seen}
 use Rattle.segment_paths.specs.declared.path.SegmentPath.{SegmentPath}
-use Rattle.place_text.specs.Common.{pair_behind, way, ways, behind_if}
+use Rattle.place_text.specs.Common.{pair_behind, path_positions, ways, behind_if}
 use Rattle.place_text.proofs.Listed.{commas_next}
 use Rattle.place_text.proofs.Numbered.{so_many}
 
@@ -130,17 +130,17 @@ way_step more h f g xs i x l e old before mid end p q r =
 
 -- the arc of a path, as it is seen inside
 pub whole_way : {A : Type 0} (delta : Bool) (inside path : SegmentPath A) (inner : List Position) (old : Text) → inside ≡ path → inner ≡ inside.inner.items
-    → old ++ arc_text delta (inside.segment.lo ∷ inner ++ inside.segment.hi ∷ []) ≡ old ++ arc_text delta (way (path_seen path))
+    → old ++ arc_text delta (inside.segment.lo ∷ inner ++ inside.segment.hi ∷ []) ≡ old ++ arc_text delta (path_positions (path_of_segment path))
 whole_way {A = A} delta inside path inner old same is_inner =
     ap (λ (z : List Position). old ++ arc_text delta (inside.segment.lo ∷ z ++ inside.segment.hi ∷ [])) is_inner
-    ∙ ap (λ (p : SegmentPath A). old ++ arc_text delta (way (path_seen p))) same
+    ∙ ap (λ (p : SegmentPath A). old ++ arc_text delta (path_positions (path_of_segment p))) same
 
 -- ---- the list of all arcs
 
 -- the paths that are told, and none where they are not
 pub told_is : {A : Type 0} (paths : Option (Bor (List (SegmentPath A)))) (none : Bor (List (SegmentPath A))) → none.now ≡ []
-    → map way (paths_seen (unwrap_or paths none).now) ≡ ways (option_map (λ ps. paths_seen ps.now) paths)
-told_is None none e = ap (λ ps. map way (paths_seen ps)) e
+    → map path_positions (paths_seen (unwrap_or paths none).now) ≡ ways (option_map (λ ps. paths_seen ps.now) paths)
+told_is None none e = ap (λ ps. map path_positions (paths_seen ps)) e
 told_is (Some paths) none e = refl
 
 -- the arcs of both kinds between brackets

@@ -6,7 +6,7 @@ use Rattle.std.specs.BTreeMap.{BTreeMap, get}
 use Rattle.std.specs.Ordering.{is_eq}
 use Rattle.std.specs.declared.cmp.Ordering.{Ordering}
 use Rattle.grid_geometry.specs.Common.{Position, position_cmp, Segment, segment_cmp}
-use Rattle.segment_paths.specs.Common.{Path}
+use Rattle.segment_paths.specs.Common.{PathOfSegment}
 use Rattle.walk_faults.specs.declared.findings.Crossing.{Crossing}
 use Rattle.walk_faults.specs.declared.findings.Touch.{Touch}
 use Rattle.place_text.specs.declared.owners.Owners.{Owners}
@@ -28,8 +28,8 @@ once n ns = cond (is_last n (slice_get ns (length ns - 1))) ns (ns ++ n ∷ [])
 
 -- ---- one table
 
-abbrev pub numbers_of : {A : Type 0} → Vec ℕ A → List ℕ
-numbers_of numbers = numbers.items
+abbrev pub numbers_held : {A : Type 0} → Vec ℕ A → List ℕ
+numbers_held numbers = numbers.items
 
 module _ {K : Type 0} (cmp : K → K → Ordering) where
   -- one of the keys is k
@@ -46,7 +46,7 @@ module _ {K : Type 0} (cmp : K → K → Ordering) where
 
   -- what is told at k, if it is asked for
   abbrev pub numbers_in : {A : Type 0} → BTreeMap K (Vec ℕ A) → K → Option (List ℕ)
-  numbers_in table k = option_map numbers_of (get cmp table k)
+  numbers_in table k = option_map numbers_held (get cmp table k)
 
   -- what is told at k; nothing if it is not asked for
   abbrev pub numbers_at : {A : Type 0} → BTreeMap K (Vec ℕ A) → K → List ℕ
@@ -85,11 +85,11 @@ touch_pos touch = touch.pos
 abbrev pub side_segment : Side → Segment
 side_segment side = side.segment
 
-abbrev pub path_segment : Path → Segment
+abbrev pub path_segment : PathOfSegment → Segment
 path_segment path = path.0
 
 -- the paths, if they are told
-abbrev pub told_paths : Option (List Path) → List Path
+abbrev pub told_paths : Option (List PathOfSegment) → List PathOfSegment
 told_paths None = []
 told_paths (Some paths) = paths
 
@@ -102,7 +102,7 @@ AnswersBoth features segments c =
 
 -- the tables answer as the map does
 pub record Answers {A : Type 0} (features : List (List (List (List Position))))
-    (touches : List Touch) (sides : List Side) (paths : List Path) (tables : Tables A)
+    (touches : List Touch) (sides : List Side) (paths : List PathOfSegment) (tables : Tables A)
     : Type 0 where
   pub at_touches : All (λ t. numbers_at position_cmp tables.vertices t.pos
       ≡ vertex_features features t.pos) touches
@@ -116,5 +116,5 @@ abbrev pub told_by : {A : Type 0} → Owners A → Telling
 told_by owners = record {
   vertex = numbers_at position_cmp owners.tables.vertices;
   segment = numbers_at segment_cmp owners.tables.segments;
-  pair = list_at (map numbers_of owners.pairs.items);
+  pair = list_at (map numbers_held owners.pairs.items);
 }

@@ -1,9 +1,8 @@
 // The lines and the points of a text.
 use crate::maps::asked_of;
 use crate::stored::Stored;
+use decimal_texts::{PointFault, rounded_points, without_lines};
 use grid_reader::point_digits;
-use line_dropping::without_lines;
-use point_rounding::{PointFault, rounded_points};
 use std::alloc::AllocError;
 
 /// Compares what is left of a text without its lines, and how many these were.

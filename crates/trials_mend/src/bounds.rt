@@ -1,5 +1,5 @@
 //! The most that may be found, the most that may be inserted, and a map that is not saved.
-use map_saving::{SaveFault, saved_text};
+use mend_report::{SaveFault, saved_text};
 use segment_index::{ListIndex, TreeIndex};
 use segment_paths::{PathFault, find_paths};
 use std::alloc::Global;

@@ -1,7 +1,7 @@
 //! What is read of numbers and of damaged bytes, how it is rounded, and what is written of it.
 ghost use Rattle.std.specs.Prelude.{◌≤◌};
 
-use exact_decimals::{decimal_of, decimals, is_rounded, push_shifted, rounded};
+use decimal_texts::{decimal_of, decimals, is_rounded, push_shifted, rounded};
 use std::alloc::Global;
 use std::process::Abort;
 

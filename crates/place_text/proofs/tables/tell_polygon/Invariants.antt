@@ -1,6 +1,7 @@
 use Rattle.kit_words.proofs.Common.{take, flat_map}
-use Rattle.walk_faults.specs.Common.{walk_segments, rings_seen}
+use Rattle.walk_faults.specs.Common.{walk_segments}
 use Rattle.place_text.specs.Common.{Tells}
+use Rattle.ring_parts.specs.Common.{rings_seen}
 use Rattle.place_text.proofs.tables.tell_polygon.Given as goal
 
 -- the walks so far are told
