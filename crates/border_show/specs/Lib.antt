@@ -1,2 +1,4 @@
 pub mod Status
 pub mod Endings
+pub mod Conflicts
+pub mod Shown

@@ -61,7 +61,7 @@ pub record IsPlain (b : ℕ) : Type 0 where
   pub no_control : b < 32 → (b ≡ 9) ⊎ (b ≡ 10)
 
 -- bytes that mean themselves, and references
-pub data IsText : List ℕ → Type 0 where
-  none : IsText []
-  plain : {b : ℕ} {bs : List ℕ} → IsPlain b → IsText bs → IsText (b ∷ bs)
-  reference : {name bs : List ℕ} → IsReference name → IsText bs → IsText (name ++ bs)
+pub data IsXmlText : List ℕ → Type 0 where
+  none : IsXmlText []
+  plain : {b : ℕ} {bs : List ℕ} → IsPlain b → IsXmlText bs → IsXmlText (b ∷ bs)
+  reference : {name bs : List ℕ} → IsReference name → IsXmlText bs → IsXmlText (name ++ bs)

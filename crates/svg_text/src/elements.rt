@@ -1,14 +1,14 @@
 // The elements of a drawing.
 ghost use Rattle.std.specs.Prelude.{◌≡◌, ◌++◌, codes, OnOk};
-ghost use Rattle.svg_text.specs.Elements.{box_text, place_text, picture_text, view_text, turned_text, words_text};
+ghost use Rattle.svg_text.specs.Elements.{view_box_text, box_attributes, opened_picture_text, opened_view_text, text_element};
 
 use crate::escaping::push_escaped;
-use crate::numbers::{push_attribute, push_number, push_pair};
+use crate::numbers::{push_attribute, push_pair};
 use std::alloc::{AllocError, Allocator};
 
 /// Where an element stands, and how large it is.
 #[derive(Clone, Copy, Debug, PartialEq, Eq)]
-pub struct Place {
+pub struct ElementBox {
     /// How far its left side is from the left.
     pub x: i64,
     /// How far its upper side is from the top.
@@ -20,8 +20,12 @@ pub struct Place {
 }
 
 /// Appends a view box as an attribute.
-fn push_box<A: Allocator>(text: &mut Vec<u8, A>, width: i64, height: i64) -> Result<(), AllocError>
-    ensures { OnOk result (text.new.items ≡ text.old.items ++ box_text width height) }
+fn push_view_box<A: Allocator>(
+    text: &mut Vec<u8, A>,
+    width: i64,
+    height: i64,
+) -> Result<(), AllocError>
+    ensures { OnOk result (text.new.items ≡ text.old.items ++ view_box_text width height) }
 {
     text.extend_from_slice(b" viewBox=\"0 0 ")?;
     push_pair(text, width, height)?;
@@ -30,8 +34,11 @@ fn push_box<A: Allocator>(text: &mut Vec<u8, A>, width: i64, height: i64) -> Res
 }
 
 /// Appends a place as attributes.
-fn push_place<A: Allocator>(text: &mut Vec<u8, A>, place: Place) -> Result<(), AllocError>
-    ensures { OnOk result (text.new.items ≡ text.old.items ++ place_text place) }
+fn push_box_attributes<A: Allocator>(
+    text: &mut Vec<u8, A>,
+    place: ElementBox,
+) -> Result<(), AllocError>
+    ensures { OnOk result (text.new.items ≡ text.old.items ++ box_attributes place) }
 {
     push_attribute(text, "x", place.x)?;
     push_attribute(text, "y", place.y)?;
@@ -46,12 +53,12 @@ pub fn open_picture<A: Allocator>(
     width: i64,
     height: i64,
 ) -> Result<(), AllocError>
-    ensures { OnOk result (text.new.items ≡ text.old.items ++ picture_text width height) }
+    ensures { OnOk result (text.new.items ≡ text.old.items ++ opened_picture_text width height) }
 {
     text.extend_from_slice(b"<svg xmlns=\"http://www.w3.org/2000/svg\"")?;
     push_attribute(text, "width", width)?;
     push_attribute(text, "height", height)?;
-    push_box(text, width, height)?;
+    push_view_box(text, width, height)?;
     text.extend_from_slice(b">\n")?;
     Ok(())
 }
@@ -59,26 +66,16 @@ pub fn open_picture<A: Allocator>(
 /// Begins a view at a place of the picture, of so many units of its own across and down.
 pub fn open_view<A: Allocator>(
     text: &mut Vec<u8, A>,
-    place: Place,
+    place: ElementBox,
     width: i64,
     height: i64,
 ) -> Result<(), AllocError>
-    ensures { OnOk result (text.new.items ≡ text.old.items ++ view_text place width height) }
+    ensures { OnOk result (text.new.items ≡ text.old.items ++ opened_view_text place width height) }
 {
     text.extend_from_slice(b"<svg")?;
-    push_place(text, place)?;
-    push_box(text, width, height)?;
+    push_box_attributes(text, place)?;
+    push_view_box(text, width, height)?;
     text.extend_from_slice(b">\n")?;
-    Ok(())
-}
-
-/// Begins a group of this height in which y grows upwards.
-pub fn open_turned<A: Allocator>(text: &mut Vec<u8, A>, height: i64) -> Result<(), AllocError>
-    ensures { OnOk result (text.new.items ≡ text.old.items ++ turned_text height) }
-{
-    text.extend_from_slice(b"<g transform=\"translate(0 ")?;
-    push_number(text, height)?;
-    text.extend_from_slice(b") scale(1 -1)\">\n")?;
     Ok(())
 }
 
@@ -105,7 +102,7 @@ pub fn push_words<A: Allocator>(
     words: &[u8],
 ) -> Result<(), AllocError>
     ensures { OnOk result
-        (text.new.items ≡ text.old.items ++ words_text style.now x y words.now) }
+        (text.new.items ≡ text.old.items ++ text_element style.now x y words.now) }
 {
     text.extend_from_slice(b"<text class=\"")?;
     text.extend_from_slice(style.as_bytes())?;

@@ -1,6 +1,6 @@
 // Text as XML has it.
 ghost use Rattle.std.specs.Prelude.{◌≡◌, ◌++◌, [], OnOk};
-ghost use Rattle.svg_text.specs.Escaping.{ends_noncharacter, escaped, escaped_byte, escaped_behind, is_control, IsText};
+ghost use Rattle.svg_text.specs.Escaping.{ends_noncharacter, escaped, escaped_byte, escaped_behind, is_control, IsXmlText};
 
 use std::alloc::{AllocError, Allocator};
 
@@ -61,7 +61,7 @@ fn push_behind<A: Allocator>(
 /// 1.0 forbids.
 pub fn push_escaped<A: Allocator>(text: &mut Vec<u8, A>, bytes: &[u8]) -> Result<(), AllocError>
     ensures escaped { OnOk result (text.new.items ≡ text.old.items ++ escaped bytes.now) }
-    ensures means { IsText (escaped bytes.now) }
+    ensures means { IsXmlText (escaped bytes.now) }
 {
     let mut first = 0;
     let mut second = 0;

@@ -9,8 +9,6 @@ mod elements;
 mod escaping;
 mod numbers;
 
-pub use elements::{
-    Place, close_group, close_picture, open_picture, open_turned, open_view, push_words,
-};
+pub use elements::{ElementBox, close_group, close_picture, open_picture, open_view, push_words};
 pub use escaping::push_escaped;
 pub use numbers::{push_attribute, push_number, push_pair};
