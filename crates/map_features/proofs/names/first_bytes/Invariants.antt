@@ -1,5 +1,5 @@
 use Rattle.kit_words.proofs.Common.{◌≤◌, length}
-use Rattle.map_features.proofs.names.front.Given as goal
+use Rattle.map_features.proofs.names.first_bytes.Given as goal
 
 abbrev pub invariant-loop-end : goal.invariant-loop-end
 invariant-loop-end l = (l.end ≤ length l.words) × (l.end ≤ 48)
