@@ -4,7 +4,7 @@ ghost use Rattle.edit_records.specs.Common.{had_before};
 ghost use Rattle.ring_machine.specs.Common.{has_feature};
 ghost use Rattle.ring_parts.specs.Common.{rings_seen, polygons_seen};
 ghost use Rattle.feature_exchange.specs.Common.{seen};
-ghost use Rattle.arc_store.specs.Exchanged.{MayExchange, exchanged_state, with_polygons, part_of};
+ghost use Rattle.arc_store.specs.Exchanged.{MayExchange, exchanged_state, feature_with, part_of};
 
 use crate::map::Map;
 use feature_exchange::{Change, WholeFeature, count_changes, exchange_features, one_polygon};
@@ -21,7 +21,7 @@ impl<'a, I: SegIndex, A: Allocator + Copy> Map<'a, I, A> {
     ) -> Result<Change<'a, A>, AllocError>
         requires { has_feature self.now.doc n ≡ true }
         ensures { IfOk result (λ change. seen (change ∷ [])
-            ≡ (n, Some (with_polygons self.now.doc n (polygons_seen polygons.items))) ∷ []) }
+            ≡ (n, Some (feature_with self.now.doc n (polygons_seen polygons.items))) ∷ []) }
     {
         let Some(texts) = self.frame.texts(n)? else {
             unreachable!()

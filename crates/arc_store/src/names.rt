@@ -1,7 +1,7 @@
 ghost use Rattle.std.specs.Prelude.{◌≡◌, ℕ, [], length, unwrap_or, Some, Contains, IsTrue, OnOk};
 ghost use Rattle.grid_geometry.specs.Common.{edges, segment};
 ghost use Rattle.ring_machine.specs.Common.{is_segment};
-ghost use Rattle.map_frame.specs.Common.{number_at, ring_at};
+ghost use Rattle.map_frame.specs.Common.{number_at, frame_ring};
 ghost use Rattle.map_frame.specs.declared.names.RingName.{RingName};
 ghost use Rattle.arc_store.specs.Named.{ListsNames, ListsRings};
 ghost use Rattle.arc_store.specs.Spots.{users};
@@ -99,7 +99,7 @@ impl<'a, I: SegIndex, A: Allocator + Copy> Map<'a, I, A> {
         out: &mut Vec<RingName, B>,
     ) -> Result<(), AllocError>
         ensures { OnOk result (ListsUsers self.now.doc
-            (edges (unwrap_or (ring_at self.now.doc feature polygon ring) []))
+            (edges (unwrap_or (frame_ring self.now.doc feature polygon ring) []))
             out.old.items out.new.items) }
     {
         let Some(number) = self.frame.ring(feature, polygon, ring) else {

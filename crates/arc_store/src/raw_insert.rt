@@ -5,7 +5,7 @@ ghost use Rattle.ring_machine.specs.Common.{Document, is_vertex, is_segment, siz
 ghost use Rattle.ring_machine.specs.Common.{insert_refusals, ins};
 ghost use Rattle.edit_records.specs.Records as made;
 ghost use Rattle.segment_index.specs.Common.{times_by};
-ghost use Rattle.local_planarity.specs.Common.{AreApart, IsAfter, most_for, most_tests};
+ghost use Rattle.local_planarity.specs.Common.{NoneConflict, IsAfter, most_for, most_tests};
 ghost use Rattle.local_planarity.specs.declared.leaving.Leaving.TheVariants.{One};
 ghost use Rattle.arc_store.specs.Edits.{IsInsertable, IsPlaceable};
 ghost use Rattle.arc_store.specs.Faults.{Refuses};
@@ -33,7 +33,7 @@ fn test_insert<I: SegIndex, A: Allocator + Copy>(
     after: &[Seg],
     tests: &mut TestCount,
 ) -> Result<(), EditFault>
-    requires apart { AreApart (I.held index.now) }
+    requires apart { NoneConflict (I.held index.now) }
     requires before { before ≡ segment ends.0 ends.1 }
     requires after { after.now ≡ planned.spokes q (ends.0 ∷ ends.1 ∷ []) }
     ensures accepted { OnOk result ((d : Document)

@@ -5,7 +5,7 @@ ghost use Rattle.ring_machine.specs.Common.{Document, is_vertex, first_of, remov
 ghost use Rattle.ring_machine.specs.Common.{are_long, is_bridged, del, is_junction};
 ghost use Rattle.edit_records.specs.Records as made;
 ghost use Rattle.segment_index.specs.Common.{times_by};
-ghost use Rattle.local_planarity.specs.Common.{AreApart, IsAfter, most_for, most_tests};
+ghost use Rattle.local_planarity.specs.Common.{NoneConflict, IsAfter, most_for, most_tests};
 ghost use Rattle.local_planarity.specs.declared.leaving.Leaving.TheVariants.{EndingAt};
 ghost use Rattle.arc_store.specs.Edits.{IsLeavable, IsRemovable};
 ghost use Rattle.arc_store.specs.Faults.{Refuses};
@@ -30,7 +30,7 @@ fn test_remove<I: SegIndex, A: Allocator + Copy>(
     after: Seg,
     tests: &mut TestCount,
 ) -> Result<(), EditFault>
-    requires apart { AreApart (I.held index.now) }
+    requires apart { NoneConflict (I.held index.now) }
     ensures accepted { OnOk result ((d : Document)
         → IsRemovable d (I.held index.now) p after
         → first_of (remove_refusals d p) ≡ None) }

@@ -9,7 +9,7 @@ ghost use Rattle.ring_machine.specs.Common.{is_distinct, segment_of, WellFormed}
 ghost use Rattle.topo_outline.specs.Common.{IsJson};
 ghost use Rattle.ring_parts.specs.Common.{path_seen, rings_seen, outer_length};
 ghost use Rattle.segment_index.specs.Common.{times_by};
-ghost use Rattle.local_planarity.specs.Common.{AreApart, IsAfter, most_for, most_tests};
+ghost use Rattle.local_planarity.specs.Common.{NoneConflict, IsAfter, most_for, most_tests};
 ghost use Rattle.local_planarity.specs.declared.leaving.Leaving.TheVariants.{Nothing};
 ghost use Rattle.arc_store.specs.Faults.{Refuses};
 ghost use Rattle.arc_store.specs.Outcomes.{Edits, split_map};
@@ -48,7 +48,7 @@ fn test_split<I: SegIndex, A: Allocator + Copy>(
     room: bool,
     tests: &mut TestCount,
 ) -> Result<(), EditFault>
-    requires apart { AreApart (I.held index.now) }
+    requires apart { NoneConflict (I.held index.now) }
     requires short { outer_length (rings_seen polygon.now) + length path.now.inner.now
         < 1099511627776 }
     requires added { added.now ≡ map segment_of (links (positions_of (path_seen path.now))) }

@@ -1,7 +1,7 @@
 // Edits of squares, over both indexes.
 ghost use Rattle.std.specs.Prelude.{◌≡◌, IfOk};
 ghost use Rattle.std.specs.FinSet as set;
-ghost use Rattle.local_planarity.specs.Edits.{AreApart};
+ghost use Rattle.local_planarity.specs.Edits.{NoneConflict};
 
 use crate::squares::{MEMORY, holds};
 use grid_geometry::{Pos, Rect, Seg};
@@ -202,7 +202,7 @@ fn squares<R: Abort>(rt: &R, alloc: Global, count: u8, step: i64) -> Vec<Seg> {
 /// An empty index filled with segments, each once. No two of them conflict.
 fn filled<R: Abort, I: SegIndex>(rt: &R, alloc: Global, mut index: I, segments: &[Seg]) -> I
     requires { I.held index ≡ set.empty }
-    ensures { AreApart (I.held result) }
+    ensures { NoneConflict (I.held result) }
 {
     let mut first = None;
     let mut near = Vec::new(alloc);
@@ -216,7 +216,7 @@ fn filled<R: Abort, I: SegIndex>(rt: &R, alloc: Global, mut index: I, segments: 
 
 /// A grid with the sides of squares in a row, whose greatest corner is at this x.
 fn grid<R: Abort>(rt: &R, alloc: Global, count: u8, step: i64, most: i64) -> GridIndex
-    ensures { AreApart (⟦<GridIndex as SegIndex>⟧.held result) }
+    ensures { NoneConflict (⟦<GridIndex as SegIndex>⟧.held result) }
 {
     let extent = Rect::new(0, 0, most, 10).expect(rt, "a box");
     let segments = squares(rt, alloc, count, step);
@@ -226,7 +226,7 @@ fn grid<R: Abort>(rt: &R, alloc: Global, count: u8, step: i64, most: i64) -> Gri
 
 /// A list with the sides of two squares.
 fn list<R: Abort>(rt: &R, alloc: Global) -> ListIndex
-    ensures { AreApart (⟦<ListIndex as SegIndex>⟧.held result) }
+    ensures { NoneConflict (⟦<ListIndex as SegIndex>⟧.held result) }
 {
     let segments = squares(rt, alloc, 2, 10);
     filled(rt, alloc, ListIndex::new(alloc), segments.as_slice())
@@ -248,7 +248,7 @@ fn see_edit<R: Abort, I: SegIndex, A: Allocator + Copy>(
     edit: &Edit,
     added: &[Seg],
 ) -> Result<(), AllocError>
-    requires { AreApart (I.held index.now) }
+    requires { NoneConflict (I.held index.now) }
 {
     let (what, gone, _, pair_then, least) = edit;
     let mut tests = TestCount::new();
@@ -269,7 +269,7 @@ fn make<R: Abort, I: SegIndex, A: Allocator + Copy>(
     index: &I,
     edit: &Edit,
 ) -> Result<(), AllocError>
-    requires { AreApart (I.held index.now) }
+    requires { NoneConflict (I.held index.now) }
 {
     see_edit(rt, heap, index, edit, segs(rt, alloc, edit.2).as_slice())
 }
@@ -390,7 +390,7 @@ fn make_call<R: Abort, I: SegIndex, A: Allocator + Copy>(
     index: &I,
     call: Call,
 ) -> Result<(), AllocError>
-    requires { AreApart (I.held index.now) }
+    requires { NoneConflict (I.held index.now) }
 {
     match call {
         Call::Move => make(rt, alloc, heap, index, &MOVE),
@@ -409,7 +409,7 @@ fn is_refused<R: Abort, I: SegIndex>(
     which: Call,
     nth: u64,
 ) -> bool
-    requires { AreApart (I.held index.now) }
+    requires { NoneConflict (I.held index.now) }
 {
     let heap = Refusing::new(alloc, nth);
     let refused = make_call(rt, alloc, &heap, index, which).is_err();
@@ -424,7 +424,7 @@ fn is_refused<R: Abort, I: SegIndex>(
 
 /// Makes each call with each of its growths refused.
 fn refuse_each<R: Abort, I: SegIndex>(rt: &R, alloc: Global, index: &I)
-    requires { AreApart (I.held index.now) }
+    requires { NoneConflict (I.held index.now) }
 {
     for which in [Call::Move, Call::Ways, Call::Triangles, Call::Opening] {
         assert!(rt; is_refused(rt, alloc, index, which, 1));
@@ -438,7 +438,7 @@ fn refuse_each<R: Abort, I: SegIndex>(rt: &R, alloc: Global, index: &I)
 /// The least pair of each edit comes first, what leaves is in none, a way crosses what does not end at
 /// it, a triangle holds the ends on its border, and a refused growth leaves the index.
 fn see_squares<R: Abort, I: SegIndex>(rt: &R, alloc: Global, index: &I)
-    requires { AreApart (I.held index.now) }
+    requires { NoneConflict (I.held index.now) }
 {
     for edit in EDITS {
         make(rt, alloc, alloc, index, edit).expect(rt, MEMORY);
@@ -450,7 +450,7 @@ fn see_squares<R: Abort, I: SegIndex>(rt: &R, alloc: Global, index: &I)
 
 /// The edit has the same pair by the list of all segments alone.
 fn see_listed<R: Abort>(rt: &R, alloc: Global, index: &ListIndex, edit: &Edit)
-    requires { AreApart index.now }
+    requires { NoneConflict index.now }
 {
     let (what, gone, added, pair_then, least) = edit;
     let mut tests = TestCount::new();
@@ -479,7 +479,7 @@ fn two_squares_in_a_grid(rt: HostRuntime) {
 
 /// A corner of the first of 64 squares moves, of which one is near.
 fn move_in_row<R: Abort>(rt: &R, alloc: Global, index: &GridIndex)
-    requires { AreApart (⟦<GridIndex as SegIndex>⟧.held index.now) }
+    requires { NoneConflict (⟦<GridIndex as SegIndex>⟧.held index.now) }
 {
     let added = [seg(rt, ((10, 0), (9, 9))), seg(rt, ((9, 9), (0, 10)))];
     let (from, to) = (pos(rt, (10, 10)), pos(rt, (9, 9)));

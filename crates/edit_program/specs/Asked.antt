@@ -53,8 +53,8 @@ program =
     map_rule) script_rule) out_rule) undo_rule) refused_rule) progress_rule) strict_rule
 
 -- the value that clap finds for an argument among the words, the program's name first
-abbrev pub text_of : List ℕ → List (List ℕ) → Option (List ℕ)
-text_of id words = first_of id (matches_of program words)
+abbrev pub argument_of : List ℕ → List (List ℕ) → Option (List ℕ)
+argument_of id words = first_of id (matches_of program words)
 
 -- what clap reads a flag as among the words
 abbrev pub flag_of : List ℕ → List (List ℕ) → Option (List ℕ)

@@ -6,7 +6,7 @@ ghost use Rattle.ring_machine.specs.Common.{canonical, feature_at};
 ghost use Rattle.map_frame.specs.Common.{polygon_numbers};
 ghost use Rattle.ring_parts.specs.Common.{rings_seen, polygons_seen};
 ghost use Rattle.vertex_index.specs.Common.{place};
-ghost use Rattle.feature_exchange.specs.Common.{AlongVertices, IsWhole, document_of, ring_in, stored_in};
+ghost use Rattle.feature_exchange.specs.Common.{AlongVertices, IsWhole, stored_document, ring_in, stored_in};
 
 use crate::change::Change;
 use grid_geometry::Pos;
@@ -105,7 +105,7 @@ pub fn read_polygons<'a, I: SegIndex, A: Allocator + Copy>(
 ) -> Result<Vec<Vec<Vec<Pos, A>, A>, A>, AllocError>
     requires { IsWhole (stored_in frame.now tables.now) }
     ensures { IfOk result (λ found. polygons_seen found.items
-        ≡ (feature_at (document_of (stored_in frame.now tables.now)) n).polygons) }
+        ≡ (feature_at (stored_document (stored_in frame.now tables.now)) n).polygons) }
 {
     match frame.polygons(n) {
         Some(polygons) => feature_positions(tables, polygons),
@@ -121,7 +121,7 @@ pub(crate) fn read_features<'a, I: SegIndex, A: Allocator + Copy>(
 ) -> Result<Vec<Vec<Vec<Vec<Pos, A>, A>, A>, A>, AllocError>
     requires { IsWhole (stored_in frame.now tables.now) }
     ensures { IfOk result (λ found. map (λ p. polygons_seen p.items) found.items
-        ≡ map (λ c. (feature_at (document_of (stored_in frame.now tables.now))
+        ≡ map (λ c. (feature_at (stored_document (stored_in frame.now tables.now))
         c.number).polygons) changes.now) }
 {
     let mut found = Vec::new(tables.alloc);

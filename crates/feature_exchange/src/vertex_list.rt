@@ -6,7 +6,7 @@ ghost use Rattle.ring_machine.specs.Common.{features, rings, are_distinct};
 ghost use Rattle.ring_machine.specs.Query as query;
 ghost use Rattle.arc_tables.specs.Common.{begins};
 ghost use Rattle.map_frame.specs.Common.{polygon_numbers};
-ghost use Rattle.feature_exchange.specs.Common.{AreAlong, IsWhole, document_of, edges_under, stored_in};
+ghost use Rattle.feature_exchange.specs.Common.{AreAlong, IsWhole, stored_document, edges_under, stored_in};
 
 use crate::reading::positions_under;
 use grid_geometry::Pos;
@@ -79,7 +79,7 @@ pub fn read_vertices<'a, I: SegIndex, A: Allocator + Copy>(
     requires whole { IsWhole (stored_in frame.now tables.now) }
     requires distinct { IsTrue (are_distinct (map (λ f. f.number) (features frame.now.doc))) }
     ensures { IfOk result (λ found. found.items
-        ≡ query.vertices (document_of (stored_in frame.now tables.now))) }
+        ≡ query.vertices (stored_document (stored_in frame.now tables.now))) }
 {
     let keys = all_keys(tables.alloc, &tables.borders, frame)?;
     let mut found = positions_under(tables.alloc, &tables.vertices, keys.as_slice())?;

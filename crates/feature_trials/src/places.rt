@@ -2,7 +2,7 @@
 ghost use Rattle.std.specs.Prelude.{◌≡◌};
 ghost use Rattle.std.specs.FinSet as set;
 ghost use Rattle.ring_machine.specs.Parts.{rings};
-ghost use Rattle.ring_boxes.specs.Covering.{Covers};
+ghost use Rattle.ring_boxes.specs.Covering.{CoversRings};
 
 use arc_store::Map;
 use fixed_seed::fixed_seed;
@@ -55,7 +55,7 @@ fn is_near<R: Abort>(
     boxes: &RingBoxes,
     row: &Row<'_>,
 ) -> bool
-    requires { Covers boxes.now (rings map.now.doc) }
+    requires { CoversRings boxes.now (rings map.now.doc) }
 {
     let p = Pos::new(row.0.0, row.0.1).expect(rt, "in range");
     let Ok(found) = at_near(alloc, map, boxes, p) else {
@@ -85,7 +85,7 @@ fn first_missed<R: Abort>(
     boxes: &RingBoxes,
     rows: &[Row<'_>],
 ) -> usize
-    requires { Covers boxes.now (rings map.now.doc) }
+    requires { CoversRings boxes.now (rings map.now.doc) }
 {
     let mut place = 0usize;
     for row in rows {

@@ -13,7 +13,7 @@ use Rattle.topo_outline.specs.Views.{view_layer}
 use Rattle.topo_outline.specs.declared.document.RawLayer.{RawLayer}
 use Rattle.topo_reader.proofs.Numbering.{rings_document, rings_within}
 use Rattle.map_frame.specs.Numbers.{feature_numbers, polygon_numbers}
-use Rattle.map_frame.specs.Naming.{IsOf}
+use Rattle.map_frame.specs.Naming.{IsNumberOf}
 use Rattle.map_frame.specs.Opened.{CanStand, opened}
 use Rattle.map_frame.specs.Texts.{Texts, with_texts}
 use Rattle.map_frame.proofs.NamedOnce.{same_some}
@@ -35,7 +35,7 @@ one_ring f r e = flat_is polygon_numbers f.items ∙ ap (flat_map (λ ys. ys)) e
 
 -- there is room for it
 pub room_for : {A : Type 0} (f : Vec (Vec ℕ A) A) (ring room : ℕ) → feature_numbers f ≡ (ring ∷ []) ∷ []
-    → ring < room → (r : ℕ) → IsOf (flat_map polygon_numbers f.items) r → r < room
+    → ring < room → (r : ℕ) → IsNumberOf (flat_map polygon_numbers f.items) r → r < room
 room_for f ring room e l r i = by i.0 (ap (λ z. slice_get z i.0) (sym (one_ring f ring e)) ∙ i.1)
   where
     by : (j : ℕ) → slice_get (ring ∷ []) j ≡ Some r → r < room

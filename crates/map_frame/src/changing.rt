@@ -4,8 +4,8 @@ ghost use Rattle.std.specs.Prelude.{IfOk, IsTrue, None, OnErr, OnOk, Some};
 ghost use Rattle.std.specs.List.{flat_map};
 ghost use Rattle.edit_records.specs.Common.{exchanged, grown, with_id};
 ghost use Rattle.ring_machine.specs.Common.{FeatureOf, are_distinct, feature, fits_form, has_feature, is_layer, rings};
-ghost use Rattle.map_frame.specs.Common.{Feature, IsOf, Layer, Slot, id_or, numbers_under};
-ghost use Rattle.map_frame.specs.Common.{polygon_numbers, texts_of, with_new, with_own_id, with_slot, with_texts};
+ghost use Rattle.map_frame.specs.Common.{Feature, IsNumberOf, Layer, Slot, id_or, numbers_under};
+ghost use Rattle.map_frame.specs.Common.{polygon_numbers, texts_of, with_number, with_own_id, with_slot, with_texts};
 ghost use Rattle.map_frame.specs.declared.tables.Slot.TheVariants.{Leaves};
 ghost use Rattle.map_frame.specs.declared.tables.Geometry.TheVariants.{Items};
 
@@ -34,7 +34,7 @@ fn with_number<A: Allocator + Copy>(
     n: u32,
     number: u32,
 ) -> Result<Vec<u32, A>, AllocError>
-    ensures { IfOk result (λ longer. longer.items ≡ with_new n number numbers.now) }
+    ensures { IfOk result (λ longer. longer.items ≡ with_number n number numbers.now) }
 {
     let mut longer = Vec::new(alloc);
     for m in numbers {
@@ -84,7 +84,7 @@ impl<'a, A: Allocator + Copy> Frame<'a, A> {
     pub fn reserve_names(&mut self, rings: &[usize]) -> Result<(), AllocError>
         ensures same { self.new ≡ record self.old { room = self.new.room } }
         ensures longer { self.old.room ≤ self.new.room }
-        ensures room { OnOk result ((r : ℕ) → IsOf rings.now r → r < self.new.room) }
+        ensures room { OnOk result ((r : ℕ) → IsNumberOf rings.now r → r < self.new.room) }
     {
         make_room(&mut self.tables.names, rings)
     }
@@ -130,7 +130,7 @@ impl<'a, A: Allocator + Copy> Frame<'a, A> {
         requires below { n < self.old.next }
         requires free { feature self.old.doc n ≡ None }
         requires fits { fits_form (with_texts n texts (map polygon_numbers polygons.items)) ≡ true }
-        requires room { (r : ℕ) → IsOf (flat_map polygon_numbers polygons.items) r → r < self.old.room }
+        requires room { (r : ℕ) → IsNumberOf (flat_map polygon_numbers polygons.items) r → r < self.old.room }
         ensures { self.new ≡ record self.old {
           doc = exchanged self.old.places
               ((n, Some (with_texts n texts.entry (map polygon_numbers polygons.items))) ∷ []) self.old.doc;

@@ -1,7 +1,7 @@
 // By a ring's number where it stands.
 ghost use Rattle.std.specs.Prelude.{◌≡◌, ◌<◌, ◌≤◌, ℕ, length, map, Some, OnOk, IfOk, slice_get};
 ghost use Rattle.std.specs.List.{flat_map};
-ghost use Rattle.map_frame.specs.Common.{AllNamed, Gain, HasRoom, IsOf, Loss, SameNames, element, feature_numbers};
+ghost use Rattle.map_frame.specs.Common.{AllNamed, Gain, HasRoom, IsNumberOf, Loss, SameNames, element, feature_numbers};
 ghost use Rattle.map_frame.specs.Common.{polygon_numbers};
 
 use std::alloc::{AllocError, Allocator};
@@ -121,7 +121,7 @@ pub(crate) fn forget_polygon<A: Allocator + Copy>(
     names: &mut Vec<Option<RingName>, A>,
     rings: &[usize],
 )
-    ensures lost { Loss names.old.items names.new.items (IsOf rings.now) }
+    ensures lost { Loss names.old.items names.new.items (IsNumberOf rings.now) }
     ensures len { length names.new.items ≡ length names.old.items }
 {
     for r in rings {

@@ -4,7 +4,8 @@ use Rattle.kit_words.proofs.Common.{ap₂, ◌∙◌, arith, AllZip, drop-drop, 
 use Rattle.std.proofs.Common.{length-append}
 use Rattle.ring_machine.specs.Common.{Form, Head}
 use Rattle.topo_outline.specs.Common.{LayerText, Piece, starts, ends, leaf, text, leaves_in, leaves}
-use Rattle.topo_reader.specs.Common.{Polygons, Opened, polygons_at, numbered, items_from, layers_from, document_of}
+use Rattle.topo_reader.specs.Common.{Polygons, Opened, document_of}
+use Rattle.topo_outline.specs.Common.{polygons_at, numbered, items_from, layers_from}
 use Rattle.segment_paths.specs.Common.{Path}
 use Rattle.map_mending.specs.Common.{Parted, MendsPolygon, MendsPolygons, MendsFeature, MendsItem, MendsLayer, Mended}
 use Rattle.map_mending.specs.Common.{joined, form_after, TellsParted, pieces_after, layers_after, with_mended}

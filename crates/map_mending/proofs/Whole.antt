@@ -7,7 +7,8 @@ use Rattle.std.specs.Prelude.{sum_by}
 use Rattle.grid_geometry.specs.Common.{Position, Segment, segment_cmp}
 use Rattle.ring_machine.specs.Common.{Feature, feature_of, features, size}
 use Rattle.topo_outline.specs.Common.{LayerText, Piece, starts, ends, leaf, text, leaves_in, leaves}
-use Rattle.topo_reader.specs.Common.{Polygons, Opened, polygons_at, items_from, layers_from, document_of, IsOfRings}
+use Rattle.topo_reader.specs.Common.{Polygons, Opened, document_of, IsOfRings}
+use Rattle.topo_outline.specs.Common.{polygons_at, items_from, layers_from}
 use Rattle.topo_reader.specs.Common.{IsOfWalks}
 use Rattle.topo_reader.proofs.Common.{rings_within, rings_document, sum_within}
 use Rattle.walk_faults.specs.Common.{ListsAll}

@@ -2,7 +2,8 @@
 use Rattle.std.specs.Prelude.{◌≡◌, ℕ, List, [], ◌∷◌, ◌++◌, length, drop}
 use Rattle.std.specs.List.{AllZip}
 use Rattle.topo_outline.specs.Common.{Piece, starts, ends, leaf, text, LayerText, at_most_one, leaf_of, leaves_in}
-use Rattle.topo_reader.specs.Common.{Polygons, Opened, polygons_at}
+use Rattle.topo_reader.specs.Common.{Polygons, Opened}
+use Rattle.topo_outline.specs.Common.{polygons_at}
 use Rattle.segment_paths.specs.Common.{Path}
 use Rattle.map_mending.specs.declared.parted.Parted.{Parted}
 use Rattle.map_mending.specs.Mended.{MendsPolygon, joined, form_after}

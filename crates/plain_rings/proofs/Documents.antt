@@ -8,7 +8,8 @@ use Rattle.ring_machine.specs.Common.{Feature, Item, Layer, feature_of, features
 use Rattle.ring_machine.specs.Common.{feature_at, no_feature}
 use Rattle.topo_outline.specs.Shape.{Piece, starts, ends, leaf, text, LayerText}
 use Rattle.topo_outline.specs.Outline.{leaves_in, leaves}
-use Rattle.topo_reader.specs.Common.{Opened, polygons_at, items_from, layers_from, document_of}
+use Rattle.topo_reader.specs.Common.{Opened, document_of}
+use Rattle.topo_outline.specs.Common.{polygons_at, items_from, layers_from}
 
 abbrev pub Polygons : Type 0
 Polygons = List (List (List Position))

@@ -5,6 +5,6 @@ use Rattle.point_queries.specs.declared.sharing.QueryFault.{QueryFault}
 use Rattle.point_queries.specs.declared.sharing.QueryFault.TheVariants.{NoFeature, OutOfMemory}
 
 -- no feature has the number; want of memory comes only where one has it
-abbrev pub Tells : Document → ℕ → QueryFault → Type 0
-Tells d n NoFeature = has_feature d n ≡ false
-Tells d n OutOfMemory = has_feature d n ≡ true
+abbrev pub IsFaultOf : Document → ℕ → QueryFault → Type 0
+IsFaultOf d n NoFeature = has_feature d n ≡ false
+IsFaultOf d n OutOfMemory = has_feature d n ≡ true

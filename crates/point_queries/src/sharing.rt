@@ -6,7 +6,7 @@ ghost use Rattle.grid_geometry.specs.Common.{edges};
 ghost use Rattle.ring_machine.specs.Common.{has_feature, feature_at};
 ghost use Rattle.ring_machine.specs.Query as query;
 ghost use Rattle.arc_store.specs.Common.{ListsUsers};
-ghost use Rattle.point_queries.specs.Told.{Tells};
+ghost use Rattle.point_queries.specs.Told.{IsFaultOf};
 
 use crate::numbers::{Numbers, sort_once};
 use arc_store::{Map, RingName};
@@ -81,7 +81,7 @@ pub fn neighbours<'a, I: SegIndex, A: Allocator + Copy>(
     ensures found { IfOk result (λ found. found
         ≡ query.neighbours_of map.now.doc (feature_at map.now.doc f)) }
     ensures there { IfOk result (λ found. IsTrue (has_feature map.now.doc f)) }
-    ensures fault { IfErr result (λ fault. Tells map.now.doc f fault) }
+    ensures fault { IfErr result (λ fault. IsFaultOf map.now.doc f fault) }
 {
     let Some(feature) = map.feature(f) else {
         return Err(QueryFault::NoFeature);

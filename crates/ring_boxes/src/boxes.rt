@@ -4,7 +4,7 @@ ghost use Rattle.std.specs.FinSet as set;
 ghost use Rattle.grid_geometry.specs.Common.{Position, Segment};
 ghost use Rattle.ring_machine.specs.Common.{is_distinct};
 ghost use Rattle.segment_index.specs.Common.{AreAmong, has};
-ghost use Rattle.ring_boxes.specs.Covering.{lies_in, IsAround, IsCovered, Keeps};
+ghost use Rattle.ring_boxes.specs.Covering.{is_within_diagonal, IsAround, IsCovered, KeepsCovered};
 ghost use Rattle.ring_boxes.specs.Held.{AreBoxesOf, IsWidened, StaysHeld};
 
 use crate::diagonal::{around, box_at, diagonal_of, lies_in, widened};
@@ -60,7 +60,7 @@ impl<A: Allocator + Copy> RingBoxes<A> {
         requires some { 2 ≤ length ring.now }
         requires distinct { IsTrue (is_distinct ring.now) }
         ensures covered { OnOk result (IsCovered self.new ring.now) }
-        ensures keeps { Keeps self.old self.new }
+        ensures keeps { KeepsCovered self.old self.new }
     {
         self.hold(diagonal_of(ring))
     }
@@ -71,7 +71,7 @@ impl<A: Allocator + Copy> RingBoxes<A> {
     pub fn grow(&mut self, p: Pos, q: Pos) -> Result<(), AllocError>
         ensures grown { OnOk result ((ring : List Position) → IsCovered self.old ring
             → Contains ring p → IsCovered self.new (q ∷ ring)) }
-        ensures keeps { Keeps self.old self.new }
+        ensures keeps { KeepsCovered self.old self.new }
     {
         let near = self.boxes_of(p)?;
         self.widen_all(near.as_slice(), q)

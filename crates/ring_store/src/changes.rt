@@ -1,6 +1,6 @@
 // What an edit of vertices reads and changes in the tables.
 ghost use Rattle.std.specs.Prelude.{◌≡◌, false, IfOk, OnOk, OnErr, true, ◌≢◌, ℕ, Some, None, [], ◌∷◌, ◌⊎◌, ◌<◌, ◌^◌, ◌||◌, List, ◌++◌};
-ghost use Rattle.ring_store.specs.Common.{AreAround, AreKeyed, AreNew, ArePlaceable, ArePlaced, ArePutBack, Drops, Exchanges, Gains, HasBridging, HasMoving, IsBridging, IsMoving, IsParting, Joined, PutBetween, Removal, TakenOut, comings, goings};
+ghost use Rattle.ring_store.specs.Common.{AreAround, AreKeyed, AreNew, ArePlaceable, ArePlaced, ArePutBack, Drops, Exchanges, GainsSegments, HasBridging, HasMoving, IsBridging, IsMoving, IsParting, Joined, PutBetween, Removal, TakenOut, comings, goings};
 ghost use Rattle.segment_index.specs.Common.{AreAmong, AreSingle, has};
 ghost use Rattle.arc_tables.specs.Common.{AreApart, users_of, gained};
 ghost use Rattle.grid_geometry.specs.Common.{Segment, segment};
@@ -88,7 +88,7 @@ pub(crate) fn discard_all<I: SegIndex>(index: &mut I, segments: &[Seg])
 pub(crate) fn add_all<I: SegIndex>(index: &mut I, segments: &[Seg]) -> Result<(), AllocError>
     requires new { AreNew (I.held index.old) segments.now }
     requires once { AreSingle segments.now }
-    ensures gained { OnOk result (Gains (I.held index.old) segments.now (I.held index.new)) }
+    ensures gained { OnOk result (GainsSegments (I.held index.old) segments.now (I.held index.new)) }
     ensures unchanged { OnErr result (I.held index.new ≡ I.held index.old) }
     ensures cells { I.cells index.new ≡ I.cells index.old }
 {

@@ -1,8 +1,8 @@
 ghost use Rattle.std.specs.Prelude.{◌≡◌, ◌∷◌, [], IfOk, MatchResult, Option};
 ghost use Rattle.std.specs.Prelude.{Some, None};
-ghost use Rattle.map_text.specs.Common.{string_text};
+ghost use Rattle.edit_records.specs.Common.{string_text};
 ghost use Rattle.ring_machine.specs.Command.{Split as Cut, Rename as Name, Thin as Thinning};
-ghost use Rattle.script_lines.specs.Lines.{ArePositions, AreFeatures, AskedWith, Asks, Says};
+ghost use Rattle.script_lines.specs.Lines.{AreSpaced, AreFeatures, AskedWith, Asks, Says};
 ghost use Rattle.script_lines.specs.Lines.{is_comment};
 ghost use Rattle.script_lines.specs.Commands.{Finds, FindsCommand, says_of, IsRefused};
 
@@ -12,11 +12,10 @@ use crate::paths::read_path;
 use crate::words::{
     behind, spaced_feature, spaced_position, spaced_token, split_word, wide_number,
 };
-use arc_store::{IdText, Path};
+use edit_records::{Command, IdText, Path};
 use grid_geometry::Pos;
 use std::alloc::{AllocError, Global};
 use std::str;
-use undo_ring::Command;
 
 /// The most that the bound of a thinning may be: twice the area of the whole grid, which no
 /// triangle is over.
@@ -27,7 +26,7 @@ const MAX_LINE: usize = 8192;
 
 /// The position that stands behind a word.
 fn position_behind(tail: &[u8]) -> Option<Pos>
-    ensures { Finds result (λ p. ArePositions tail.now (p ∷ [])) }
+    ensures { Finds result (λ p. AreSpaced tail.now (p ∷ [])) }
 {
     let Some(position) = spaced_position(tail) else {
         return None;
@@ -41,7 +40,7 @@ fn position_behind(tail: &[u8]) -> Option<Pos>
 
 /// The two positions that stand behind a word.
 fn pair_behind(tail: &[u8]) -> Option<(Pos, Pos)>
-    ensures { Finds result (λ pair. ArePositions tail.now (pair.0 ∷ pair.1 ∷ [])) }
+    ensures { Finds result (λ pair. AreSpaced tail.now (pair.0 ∷ pair.1 ∷ [])) }
 {
     let Some(first) = spaced_position(tail) else {
         return None;
@@ -51,7 +50,7 @@ fn pair_behind(tail: &[u8]) -> Option<(Pos, Pos)>
 
 /// The three positions that stand behind a word.
 fn triple_behind(tail: &[u8]) -> Option<(Pos, Pos, Pos)>
-    ensures { Finds result (λ all. ArePositions tail.now (all.0 ∷ all.1 ∷ all.2 ∷ [])) }
+    ensures { Finds result (λ all. AreSpaced tail.now (all.0 ∷ all.1 ∷ all.2 ∷ [])) }
 {
     let Some(first) = spaced_position(tail) else {
         return None;

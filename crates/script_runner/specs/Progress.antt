@@ -2,7 +2,7 @@
 use Rattle.std.specs.Prelude.{◌≡◌, ℕ, ◌+◌, ◌≤◌, ◌==◌, List, [], ◌∷◌, ◌++◌, length, take, nat_lt, Bool, true, false, not, ◌||◌, if◌then◌else◌, Option, MatchBool, ◌⊎◌}
 use Rattle.std.specs.Io.KnownBytes.{Appends}
 use Rattle.ring_machine.specs.Common.{Document, State}
-use Rattle.script_runner.specs.Runs.{ScriptLine, ended_line, open_line, Meaning, Bad, Means, reply_text, state_after, answered_by, refused_by, ShowsSaved, opened_state}
+use Rattle.script_runner.specs.Runs.{ScriptLine, ended_line, open_line, Meaning, Bad, LineMeans, reply_text, state_after_line, answered_by, refused_by, ShowsSaved, opened_state}
 
 -- the machine's state and how many changes it keeps at most, the bytes of the line so far, whether more than are kept came, and the counts
 pub record Progress : Type 0 where
@@ -38,13 +38,13 @@ line_at false l = open_line l
 
 -- what the kept line means
 abbrev pub KeptMeans : Bool → Bool → List ℕ → Meaning → Type 0
-KeptMeans over ended line m = MatchBool over (m ≡ Bad) (Means (line_at ended line) m)
+KeptMeans over ended line m = MatchBool over (m ≡ Bad) (LineMeans (line_at ended line) m)
 
 -- the kept line, of this meaning, is answered
 pub record IsAnswered (p : Progress) (m : Meaning) (text : List ℕ) (q : Progress) : Type 0 where
   pub told : text ≡ reply_text p.depth p.state m
   pub shown : ShowsSaved p.state m
-  pub after : q.state ≡ state_after p.depth p.state m
+  pub after : q.state ≡ state_after_line p.depth p.state m
   pub depth : q.depth ≡ p.depth
   pub line : q.line ≡ []
   pub over : q.over ≡ false

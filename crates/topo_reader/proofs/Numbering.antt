@@ -7,7 +7,8 @@ use Rattle.std.specs.Prelude.{sum_by}
 use Rattle.grid_geometry.specs.Common.{Position}
 use Rattle.ring_machine.specs.Common.{ItemOf, LayerOf, feature_of, rings_of}
 use Rattle.topo_outline.specs.Common.{LayerText, Piece, leaf, leaves_in, leaves}
-use Rattle.topo_reader.specs.Common.{Polygons, polygons_at, items_from, layers_from}
+use Rattle.topo_reader.specs.Common.{Polygons}
+use Rattle.topo_outline.specs.Common.{polygons_at, items_from, layers_from}
 
 module _ {R : Type 0} where
   abbrev within_items : List (ItemOf R) → List R

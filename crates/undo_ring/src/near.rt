@@ -4,10 +4,10 @@ ghost use Rattle.std.specs.Prelude.{◌≡◌, ◌∷◌, true, false, List, IfS
 ghost use Rattle.ring_machine.specs.Common.{Document};
 ghost use Rattle.undo_ring.specs.Boxed.{HasGrown, IsKnown, IsReady, Follows};
 ghost use Rattle.undo_ring.specs.Boxed as boxed;
-ghost use Rattle.undo_ring.specs.Commands.{command_of};
+ghost use Rattle.edit_records.specs.Commands.{command_of};
 
-use crate::command::Command;
 use arc_store::Map;
+use edit_records::Command;
 use grid_geometry::Pos;
 use point_queries::{add_boxes, boxes_of};
 use ring_boxes::RingBoxes;

@@ -1,5 +1,5 @@
 // Edits that tests name, as commands of the editor.
-ghost use Rattle.undo_ring.specs.Commands.{IsSound};
+ghost use Rattle.edit_records.specs.Commands.{IsSound};
 
 use arc_store::{EditFault, IdText, Path};
 use grid_geometry::Pos;

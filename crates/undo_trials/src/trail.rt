@@ -1,5 +1,5 @@
 // Copies of the map from before its newest changes, beside an editor that keeps as many changes.
-ghost use Rattle.undo_ring.specs.Commands.{IsSound};
+ghost use Rattle.edit_records.specs.Commands.{IsSound};
 
 use crate::edits::is_change;
 use crate::written::{counts_of, is_as_opened, is_written, written};

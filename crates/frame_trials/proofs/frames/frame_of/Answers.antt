@@ -1,7 +1,7 @@
 use Rattle.std.proofs.Common.{◌≡◌, ◌∙◌, true, ap, length, map, subst, sym}
 use Rattle.ring_machine.specs.Parts.{rings}
 use Rattle.ring_machine.specs.WellFormed.{are_distinct}
-use Rattle.map_frame.proofs.BuiltAlike.{can_stand}
+use Rattle.arc_store.proofs.Standing.{can_stand}
 use Rattle.frame_trials.proofs.TestedFrames.{two_lengths, two_rings}
 use Rattle.frame_trials.proofs.frames.frame_of.Goals as goal
 

@@ -1,4 +1,5 @@
-use arc_store::{IdText, Path};
+use crate::id_text::IdText;
+use crate::path::Path;
 use grid_geometry::Pos;
 
 /// An edit or a query of a map.

@@ -2,9 +2,9 @@
 use Rattle.std.specs.Prelude.{◌≤◌, length}
 use Rattle.ring_machine.specs.Command.{Command as Asked}
 use Rattle.ring_machine.specs.Command as machine
-use Rattle.map_text.specs.Common.{string_text}
-use Rattle.undo_ring.specs.declared.command.Command.{Command}
-use Rattle.undo_ring.specs.declared.command.Command.TheVariants.{Move, Insert, Remove, Thin, Split, Merge, Rename, Delete, Area, At, Neighbours}
+use Rattle.edit_records.specs.Strings.{string_text}
+use Rattle.edit_records.specs.declared.command.Command.{Command}
+use Rattle.edit_records.specs.declared.command.Command.TheVariants.{Move, Insert, Remove, Thin, Split, Merge, Rename, Delete, Area, At, Neighbours}
 
 -- an id is the JSON string that is written for its text
 abbrev pub command_of : Command → Asked
