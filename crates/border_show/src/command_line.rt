@@ -18,7 +18,7 @@ const AT: &str =
 /// What says that two arguments name two parts.
 const TWO_PARTS: &str = "--at and --feature name two parts of the map";
 
-/// An argument that stands in its place.
+/// A positional argument.
 fn positional<'a>(alloc: Global, name: &'static str, help: &'static str) -> Arg<'a> {
     Arg::new(alloc, name).help(help).action(ArgAction::Set)
 }

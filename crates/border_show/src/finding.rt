@@ -28,7 +28,7 @@ fn with_id(heap: Global, shapes: &[Shape<'_, Global>], id: &str) -> Result<Found
     Ok(found)
 }
 
-/// The feature whose number this text is, perhaps with the `#` that stands before it in pictures.
+/// The feature whose number this text is, with or without the `#` that pictures write before it.
 fn with_number(shapes: &[Shape<'_, Global>], text: &str) -> Found {
     let digits = text.strip_prefix('#').unwrap_or(text);
     match digits.parse::<usize>() {

@@ -4,7 +4,7 @@ use Rattle.std.specs.Prelude.{ℕ, List, ◌++◌, codes, flat_map, Vec}
 use Rattle.svg_text.specs.Common.{number_pair_text}
 use Rattle.map_drawing.specs.declared.points.Point.{Point}
 
--- a point behind a space
+-- a space and a point
 abbrev pub point_path : Point → List ℕ
 point_path p = codes " " ++ number_pair_text p.x p.y
 

@@ -12,7 +12,7 @@ use svg_text::push_words;
 /// The most changes that are listed.
 const MOST_CHANGES: usize = 100;
 
-/// How far from the left each column stands; those of numbers end there.
+/// How far from the left each column begins; those of numbers end there.
 const DONE: i64 = 20;
 
 const NUMBER: i64 = 130;

@@ -144,7 +144,7 @@ impl<A: Allocator + Copy> Picture<A> {
         Ok(rings)
     }
 
-    /// Appends words at the place of a label, if it covers none of those that stand already.
+    /// Appends words at the place of a label, if it covers none of the labels so far.
     fn push_at(
         &mut self,
         label: Label,
@@ -207,7 +207,7 @@ impl<A: Allocator + Copy> Picture<A> {
     }
 
     /// Ends the map, and appends what is written over it: the names of features where the view has
-    /// them. What is in conflict is marked, and told in the first line below the map.
+    /// them. What is in conflict is marked, and named in the first line below the map.
     pub(crate) fn close_map(&mut self, shapes: &[Shape<'_, A>]) -> Result<(), AllocError> {
         if let Some(conflict) = self.view.conflict {
             self.push_conflict(conflict)?;
@@ -233,7 +233,7 @@ impl<A: Allocator + Copy> Picture<A> {
 
 /// The picture of a map under this title. The two segments in conflict that the view names are marked.
 ///
-/// `heap` holds decoded ids; `alloc` all else. An error says that a growth was refused.
+/// `heap` holds decoded ids; `alloc` all else. An error says that an allocation failed.
 pub fn draw_map<A: Allocator + Copy>(
     alloc: A,
     heap: Global,

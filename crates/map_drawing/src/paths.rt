@@ -6,7 +6,7 @@ use crate::points::Point;
 use std::alloc::{AllocError, Allocator};
 use svg_text::push_pair;
 
-/// Appends a point behind a space.
+/// Appends a space and a point.
 fn push_point<A: Allocator>(text: &mut Vec<u8, A>, point: Point) -> Result<(), AllocError>
     ensures { OnOk result (text.new.items ≡ text.old.items ++ point_path point) }
 {

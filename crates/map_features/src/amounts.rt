@@ -15,7 +15,7 @@ pub(crate) fn push_grouped<A: Allocator>(
     Ok(())
 }
 
-/// The sign that stands before a number: none before 0.
+/// The sign of a number: none of 0.
 fn sign(number: i128) -> &'static str {
     if number < 0 {
         "-"

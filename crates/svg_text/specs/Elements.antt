@@ -4,11 +4,11 @@ use Rattle.svg_text.specs.Escaping.{escaped}
 use Rattle.svg_text.specs.Numbers.{attribute_text, number_pair_text}
 use Rattle.svg_text.specs.declared.elements.ElementBox.{ElementBox}
 
--- the view box of so many units across and down, as an attribute behind a space
+-- the view box of this width and height, as an attribute after a space
 abbrev pub view_box_text : ℤ → ℤ → List ℕ
 view_box_text width height = codes " viewBox=\"0 0 " ++ (number_pair_text width height ++ codes "\"")
 
--- where an element stands, and how large it is
+-- the box of an element, as attributes
 abbrev pub box_attributes : ElementBox → List ℕ
 box_attributes p =
     attribute_text (codes "x") p.x ++ (attribute_text (codes "y") p.y

@@ -6,7 +6,7 @@ use Rattle.std.specs.Fmt.{signed_decimal}
 abbrev pub number_pair_text : ℤ → ℤ → List ℕ
 number_pair_text x y = signed_decimal x ++ (codes " " ++ signed_decimal y)
 
--- an attribute whose value is a number, behind a space
+-- an attribute whose value is a number, after a space
 abbrev pub attribute_text : List ℕ → ℤ → List ℕ
 attribute_text name value =
     codes " " ++ (name ++ (codes "=\"" ++ (signed_decimal value ++ codes "\"")))

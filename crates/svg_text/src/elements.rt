@@ -1,4 +1,4 @@
-// The elements of a drawing.
+// The elements of a drawing (SVG 1.1, 5.1, 5.2, 7.7 and 10.4).
 ghost use Rattle.std.specs.Prelude.{◌≡◌, ◌++◌, codes, OnOk};
 ghost use Rattle.svg_text.specs.Elements.{view_box_text, box_attributes, opened_picture_text, opened_view_text, text_element};
 
@@ -6,7 +6,7 @@ use crate::escaping::push_escaped;
 use crate::numbers::{push_attribute, push_pair};
 use std::alloc::{AllocError, Allocator};
 
-/// Where an element stands, and how large it is.
+/// The box of an element: `x`, `y`, `width` and `height` (SVG 1.1, 5.1.2).
 #[derive(Clone, Copy, Debug, PartialEq, Eq)]
 pub struct ElementBox {
     /// How far its left side is from the left.
@@ -19,7 +19,7 @@ pub struct ElementBox {
     pub height: i64,
 }
 
-/// Appends a view box as an attribute.
+/// Appends the attribute `viewBox` (SVG 1.1, 7.7).
 fn push_view_box<A: Allocator>(
     text: &mut Vec<u8, A>,
     width: i64,
@@ -33,7 +33,7 @@ fn push_view_box<A: Allocator>(
     Ok(())
 }
 
-/// Appends a place as attributes.
+/// Appends a box as four attributes.
 fn push_box_attributes<A: Allocator>(
     text: &mut Vec<u8, A>,
     place: ElementBox,
@@ -47,7 +47,7 @@ fn push_box_attributes<A: Allocator>(
     Ok(())
 }
 
-/// Begins a picture of so many units across and down.
+/// Begins a picture of this width and height.
 pub fn open_picture<A: Allocator>(
     text: &mut Vec<u8, A>,
     width: i64,
@@ -63,7 +63,7 @@ pub fn open_picture<A: Allocator>(
     Ok(())
 }
 
-/// Begins a view at a place of the picture, of so many units of its own across and down.
+/// Begins a nested view in this box of the picture, with this width and height in units of its own.
 pub fn open_view<A: Allocator>(
     text: &mut Vec<u8, A>,
     place: ElementBox,
@@ -79,7 +79,7 @@ pub fn open_view<A: Allocator>(
     Ok(())
 }
 
-/// Ends a group.
+/// Ends a group (`g`).
 pub fn close_group<A: Allocator>(text: &mut Vec<u8, A>) -> Result<(), AllocError>
     ensures { OnOk result (text.new.items ≡ text.old.items ++ codes "</g>\n") }
 {
@@ -93,7 +93,8 @@ pub fn close_picture<A: Allocator>(text: &mut Vec<u8, A>) -> Result<(), AllocErr
     text.extend_from_slice(b"</svg>\n")
 }
 
-/// Appends a line of words that begins, or has its middle, at a position, as its style says.
+/// Appends a `text` element of this class at a position. Its style says whether the words begin, end or have
+/// their middle there.
 pub fn push_words<A: Allocator>(
     text: &mut Vec<u8, A>,
     style: &str,

@@ -187,7 +187,7 @@ fn any_id_is_written_as_text(rt: HostRuntime) {
     }
 }
 
-/// Draws the squares in a heap that may refuse a growth.
+/// Draws the squares in a heap that may refuse an allocation.
 fn draw<A: Allocator + Copy>(heap: A, alloc: Global) -> Result<Vec<u8, A>, AllocError> {
     match read_map(heap, alloc, SQUARES) {
         Some(map) => draw_map(heap, alloc, &map, ALL, "a<b>.json"),
@@ -195,7 +195,7 @@ fn draw<A: Allocator + Copy>(heap: A, alloc: Global) -> Result<Vec<u8, A>, Alloc
     }
 }
 
-/// Whether the squares are drawn where the growth of this number is refused: then as they are drawn
+/// Whether the squares are drawn where the allocation of this number fails: then as they are drawn
 /// where none is.
 fn is_drawn<R: Abort>(rt: &R, alloc: Global, whole: &[u8], nth: u64) -> bool {
     let heap = Refusing::new(alloc, nth);
@@ -208,24 +208,24 @@ fn is_drawn<R: Abort>(rt: &R, alloc: Global, whole: &[u8], nth: u64) -> bool {
     drop(drawing);
     assert!(rt;
         is_drawn != heap.was_refused() && (is_whole || !is_drawn),
-        "growth {nth}"
+        "allocation {nth}"
     );
     is_drawn
 }
 
-/// The number of the first growth that is none of the picture, with each one before refused in turn.
+/// The number of the first allocation that the picture does not make; each one before fails in turn.
 fn first_drawn<R: Abort>(rt: &R, alloc: Global, whole: &[u8]) -> u64 {
     for nth in 1..500u64 {
         if is_drawn(rt, alloc, whole, nth) {
             return nth;
         }
     }
-    panic!(rt; "more growths than that");
+    panic!(rt; "more allocations than that");
 }
 
-/// With each growth refused in turn a picture is none, or the picture.
+/// With each allocation failing in turn there is the same picture or none.
 #[test]
-fn a_refused_growth_is_told(rt: HostRuntime) {
+fn each_allocation_fails_in_turn(rt: HostRuntime) {
     let whole = drawn(&rt, rt.alloc(), SQUARES, ALL);
     first_drawn(&rt, rt.alloc(), whole.as_slice());
 }

@@ -4,7 +4,7 @@ use std::alloc::{Allocator, Global};
 use std::process::Abort;
 use topo_reader::{RawDoc, read};
 
-/// What a growth that nothing refuses is expected to find.
+/// What an allocation that nothing refuses is expected to find.
 pub(crate) const MEMORY: &str = "there is memory";
 
 /// All of a map, without ids.
@@ -14,7 +14,7 @@ pub(crate) const ALL: View = View {
     conflict: None,
 };
 
-/// What is read of a map; `None` where a growth is refused.
+/// What is read of a map; `None` where an allocation fails.
 pub(crate) fn read_map<A: Allocator + Copy>(
     heap: A,
     alloc: Global,
@@ -23,7 +23,7 @@ pub(crate) fn read_map<A: Allocator + Copy>(
     read(heap, alloc, map.as_bytes()).ok()
 }
 
-/// Whether bytes stand one after another in a text.
+/// Whether a text has these bytes one after another.
 fn has(text: &[u8], bytes: &str) -> bool {
     text.windows(bytes.len().max(1))
         .any(|part| part == bytes.as_bytes())
