@@ -1,4 +1,7 @@
 //! The arguments of the program, as clap reads them.
+ghost use Rattle.std.specs.Prelude.{IfOk, is_some, option_map};
+ghost use Rattle.border_show.specs.Asked.{IsPartAsked};
+
 use crate::arguments::{Arguments, Part};
 use crate::help;
 use clap::error::ErrorKind;
@@ -93,7 +96,10 @@ impl From<AllocError> for PartFault {
 }
 
 /// The part that the values of `--at` and of `--feature` ask for.
-fn part_of(alloc: Global, at: Option<&[&str]>, feature: Option<&str>) -> Result<Part, PartFault> {
+fn part_of(alloc: Global, at: Option<&[&str]>, feature: Option<&str>) -> Result<Part, PartFault>
+    ensures { IfOk result (IsPartAsked (is_some at.entry)
+        (option_map (λ text. text.now) feature.entry)) }
+{
     match (at, feature) {
         (None, None) => Ok(Part::Whole),
         (None, Some(name)) => Ok(Part::Feature(String::from_str(alloc, name)?)),

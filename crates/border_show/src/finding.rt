@@ -1,39 +1,38 @@
 //! The feature that `--feature` names.
+ghost use Rattle.std.specs.Prelude.{◌≡◌, [], IfOk, OnOk};
+ghost use Rattle.std.specs.List.{filter};
+ghost use Rattle.border_show.specs.Found.{is_shape_called, IsPartAbout};
+
 use map_features::{Shape, Window, has_id, shapes_of};
 use std::alloc::{AllocError, Global};
 use topo_reader::RawDoc;
 
-/// What a search among features finds.
-#[derive(Clone, Copy, Debug, PartialEq, Eq)]
-pub(crate) enum Found {
-    /// None of them.
-    Nothing,
-    /// The one at this place among them.
-    One(usize),
-    /// Several.
-    Several,
-}
-
-/// The feature whose `id` stands for this text.
-fn with_id(heap: Global, shapes: &[Shape<'_, Global>], id: &str) -> Result<Found, AllocError> {
-    let mut found = Found::Nothing;
-    for (place, shape) in shapes.iter().enumerate() {
+/// The features whose `id` stands for this text, in their order.
+fn features_called<'r>(
+    heap: Global,
+    shapes: &[Shape<'r, Global>],
+    id: &str,
+) -> Result<Vec<Shape<'r, Global>>, AllocError>
+    ensures { IfOk result (λ found. found.items ≡ filter (is_shape_called id.now) shapes.now) }
+{
+    let mut found = Vec::new(heap);
+    for shape in shapes {
         if has_id(heap, shape, id)? {
-            found = match found {
-                Found::Nothing => Found::One(place),
-                Found::One(_) | Found::Several => Found::Several,
-            };
+            found.push(*shape)?;
         }
     }
     Ok(found)
 }
 
-/// The feature whose number this text is, with or without the `#` that pictures write before it.
-fn with_number(shapes: &[Shape<'_, Global>], text: &str) -> Found {
+/// The feature whose number this text is, with or without the `#` that pictures write before it, as a list.
+fn features_numbered<'s, 'r>(
+    shapes: &'s [Shape<'r, Global>],
+    text: &str,
+) -> &'s [Shape<'r, Global>] {
     let digits = text.strip_prefix('#').unwrap_or(text);
     match digits.parse::<usize>() {
-        Ok(number) if number < shapes.len() => Found::One(number),
-        _ => Found::Nothing,
+        Ok(number) if number < shapes.len() => &shapes[number..number + 1],
+        _ => &[],
     }
 }
 
@@ -59,41 +58,41 @@ impl NoFeature {
     }
 }
 
-/// The surroundings of what was found among features.
-fn surroundings(shapes: &[Shape<'_, Global>], found: Found) -> Result<Window, NoFeature> {
-    let Found::One(place) = found else {
-        return Err(if found == Found::Several {
-            NoFeature::Several
-        } else {
-            NoFeature::Unknown
-        });
+/// The surroundings of the feature that a search found, if it found a single one.
+fn part_about(found: &[Shape<'_, Global>]) -> Result<Window, NoFeature>
+    ensures { IfOk result (IsPartAbout found.now) }
+{
+    let [shape, others @ ..] = found else {
+        return Err(NoFeature::Unknown);
     };
-    match shapes.get(place).and_then(|shape| shape.bounds()) {
-        Some(bounds) => Ok(Window::near(bounds)),
+    if !others.is_empty() {
+        return Err(NoFeature::Several);
+    }
+    match shape.surroundings() {
+        Some(window) => Ok(window),
         None => Err(NoFeature::Empty),
     }
 }
 
 /// The surroundings of the feature of a map, or of the map before an edit, that this text names: by an
 /// `id` of the map, by an `id` of the map before, or by a number of the map.
-pub(crate) fn part_about(
+pub(crate) fn feature_part(
     heap: Global,
     before: Option<&RawDoc<'_, Global>>,
     map: &RawDoc<'_, Global>,
     name: &str,
 ) -> Result<Result<Window, NoFeature>, AllocError> {
     let shapes = shapes_of(heap, map, map.polygons.as_slice())?;
-    let found = with_id(heap, shapes.as_slice(), name)?;
-    if found != Found::Nothing {
-        return Ok(surroundings(shapes.as_slice(), found));
+    let found = features_called(heap, shapes.as_slice(), name)?;
+    if !found.is_empty() {
+        return Ok(part_about(found.as_slice()));
     }
     if let Some(before) = before {
         let earlier = shapes_of(heap, before, before.polygons.as_slice())?;
-        let found = with_id(heap, earlier.as_slice(), name)?;
-        if found != Found::Nothing {
-            return Ok(surroundings(earlier.as_slice(), found));
+        let found = features_called(heap, earlier.as_slice(), name)?;
+        if !found.is_empty() {
+            return Ok(part_about(found.as_slice()));
         }
     }
-    let found = with_number(shapes.as_slice(), name);
-    Ok(surroundings(shapes.as_slice(), found))
+    Ok(part_about(features_numbered(shapes.as_slice(), name)))
 }

@@ -1,11 +1,11 @@
 //! From the bytes of maps to the bytes of a picture.
-ghost use Rattle.std.specs.Prelude.{IfErr};
-ghost use Rattle.topo_reader.specs.Common.{IsFault};
-ghost use Rattle.border_show.specs.Shown.{IsShowFault};
+ghost use Rattle.std.specs.Prelude.{◌≡◌, ℕ, List, None, IfErr, IfOk};
+ghost use Rattle.topo_reader.specs.Common.{IsOfRings, view_raw};
+ghost use Rattle.border_show.specs.Shown.{IsMapFault, IsPartShown, IsShowFault};
 
 use crate::arguments::{Arguments, Part};
 use crate::conflicts::first_conflict;
-use crate::finding::{NoFeature, part_about};
+use crate::finding::{NoFeature, feature_part};
 use map_drawing::{Conflict, View, Window, draw_change, draw_map};
 use std::alloc::{AllocError, Global};
 use std::hash::RandomState;
@@ -22,14 +22,17 @@ pub(crate) enum ShowFault<'a> {
 }
 
 impl<'a> From<AllocError> for ShowFault<'a> {
-    fn from(error: AllocError) -> ShowFault<'a> {
-        ShowFault::Open(OpenFault::from(error))
+    ghost from_gives = { λ _ e. e ≡ ShowFault.Open OpenFault.OutOfMemory };
+
+    fn from(_error: AllocError) -> ShowFault<'a> {
+        ShowFault::Open(OpenFault::OutOfMemory)
     }
 }
 
 /// What the bytes of a map are read as.
 fn read_map<'a>(heap: Global, bytes: &'a [u8]) -> Result<RawDoc<'a, Global>, ShowFault<'a>>
-    ensures { IfErr result (IsShowFault bytes.now None) }
+    ensures rings { IfOk result (λ map. IsOfRings (view_raw map)) }
+    ensures fault { IfErr result (IsMapFault bytes.now) }
 {
     match read(heap, heap, bytes) {
         Ok(map) => Ok(map),
@@ -44,7 +47,7 @@ fn conflict_of<'a>(
     seed: RandomState,
     bytes: &'a [u8],
 ) -> Result<Option<Conflict>, ShowFault<'a>>
-    ensures { IfErr result (λ fault. IsFault bytes.now fault) }
+    ensures { IfErr result (IsMapFault bytes.now) }
 {
     let map = or_return!(read_map(heap, bytes));
     Ok(first_conflict(heap, seed, map)?)
@@ -56,11 +59,14 @@ fn part_shown<'a>(
     before: Option<&RawDoc<'a, Global>>,
     map: &RawDoc<'a, Global>,
     part: &Part,
-) -> Result<Option<Window>, ShowFault<'a>> {
+) -> Result<Option<Window>, ShowFault<'a>>
+    ensures shown { IfOk result (IsPartShown part.now) }
+    ensures fault { (bytes : List ℕ) → IfErr result (IsShowFault None bytes part.now) }
+{
     match part {
         Part::Whole => Ok(None),
         Part::Square(square) => Ok(Some(*square)),
-        Part::Feature(name) => match part_about(heap, before, map, name.as_str())? {
+        Part::Feature(name) => match feature_part(heap, before, map, name.as_str())? {
             Ok(part) => Ok(Some(part)),
             Err(fault) => Err(ShowFault::Feature(fault)),
         },
@@ -76,7 +82,9 @@ pub(crate) fn show<'a>(
     bytes: &'a [u8],
     arguments: &Arguments,
     title: &str,
-) -> Result<Vec<u8>, ShowFault<'a>> {
+) -> Result<Vec<u8>, ShowFault<'a>>
+    ensures { IfErr result (IsShowFault before.entry bytes.now arguments.now.part) }
+{
     let before = match before {
         Some(before) => Some(or_return!(read_map(heap, before))),
         None => None,

@@ -1,11 +1,11 @@
 -- What is within bounds stays within wider ones.
-use Rattle.kit_words.proofs.Common.{ℕ, ◌≡◌, ◌+◌, ◌<◌, ◌≤ℤ◌, ◌+ℤ◌, List, length, take, get_or, subst, arith, Option, Vec}
+use Rattle.kit_words.proofs.Common.{ℕ, ◌≡◌, ◌+◌, ◌<◌, ◌≤ℤ◌, ◌+ℤ◌, List, length, take, get_or, subst, arith, Option, Some, Vec}
 use Rattle.kit_words.proofs.Common.{All, ints, All-more}
 use Rattle.grid_geometry.specs.Common.{Position}
 use Rattle.map_features.specs.declared.bounds.Bounds.{Bounds}
 use Rattle.map_features.specs.declared.shapes.Shape.{Shape}
 use Rattle.map_features.specs.declared.window.Window.{Window}
-use Rattle.map_features.specs.Common.{Covers, ShapeIn, Includes, IsShown, IsWithin, RingIn, RingsIn, AreWithin}
+use Rattle.map_features.specs.Common.{ArePolygonsShown, AreRingsShown, IsRingShown, Covers, ShapeIn, Includes, IsShown, IsWithin, RingIn, RingsIn, AreWithin}
 
 pub all_so : {X : Type 0} (P Q : X → Type 0) → ((x : X) → P x → Q x) → (xs : List X) → All P xs → All Q xs
 all_so P Q so xs h = λ k d l. so (get_or xs k d) (h k d l)
@@ -48,3 +48,13 @@ shown_around b w p h i = record {
   lower = omega (arith, ints, h.lower, i.lower);
   upper = omega (arith, ints, h.upper, i.upper);
 }
+
+-- and so it shows all polygons within them
+pub ring_shown : {A : Type 0} (b : Bounds) (w : Window) → Covers w b → (r : Vec Position A) → RingIn (Some b) r → IsRingShown w r
+ring_shown b w h r i = all_so (IsWithin (Some b)) (IsShown w) (λ p j. shown_around b w p h j) r.items i
+
+pub rings_shown : {A : Type 0} (b : Bounds) (w : Window) → Covers w b → (p : Vec (Vec Position A) A) → RingsIn (Some b) p → AreRingsShown w p
+rings_shown b w h p i = all_so (RingIn (Some b)) (IsRingShown w) (ring_shown b w h) p.items i
+
+pub polygons_shown : {A : Type 0} (b : Bounds) (w : Window) → Covers w b → (ps : List (Vec (Vec Position A) A)) → AreWithin (Some b) ps → ArePolygonsShown w ps
+polygons_shown b w h ps i = all_so (RingsIn (Some b)) (AreRingsShown w) (rings_shown b w h) ps i

@@ -1,12 +1,14 @@
 // The features of a map.
+ghost use Rattle.std.specs.Prelude.{IfSome};
 ghost use Rattle.std.specs.List.{All};
 ghost use Rattle.grid_geometry.specs.Common.{Position};
-ghost use Rattle.map_features.specs.Windows.{IsWithin, AreWithin};
+ghost use Rattle.map_features.specs.Windows.{IsWithin, AreWithin, ArePolygonsShown};
 ghost use Rattle.map_features.specs.Shapes.{ShapeIn};
 
 use crate::areas::area;
 use crate::bounds::Bounds;
 use crate::extents::with_polygons;
+use crate::window::Window;
 use grid_geometry::Pos;
 use std::alloc::{AllocError, Allocator};
 use topo_outline::Item;
@@ -39,6 +41,14 @@ impl<'r, A: Allocator + Copy> Shape<'r, A> {
         ensures { AreWithin result self.now.polygons.now }
     {
         with_polygons(None, self.polygons)
+    }
+
+    /// The part of the grid about it; none where it has no ring.
+    pub fn surroundings(&self) -> Option<Window>
+        ensures { IfSome result (λ window. ArePolygonsShown window self.now.polygons.now) }
+    {
+        let bounds = self.bounds()?;
+        Some(Window::near(bounds))
     }
 }
 
