@@ -1,30 +1,12 @@
 // What is drawn over the borders.
-use crate::bounds::Bounds;
 use crate::cutting::{Side, cut_line};
 use crate::layout::PIXEL;
 use crate::map_picture::{Look, Picture};
 use crate::paths::push_line;
-use grid_geometry::{Pos, Seg};
+use grid_geometry::Seg;
+use map_features::Conflict;
 use std::alloc::{AllocError, Allocator};
 use svg_text::{push_attribute, push_words};
-
-/// Two segments that meet elsewhere than at their common ends.
-#[derive(Clone, Copy, Debug, PartialEq, Eq)]
-pub struct Conflict {
-    /// The lesser of them.
-    pub first: Seg,
-    /// The greater.
-    pub second: Seg,
-}
-
-impl Conflict {
-    /// The position in the middle of what the boxes of both have in common.
-    fn middle(&self) -> Option<Pos> {
-        let first = Bounds::of(self.first.lo).with(self.first.hi);
-        let second = Bounds::of(self.second.lo).with(self.second.hi);
-        first.middle_with(&second)
-    }
-}
 
 /// How large the ring round a conflict is.
 const RADIUS: i64 = 14;

@@ -1,4 +1,4 @@
-// How things look. The two colours of an edit are told apart by the colour-blind too, and what is gone
+// How things look. The two colours of an edit can be told apart by the colour-blind too, and what is gone
 // is dashed besides.
 
 /// What both kinds of picture have, before anything is drawn.
@@ -21,7 +21,7 @@ text.new{fill:#005a8c}
 <rect width=\"100%\" height=\"100%\" fill=\"#fff\"/>
 ";
 
-/// What stands before all that is drawn.
+/// The style sheet and the background.
 pub(crate) fn prelude() -> &'static str {
     COMMON
 }

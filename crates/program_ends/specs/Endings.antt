@@ -4,7 +4,7 @@ use Rattle.std.specs.declared.io.ErrorKind.{ErrorKind}
 use Rattle.std.specs.declared.io.ErrorKind.TheVariants as kind
 use Rattle.topo_outline.specs.declared.fault.OpenFault.{OpenFault}
 use Rattle.program_ends.specs.declared.diagnostic.Diagnostic.{Diagnostic}
-use Rattle.program_ends.specs.declared.diagnostic.Diagnostic.TheVariants.{Open, Findings, TooLarge, Unmended, Unparted, Map, Script, Write, Save, Refused, NoSeed, NoMemory, NotUtf8, OneFile, LinesRefused, CutOff}
+use Rattle.program_ends.specs.declared.diagnostic.Diagnostic.TheVariants.{Open, Findings, TooLarge, Unmended, Unparted, Map, Script, Write, Save, Refused, NoSeed, NoMemory, NotUtf8, OneFile, NoFeature, LinesRefused, CutOff}
 use Rattle.program_ends.specs.declared.stop.Stop.{Stop}
 use Rattle.program_ends.specs.declared.stop.Stop.TheVariants as stop
 
@@ -58,4 +58,5 @@ line_text NoSeed = Some (codes "no random seed")
 line_text NoMemory = Some (codes "out of memory")
 line_text NotUtf8 = Some (codes "an argument is not UTF-8")
 line_text (OneFile first second) = Some (first.now ++ (codes " and " ++ (second.now ++ codes " name the same file")))
+line_text (NoFeature reason) = Some (codes "no feature: " ++ reason.now)
 line_text CutOff = Some (codes "not saved: the last line of the script has no line feed")

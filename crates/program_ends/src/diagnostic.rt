@@ -38,6 +38,8 @@ pub enum Diagnostic<'a> {
     NotUtf8,
     /// Two arguments name one file: `--refused and MAP name the same file`.
     OneFile { first: &'a str, second: &'a str },
+    /// No feature, or several, are the one that was asked for: `no feature: ` and why.
+    NoFeature { reason: &'a str },
     /// Each line was to be accepted, and so many were refused or bad: `not saved: N lines were refused`.
     LinesRefused(u64),
     /// A script's last line was to have its line feed: `not saved: the last line of the script has no line feed`.
@@ -107,6 +109,7 @@ impl<'a> fmt::Display for Diagnostic<'a> {
             Diagnostic::OneFile { first, second } => {
                 write!(f, "{first} and {second} name the same file")
             }
+            Diagnostic::NoFeature { reason } => write!(f, "no feature: {reason}"),
             Diagnostic::LinesRefused(1) => f.write_str("not saved: 1 line was refused"),
             Diagnostic::LinesRefused(count) => write!(f, "not saved: {count} lines were refused"),
             Diagnostic::CutOff => {
