@@ -15,14 +15,10 @@ mod failing_writers;
 #[cfg(test)]
 mod limits;
 #[cfg(test)]
-mod lines;
-#[cfg(test)]
 mod long_texts;
 #[cfg(test)]
 mod maps;
 #[cfg(test)]
 mod memory;
-#[cfg(test)]
-mod mistakes;
 #[cfg(test)]
 mod told;

@@ -1,11 +1,10 @@
-// What a run gives.
+//! What a run gives.
 ghost use Rattle.std.specs.Prelude.{◌≤◌};
 
 use device_io::{FromReader, ToWriter};
 use script_runner::{RunFault, Summary, run};
-use std::alloc::Global;
-use std::process::Abort;
-use test_aids::fixed_seed;
+use std::alloc::{AllocError, Global};
+use std::hash::RandomState;
 
 /// What a run gave to its two writers, and how it ended: the counts, or the line of the fault.
 #[derive(Drop)]
@@ -16,25 +15,29 @@ pub(crate) struct Told {
 }
 
 /// The counts, or the line of the fault.
-fn end_of<R: Abort>(rt: &R, alloc: Global, outcome: &Result<Summary, RunFault<'_>>) -> String {
-    let end = match outcome {
+fn end_of(alloc: Global, outcome: &Result<Summary, RunFault<'_>>) -> Result<String, AllocError> {
+    match outcome {
         Ok(Summary { answered, refused }) => {
             format!(in alloc; "answered {answered}, refused {refused}")
         }
         Err(fault) => format!(in alloc; "{fault}"),
-    };
-    end.expect(rt, "memory")
+    }
 }
 
 /// The run of the script on the map, of which so many changes are kept.
-pub(crate) fn tell<R: Abort>(rt: &R, alloc: Global, map: &[u8], script: &[u8], depth: usize) -> Told
+pub(crate) fn tell(
+    alloc: Global,
+    seed: RandomState,
+    map: &[u8],
+    script: &[u8],
+    depth: usize,
+) -> Result<Told, AllocError>
     requires least { 1 ≤ depth }
     requires most { depth ≤ 1000 }
 {
     let mut source = FromReader::new(script);
     let mut sink = ToWriter::new(Vec::new(alloc));
     let mut saved = ToWriter::new(Vec::new(alloc));
-    let seed = fixed_seed().expect(rt, "a seed");
     let outcome = run(
         alloc,
         alloc,
@@ -45,10 +48,10 @@ pub(crate) fn tell<R: Abort>(rt: &R, alloc: Global, map: &[u8], script: &[u8], d
         &mut sink,
         &mut saved,
     );
-    let end = end_of(rt, alloc, &outcome);
-    Told {
+    let end = end_of(alloc, &outcome)?;
+    Ok(Told {
         answers: sink.writer,
         end,
         saved: saved.writer,
-    }
+    })
 }
