@@ -2,9 +2,9 @@
 use crate::cases::Case;
 use crate::stored::Stored;
 use grid_reader::Wants;
+use map_mending::MendFault;
 use mend_report::{
-    Asked, LookFault, Remade, RemakeFault, RepairFault, Report, Texts, is_open, mend_map,
-    report_map,
+    Asked, LookFault, Remade, RepairFault, Report, SaveFault, Texts, is_open, mend_map, report_map,
 };
 use std::alloc::{AllocError, Global};
 use std::hash::RandomState;
@@ -101,17 +101,27 @@ pub(crate) fn compare_mended(stored: &mut Stored<'_>, seed: RandomState) -> Resu
     match mended(stored, seed, map.as_str(), &mut texts) {
         Ok(remade) => compare_remade(stored, &texts, &remade),
         Err(RepairFault::Look(fault)) => compare_fault(stored, &fault),
-        Err(RepairFault::Remake(fault)) => stored.compare("fault", name_of(fault).as_bytes()),
+        Err(RepairFault::Mend(fault)) => stored.compare("fault", unmended(&fault).as_bytes()),
+        Err(RepairFault::Save(fault)) => stored.compare("fault", unsaved(&fault).as_bytes()),
     }
 }
 
 /// Why a map that was looked through is not mended.
-fn name_of(fault: RemakeFault) -> &'static str {
+fn unmended(fault: &MendFault) -> &'static str {
     match fault {
-        RemakeFault::TooLarge(_) => "too large",
-        RemakeFault::Unmended { .. } => "unmended",
-        RemakeFault::Unparted { .. } => "unparted",
-        RemakeFault::OutOfMemory => "out of memory",
+        MendFault::TooLarge => "too large",
+        MendFault::Unmended { .. } => "unmended",
+        MendFault::Unparted { .. } => "unparted",
+        MendFault::OutOfMemory => "out of memory",
+    }
+}
+
+/// Why a map that was mended is not saved.
+fn unsaved(fault: &SaveFault) -> &'static str {
+    match fault {
+        SaveFault::Conflict { .. } => "unmended",
+        SaveFault::Unopened => "too large",
+        SaveFault::OutOfMemory => "out of memory",
     }
 }
 
@@ -122,7 +132,8 @@ pub(crate) fn compare_end(stored: &mut Stored<'_>, seed: RandomState) -> Result<
     let end = match mended(stored, seed, map.as_str(), &mut texts) {
         Ok(_) => "mended",
         Err(RepairFault::Look(_)) => "not read",
-        Err(RepairFault::Remake(fault)) => name_of(fault),
+        Err(RepairFault::Mend(fault)) => unmended(&fault),
+        Err(RepairFault::Save(fault)) => unsaved(&fault),
     };
     stored.compare("ends", end.as_bytes())
 }

@@ -1,5 +1,6 @@
 //! Each growth is refused in turn as a map is looked through, and as one is mended.
-use mend_report::{Asked, LookFault, RemakeFault, RepairFault, Texts, mend_map, report_map};
+use map_mending::MendFault;
+use mend_report::{Asked, LookFault, RepairFault, SaveFault, Texts, mend_map, report_map};
 use std::alloc::{Allocator, Global};
 use test_aids::{Refusing, fixed_seed};
 
@@ -55,8 +56,11 @@ fn mend<A: Allocator + Copy>(alloc: Global, heap: A) -> End {
     let asked = Asked::with_most(1000);
     match mend_map(heap, alloc, seed, BOW_TIE.as_bytes(), asked, &mut texts) {
         Ok(_) => told(&texts, MENDED),
-        Err(RepairFault::Look(LookFault::OutOfMemory)) => End::OutOfMemory,
-        Err(RepairFault::Remake(RemakeFault::OutOfMemory)) => End::OutOfMemory,
+        Err(
+            RepairFault::Look(LookFault::OutOfMemory)
+            | RepairFault::Mend(MendFault::OutOfMemory)
+            | RepairFault::Save(SaveFault::OutOfMemory),
+        ) => End::OutOfMemory,
         Err(_) => End::Otherwise,
     }
 }
