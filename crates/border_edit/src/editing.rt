@@ -34,6 +34,7 @@ fn paths_of(words: &Words) -> Paths<'_> {
         script: words.script.as_str(),
         file: words.out.as_str(),
         list,
+        mends: false,
     }
 }
 

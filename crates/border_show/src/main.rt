@@ -24,7 +24,8 @@ mod showing;
 use arguments::Arguments;
 use command_line::arguments_of;
 use drawing::draw;
-use program_ends::{Stop, check_apart, end_stopped, given_words};
+use program_ends::{Errors, Stop, check_apart, end_stopped, given_words};
+use std::io::IsTerminal;
 use std::process::ExitCode;
 
 /// What the arguments that the program was called with ask for.
@@ -37,7 +38,15 @@ fn given_arguments(rt: &HostRuntime) -> Result<Arguments, Stop> {
 
 fn main(rt: HostRuntime) -> ExitCode {
     let status = match given_arguments(&rt) {
-        Ok(arguments) => draw(&rt, &arguments, &mut rt.stderr()),
+        Ok(arguments) => {
+            let mut writer = rt.stderr();
+            let is_terminal = writer.is_terminal();
+            let mut errors = Errors {
+                writer: &mut writer,
+                is_terminal,
+            };
+            draw(&rt, &arguments, &mut errors)
+        }
         Err(stop) => end_stopped(&rt, &stop),
     };
     ExitCode::from(status)

@@ -21,13 +21,15 @@ pub enum Subject {
     List,
 }
 
-/// The paths of a run's files, each empty where the run has none.
+/// The paths of a run's files, each empty where the run has none, or more than one.
 #[derive(Clone, Copy, Debug)]
 pub struct Paths<'a> {
     pub map: &'a str,
     pub script: &'a str,
     pub file: &'a str,
     pub list: &'a str,
+    /// Whether the run mends the map, so that this is no advice.
+    pub mends: bool,
 }
 
 impl Paths<'_> {
@@ -42,19 +44,36 @@ impl Paths<'_> {
     }
 }
 
-/// What can be done about a map with this fault.
-fn map_advice(fault: &OpenFault<'_>) -> &'static str {
+/// How mending helps a map with this fault.
+fn mending(fault: &OpenFault<'_>) -> Option<&'static str> {
     match fault {
-        OpenFault::NotJson { .. } => "it is cut off or damaged there, or is no JSON file",
-        OpenFault::NotTopology => "it is no TopoJSON topology, whose `type` is `Topology`",
         OpenFault::NotWhole { .. } | OpenFault::OutOfRange { .. } => {
-            "`border_mend MAP --out NEW` puts its coordinates on a grid of whole numbers"
+            Some("`border_mend MAP --out NEW` puts its coordinates on a grid of whole numbers")
         }
         OpenFault::RingShort { .. } | OpenFault::RingRepeats { .. } | OpenFault::Conflict { .. } =>
             {
-                "`border_mend MAP` lists all that keeps it from opening; with `--out NEW` it mends the map"
+                Some(
+                    "`border_mend MAP` lists all that keeps it from opening; with `--out NEW` it mends the map",
+                )
             }
+        _ => None,
+    }
+}
+
+/// What is wrong with a map of this fault.
+fn damage(fault: &OpenFault<'_>) -> &'static str {
+    match fault {
+        OpenFault::NotJson { .. } => "it is cut off or damaged there, or is no JSON file",
+        OpenFault::NotTopology => "it is no TopoJSON topology, whose `type` is `Topology`",
         _ => "docs/FORMATS.md says what a map may have",
+    }
+}
+
+/// What can be done about a map with this fault, by mending it unless that is what is done.
+fn map_advice(fault: &OpenFault<'_>, mends: bool) -> &'static str {
+    match mending(fault) {
+        Some(advice) if !mends => advice,
+        _ => damage(fault),
     }
 }
 
@@ -73,9 +92,9 @@ impl Diagnostic<'_> {
     }
 
     /// What can be done about the file that the line is about.
-    fn advice(&self) -> &'static str {
+    fn advice(&self, mends: bool) -> &'static str {
         match self {
-            Diagnostic::Open(fault) => map_advice(fault),
+            Diagnostic::Open(fault) => map_advice(fault, mends),
             Diagnostic::Map | Diagnostic::Script =>
                 "can it be read? Look at its name and its permissions",
             _ => "can it be written? Look at its folder, its permissions and the space on the disk",
@@ -90,11 +109,14 @@ pub struct Errors<'e, E> {
 }
 
 impl<E: Write> Errors<'_, E> {
-    /// Writes the path of the file that a line is about, and what can be done; nothing where it is about no file.
+    /// Writes the path of the file that a line is about, and what can be done; nothing where it is about none of these.
     fn advise(&mut self, line: &Diagnostic<'_>, paths: &Paths<'_>) {
-        if let Some(subject) = line.subject() {
-            let (path, advice) = (paths.path(subject), line.advice());
-            let _ = writeln!(self.writer, "{path}: {advice}");
+        let path = match line.subject() {
+            Some(subject) => paths.path(subject),
+            None => "",
+        };
+        if !path.is_empty() {
+            let _ = writeln!(self.writer, "{path}: {}", line.advice(paths.mends));
         }
     }
 
