@@ -2,6 +2,8 @@
 use Rattle.std.specs.Prelude.{◌≡◌, ◌⊎◌, ℕ, List, Option, Some, None, Bor, IsSomeAnd}
 use Rattle.topo_reader.specs.Common.{IsFault}
 use Rattle.map_features.specs.declared.window.Window.{Window}
+use Rattle.map_drawing.specs.declared.view.View.{View}
+use Rattle.border_show.specs.declared.arguments.Arguments.{Arguments}
 use Rattle.border_show.specs.declared.arguments.Part.{Part}
 use Rattle.border_show.specs.declared.arguments.Part.TheVariants as part
 use Rattle.border_show.specs.declared.showing.ShowFault.{ShowFault}
@@ -12,6 +14,10 @@ abbrev pub IsPartShown : Part → Option Window → Type 0
 IsPartShown part.Whole shown = shown ≡ None
 IsPartShown (part.Square square) shown = shown ≡ Some square
 IsPartShown (part.Feature name) shown = Unit {0}
+
+-- the view has the part and the ids that the arguments ask for
+abbrev pub IsViewAsked : Arguments → View → Type 0
+IsViewAsked asked view = IsPartShown asked.part view.part × (view.has_ids ≡ asked.has_ids)
 
 -- a feature is asked for
 abbrev pub IsFeaturePart : Part → Type 0

@@ -1,7 +1,7 @@
 //! The feature that `--feature` names.
 ghost use Rattle.std.specs.Prelude.{◌≡◌, [], IfOk, OnOk};
 ghost use Rattle.std.specs.List.{filter};
-ghost use Rattle.border_show.specs.Found.{is_shape_called, IsPartAbout};
+ghost use Rattle.border_show.specs.Found.{is_shape_called, IsShownFeature};
 
 use map_features::{Shape, Window, has_id, shapes_of};
 use std::alloc::{AllocError, Global};
@@ -58,9 +58,18 @@ impl NoFeature {
     }
 }
 
-/// The surroundings of the feature that a search found, if it found a single one.
-fn part_about(found: &[Shape<'_, Global>]) -> Result<Window, NoFeature>
-    ensures { IfOk result (IsPartAbout found.now) }
+/// A feature that is drawn with its surroundings.
+#[derive(Clone, Copy, Debug)]
+pub(crate) struct Shown {
+    /// The part of the grid about it.
+    pub(crate) part: Window,
+    /// Its number in the map that is drawn, if it is there.
+    pub(crate) number: Option<usize>,
+}
+
+/// The feature that a search found with its surroundings, if it found a single one.
+fn single_feature(found: &[Shape<'_, Global>]) -> Result<Shown, NoFeature>
+    ensures { IfOk result (IsShownFeature found.now) }
 {
     let [shape, others @ ..] = found else {
         return Err(NoFeature::Unknown);
@@ -69,30 +78,42 @@ fn part_about(found: &[Shape<'_, Global>]) -> Result<Window, NoFeature>
         return Err(NoFeature::Several);
     }
     match shape.surroundings() {
-        Some(window) => Ok(window),
+        Some(part) => Ok(Shown {
+            part,
+            number: Some(shape.number),
+        }),
         None => Err(NoFeature::Empty),
     }
 }
 
-/// The surroundings of the feature of a map, or of the map before an edit, that this text names: by an
-/// `id` of the map, by an `id` of the map before, or by a number of the map.
-pub(crate) fn feature_part(
+/// The same, of a map before an edit.
+fn earlier_feature(found: &[Shape<'_, Global>]) -> Result<Shown, NoFeature> {
+    let shown = single_feature(found)?;
+    Ok(Shown {
+        number: None,
+        ..shown
+    })
+}
+
+/// The feature that this text names: by an `id` of the map, by an `id` of the map before an edit, or by a
+/// number of the map.
+pub(crate) fn named_feature(
     heap: Global,
     before: Option<&RawDoc<'_, Global>>,
     map: &RawDoc<'_, Global>,
     name: &str,
-) -> Result<Result<Window, NoFeature>, AllocError> {
+) -> Result<Result<Shown, NoFeature>, AllocError> {
     let shapes = shapes_of(heap, map, map.polygons.as_slice())?;
     let found = features_called(heap, shapes.as_slice(), name)?;
     if !found.is_empty() {
-        return Ok(part_about(found.as_slice()));
+        return Ok(single_feature(found.as_slice()));
     }
     if let Some(before) = before {
         let earlier = shapes_of(heap, before, before.polygons.as_slice())?;
         let found = features_called(heap, earlier.as_slice(), name)?;
         if !found.is_empty() {
-            return Ok(part_about(found.as_slice()));
+            return Ok(earlier_feature(found.as_slice()));
         }
     }
-    Ok(part_about(features_numbered(shapes.as_slice(), name)))
+    Ok(single_feature(features_numbered(shapes.as_slice(), name)))
 }

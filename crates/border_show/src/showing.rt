@@ -1,12 +1,12 @@
 //! From the bytes of maps to the bytes of a picture.
 ghost use Rattle.std.specs.Prelude.{◌≡◌, ℕ, List, None, IfErr, IfOk};
 ghost use Rattle.topo_reader.specs.Common.{IsOfRings, view_raw};
-ghost use Rattle.border_show.specs.Shown.{IsMapFault, IsPartShown, IsShowFault};
+ghost use Rattle.border_show.specs.Shown.{IsMapFault, IsViewAsked, IsShowFault};
 
 use crate::arguments::{Arguments, Part};
 use crate::conflicts::first_conflict;
-use crate::finding::{NoFeature, feature_part};
-use map_drawing::{Conflict, View, Window, draw_change, draw_map};
+use crate::finding::{NoFeature, Shown, named_feature};
+use map_drawing::{Conflict, View, draw_change, draw_map};
 use std::alloc::{AllocError, Global};
 use std::hash::RandomState;
 use topo_outline::OpenFault;
@@ -53,21 +53,34 @@ fn conflict_of<'a>(
     Ok(first_conflict(heap, seed, map)?)
 }
 
-/// The part of a map that is drawn; all of it where there is none.
-fn part_shown<'a>(
+/// What is drawn of a map, as the arguments ask.
+fn view_of<'a>(
     heap: Global,
     before: Option<&RawDoc<'a, Global>>,
     map: &RawDoc<'a, Global>,
-    part: &Part,
-) -> Result<Option<Window>, ShowFault<'a>>
-    ensures shown { IfOk result (IsPartShown part.now) }
-    ensures fault { (bytes : List ℕ) → IfErr result (IsShowFault None bytes part.now) }
+    arguments: &Arguments,
+) -> Result<View, ShowFault<'a>>
+    ensures shown { IfOk result (IsViewAsked arguments.now) }
+    ensures fault { (bytes : List ℕ) → IfErr result (IsShowFault None bytes arguments.now.part) }
 {
-    match part {
-        Part::Whole => Ok(None),
-        Part::Square(square) => Ok(Some(*square)),
-        Part::Feature(name) => match feature_part(heap, before, map, name.as_str())? {
-            Ok(part) => Ok(Some(part)),
+    let all = View {
+        part: None,
+        has_ids: arguments.has_ids,
+        feature: None,
+        conflict: None,
+    };
+    match &arguments.part {
+        Part::Whole => Ok(all),
+        Part::Square(square) => Ok(View {
+            part: Some(*square),
+            ..all
+        }),
+        Part::Feature(name) => match named_feature(heap, before, map, name.as_str())? {
+            Ok(Shown { part, number }) => Ok(View {
+                part: Some(part),
+                feature: number,
+                ..all
+            }),
             Err(fault) => Err(ShowFault::Feature(fault)),
         },
     }
@@ -91,12 +104,8 @@ pub(crate) fn show<'a>(
     };
     let conflict = or_return!(conflict_of(heap, seed, bytes));
     let map = or_return!(read_map(heap, bytes));
-    let part = or_return!(part_shown(heap, before.as_ref(), &map, &arguments.part));
-    let view = View {
-        part,
-        has_ids: arguments.has_ids,
-        conflict,
-    };
+    let view = or_return!(view_of(heap, before.as_ref(), &map, arguments));
+    let view = View { conflict, ..view };
     match &before {
         Some(before) => Ok(draw_change(heap, heap, before, &map, view, title)?),
         None => Ok(draw_map(heap, heap, &map, view, title)?),

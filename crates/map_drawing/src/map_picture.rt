@@ -34,6 +34,8 @@ pub(crate) enum Look {
     Gone,
     /// Borders that an edit made.
     New,
+    /// The outline of the feature that the view names.
+    Named,
     /// Segments in conflict.
     Conflict,
 }
@@ -47,6 +49,7 @@ impl Look {
             Look::Changed => "changed",
             Look::Gone => "gone",
             Look::New => "new",
+            Look::Named => "named",
             Look::Conflict => "conflict",
         }
     }
@@ -138,7 +141,10 @@ impl<A: Allocator + Copy> Picture<A> {
     }
 
     /// The rings of a feature as they are drawn.
-    fn outline(&self, shape: &Shape<'_, A>) -> Result<Vec<Vec<Point, A>, A>, AllocError> {
+    pub(crate) fn outline(
+        &self,
+        shape: &Shape<'_, A>,
+    ) -> Result<Vec<Vec<Point, A>, A>, AllocError> {
         let mut rings = Vec::new(self.alloc);
         push_outline(&mut rings, self.alloc, &self.layout, shape.polygons)?;
         Ok(rings)
@@ -209,6 +215,9 @@ impl<A: Allocator + Copy> Picture<A> {
     /// Ends the map, and appends what is written over it: the names of features where the view has
     /// them. What is in conflict is marked, and named in the first line below the map.
     pub(crate) fn close_map(&mut self, shapes: &[Shape<'_, A>]) -> Result<(), AllocError> {
+        if let Some(number) = self.view.feature {
+            self.push_named(shapes.get(number))?;
+        }
         if let Some(conflict) = self.view.conflict {
             self.push_conflict(conflict)?;
         }

@@ -2,9 +2,9 @@
 use crate::cutting::{Side, cut_line};
 use crate::layout::PIXEL;
 use crate::map_picture::{Look, Picture};
-use crate::paths::push_line;
+use crate::paths::{push_line, push_rings};
 use grid_geometry::Seg;
-use map_features::Conflict;
+use map_features::{Conflict, Shape};
 use std::alloc::{AllocError, Allocator};
 use svg_text::{push_attribute, push_words};
 
@@ -20,6 +20,17 @@ impl<A: Allocator + Copy> Picture<A> {
             push_attribute(&mut self.text, "stroke-dasharray", 7 * PIXEL)?;
         }
         self.text.extend_from_slice(b" d=\"")
+    }
+
+    /// Appends the outline of a feature.
+    pub(crate) fn push_named(&mut self, shape: Option<&Shape<'_, A>>) -> Result<(), AllocError> {
+        let Some(shape) = shape else {
+            return Ok(());
+        };
+        let rings = self.outline(shape)?;
+        self.open_lines(Look::Named)?;
+        push_rings(&mut self.text, rings.as_slice())?;
+        self.text.extend_from_slice(b"\"/>\n")
     }
 
     /// Appends a segment as far as it is not far beyond what is shown.

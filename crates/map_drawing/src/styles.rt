@@ -8,6 +8,7 @@ path.kept{stroke:#999}
 path.changed{fill:#f2b800;stroke:#999}
 path.gone,path.conflict{fill:none;stroke:#d55e00}
 path.new{fill:none;stroke:#0072b2}
+path.named{fill:none;stroke:#222}
 path.bar{fill:none;stroke:#222}
 rect.gap{fill:#dcecf5}
 circle{fill:none;stroke:#d55e00;stroke-width:2}

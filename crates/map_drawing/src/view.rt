@@ -8,6 +8,8 @@ pub struct View {
     pub part: Option<Window>,
     /// Whether numbers and ids are written in the features.
     pub has_ids: bool,
+    /// The number of the feature whose outline is drawn over the map.
+    pub feature: Option<usize>,
     /// Two segments in conflict, which are marked.
     pub conflict: Option<Conflict>,
 }

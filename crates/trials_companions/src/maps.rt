@@ -78,6 +78,10 @@ const MARKED: Picture = Picture {
     others: &[],
 };
 
+/// A feature of two squares, far from each other.
+const ISLANDS: &str =
+    r#"{"type":"Topology","objects":{"land":{"type":"MultiPolygon","arcs":[[[0]],[[1]]]}},"arcs":[[[0,0],[10,0],[10,10],[0,10],[0,0]],[[100,0],[110,0],[110,10],[100,10],[100,0]]]}"#;
+
 /// Maps without rings.
 const EMPTY: &[&str] = &[
     r#"{"type":"Topology","objects":{},"arcs":[]}"#,
@@ -143,6 +147,7 @@ fn see<R: Abort>(rt: &R, alloc: Global, row: &Picture) {
     let view = View {
         part,
         has_ids: row.has_ids,
+        feature: None,
         conflict,
     };
     let text = drawn(rt, alloc, SQUARES, view);
@@ -155,6 +160,31 @@ fn squares_are_drawn(rt: HostRuntime) {
     see(&rt, rt.alloc(), &PART);
     see(&rt, rt.alloc(), &WITH_IDS);
     see(&rt, rt.alloc(), &MARKED);
+}
+
+/// A ring that is all beyond the part leaves nothing in the path: a path of SVG has no `M` without a point.
+#[test]
+fn a_ring_beyond_the_part_is_left_out(rt: HostRuntime) {
+    let view = View {
+        part: Some(Window::about(pos(&rt, 5, 5), 40)),
+        ..ALL
+    };
+    let text = drawn(&rt, rt.alloc(), ISLANDS, view);
+    let path = r#"d="M 27000 45000 45000 45000 45000 27000 27000 27000z"><title>#0</title>"#;
+    shows(&rt, text.as_slice(), &[path], &[]);
+}
+
+/// The outline of the named feature is drawn over the map.
+#[test]
+fn a_named_feature_has_its_outline(rt: HostRuntime) {
+    let view = View {
+        feature: Some(1),
+        ..ALL
+    };
+    let text = drawn(&rt, rt.alloc(), SQUARES, view);
+    let path =
+        r#"<path class="named" stroke-width="300" d="M 48000 47941 91636 47941 91636 4358 48000 4358z"/>"#;
+    shows(&rt, text.as_slice(), &[path], &[]);
 }
 
 #[test]

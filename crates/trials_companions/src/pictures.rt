@@ -11,6 +11,7 @@ pub(crate) const MEMORY: &str = "there is memory";
 pub(crate) const ALL: View = View {
     part: None,
     has_ids: false,
+    feature: None,
     conflict: None,
 };
 
