@@ -13,7 +13,7 @@ use segment_index::SegIndex;
 use std::alloc::{AllocError, Allocator};
 
 impl<'a, I: SegIndex, A: Allocator + Copy> Map<'a, I, A> {
-    /// Feature `n` with these polygons in the place of its own. Fails for want of memory alone.
+    /// Feature `n` with these polygons in the place of its own. Fails only on allocation failure.
     pub(crate) fn with_polygons(
         &self,
         n: u32,
@@ -33,7 +33,7 @@ impl<'a, I: SegIndex, A: Allocator + Copy> Map<'a, I, A> {
     }
 
     /// A new Polygon of these rings under this number, with this id and the properties and unknown
-    /// members of feature `n`. Fails for want of memory alone.
+    /// members of feature `n`. Fails only on allocation failure.
     pub(crate) fn part_of(
         &self,
         n: u32,
@@ -58,9 +58,9 @@ impl<'a, I: SegIndex, A: Allocator + Copy> Map<'a, I, A> {
         })
     }
 
-    /// Gives the numbers of these changes the features that they name, each in the place of its
-    /// number; where `after` is a feature, a new number comes directly after it first. Afterwards the
-    /// changes have what was there. Fails for want of memory alone, and then changes nothing.
+    /// Gives the numbers of these changes the features that they name, each in the place of its number;
+    /// where `after` is a feature, a new number comes directly after it first. Afterwards the changes
+    /// have what was there. Fails only on allocation failure, and then changes nothing.
     pub(crate) fn exchange(
         &mut self,
         after: Option<u32>,

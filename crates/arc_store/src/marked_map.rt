@@ -46,10 +46,10 @@ impl<'m, 'a, I: SegIndex, A: Allocator + Copy> MarkedMap<'m, 'a, I, A> {
         self.frame.feature(n)
     }
 
-    /// Appends the positions of a ring, from the least one on, and for each whether borders meet
-    /// there: of the feature with this number the polygon and the ring of these numbers, where the
-    /// outer ring is the first one. Appends nothing where there is no such ring. Fails for want of
-    /// memory alone; some of them may then have been appended.
+    /// Appends the positions of a ring, from the least one on, and for each whether borders meet there:
+    /// of the feature with this number the polygon and the ring of these numbers, where the outer ring
+    /// is the first one. Appends nothing where there is no such ring. Fails only on allocation failure;
+    /// some of them may then have been appended.
     pub fn push_ring(
         &self,
         feature: u32,
@@ -78,7 +78,7 @@ impl<'m, 'a, I: SegIndex, A: Allocator + Copy> MarkedMap<'m, 'a, I, A> {
 }
 
 impl<'a, I: SegIndex, A: Allocator + Copy> Map<'a, I, A> {
-    /// The map with its junctions known. Walks the borders. Fails for want of memory alone.
+    /// The map with its junctions known. Walks the borders. Fails only on allocation failure.
     pub fn marked(&self) -> Result<MarkedMap<'_, 'a, I, A>, AllocError>
         ensures { IfOk result (λ m. m ≡ self.now.doc) }
     {

@@ -12,8 +12,8 @@ use local_planarity::{Leaving, TestCount, first_conflict, first_conflict_near};
 use segment_index::{ListIndex, SegIndex};
 use std::alloc::Allocator;
 
-/// Tests that no two segments conflict once the added ones come and the leaving ones go. Fails with
-/// the least pair that does, or for want of memory.
+/// Tests that no two segments conflict once the added ones come and the leaving ones go. Fails with the
+/// least pair that does, or on allocation failure.
 pub(crate) fn test_planar<I: SegIndex, A: Allocator + Copy>(
     alloc: A,
     index: &I,

@@ -11,7 +11,7 @@ use std::alloc::{AllocError, Allocator};
 
 impl<'a, I: SegIndex, A: Allocator + Copy> Map<'a, I, A> {
     /// The polygons of feature `n`, each ring as its positions from the least one on, the outer ring
-    /// first; none where no feature has the number. Fails for want of memory alone.
+    /// first; none where no feature has the number. Fails only on allocation failure.
     pub fn polygons(&self, n: u32) -> Result<Vec<Vec<Vec<Pos, A>, A>, A>, AllocError>
         ensures { IfOk result
             (λ found. polygons_seen found.items ≡ (feature_at self.now.doc n).polygons) }

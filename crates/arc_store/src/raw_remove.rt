@@ -82,7 +82,7 @@ impl<'a, I: SegIndex, A: Allocator + Copy> Map<'a, I, A> {
 
     /// Takes the vertex at p out of every ring. It is no junction, its rings have more than three
     /// positions, and its neighbours are not joined. Refused where two segments would be in conflict,
-    /// where the border sweeps over a position, or for want of memory; then nothing changes but the
+    /// where the border sweeps over a position, or on allocation failure; then nothing changes but the
     /// count of tests.
     pub fn raw_remove(&mut self, p: Pos) -> Result<(), EditFault>
         requires vertex { is_vertex self.old.doc p ≡ true }
@@ -103,7 +103,7 @@ impl<'a, I: SegIndex, A: Allocator + Copy> Map<'a, I, A> {
     }
 
     /// Takes the vertex at p out as a raw removal does, but makes no test of two segments and asks of
-    /// no sweep: no two segments would be in conflict. Fails for want of memory alone, and then
+    /// no sweep: no two segments would be in conflict. Fails only on allocation failure, and then
     /// changes nothing.
     pub(crate) fn remove_tables(&mut self, p: Pos) -> Result<(), AllocError>
         requires leavable { IsLeavable self.old.doc p }

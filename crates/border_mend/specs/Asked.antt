@@ -11,7 +11,7 @@ use Rattle.clap.specs.declared.builder.action.ArgAction.TheVariants.{Set}
 abbrev pub map_argument : Rule
 map_argument = record (new_rule (codes "MAP")) { required = true; action = Some Set }
 
--- an argument that need not be there, and takes a value behind its name
+-- an argument that need not be there, and takes a value after its name
 abbrev pub option_rule : List ℕ → Rule
 option_rule name = record (new_rule name) {
   long = Some name;
@@ -31,8 +31,8 @@ mend_program =
 abbrev pub value_given : List ℕ → List (List ℕ) → Option (List ℕ)
 value_given id words = first_of id (matches_of mend_program words)
 
--- a number: what a value says, digits that perhaps stand behind a plus, up to the greatest; and the
--- usual one where there is no value
+-- a number: what a value says, digits that perhaps follow a plus, up to the greatest; and the usual one
+-- where there is no value
 abbrev pub IsCount : ℕ → ℕ → Option (List ℕ) → ℕ → Type 0
 IsCount usual greatest None n = n ≡ usual
 IsCount usual greatest (Some text) n =

@@ -14,7 +14,7 @@ use mend_report::Asked;
 use program_ends::{VERSION, copied, is_file};
 use std::alloc::Global;
 
-/// An argument that takes a value behind its name.
+/// An argument that takes a value after its name.
 fn option<'a>(alloc: Global, name: &'static str, value: &'static str, help: &'static str) -> Arg<'a>
     ensures rule { rule_of result ≡ option_rule name.now }
     ensures local { result.global ≡ false }

@@ -46,6 +46,6 @@ pub both_large : (m n : ℕ) (xs ys us vs : List ℕ) → us ≡ take n xs → v
 both_large m n xs ys us vs e f h =
     omega (arith, first_digits_is n xs ys us vs e f, scaled_grows (value_from (value_from 0 us) vs) (n - length us - length vs))
 
--- zeros alone stand behind a place, where they do in both
+-- zeros alone follow a place, where they do in both
 pub ends_is : (n : ℕ) (xs ys : List ℕ) → list_all is_zero (drop n (xs ++ ys)) ≡ (list_all is_zero (drop n xs) && list_all is_zero (drop (n - length xs) ys))
 ends_is n xs ys = ap (list_all is_zero) (drop-append n xs ys) ∙ list_all-append is_zero (drop n xs) (drop (n - length xs) ys)

@@ -1,4 +1,4 @@
--- The power of ten behind a number: no width cuts it off.
+-- The power of ten after a number: no width cuts it off.
 use mir.Syntax.{w64, w128}
 use mir.Val.{of_z, to_z}
 use Rattle.kit_words.proofs.Common.{◌≡◌, ℕ, List, ◌++◌, ◌<◌, ◌≤◌, ◌^◌, ap, ◌∙◌, arith, ℤ, pos, negsuc, ◌-ℤ◌}

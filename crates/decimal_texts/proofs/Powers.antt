@@ -8,7 +8,7 @@ power_pos k = omega (arith, one-le-pow k 10 (omega arith))
 pub power_mono : (j k : ℕ) → j ≤ k → 10 ^ j ≤ 10 ^ k
 power_mono j k h = let ten : 0 < 10 = omega arith in pow-le-pow_right ten h
 
--- more zeros behind a number make it no smaller
+-- more zeros after a number make it no smaller
 pub scaled_mono : (n j k : ℕ) → j ≤ k → n * 10 ^ j ≤ n * 10 ^ k
 scaled_mono n j k h = mul-le-mul_left n (power_mono j k h)
 

@@ -1,4 +1,4 @@
--- What digits behind digits mean, and how large it is.
+-- What digits after digits mean, and how large it is.
 use Rattle.kit_words.proofs.Common.{◌≡◌, ℕ, ◌+◌, ◌-◌, ◌*◌, ◌<◌, ◌≤◌, ◌^◌, Bool, true, refl, ap, subst, sym, ◌∙◌, inl}
 use Rattle.kit_words.proofs.Common.{inr, List, [], ◌∷◌, ◌++◌, length, take, arith, pow-suc, mul-le-mul_right, one-add}
 use Rattle.kit_words.proofs.Common.{and_parts, cases_Bool, nat_tests, take_all, list_all, prefix_len}
@@ -31,7 +31,7 @@ front_passes p (x ∷ xs) =
       | inr e ↦ rw e refl
     ]
 
--- the digits at the front are digits
+-- the digits at the start are digits
 pub front_digits : (n : ℕ) (xs us : List ℕ) → us ≡ take n xs → n ≡ digits_len xs → list_all is_digit us ≡ true
 front_digits n xs us e f =
     subst (λ ys. list_all is_digit ys ≡ true) (sym (e ∙ ap (λ k. take k xs) f)) (front_passes is_digit xs)

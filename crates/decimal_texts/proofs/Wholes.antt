@@ -119,7 +119,7 @@ scaled_twice v zs k e h =
     let both : 10 ^ length zs * 10 ^ k ≡ 10 ^ 24 = sym (pow-add 10 (length zs) k) ∙ ap (λ j. 10 ^ j) e in
     ap (λ m. m * 10 ^ k) (zeros_value v zs h) ∙ omega (arith, ap (λ m. v * m) both)
 
--- what passes, passes before a place and behind it
+-- what passes, passes before a place and after it
 both_pass : (p : ℕ → Bool) (n : ℕ) (xs : List ℕ) → list_all p xs ≡ true → (list_all p (take n xs) ≡ true) × (list_all p (drop n xs) ≡ true)
 both_pass p n xs h =
     and_parts _ _ (sym (list_all-append p (take n xs) (drop n xs)) ∙ (ap (list_all p) (take-append-drop n xs) ∙ h))

@@ -1,4 +1,4 @@
--- Zeros behind a number.
+-- Zeros after a number.
 use Rattle.kit_words.proofs.Common.{◌≡◌, ℕ, zero, suc, ◌+◌, ◌-◌, ◌*◌, ◌^◌, ◌≤◌, ◌%◌, ◌/◌, refl, sym, ap, ◌∙◌}
 use Rattle.kit_words.proofs.Common.{arith, sub-one, add-one, mod-mul, pow-suc, ne_eqb, cond-true, cond-false}
 use Rattle.decimal_texts.proofs.Powers.{power_pos}
@@ -15,7 +15,7 @@ unfolding zeros_behind
 zeros_none zero n h = refl
 zeros_none (suc k) n h = cond-false _ _ _ (ne_eqb (n % 10) 0 h)
 
--- a number that so many tens divide has as many zeros behind it
+-- a number that so many tens divide has as many zeros after it
 pub zeros_all : (k n : ℕ) → n % (10 ^ k) ≡ 0 → zeros_behind k n ≡ k
 unfolding zeros_behind
 zeros_all zero n h = refl

@@ -4,14 +4,14 @@ use Rattle.std.specs.Prelude.{ℕ, ℤ, pos, ◌&&◌, ◌==◌, Bool, true, fal
 use Rattle.json_spans.specs.Common.{is_e, value_from, digits_len}
 use Rattle.json_spans.specs.Whole.{minus}
 
--- the digits before the point and behind it, and the power of ten that they are multiplied by
+-- the digits before the point and after it, and the power of ten that they are multiplied by
 pub record Parts : Type 0 where
   pub is_negative : Bool
   pub integer : List ℕ
   pub fraction : List ℕ
   pub exponent : ℤ
 
--- the digits at the front, and what stands behind them
+-- the digits at the start, and what follows them
 abbrev pub digits_of : List ℕ → List ℕ
 digits_of xs = take (digits_len xs) xs
 
@@ -24,7 +24,7 @@ small xs =
     if nat_lt 0 (length xs) && nat_le (length xs) 3 && (digits_len xs == length xs)
     then Some (value_from 0 xs) else None
 
--- digits, perhaps behind a plus or a minus
+-- digits, perhaps after a plus or a minus
 abbrev pub signed_small : List ℕ → Option ℤ
 signed_small [] = None
 signed_small (x ∷ xs) =
@@ -36,7 +36,7 @@ abbrev pub exponent_of : List ℕ → Option ℤ
 exponent_of [] = Some (pos 0)
 exponent_of (x ∷ xs) = if is_e x then signed_small xs else None
 
--- with these digits before the point, and this behind them
+-- with these digits before the point, and this after them
 abbrev pub with_exponent : Bool → List ℕ → List ℕ → Option ℤ → Option Parts
 with_exponent sign integer fraction None = None
 with_exponent sign integer fraction (Some e) = Some (record {
@@ -46,7 +46,7 @@ with_exponent sign integer fraction (Some e) = Some (record {
   exponent = e;
 })
 
--- what stands behind the digits before the point: a point and digits, perhaps, and an exponent
+-- what follows the digits before the point: a point and digits, perhaps, and an exponent
 abbrev pub behind_integer : Bool → List ℕ → List ℕ → Option Parts
 behind_integer sign integer [] = with_exponent sign integer [] (exponent_of [])
 behind_integer sign integer (x ∷ xs) =

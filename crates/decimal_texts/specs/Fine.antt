@@ -11,15 +11,15 @@ abbrev pub at_least_zero : ℤ → ℕ
 at_least_zero (pos n) = n
 at_least_zero (negsuc n) = 0
 
--- how many digits stand up to the 24th decimal, zeros behind the last digit among them
+-- how many digits stand up to the 24th decimal, zeros after the last digit among them
 abbrev pub reach : Parts → ℕ
 reach p = at_least_zero ((pos (length p.integer) +ℤ p.exponent) +ℤ pos 24)
 
--- the number that so many first digits are, zeros behind the last digit among them
+-- the number that so many first digits are, zeros after the last digit among them
 abbrev pub first_digits : ℕ → List ℕ → ℕ
 first_digits n ds = value_from 0 (take n ds) * 10 ^ (n - length ds)
 
--- 1 where a digit behind so many others is not 0
+-- 1 where a digit after so many others is not 0
 abbrev pub one_if_more : ℕ → List ℕ → ℕ
 one_if_more n ds = if list_all is_zero (drop n ds) then 0 else 1
 

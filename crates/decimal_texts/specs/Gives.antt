@@ -3,7 +3,7 @@ use Rattle.std.specs.Prelude.{◌≡◌, Result, Ok, Err}
 use Rattle.decimal_texts.specs.declared.fault.PointFault.{PointFault}
 use Rattle.decimal_texts.specs.declared.fault.PointFault.TheVariants as fault
 
--- The code's fault is the one defined. Want of memory may come in the place of any answer.
+-- The code's fault is the one defined. Allocation failure may come in the place of any answer.
 abbrev pub IsPointFault : {Y : Type 0} → PointFault → Result Y PointFault → Type 0
 IsPointFault (fault.NotNumber place) r = r ≡ Err (fault.NotNumber place)
 IsPointFault (fault.OutOfRange place) r = r ≡ Err (fault.OutOfRange place)

@@ -3,8 +3,8 @@ ghost use Rattle.std.specs.Prelude.{IsTrue, ◌<◌, unsigned_abs};
 ghost use Rattle.std.specs.List.{list_all};
 ghost use Rattle.json_spans.specs.Common.{is_digit};
 
-/// A number of a JSON text (RFC 8259, 6): its sign, its digits before the point and behind it, and
-/// the power of ten that they are multiplied by.
+/// A number of a JSON text (RFC 8259, 6): its sign, its digits before the point and after it, and the
+/// power of ten that they are multiplied by.
 #[derive(Clone, Copy, Debug)]
 pub struct Decimal<'a> {
     pub(crate) is_negative: bool,

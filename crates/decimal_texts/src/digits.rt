@@ -6,7 +6,7 @@ ghost use Rattle.json_spans.specs.Common.{value_from, is_zero, digits_len};
 /// One more than the largest number that is read.
 pub(crate) const LIMIT: u128 = 10_000_000_000_000_000_000_000_000_000_000_000_000;
 
-/// How many digits stand at the front.
+/// How many digits stand at the start.
 pub(crate) fn digits_len(bytes: &[u8]) -> usize
     ensures value { result ≡ digits_len bytes.now }
     ensures bound { result ≤ length bytes.now }
@@ -21,7 +21,7 @@ pub(crate) fn are_zeros(digits: &[u8]) -> bool
     digits.iter().all(|x| *x == b'0')
 }
 
-/// The number whose digits are those of another, and these behind them, where it is below 10^37.
+/// The number whose digits are those of another, and these after them, where it is below 10^37.
 pub(crate) fn read_digits(number: u128, digits: &[u8]) -> Option<u128>
     requires { number < 10 ^ 37 }
     ensures value { MatchOption result (10 ^ 37 ≤ value_from number digits.now)
@@ -38,7 +38,7 @@ pub(crate) fn read_digits(number: u128, digits: &[u8]) -> Option<u128>
     Some(read)
 }
 
-/// A number with so many zeros behind its digits, where it is below 10^37.
+/// A number with so many zeros after its digits, where it is below 10^37.
 pub(crate) fn with_zeros(number: u128, zeros: usize) -> Option<u128>
     requires { number < 10 ^ 37 }
     ensures value { MatchOption result (10 ^ 37 ≤ number * 10 ^ zeros)

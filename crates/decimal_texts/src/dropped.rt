@@ -121,7 +121,7 @@ fn without_line(heap: Global, text: &mut [u8], line: Span<'_>) -> Result<(), All
 /// (TopoJSON 1.0, 2.2.3 and 2.2.4), and how many they are. Every other value keeps its place.
 ///
 /// Bytes that are no JSON with at most 100 lists and objects one in another are given as they are.
-/// `Err` comes for want of memory.
+/// `Err` comes on allocation failure.
 #[tactic(auto, using(crate::proofs::Putting::length_without, crate::proofs::Walking::fold_step, crate::proofs::Walking::fold_end))]
 pub fn without_lines<A: Allocator + Copy>(
     alloc: A,

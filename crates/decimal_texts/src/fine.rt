@@ -19,7 +19,7 @@ fn first(digits: &[u8], count: usize) -> &[u8]
     &digits[..count.min(digits.len())]
 }
 
-/// What stands behind so many first digits.
+/// What follows so many first digits.
 fn behind(digits: &[u8], count: usize) -> &[u8]
     ensures { result.now ≡ drop count digits.now }
 {
@@ -43,7 +43,7 @@ fn with_sign(is_negative: bool, size: u128) -> Option<i128>
 }
 
 impl Decimal<'_> {
-    /// How many digits stand up to the 24th decimal, zeros behind the last digit among them.
+    /// How many digits stand up to the 24th decimal, zeros after the last digit among them.
     fn reach(&self) -> usize
         ensures { result ≡ reach (parts self.now) }
     {
@@ -65,7 +65,7 @@ impl Decimal<'_> {
         with_zeros(number, left - fraction.len())
     }
 
-    /// Whether nothing but zeros stands behind so many first digits.
+    /// Whether nothing but zeros follows so many first digits.
     fn ends_at(&self, count: usize) -> bool
         ensures { result
             ≡ list_all is_zero (drop count (self.now.integer.now ++ self.now.fraction.now)) }

@@ -21,7 +21,7 @@ fn small(bytes: &[u8]) -> Option<u16>
     Some(read_digits(0, bytes)? as u16)
 }
 
-/// The number that at most three digits are, perhaps behind a sign.
+/// The number that at most three digits are, perhaps after a sign.
 fn signed(bytes: &[u8]) -> Option<i64>
     ensures value { result ≡ signed_small bytes.now }
     ensures bound { IfSome result (λ z. unsigned_abs z < 1000) }
@@ -33,7 +33,7 @@ fn signed(bytes: &[u8]) -> Option<i64>
     }
 }
 
-/// The power of ten that stands behind the digits.
+/// The power of ten that follows the digits.
 fn exponent_of(bytes: &[u8]) -> Option<i64>
     ensures value { result ≡ exponent_of bytes.now }
     ensures bound { IfSome result (λ z. unsigned_abs z < 1000) }
@@ -45,7 +45,7 @@ fn exponent_of(bytes: &[u8]) -> Option<i64>
     }
 }
 
-/// The number of these digits, with what stands behind them.
+/// The number of these digits, with what follows them.
 fn with_exponent<'a>(
     is_negative: bool,
     integer: &'a [u8],
@@ -66,7 +66,7 @@ fn with_exponent<'a>(
     })
 }
 
-/// The number of these digits before the point, with what stands behind them.
+/// The number of these digits before the point, with what follows them.
 fn behind_integer<'a>(is_negative: bool, integer: &'a [u8], rest: &'a [u8]) -> Option<Decimal<'a>>
     requires { IsTrue (list_all is_digit integer.now) }
     ensures { option_map parts result ≡ behind_integer is_negative integer.now rest.now }
@@ -83,7 +83,7 @@ fn behind_integer<'a>(is_negative: bool, integer: &'a [u8], rest: &'a [u8]) -> O
     }
 }
 
-/// The number whose digits stand at the front.
+/// The number whose digits stand at the start.
 fn unsigned(is_negative: bool, bytes: &[u8]) -> Option<Decimal<'_>>
     ensures { option_map parts result ≡ unsigned is_negative bytes.now }
 {

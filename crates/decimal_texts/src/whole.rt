@@ -17,8 +17,8 @@ use std::alloc::{Allocator, Global};
 /// where `finer` is 1. All else is as it stands, byte for byte, heights too.
 ///
 /// Bytes that are no JSON with at most 100 lists and objects one in another are given as they are.
-/// `Err` has the first coordinate that is no number, or that is out of range, or comes for want of
-/// memory.
+/// `Err` has the first coordinate that is no number, or that is out of range, or comes on allocation
+/// failure.
 pub fn rounded_points<A: Allocator + Copy>(
     alloc: A,
     heap: Global,

@@ -65,8 +65,8 @@ abbrev pub IsFlag : Option (List ℕ) → Bool → Type 0
 IsFlag None on = on ≡ false
 IsFlag (Some text) on = (text ≡ codes "true" → on ≡ true) × (text ≡ codes "false" → on ≡ false)
 
--- how many changes can be taken back: what the value of --undo says, digits that perhaps stand behind
--- a plus, and 100 where there is none
+-- how many changes can be taken back: what the value of --undo says, digits that perhaps follow a plus,
+-- and 100 where there is none
 abbrev pub IsDepth : Option (List ℕ) → ℕ → Type 0
 IsDepth None n = n ≡ 100
 IsDepth (Some text) n =

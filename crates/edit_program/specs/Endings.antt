@@ -6,7 +6,8 @@ use Rattle.program_ends.specs.Common.{IsOpen}
 use Rattle.program_ends.specs.declared.diagnostic.Diagnostic.{Diagnostic}
 use Rattle.program_ends.specs.declared.diagnostic.Diagnostic.TheVariants.{Script, Write, Save, NoMemory, LinesRefused, CutOff}
 
--- the line tells this fault of a run; a script that can't be read is told as one that can't be opened
+-- the line tells this fault of a run; a script that can't be read is reported as one that can't be
+-- opened
 abbrev pub TellsRunFault : RunFault → Diagnostic → Type 0
 TellsRunFault (fault.Open f) line = IsOpen f line
 TellsRunFault fault.Read line = line ≡ Script

@@ -61,12 +61,13 @@ abbrev pub IsNoReason : Why → Type 0
 IsNoReason (Bad reason) = ⊥
 IsNoReason why = Unit {0}
 
--- a reason is told of a bad line, and of no other one
+-- a reason is reported of a bad line, and of no other one
 abbrev pub TellsWhy : ScriptLine → Why → Type 0
 TellsWhy line (Bad reason) = IsBad line
 TellsWhy line why = ¬ IsBad line
 
--- the number of the line, its answer, the line, and what is told of it, with a tab between two of them
+-- the number of the line, its answer, the line, and what is reported of it, with a tab between two of
+-- them
 abbrev pub row_text : ScriptLine → List ℕ → Why → List ℕ
 row_text line answer why =
     decimal line.number ++ (9 ∷ (answer ++ (9 ∷ (listed_text line ++ (9 ∷ (why_text why ++ 10 ∷ []))))))

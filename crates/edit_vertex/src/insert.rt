@@ -45,8 +45,8 @@ fn insert_now<'a, I: SegIndex, A: Allocator + Copy>(
     map.raw_insert(a, b, q)
 }
 
-/// Puts q between a and b, in every ring in which they are neighbours. Refused by the first
-/// condition that fails, or for want of memory.
+/// Puts q between a and b, in every ring in which they are neighbours. Refused by the first condition
+/// that fails, or on allocation failure.
 pub fn insert_vertex<'a, I: SegIndex, A: Allocator + Copy>(
     map: &mut Map<'a, I, A>,
     a: Pos,

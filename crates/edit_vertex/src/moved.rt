@@ -33,8 +33,8 @@ fn move_now<'a, I: SegIndex, A: Allocator + Copy>(
     map.raw_move(p, q)
 }
 
-/// Moves the vertex at p to q, in every ring that has it. Refused by the first condition that
-/// fails, or for want of memory.
+/// Moves the vertex at p to q, in every ring that has it. Refused by the first condition that fails, or
+/// on allocation failure.
 pub fn move_vertex<'a, I: SegIndex, A: Allocator + Copy>(
     map: &mut Map<'a, I, A>,
     p: Pos,

@@ -76,7 +76,7 @@ fn remove_now<'a, I: SegIndex, A: Allocator + Copy>(
     map.raw_remove(p)
 }
 
-/// Leaves p out of every ring. Refused by the first condition that fails, or for want of memory.
+/// Leaves p out of every ring. Refused by the first condition that fails, or on allocation failure.
 pub fn remove_vertex<'a, I: SegIndex, A: Allocator + Copy>(
     map: &mut Map<'a, I, A>,
     p: Pos,

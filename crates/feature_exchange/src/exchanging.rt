@@ -127,7 +127,7 @@ fn make_room<'a, A: Allocator + Copy>(
 
 /// Gives these numbers these features, each in the place of its number, where `after` is a feature a
 /// new number comes directly after it first; afterwards `changes` holds what the numbers had before.
-/// Fails for want of memory alone, and then changes nothing.
+/// Fails only on allocation failure, and then changes nothing.
 pub fn exchange_features<'a, I: SegIndex, A: Allocator + Copy>(
     frame: &mut Frame<'a, A>,
     tables: &mut RingTables<I, A>,
@@ -179,8 +179,8 @@ pub fn exchange_features<'a, I: SegIndex, A: Allocator + Copy>(
     }
 }
 
-/// Lays the rings of the features that are to come, and makes room for them in the frame. Where that
-/// fails for want of memory, some of them are laid.
+/// Lays the rings of the features that are to come, and makes room for them in the frame. On allocation
+/// failure, some of them are laid.
 fn lay_ready<'a, I: SegIndex, A: Allocator + Copy>(
     frame: &mut Frame<'a, A>,
     tables: &mut RingTables<I, A>,

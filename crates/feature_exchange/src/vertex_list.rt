@@ -16,7 +16,7 @@ use segment_index::SegIndex;
 use std::alloc::{AllocError, Allocator};
 use vertex_index::VertexKey;
 
-/// Appends the keys of these rings. Fails for want of memory alone.
+/// Appends the keys of these rings. Fails only on allocation failure.
 fn push_polygon_keys<A: Allocator + Copy>(
     borders: &Borders<A>,
     rings: &[usize],
@@ -32,7 +32,7 @@ fn push_polygon_keys<A: Allocator + Copy>(
     Ok(())
 }
 
-/// Appends the keys of a feature's rings. Fails for want of memory alone.
+/// Appends the keys of a feature's rings. Fails only on allocation failure.
 fn push_feature_keys<A: Allocator + Copy>(
     borders: &Borders<A>,
     polygons: &[Vec<usize, A>],
@@ -50,7 +50,7 @@ fn push_feature_keys<A: Allocator + Copy>(
     Ok(())
 }
 
-/// The keys of all rings. Fails for want of memory alone.
+/// The keys of all rings. Fails only on allocation failure.
 fn all_keys<'a, A: Allocator + Copy>(
     alloc: A,
     borders: &Borders<A>,
@@ -70,8 +70,8 @@ fn all_keys<'a, A: Allocator + Copy>(
     Ok(keys)
 }
 
-/// The positions of all vertices of these tables, ascending, each once. Walks the map. Fails for want
-/// of memory alone.
+/// The positions of all vertices of these tables, ascending, each once. Walks the map. Fails only on
+/// allocation failure.
 pub fn read_vertices<'a, I: SegIndex, A: Allocator + Copy>(
     frame: &Frame<'a, A>,
     tables: &RingTables<I, A>,

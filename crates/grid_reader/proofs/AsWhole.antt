@@ -256,7 +256,7 @@ whole_on_grid wants bytes o e h =
     let made_same = opened_whole wants e w.shape w.found w.polygons w.along in
     record { short = h.short; json = h.json; opens = rw (w.outlined, fine) (made_same ∙ ap opened w.is) }
 
--- whether it has whole numbers alone, and no heights that are left out, is told
+-- whether it has whole numbers alone, and no heights that are left out, is reported
 pub whole_told : (wants : Wants) (bytes : List ℕ) (o : Opened) (told : Told) → OpensWalks bytes o → IsTold wants bytes told →
     (told.whole ≡ true) × (told.heights ≡ 0)
 whole_told wants bytes o told h t =
@@ -269,7 +269,7 @@ whole_told wants bytes o told h t =
       t.is.heights ∙ none_dropped wants.drop_heights (nodes_of t.shape) plain,
     )
 
--- and where that is told, the editor reads it
+-- and where that is reported, the editor reads it
 pub grid_is_whole : (wants : Wants) (bytes : List ℕ) (o : Opened) (told : Told) → wants.finer ≡ 0 → OpensIn (grid_opening wants) bytes o →
     IsTold wants bytes told → told.whole ≡ true → told.heights ≡ 0 → OpensWalks bytes o
 grid_is_whole wants bytes o told e h t whole low =

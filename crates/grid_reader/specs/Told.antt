@@ -1,4 +1,4 @@
--- What is told of the grid that a map was put on.
+-- What is reported of the grid that a map was put on.
 use Rattle.std.specs.Prelude.{◌≡◌, ℕ, List, is_some, if◌then◌else◌, Ok}
 use Rattle.json_spans.specs.Common.{Node}
 use Rattle.topo_outline.specs.Common.{OutlineText, outline}

@@ -3,7 +3,7 @@ use Rattle.std.specs.Prelude.{Bool, take, is_ok}
 use Rattle.std.specs.List.{flat_map, list_all}
 use Rattle.json_spans.specs.Common.{Node, items, whole_of}
 
--- a whole number: no exponent, and zeros alone behind the point (RFC 8259, 6)
+-- a whole number: no exponent, and zeros alone after the point (RFC 8259, 6)
 abbrev pub is_whole_number : Node → Bool
 is_whole_number n = is_ok (whole_of n.bytes)
 

@@ -17,7 +17,7 @@ use json_spans::{ScanFault, Span, scan};
 use std::alloc::{AllocError, Allocator, Global};
 use topo_outline::{OpenFault, Outline, read_outline};
 
-/// Nothing where something was not read, unless for want of memory.
+/// Nothing where something was not read, unless on allocation failure.
 fn none_after(fault: &OpenFault<'_>) -> Result<Option<usize>, AllocError>
     ensures none { IfOk result (λ d. d ≡ None) }
     ensures fault { OnOk result (fault.now ≢ OpenFault.OutOfMemory) }
@@ -100,7 +100,7 @@ fn digits_in<A: Allocator + Copy>(
 ///
 /// `None` without points, where the grid stays, and where `read_on_grid` comes to a fault of its own
 /// beside these points: reading with `wants.points_lie` tells it, at its place in this text. Whether
-/// `wants.points_lie` plays no part here. Fails for want of memory alone.
+/// `wants.points_lie` plays no part here. Fails only on allocation failure.
 pub fn point_digits<A: Allocator + Copy>(
     alloc: A,
     heap: Global,

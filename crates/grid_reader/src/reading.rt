@@ -41,7 +41,7 @@ pub struct OnGrid<'a, A: Allocator + Copy = Global> {
     pub members: Vec<KeptMember<'a>, A>,
     /// By feature the polygons, each a list of walks, begun where their first arcs are.
     pub polygons: Vec<Vec<Vec<Vec<Pos, A>, A>, A>, A>,
-    /// What is told of the grid.
+    /// What is reported of the grid.
     pub told: Told,
 }
 
@@ -77,7 +77,8 @@ pub(crate) fn has_points<A: Allocator + Copy>(layers: &[RawLayer<'_, A>]) -> boo
     false
 }
 
-/// What is told of the grid, where the counts fit. There are no more positions than bytes, so they do.
+/// What is reported of the grid, where the counts fit. There are no more positions than bytes, so they
+/// do.
 fn told_of<A: Allocator + Copy>(
     wants: Wants,
     most: usize,
@@ -183,12 +184,12 @@ fn opened<'a, A: Allocator + Copy>(
 
 /// The topology that the bytes are, on the grid that is asked for, or its first fault.
 ///
-/// The coordinates are read as exact decimals; what stands behind the 24th is rounded down. All are
-/// put on one grid of whole numbers: of the decimals that are there, at most `wants.digits` are kept,
-/// and fewer where the furthest coordinate would pass 10^12; the rest is rounded to the nearest, and
-/// halves up. The transform becomes that of the grid. With `wants.drop_heights`, numbers behind the first two of a
-/// position are left out. The phases and the faults are those of `topo_reader::read_walks`, where
-/// `OutOfRange` is told of a coordinate beyond 10^12 on a grid 10^`wants.finer` times as fine, and
+/// The coordinates are read as exact decimals; what follows the 24th is rounded down. All are put on
+/// one grid of whole numbers: of the decimals that are there, at most `wants.digits` are kept, and
+/// fewer where the furthest coordinate would pass 10^12; the rest is rounded to the nearest, and halves
+/// up. The transform becomes that of the grid. With `wants.drop_heights`, numbers after the first two
+/// of a position are left out. The phases and the faults are those of `topo_reader::read_walks`, where
+/// `OutOfRange` is reported of a coordinate beyond 10^12 on a grid 10^`wants.finer` times as fine, and
 /// `Unsupported` of a point where the grid is finer than that of the text: points are kept as they
 /// stand. With `wants.points_lie` they are said to lie on the grid already, and there is no such fault.
 ///

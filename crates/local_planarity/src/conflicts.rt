@@ -17,8 +17,8 @@ use std::alloc::{AllocError, Allocator};
 pub(crate) const ROOM: usize = 16;
 
 /// The least pair of segments in conflict once the added segments come and the leaving ones go, the
-/// lesser one first. Each added segment is tested against its candidates that do not leave, and
-/// against the added ones before it. Fails only for want of memory; the count may then have grown.
+/// lesser one first. Each added segment is tested against its candidates that do not leave, and against
+/// the added ones before it. Fails only on allocation failure; the count may then have grown.
 pub fn first_conflict<I: SegIndex, A: Allocator + Copy>(
     alloc: A,
     index: &I,

@@ -27,7 +27,7 @@ fn give_id<'a, A: Allocator + Copy>(place: &mut Option<Feature<'a, A>>, id: Id<'
     }
 }
 
-/// These numbers, in which a new one stands directly after `n`. Fails for want of memory alone.
+/// These numbers, in which a new one stands directly after `n`. Fails only on allocation failure.
 fn with_number<A: Allocator + Copy>(
     alloc: A,
     numbers: &[u32],
@@ -80,7 +80,7 @@ fn put_numbers<'a, A: Allocator + Copy>(layer: &mut Layer<'a, A>, slot: usize, n
 
 impl<'a, A: Allocator + Copy> Frame<'a, A> {
     /// Makes room for the rings with these numbers, so that features of them can be put into their
-    /// places without memory. Fails for want of memory alone.
+    /// places without memory. Fails only on allocation failure.
     pub fn reserve_names(&mut self, rings: &[usize]) -> Result<(), AllocError>
         ensures same { self.new ≡ record self.old { room = self.new.room } }
         ensures longer { self.old.room ≤ self.new.room }
@@ -142,7 +142,7 @@ impl<'a, A: Allocator + Copy> Frame<'a, A> {
     }
 
     /// The number of the next new feature, which has its place directly after feature `n` from now on;
-    /// no feature has it yet. Fails for want of memory alone, and then changes nothing.
+    /// no feature has it yet. Fails only on allocation failure, and then changes nothing.
     pub fn grow(&mut self, n: u32) -> Result<u32, AllocError>
         requires there { has_feature self.old.doc n ≡ true }
         requires inside { is_layer self.old.doc n ≡ false }

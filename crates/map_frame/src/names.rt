@@ -30,7 +30,7 @@ fn reach<A: Allocator + Copy>(
     Ok(())
 }
 
-/// Makes room for the names of these rings. Fails for want of memory alone.
+/// Makes room for the names of these rings. Fails only on allocation failure.
 pub(crate) fn make_room<A: Allocator + Copy>(
     names: &mut Vec<Option<RingName>, A>,
     rings: &[usize],
@@ -83,7 +83,7 @@ pub(crate) fn name_polygons<A: Allocator + Copy>(
     }
 }
 
-/// Keeps a name for each ring of a feature. Fails for want of memory alone.
+/// Keeps a name for each ring of a feature. Fails only on allocation failure.
 fn name_feature<A: Allocator + Copy>(
     names: &mut Vec<Option<RingName>, A>,
     feature: u32,
@@ -100,8 +100,8 @@ fn name_feature<A: Allocator + Copy>(
     Ok(())
 }
 
-/// The name of each ring by its number, where these are the numbers of the rings of all features.
-/// Fails for want of memory alone.
+/// The name of each ring by its number, where these are the numbers of the rings of all features. Fails
+/// only on allocation failure.
 pub(crate) fn name_all<A: Allocator + Copy>(
     alloc: A,
     features: &[Vec<Vec<usize, A>, A>],

@@ -101,7 +101,7 @@ impl<'a, A: Allocator + Copy> Frame<'a, A> {
     }
 
     /// A copy of what feature `n` has beside its number and its rings; `None` where no feature has the
-    /// number. Fails for want of memory alone.
+    /// number. Fails only on allocation failure.
     pub fn texts(&self, n: u32) -> Result<Option<FeatureTexts<'a, A>>, AllocError>
         ensures { IfOk result (λ texts. texts ≡ option_map texts_of (feature self.now.doc n)) }
     {

@@ -1,4 +1,4 @@
--- What is told of features, one after another.
+-- What is reported of features, one after another.
 use Rattle.kit_words.proofs.Common.{◌≡◌, ◌<◌, ◌+◌, ℕ, suc, sym, ap, ap₂, ◌∙◌, List, ◌++◌, map, drop, get_or, length}
 use Rattle.kit_words.proofs.Common.{arith, append_assoc, drop_all, next_drop}
 use Rattle.std.proofs.Common.{append-nil}

@@ -1,4 +1,4 @@
--- Worked examples: forms, and which polygons are told.
+-- Worked examples: forms, and which polygons are reported.
 use Rattle.kit_words.proofs.Common.{◌≡◌, ℕ, true, false, refl, pos, List, [], ◌∷◌, None}
 use Rattle.grid_geometry.specs.Common.{Position, position, segment}
 use Rattle.ring_machine.specs.Common.{Form, Polygon, MultiPolygon, Null, Feature, Leaf, Document}

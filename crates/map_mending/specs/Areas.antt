@@ -21,11 +21,11 @@ change_of paths n before after = record {
   swept = swept_of paths before;
 }
 
--- a change is told where the area changes, or something is swept over
+-- a change is reported where the area changes, or something is swept over
 abbrev pub told_if : AreaChange → List AreaChange
 told_if c = if int_eq c.before c.after && c.swept == 0 then [] else (c ∷ [])
 
--- what is told of features, of which the first is feature n
+-- what is reported of features, of which the first is feature n
 abbrev pub changes_from : List PathOfSegment → ℕ → List Polygons → List Polygons → List AreaChange
 changes_from paths n (before ∷ features) (after ∷ mended) =
     told_if (change_of paths n before after) ++ changes_from paths (suc n) features mended

@@ -49,7 +49,7 @@ pub record IsUnparted (d : Document) (n k : ℕ) : Type 0 where
   pub by : MendedBy d paths
   pub unparted : AreUnparted paths (polygons_by_feature d) n k
 
--- why a document is not mended; want of memory says nothing
+-- why a document is not mended; allocation failure says nothing
 abbrev pub IsMendFault : Document → MendFault → Type 0
 IsMendFault d TooLarge = IsTooLarge d
 IsMendFault d (Unmended s t) = IsUnmended d s t
@@ -62,7 +62,7 @@ without_paths search.TooMany = TooLarge
 without_paths (search.Unmended s t) = Unmended s t
 without_paths search.OutOfMemory = OutOfMemory
 
--- a polygon that is not taken apart, or want of memory
+-- a polygon that is not taken apart, or allocation failure
 abbrev pub OnlyUnparted : (ℕ → ℕ → Type 0) → MendFault → Type 0
 OnlyUnparted Apart TooLarge = ⊥
 OnlyUnparted Apart (Unmended s t) = ⊥

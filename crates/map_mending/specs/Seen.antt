@@ -9,7 +9,7 @@ use Rattle.map_mending.specs.declared.parted.Parted.{Parted}
 use Rattle.map_mending.specs.Mended.{MendsPolygon, polygons_of_parts, form_after}
 use Rattle.map_mending.specs.Told.{told_from}
 
--- polygons that stand in the place of those of feature n, and what is told of them behind the rest
+-- polygons that stand in the place of those of feature n, and what is reported of them after the rest
 pub record StandsFor (paths : List PathOfSegment) (n : ℕ) (walks mended : Polygons)
     (before after : List Parted) : Type 0 where
   pub parts : List Polygons

@@ -9,26 +9,26 @@ use Rattle.walk_mending.specs.Common.{laid}
 use Rattle.map_mending.specs.declared.parted.Parted.{Parted}
 use Rattle.map_mending.specs.Mended.{MendsPolygon, polygons_of_parts}
 
--- what is told of polygon k of feature n: nothing where its laid walks are all rings, and else how
+-- what is reported of polygon k of feature n: nothing where its laid walks are all rings, and else how
 -- many polygons it stands as now
 abbrev pub told_of : List PathOfSegment → ℕ → ℕ → List (List Position) → Polygons → List Parted
 told_of paths n k walks parts =
     if list_all is_simple (map (laid paths) walks) then []
     else (record { feature = n; polygon = k; parts = length parts } ∷ [])
 
--- what is told of the polygons of feature n, the first of which is polygon k
+-- what is reported of the polygons of feature n, the first of which is polygon k
 abbrev pub told_from : List PathOfSegment → ℕ → ℕ → Polygons → List Polygons → List Parted
 told_from paths n k (walks ∷ polygons) (part ∷ parts) =
     told_of paths n k walks part ++ told_from paths n (suc k) polygons parts
 told_from paths n k _ _ = []
 
--- what is told of features, the first of which is feature n
+-- what is reported of features, the first of which is feature n
 abbrev pub told_in : List PathOfSegment → ℕ → List Polygons → List (List Polygons) → List Parted
 told_in paths n (polygons ∷ features) (parts ∷ all) =
     told_from paths n 0 polygons parts ++ told_in paths (suc n) features all
 told_in paths n _ _ = []
 
--- polygons by feature are mended, and it is told which of them were taken apart, in order
+-- polygons by feature are mended, and it is reported which of them were taken apart, in order
 pub record TellsParted (paths : List PathOfSegment) (walks mended : List Polygons) (told : List Parted)
     : Type 0 where
   pub parts : List (List Polygons)

@@ -31,8 +31,8 @@ fn push_change<A: Allocator + Copy>(
 /// whose area changes, or whose borders sweep over anything, in order. The polygons are those of each
 /// feature before and after.
 ///
-/// A border sweeps over no more than the triangles of each step of its paths and their ends. Fails
-/// for want of memory alone.
+/// A border sweeps over no more than the triangles of each step of its paths and their ends. Fails only
+/// on allocation failure.
 pub fn area_changes<A: Allocator + Copy>(
     alloc: A,
     paths: &[SegmentPath<A>],

@@ -41,10 +41,10 @@ pub struct Mending<'a, A: Allocator + Copy = Global> {
 /// All else stays as it is, and a map of rings whose segments do not conflict is not changed, but for
 /// where its rings begin.
 ///
-/// Whether the segments of the mended map conflict is not tested here. Fails with `TooLarge` where
-/// its rings, or the paths, would have more than 4,000,000 positions, with `Unmended` where paths were
+/// Whether the segments of the mended map conflict is not tested here. Fails with `TooLarge` where its
+/// rings, or the paths, would have more than 4,000,000 positions, with `Unmended` where paths were
 /// found under which two segments still conflict, with `Unparted` where no rings were found for a
-/// polygon that bounds something, and for want of memory.
+/// polygon that bounds something, and on allocation failure.
 pub fn mend<'a, I: SegIndex, A: Allocator + Copy>(
     alloc: A,
     index: I,

@@ -16,7 +16,7 @@ pub struct FlatRings<A: Allocator + Copy = Global> {
     pub shape: Vec<Vec<usize, A>, A>,
 }
 
-/// Moves the rings of polygons behind those that are there, and answers how many each polygon had.
+/// Moves the rings of polygons after those that are there, and answers how many each polygon had.
 fn move_rings<A: Allocator + Copy>(
     alloc: A,
     polygons: Vec<Vec<Vec<Pos, A>, A>, A>,
@@ -36,7 +36,7 @@ fn move_rings<A: Allocator + Copy>(
     Ok(counts)
 }
 
-/// Moves the rings of features into one list. Fails for want of memory alone.
+/// Moves the rings of features into one list. Fails only on allocation failure.
 pub fn flattened<A: Allocator + Copy>(
     alloc: A,
     features: Vec<Vec<Vec<Vec<Pos, A>, A>, A>, A>,
@@ -75,7 +75,7 @@ fn next_lists<A: Allocator + Copy>(
     Ok(lists)
 }
 
-/// The numbers in features of this shape. Fails for want of memory alone.
+/// The numbers in features of this shape. Fails only on allocation failure.
 pub fn regrouped<A: Allocator + Copy>(
     alloc: A,
     numbers: &[usize],

@@ -1,4 +1,4 @@
--- What is told of the areas of what was read is told of the documents.
+-- What is reported of the areas of what was read is reported of the documents.
 use Rattle.kit_words.proofs.Common.{◌≡◌, ◌≤◌, List, length, sym, ap, ◌∙◌, arith, AllZip, take_all, length-map}
 use Rattle.kit_words.proofs.Common.{AllZip-long}
 use Rattle.std.specs.Prelude.{sum_by, flat_map}

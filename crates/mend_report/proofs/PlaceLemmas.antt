@@ -22,7 +22,7 @@ pub remade_placed : {A : Type 0} (o : Opened) (found : Findings A) (remade : Rem
 remade_placed o found remade None is_found h = h
 remade_placed o found remade (Some text) is_found h = (found, is_found, h)
 
--- what is told of the transform and the walks of the map is told of the map
+-- what is reported of the transform and the walks of the map is reported of the map
 pub placed_same : {A : Type 0} (o : Opened) (found : Findings A) (transform : Option Text) (walks : List Polygons) (given paths : Option (List PathOfSegment)) (places : Option (Vec ℕ A))
     → transform ≡ o.transform → walks ≡ o.polygons → given ≡ paths
     → IfSome places (λ text. IsPlaceText transform walks found given text.items) → IfSome places (λ text. IsPlaceText o.transform o.polygons found paths text.items)

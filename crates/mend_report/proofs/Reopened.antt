@@ -33,7 +33,7 @@ pub in_conflict : (bytes : List ℕ) (d : Document) (u : Segment × Segment) →
 in_conflict bytes d u only c h =
     some_none u (sym c ∙ ap first_pair (sym (only h.0 (h.1).reads)) ∙ (h.1).proper.apart)
 
--- what is told of the text of a document that does not open
+-- what is reported of the text of a document that does not open
 pub unsaved_fault : (bytes : List ℕ) (d : Document) (r : SaveFault) → bytes ≡ text_of d → DoesNotOpen bytes r → IsUnsaved d r
 unsaved_fault bytes d (Conflict s t) e u = absurd u
 unsaved_fault bytes d Unopened e u = subst (λ (z : List ℕ). ¬ HasOpened z) e u
@@ -45,7 +45,7 @@ pub handed_on : {X : Type 0} (bytes : List ℕ) (d : Document) (r : SaveFault) (
 handed_on bytes d r (Ok x) is e u = absurd is
 handed_on bytes d r (Err f) is e u = subst (IsUnsaved d) (sym is) (unsaved_fault bytes d r e u)
 
--- what is told of a map that is not built
+-- what is reported of a map that is not built
 pub unbuilt_fault : (d : Document) (f : BuildFault) → Names f (first_pair d) → IsUnsaved d (unbuilt f)
 unbuilt_fault d (build.Conflict s t) n = n
 unbuilt_fault d build.OutOfMemory n = tt

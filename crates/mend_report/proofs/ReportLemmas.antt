@@ -28,12 +28,12 @@ pub goes_along : {A : Type 0} (line : Position → List ℕ) (inside path : Segm
 goes_along {A = A} line inside path whole old new same is_whole e =
     e ∙ ap (λ (z : List Position). old ++ flat_map line z) (is_whole ∙ ap (λ (p : SegmentPath A). p.inner.items) same)
 
--- what is appended for the front of a list
+-- what is appended for the prefix of a list
 pub told : {X : Type 0} (most : ℕ) (line : X → List ℕ) (xs whole : List X) (old new : List ℕ) → whole ≡ xs
     → new ≡ old ++ lines most line whole → new ≡ old ++ lines most line xs
 told {X = X} most line xs whole old new is_whole e = e ∙ ap (λ (z : List X). old ++ lines most line z) is_whole
 
--- what is appended for the front of a list of paths
+-- what is appended for the prefix of a list of paths
 pub led : {A : Type 0} (most : ℕ) (paths whole : List (SegmentPath A)) (old new : List ℕ) → whole ≡ paths
     → new ≡ old ++ lines most (λ p. path_line (path_of_segment p)) whole → new ≡ old ++ lines most path_line (paths_seen paths)
 led {A = A} most paths whole old new is_whole e =
@@ -45,7 +45,7 @@ led {A = A} most paths whole old new is_whole e =
 pub numbered : (n m : ℕ) (old new : List ℕ) → n ≡ m → new ≡ old ++ decimal n → new ≡ old ++ decimal m
 numbered n m old new same e = e ∙ ap (λ (k : ℕ). old ++ decimal k) same
 
--- the lines that were left out are told as many as were asked for
+-- the lines that were left out are reported as many as were asked for
 pub told_as_asked : {A : Type 0} (most dropped asked : ℕ) (o : Opened) (grid : Told) (remade : Remade A) (before after : List ℕ)
     → dropped ≡ asked → TellsRemade most dropped o grid remade before after → TellsRemade most asked o grid remade before after
 told_as_asked most dropped asked o grid remade before after same tells = subst (λ n. TellsRemade most n o grid remade before after) same tells

@@ -29,7 +29,7 @@ abbrev pub Looked : {A : Type 0} → Wants → List ℕ → Findings A → Type 
 Looked wants bytes findings = (o : Opened) × OpensOn wants bytes o × Found o.polygons findings
 
 -- the text has the places of these findings in the topology with walks that the bytes are, and these
--- paths, if they are told
+-- paths, if they are reported
 abbrev pub HasPlaces : {A : Type 0}
     → Wants → List ℕ → Findings A → Option (List PathOfSegment) → List ℕ → Type 0
 HasPlaces wants bytes findings paths text =
@@ -55,7 +55,7 @@ abbrev pub AreTooMany : Wants → List ℕ → Type 0
 AreTooMany wants bytes =
     (o : Opened) × OpensOn wants bytes o × HasMore 4000000 (walks_of o.polygons)
 
--- the first fault of the bytes as a topology with walks, too many findings, or a refused growth
+-- the first fault of the bytes as a topology with walks, too many findings, or a failed allocation
 abbrev pub IsEnd : LookFault → Wants → List ℕ → Type 0
 IsEnd (Open fault) wants bytes = IsFaultIn (grid_opening wants) bytes fault
 IsEnd TooMany wants bytes = AreTooMany wants bytes

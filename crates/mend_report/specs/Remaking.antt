@@ -22,8 +22,8 @@ use Rattle.mend_report.specs.declared.repair_fault.RepairFault.{RepairFault}
 use Rattle.mend_report.specs.declared.repair_fault.RepairFault.TheVariants.{Look, Mend, Save}
 
 -- a document of walks is mended by these paths to a proper one, which is the same where that needs no
--- mending, keeps its vertices and stays near it; what was taken apart is told, and how areas change,
--- and the text keeps the document and opens as it
+-- mending, keeps its vertices and stays near it; what was taken apart is reported, and how areas
+-- change, and the text keeps the document and opens as it
 pub record IsRemade {A : Type 0} (d : Document) (remade : Remade A) : Type 0 where
   pub document : Document
   pub mended : Mended (paths_seen remade.paths.items) d document

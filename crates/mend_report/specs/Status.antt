@@ -18,14 +18,14 @@ is_open report =
     report.findings.touches.items report.findings.crossings.items
 
 -- 0 where nothing keeps the map from opening, 1 where something does, 2 where it can't be read or not
--- all can be listed, and 3 where a growth was refused
+-- all can be listed, and 3 where an allocation failed
 abbrev pub report_status : {A : Type 0} → Result (Report A) LookFault → ℕ
 report_status (Ok report) = if is_open report then 0 else 1
 report_status (Err (Open fault)) = 2
 report_status (Err TooMany) = 2
 report_status (Err OutOfMemory) = 3
 
--- 2 where a map can't be mended, and 3 where a growth was refused
+-- 2 where a map can't be mended, and 3 where an allocation failed
 abbrev pub unmended_status : RepairFault → ℕ
 unmended_status (Look (Open fault)) = 2
 unmended_status (Look TooMany) = 2

@@ -15,7 +15,7 @@ DoesNotOpen bytes Unopened = ¬ HasOpened bytes
 DoesNotOpen bytes OutOfMemory = Unit {0}
 
 -- the fault names the least pair of segments in conflict, or the text of the document does not open;
--- want of memory says nothing
+-- allocation failure says nothing
 abbrev pub IsUnsaved : Document → SaveFault → Type 0
 IsUnsaved d (Conflict s t) = first_pair d ≡ Some (s, t)
 IsUnsaved d Unopened = ¬ HasOpened (text_of d)

@@ -111,7 +111,7 @@ impl ReportLine for Crossing {
     }
 }
 
-/// Appends the positions, each behind a space.
+/// Appends the positions, each after a space.
 fn push_positions<A: Allocator>(text: &mut Vec<u8, A>, positions: &[Pos]) -> Result<(), AllocError>
     ensures { OnOk result (text.new.items ≡ text.old.items
         ++ flat_map (λ q. codes " " ++ position_text q) positions.now) }

@@ -136,7 +136,7 @@ impl<A: Allocator + Copy> Texts<A> {
 }
 
 /// Puts the places of all findings among walks under a transform into `places`, where they are asked
-/// for, and with them the paths that mend the map, if these are told.
+/// for, and with them the paths that mend the map, if these are reported.
 fn put_places<'f, A: Allocator + Copy>(
     alloc: A,
     transform: Option<&[u8]>,
@@ -161,9 +161,9 @@ fn put_places<'f, A: Allocator + Copy>(
 
 /// Looks at a map on the grid that is asked for, appends the report of that grid and of all that keeps
 /// the map from opening to `texts.report`, of each kind at most `asked.most` lines, and puts the places
-/// of it all into `texts.places`, where they are asked for. What is told is answered: nothing, and so
-/// the status 0, exactly where the map opens as it is: in the editor, unless its grid is made finer. Fails
-/// as `map_of` and `look` do, and then `texts` may have a part of a report.
+/// of it all into `texts.places`, where they are asked for. What is reported is answered: nothing, and
+/// so the status 0, exactly where the map opens as it is: in the editor, unless its grid is made finer.
+/// Fails as `map_of` and `look` do, and then `texts` may have a part of a report.
 pub fn report_map<'a, A: Allocator + Copy>(
     alloc: A,
     heap: Global,

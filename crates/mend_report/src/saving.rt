@@ -47,7 +47,7 @@ fn written<'a, A: Allocator + Copy>(
     let mut out = ToWriter::new(Vec::new(alloc));
     match write(alloc, &map, &mut out) {
         Ok(()) => Ok(out.writer),
-        // A list of bytes fails for want of memory alone.
+        // A list of bytes fails only on allocation failure.
         Err(_) => Err(SaveFault::OutOfMemory),
     }
 }
@@ -79,9 +79,9 @@ fn opened<A: Allocator + Copy>(
     }
 }
 
-/// The text of a map of rings, in which each border stands once. It has been opened again, as the
-/// same map but for the numbers of its features. Fails with `Conflict` where two segments conflict,
-/// with `Unopened` where the text is over a limit, and for want of memory.
+/// The text of a map of rings, in which each border stands once. It has been opened again, as the same
+/// map but for the numbers of its features. Fails with `Conflict` where two segments conflict, with
+/// `Unopened` where the text is over a limit, and on allocation failure.
 ///
 /// The text and what is read of it lie in `alloc`, the indexes in `heap`.
 pub fn saved_text<'a, A: Allocator + Copy>(

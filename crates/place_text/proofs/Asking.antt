@@ -70,7 +70,7 @@ module _ {K : Type 0} (cmp : K → K → Ordering) where
   answer_is keys k told o asked new there e h =
       ap (λ z. unwrap_or z []) (h ∙ ap (option_map (λ ns. told)) (e ∙ ap (λ b. cond b (Some []) o) there))
 
-  -- the same, where others were asked for behind it
+  -- the same, where others were asked for after it
   pub answer_before : (keys others : List K) (k : K) (told : List ℕ) (o mid asked new : Option (List ℕ)) → is_among cmp keys k ≡ true → mid ≡ asked_with cmp keys k o
       → asked ≡ asked_with cmp others k mid → new ≡ option_map (λ ns. told) asked → unwrap_or new [] ≡ told
   answer_before keys others k told o mid asked new there e f h =
@@ -131,7 +131,7 @@ answers features touches sides paths v s t mid new vs ss ps told = record {
       (numbers_in segment_cmp new.segments q) (among_mapped segment_cmp segment_total path_segment paths k d l) (ps q) (told.segments q);
 }
 
--- nothing is told of what is asked for
+-- nothing is reported of what is asked for
 pub empty_yet : {A : Type 0} (touches : List Touch) (sides : List Side) (paths : List PathOfSegment) (v : BTreeMap Position (Vec ℕ A)) (s t : BTreeMap Segment (Vec ℕ A)) (mid : Tables A)
     → IsEmpty v → IsEmpty s
     → ((p : Position) → numbers_in position_cmp mid.vertices p ≡ asked_with position_cmp (map touch_pos touches) p (numbers_in position_cmp v p))

@@ -16,7 +16,7 @@ commas_next (u ∷ us) t =
     ∙ sym (append_assoc u (further us) (codes "," ++ t))
     ∙ ap (λ b. (u ++ further us) ++ (comma_if b ++ t)) (sym (suc_positive (length us)))
 
--- the text before, with one more behind those so far
+-- the text before, with one more after those so far
 next_text : (ts next : List Text) (t : Text) (i : ℕ) → next ≡ ts ++ t ∷ [] → length ts ≡ i
     → (o now mid end : Text) → now ≡ o ++ commas ts → mid ≡ now ++ comma_if (nat_lt 0 i) → end ≡ mid ++ t → end ≡ o ++ commas next
 next_text ts next t i e n o now mid end p q r =

@@ -20,7 +20,7 @@ each_next f xs i x l e =
     ∙ each_at-append f 0 so_far (x ∷ []) ∙ ap (λ n. flat_map_at f 0 so_far ++ (f n x ++ [])) e'
     ∙ ap (λ z. flat_map_at f 0 so_far ++ z) (append-nil (f i x))
 
--- what one element gives comes behind those so far
+-- what one element gives comes after those so far
 pub one_more : {X Y : Type 0} (f : ℕ → X → List Y) (xs : List X) (i : ℕ) (x : X) (old before after : List Y) → i < length xs → x ≡ get_or xs i x
     → before ≡ old ++ flat_map_at f 0 (take i xs) → after ≡ before ++ f i x → after ≡ old ++ flat_map_at f 0 (take (i + 1) xs)
 one_more f xs i x old before after l e so_far is =

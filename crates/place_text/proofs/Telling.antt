@@ -1,4 +1,4 @@
--- What tables hold, while features are told one after another.
+-- What tables hold, while features are reported one after another.
 use Rattle.kit_words.proofs.Common.{◌≡◌, ◌<◌, ◌≤◌, ◌+◌, ℕ, zero, suc, Bool, true, false, cond, refl, sym, ap, ap₂, ◌∙◌}
 use Rattle.kit_words.proofs.Common.{subst, List, [], ◌∷◌, ◌++◌, length, map, take, drop, get_or, drop-cons, arith}
 use Rattle.kit_words.proofs.Common.{Option, Some, None, option_map, flat_map, list_any, is_eq, take-map, length-map}

@@ -1,4 +1,4 @@
--- Numbers of features that are told at a key, each once.
+-- Numbers of features that are reported at a key, each once.
 use Rattle.kit_words.proofs.Common.{◌≡◌, ◌<◌, ◌≤◌, ◌+◌, ◌-◌, ◌==◌, ◌||◌, ℕ, zero, suc, Bool, true, false, cond, refl}
 use Rattle.kit_words.proofs.Common.{sym, ap, ◌∙◌, List, [], ◌∷◌, ◌++◌, length, take, get_or, arith, Option, Some, None}
 use Rattle.kit_words.proofs.Common.{slice_get, option_map, if◌then◌else◌, is_eq, Ordering, list_any-append}
@@ -48,7 +48,7 @@ module _ {K : Type 0} (cmp : K → K → Ordering) where
   both_keys n xs ys k ns =
       ap (λ b. cond b (once n ns) ns) (list_any-append (λ t. is_eq (cmp t k)) xs ys) ∙ once_or n (is_among cmp xs k) (is_among cmp ys k) ns
 
-  -- what is told for some keys and then for others
+  -- what is reported for some keys and then for others
   pub both_told : (n : ℕ) (xs ys : List K) (k : K) (o : Option (List ℕ))
       → option_map (once_if cmp n ys k) (option_map (once_if cmp n xs k) o) ≡ option_map (once_if cmp n (xs ++ ys) k) o
   both_told n xs ys k None = refl

@@ -15,7 +15,7 @@ use Rattle.place_text.specs.Common.{pair_behind, path_positions, ways, behind_if
 use Rattle.place_text.proofs.Listed.{commas_next}
 use Rattle.place_text.proofs.Numbered.{so_many}
 
--- the pairs of an arc behind its first position
+-- the pairs of an arc after its first position
 abbrev pub behind : Bool → Position → List Position → List Position
 behind delta before [] = []
 behind delta before (p ∷ ps) = pair_behind delta before p ∷ behind delta p ps
@@ -39,7 +39,7 @@ pairs_are : (delta : Bool) (p : Position) (ps : List Position) → pairs delta (
 pairs_are true p ps = ap₂ (λ (q : Position) (qs : List Position). q ∷ qs) (from_nothing p) (behind_true p ps)
 pairs_are false p ps = ap (λ z. p ∷ z) (behind_false p ps)
 
--- what comes behind a position of an arc: the others, and the end of the list
+-- what comes after a position of an arc: the others, and the end of the list
 abbrev pub rest_text : Bool → Position → List Position → Text
 rest_text delta from ps = further (map pair_text (behind delta from ps)) ++ codes "]"
 
@@ -137,7 +137,7 @@ whole_way {A = A} delta inside path inner old same is_inner =
 
 -- ---- the list of all arcs
 
--- the paths that are told, and none where they are not
+-- the paths that are reported, and none where they are not
 pub told_is : {A : Type 0} (paths : Option (Bor (List (SegmentPath A)))) (none : Bor (List (SegmentPath A))) → none.now ≡ []
     → map path_positions (paths_seen (unwrap_or paths none).now) ≡ ways (option_map (λ ps. paths_seen ps.now) paths)
 told_is None none e = ap (λ ps. map path_positions (paths_seen ps)) e

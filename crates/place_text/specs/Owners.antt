@@ -56,7 +56,7 @@ pub record Telling : Type 0 where
   pub segment : Segment → List ℕ
   pub pair : ℕ → List ℕ
 
--- what is told of a map and of the pairs of segments that cross in it
+-- what is reported of a map and of the pairs of segments that cross in it
 abbrev pub telling : {A : Type 0} → List (List (List (List Position))) → Findings A → Telling
 telling features found = record {
   vertex = vertex_features features;

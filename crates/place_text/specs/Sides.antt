@@ -38,7 +38,7 @@ side_ends side = segment_ends side.segment
 abbrev pub path_positions : PathOfSegment → List Position
 path_positions p = p.0.lo ∷ p.1 ++ p.0.hi ∷ []
 
--- the pair that stands for a position behind another in an arc: with a transform the difference
+-- the pair that stands for a position after another in an arc: with a transform the difference
 abbrev pub pair_behind : Bool → Position → Position → Position
 pair_behind true before p = position (p.x -ℤ before.x) (p.y -ℤ before.y)
 pair_behind false before p = p

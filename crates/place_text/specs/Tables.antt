@@ -1,4 +1,4 @@
--- What tables hold by vertex and by segment, while features are told.
+-- What tables hold by vertex and by segment, while features are reported.
 use Rattle.std.specs.Prelude.{◌≡◌, ◌==◌, ◌-◌, ℕ, Bool, false, cond, List, [], ◌∷◌, ◌++◌, map, length}
 use Rattle.std.specs.Prelude.{Option, Some, None, option_map, unwrap_or, slice_get, Vec, All}
 use Rattle.std.specs.List.{list_any}
@@ -36,19 +36,19 @@ module _ {K : Type 0} (cmp : K → K → Ordering) where
   abbrev pub is_among : List K → K → Bool
   is_among keys k = list_any (λ t. is_eq (cmp t k)) keys
 
-  -- the number is told at k, where k is one of the keys
+  -- the number is reported at k, where k is one of the keys
   abbrev pub once_if : ℕ → List K → K → List ℕ → List ℕ
   once_if n keys k ns = cond (is_among keys k) (once n ns) ns
 
-  -- the keys are asked for: nothing is told of them yet
+  -- the keys are asked for: nothing is reported of them yet
   abbrev pub asked_with : List K → K → Option (List ℕ) → Option (List ℕ)
   asked_with keys k before = cond (is_among keys k) (Some []) before
 
-  -- what is told at k, if it is asked for
+  -- what is reported at k, if it is asked for
   abbrev pub numbers_in : {A : Type 0} → BTreeMap K (Vec ℕ A) → K → Option (List ℕ)
   numbers_in table k = option_map numbers_held (get cmp table k)
 
-  -- what is told at k; nothing if it is not asked for
+  -- what is reported at k; nothing if it is not asked for
   abbrev pub numbers_at : {A : Type 0} → BTreeMap K (Vec ℕ A) → K → List ℕ
   numbers_at table k = unwrap_or (numbers_in table k) []
 
@@ -62,14 +62,14 @@ pub record Tells {A : Type 0} (feature : ℕ) (ps : List Position) (ss : List Se
   pub segments : (s : Segment) → numbers_in segment_cmp new.segments s
       ≡ option_map (once_if segment_cmp feature ss s) (numbers_in segment_cmp old.segments s)
 
--- nothing is told of what is asked for
+-- nothing is reported of what is asked for
 pub record AreEmpty {A : Type 0} (tables : Tables A) : Type 0 where
   pub vertices : (p : Position) → numbers_in position_cmp tables.vertices p
       ≡ option_map (λ ns. []) (numbers_in position_cmp tables.vertices p)
   pub segments : (s : Segment) → numbers_in segment_cmp tables.segments s
       ≡ option_map (λ ns. []) (numbers_in segment_cmp tables.segments s)
 
--- of all that is asked for these features are told
+-- of all that is asked for these features are reported
 pub record TellsAll {A : Type 0} (features : List (List (List (List Position))))
     (old new : Tables A) : Type 0 where
   pub vertices : (p : Position) → numbers_in position_cmp new.vertices p
@@ -88,7 +88,7 @@ side_segment side = side.segment
 abbrev pub path_segment : PathOfSegment → Segment
 path_segment path = path.0
 
--- the paths, if they are told
+-- the paths, if they are reported
 abbrev pub told_paths : Option (List PathOfSegment) → List PathOfSegment
 told_paths None = []
 told_paths (Some paths) = paths

@@ -75,7 +75,7 @@ path_text told n index path =
     ++ (features_text (told.segment path.0)
     ++ (codes "},\"arcs\":[" ++ (decimal index ++ codes "]}"))))
 
--- the paths, each with an arc of its own, which have the same order and come behind so many others
+-- the paths, each with an arc of its own, which have the same order and come after so many others
 abbrev pub paths_text : Telling → ℕ → List PathOfSegment → List Text
 paths_text told others paths = flat_map_at (λ n p. path_text told n (others + n) p ∷ []) 0 paths
 
@@ -91,13 +91,13 @@ abbrev pub collection_text : List Text → Text
 collection_text geometries =
     codes "{\"type\":\"GeometryCollection\",\"geometries\":" ++ (list_text geometries ++ codes "}")
 
--- the layer of the paths, if they are told, as a further member; so many arcs come before theirs
+-- the layer of the paths, if they are reported, as a further member; so many arcs come before theirs
 abbrev pub path_layer : Telling → ℕ → Option (List PathOfSegment) → Text
 path_layer told others None = []
 path_layer told others (Some paths) =
     codes ",\"paths\":" ++ collection_text (paths_text told others paths)
 
--- the positions of the paths, if they are told
+-- the positions of the paths, if they are reported
 abbrev pub ways : Option (List PathOfSegment) → List (List Position)
 ways None = []
 ways (Some paths) = map path_positions paths
@@ -106,7 +106,7 @@ ways (Some paths) = map path_positions paths
 abbrev pub behind_if : Bool → List Text → Text
 behind_if more values = if more then further values else commas values
 
--- the layers of the places, of the segments, and of the paths if they are told, and the arcs
+-- the layers of the places, of the segments, and of the paths if they are reported, and the arcs
 abbrev pub topology_text : Telling → Option Text → List Place → List Side → Option (List PathOfSegment)
     → Text
 topology_text told transform places sides paths =
@@ -117,8 +117,8 @@ topology_text told transform places sides paths =
     ++ (codes "},\"arcs\":" ++ (arcs_text (is_some transform) (map side_ends sides ++ ways paths)
     ++ codes "}"))))))))
 
--- the text has the places and the segments of these findings in a map with this transform, and
--- these paths, if they are told, each with the features that have it
+-- the text has the places and the segments of these findings in a map with this transform, and these
+-- paths, if they are reported, each with the features that have it
 pub record IsPlaceText {A : Type 0} (transform : Option Text)
     (features : List (List (List (List Position)))) (found : Findings A)
     (paths : Option (List PathOfSegment)) (text : List ℕ) : Type 0 where

@@ -57,7 +57,7 @@ fn ask_sides<A: Allocator + Copy>(
     Ok(())
 }
 
-/// The segments of paths, if they are told, are asked for.
+/// The segments of paths, if they are reported, are asked for.
 fn ask_paths<A: Allocator + Copy>(
     alloc: A,
     table: &mut Table<Seg, A>,
@@ -111,8 +111,8 @@ fn pairs<A: Allocator + Copy>(
     Ok(pairs)
 }
 
-/// The features of the vertices and segments of findings, of which these are the segments, and of
-/// the segments of paths, if they are told.
+/// The features of the vertices and segments of findings, of which these are the segments, and of the
+/// segments of paths, if they are reported.
 pub(crate) fn owners_of<A: Allocator + Copy>(
     alloc: A,
     walks: &[Vec<Vec<Vec<Pos, A>, A>, A>],

@@ -72,7 +72,7 @@ fn push_way_arcs<A: Allocator, B: Allocator + Copy>(
     Ok(())
 }
 
-/// Appends the list of the arcs: one for each segment, and one for each path, if these are told.
+/// Appends the list of the arcs: one for each segment, and one for each path, if these are reported.
 fn push_arcs<A: Allocator, B: Allocator + Copy>(
     text: &mut Vec<u8, A>,
     delta: bool,
@@ -103,7 +103,7 @@ fn push_transform<A: Allocator>(
     Ok(())
 }
 
-/// Appends the layer of the paths, if they are told; so many arcs come before theirs.
+/// Appends the layer of the paths, if they are reported; so many arcs come before theirs.
 fn push_path_layer<A: Allocator, B: Allocator + Copy>(
     text: &mut Vec<u8, A>,
     owners: &Owners<B>,
@@ -120,7 +120,7 @@ fn push_path_layer<A: Allocator, B: Allocator + Copy>(
     append!(text; b",\"paths\":" push_collection(owners, others, paths))
 }
 
-/// Appends a topology of these places, segments and, if they are told, paths (TopoJSON 1.0, 2.1).
+/// Appends a topology of these places, segments and, if they are reported, paths (TopoJSON 1.0, 2.1).
 fn push_topology<A: Allocator, B: Allocator + Copy>(
     text: &mut Vec<u8, A>,
     transform: Option<&[u8]>,

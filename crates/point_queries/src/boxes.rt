@@ -47,7 +47,7 @@ fn add_polygons<A: Allocator + Copy>(
 
 /// Adds the boxes of the rings of feature `n`; none where no feature has the number. So boxes that
 /// cover the other features of a map cover this one too, after an edit that made other rings of it.
-/// Reads its rings alone. Fails for want of memory alone; each ring that lay in a box then still
+/// Reads its rings alone. Fails only on allocation failure; each ring that lay in a box then still
 /// does.
 pub fn add_boxes<'a, I: SegIndex, A: Allocator + Copy>(
     map: &Map<'a, I, A>,
@@ -88,8 +88,8 @@ fn extent_of<'a, I: SegIndex, A: Allocator + Copy>(map: &Map<'a, I, A>) -> Optio
     extent
 }
 
-/// The boxes of all rings of a map, as `at_near` needs them. Walks it. Fails for want of memory
-/// alone.
+/// The boxes of all rings of a map, as `at_near` needs them. Walks it. Fails only on allocation
+/// failure.
 pub fn boxes_of<'a, I: SegIndex, A: Allocator + Copy>(
     alloc: A,
     map: &Map<'a, I, A>,

@@ -219,12 +219,11 @@ fn inside_near<'a, I: SegIndex, A: Allocator + Copy>(
     }
 }
 
-/// The features at p, as `at` finds them: those that hold it by the even-odd rule, off their
-/// borders (RFC 7946, 3.1.6), and those on whose borders it lies. Each ring of the map has to lie
-/// in one of the boxes, as in those that `boxes_of` makes. Reads the cells at p and those from it
-/// to the right and to the left as far as the boxes that have p, and goes round no ring; where more
-/// than 64 rings may hold p, it reads the cells to the edge of the map, as `at` does. Fails for want
-/// of memory alone.
+/// The features at p, as `at` finds them: those that hold it by the even-odd rule, off their borders
+/// (RFC 7946, 3.1.6), and those on whose borders it lies. Each ring of the map has to lie in one of the
+/// boxes, as in those that `boxes_of` makes. Reads the cells at p and those from it to the right and to
+/// the left as far as the boxes that have p, and goes round no ring; where more than 64 rings may hold
+/// p, it reads the cells to the edge of the map, as `at` does. Fails only on allocation failure.
 pub fn at_near<'a, I: SegIndex, A: Allocator + Copy>(
     alloc: A,
     map: &Map<'a, I, A>,

@@ -33,8 +33,8 @@ impl From<AllocError> for QueryFault {
     }
 }
 
-/// Appends the rings that have a segment of this polygon, which has so many rings. Fails for want of
-/// memory alone.
+/// Appends the rings that have a segment of this polygon, which has so many rings. Fails only on
+/// allocation failure.
 fn push_polygon<'a, I: SegIndex, A: Allocator + Copy>(
     map: &Map<'a, I, A>,
     f: u32,

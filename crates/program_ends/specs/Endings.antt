@@ -13,7 +13,7 @@ abbrev pub IsOpen : OpenFault → Diagnostic → Type 0
 IsOpen f (Open told) = told.now ≡ f
 IsOpen f line = ⊥
 
--- what is told where no work began; what clap says of the words is no line of the program's
+-- what is reported where no work began; what clap says of the words is no line of the program's
 abbrev pub stop_line : Stop → Option Diagnostic
 stop_line (stop.Words error) = None
 stop_line stop.NotUtf8 = Some NotUtf8
@@ -23,21 +23,21 @@ stop_line stop.Script = Some Script
 stop_line stop.NoSeed = Some NoSeed
 stop_line stop.NoMemory = Some NoMemory
 
--- what is told where a file could not be written, by the kind of the error: a refused growth, or else
--- the line of the file
+-- what is reported where a file could not be written, by the kind of the error: a failed allocation, or
+-- else the line of the file
 abbrev pub unwritten_line : ErrorKind → Diagnostic → Diagnostic
 unwritten_line kind.OutOfMemory line = NoMemory
 unwritten_line k line = line
 
--- what is told where FILE could not be written
+-- what is reported where FILE could not be written
 abbrev pub unsaved_line : ErrorKind → Diagnostic
 unsaved_line k = unwritten_line k Save
 
--- what is told where FILE2 could not be written
+-- what is reported where FILE2 could not be written
 abbrev pub unlisted_line : ErrorKind → Diagnostic
 unlisted_line k = unwritten_line k Refused
 
--- what is told where standard output could not be written
+-- what is reported where standard output could not be written
 abbrev pub unprinted_line : ErrorKind → Diagnostic
 unprinted_line k = unwritten_line k Write
 

@@ -1,5 +1,5 @@
-//! What a person at a terminal is told beside the line on standard error: the file that it is about, and what can be
-//! done.
+//! What a person at a terminal is reported beside the line on standard error: the file that it is
+//! about, and what can be done.
 ghost use Rattle.std.specs.Prelude.{◌≡◌};
 ghost use Rattle.program_ends.specs.Advice.{subject_of};
 

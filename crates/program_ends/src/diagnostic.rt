@@ -32,7 +32,7 @@ pub enum Diagnostic<'a> {
     Refused,
     /// The operating system gave no random seed: `no random seed`.
     NoSeed,
-    /// A growth was refused: `out of memory`.
+    /// An allocation failed: `out of memory`.
     NoMemory,
     /// An argument is not UTF-8: `an argument is not UTF-8`.
     NotUtf8,
@@ -49,7 +49,7 @@ pub enum Diagnostic<'a> {
 impl<'a> Diagnostic<'a> {
     ghost use Rattle.program_ends.specs.Endings.{unwritten_line, unsaved_line, unlisted_line, unprinted_line};
 
-    /// Why a file could not be written: a refused growth, or else what the file's own line says.
+    /// Why a file could not be written: a failed allocation, or else what the file's own line says.
     fn unwritten(error: Error, line: Diagnostic<'a>) -> Diagnostic<'a>
         ensures { result ≡ unwritten_line (error_kind error) line.entry }
     {
@@ -59,21 +59,21 @@ impl<'a> Diagnostic<'a> {
         }
     }
 
-    /// Why FILE could not be written: a refused growth, or else FILE itself.
+    /// Why FILE could not be written: a failed allocation, or else FILE itself.
     pub fn unsaved(error: Error) -> Diagnostic<'a>
         ensures { result ≡ unsaved_line (error_kind error) }
     {
         Diagnostic::unwritten(error, Diagnostic::Save)
     }
 
-    /// Why FILE2 could not be written: a refused growth, or else FILE2 itself.
+    /// Why FILE2 could not be written: a failed allocation, or else FILE2 itself.
     pub fn unlisted(error: Error) -> Diagnostic<'a>
         ensures { result ≡ unlisted_line (error_kind error) }
     {
         Diagnostic::unwritten(error, Diagnostic::Refused)
     }
 
-    /// Why standard output could not be written: a refused growth, or else standard output itself.
+    /// Why standard output could not be written: a failed allocation, or else standard output itself.
     pub fn unprinted(error: Error) -> Diagnostic<'a>
         ensures { result ≡ unprinted_line (error_kind error) }
     {

@@ -54,7 +54,7 @@ impl<A: Allocator + Copy> RingBoxes<A> {
         Ok(Self { alloc, index })
     }
 
-    /// Adds the box of a ring, unless it is held already. Fails only for want of memory; each ring
+    /// Adds the box of a ring, unless it is held already. Fails only on allocation failure; each ring
     /// that lay in a box then still does.
     pub fn add(&mut self, ring: &[Pos]) -> Result<(), AllocError>
         requires some { 2 ≤ length ring.now }
@@ -65,8 +65,8 @@ impl<A: Allocator + Copy> RingBoxes<A> {
         self.hold(diagonal_of(ring))
     }
 
-    /// Adds to each box that has p, and not q, the least box that has all of it, and q. Fails only
-    /// for want of memory; some of these boxes may then have come, and each ring that lay in a box
+    /// Adds to each box that has p, and not q, the least box that has all of it, and q. Fails only on
+    /// allocation failure; some of these boxes may then have come, and each ring that lay in a box
     /// still does.
     pub fn grow(&mut self, p: Pos, q: Pos) -> Result<(), AllocError>
         ensures grown { OnOk result ((ring : List Position) → IsCovered self.old ring
@@ -77,7 +77,8 @@ impl<A: Allocator + Copy> RingBoxes<A> {
         self.widen_all(near.as_slice(), q)
     }
 
-    /// The least box that has a position and the boxes that it lies in. Fails only for want of memory.
+    /// The least box that has a position and the boxes that it lies in. Fails only on allocation
+    /// failure.
     pub fn around(&self, p: Pos) -> Result<Rect, AllocError>
         ensures { IfOk result (λ rect. IsAround self.now p rect) }
     {

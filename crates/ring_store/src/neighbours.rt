@@ -332,8 +332,8 @@ impl<A: Allocator + Copy> Borders<A> {
         )
     }
 
-    /// Appends the vertices that some ring joins to `k` by a segment, each once. Fails for want of
-    /// memory alone; some of them may then have been appended.
+    /// Appends the vertices that some ring joins to `k` by a segment, each once. Fails only on
+    /// allocation failure; some of them may then have been appended.
     pub fn push_neighbours<B: Allocator>(
         &self,
         k: VertexKey,
@@ -346,9 +346,9 @@ impl<A: Allocator + Copy> Borders<A> {
         push_among(&self.tables.arcs, among, k, out, from)
     }
 
-    /// For each vertex, by the index of its key, the vertices that some ring joins to it by a
-    /// segment, as `neighbours` gives them; none where the table ends before it. One pass over the
-    /// borders. Fails for want of memory alone.
+    /// For each vertex, by the index of its key, the vertices that some ring joins to it by a segment,
+    /// as `neighbours` gives them; none where the table ends before it. One pass over the borders.
+    /// Fails only on allocation failure.
     pub fn all_neighbours(&self) -> Result<Vec<Neighbours, A>, AllocError>
         ensures { IfOk result (λ table. AreAllNeighbours self.now table.items) }
     {

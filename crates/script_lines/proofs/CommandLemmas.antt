@@ -35,7 +35,7 @@ positions_first tail p ps h = subst (λ t. IsPlace t p (spaced_path ps)) (sym h.
 pub positions_none : (tail : List ℕ) (p : Position) (ps : List Position) → NoPlace tail → AreSpaced tail (p ∷ ps) → ⊥
 positions_none tail p ps never h = never p (spaced_path ps) (positions_first tail p ps h)
 
--- behind the position in front stand the others
+-- after the first position stand the others
 pub positions_rest : (tail rest : List ℕ) (q p : Position) (ps : List Position) → IsPlace tail q rest → AreSpaced tail (p ∷ ps) → AreSpaced rest ps
 positions_rest tail rest q p ps s h = ((place_once tail rest (spaced_path ps) q p s (positions_first tail p ps h)).1, h.1.1)
 
@@ -170,7 +170,7 @@ unmarked _ tail = refl
 
 -- ---- the rows of the table, by their words
 
--- the command has the word, and what stands behind it is what it is asked with
+-- the command has the word, and what follows it is what it is asked with
 abbrev pub Row : List ℕ → List ℕ → Command → Type 0
 Row front tail c = MatchBool (bytes_eq (asking_word c) front) (AskedWith tail c) ⊥
 
@@ -230,7 +230,7 @@ row_rings tail (Rings n) h = (n, h)
 row_rings tail _ h = absurd h
 
 module _ (line word tail : List ℕ) (taken : word ≡ take_while is_letter line) (left : tail ≡ rest_of line) where
-  -- what a line asks for is asked with its word and what stands behind it
+  -- what a line asks for is asked with its word and what follows it
   pub asked_by : (c : Command) → Asks line c → AskedBy word tail c
   asked_by c a =
       let ends = asked_end a.tail c a.asked in
@@ -245,8 +245,8 @@ module _ (line word tail : List ℕ) (taken : word ≡ take_while is_letter line
     asked = h.1;
   }
 
-  -- what is found behind the word in front is what the line asks for: each row of the table has that
-  -- word alone, and makes its command of what stands behind it
+  -- what is found after the first word is what the line asks for: each row of the table has that word
+  -- alone, and makes its command of what follows it
   pub arm : {X : Type 0} (front : List ℕ) (Is : X → Type 0) (line_of : X → Line) → ((c : Command) → Row front tail c → (x : X) × Is x)
       → ((x : X) → Is x → IsSomeAnd (says_of (line_of x)) (AskedBy front tail)) → (found : Option X) (o : Option Line) → word ≡ front → Finds found Is
       → MatchOption found (o ≡ None) (λ x. IsSomeAnd o (λ l. l ≡ line_of x)) → FindsCommand o (Asks line)

@@ -39,6 +39,6 @@ Finds {X} found Is = MatchOption found ((x : X) → ¬ Is x) Is
 abbrev pub FindsCommand : Option Line → (Command → Type 0) → Type 0
 FindsCommand found Is = MatchOption found ((c : Command) → ¬ Is c) (λ l. IsSomeAnd (says_of l) Is)
 
--- the command is asked with this word and what stands behind it
+-- the command is asked with this word and what follows it
 abbrev pub AskedBy : List ℕ → List ℕ → Command → Type 0
 AskedBy word tail c = (asking_word c ≡ word) × AskedWith tail c

@@ -8,7 +8,7 @@ use Rattle.ring_machine.specs.Common.{Area, At, Neighbours, Rings, Count, Show}
 use Rattle.topo_outline.specs.Common.{IsName}
 use Rattle.edit_records.specs.Common.{string_text}
 
--- a number behind its space: 0, or digits of which the first is not 0, perhaps behind a minus
+-- a number after its space: 0, or digits of which the first is not 0, perhaps after a minus
 abbrev pub spaced : ℤ → List ℕ
 spaced z = 32 ∷ signed_decimal z
 
@@ -19,11 +19,11 @@ spaced_position p = spaced p.x ++ spaced p.y
 abbrev pub most_bound : ℕ
 most_bound = 8000000000000000000000000
 
--- a JSON string behind its space
+-- a JSON string after its space
 abbrev pub spaced_token : Text → List ℕ
 spaced_token token = 32 ∷ token
 
--- the positions one after another, each number behind its space
+-- the positions one after another, each number after its space
 abbrev pub spaced_path : List Position → List ℕ
 spaced_path path = flat_map spaced_position path
 
@@ -74,7 +74,7 @@ asking_word (Rings n) = codes "rings"
 asking_word Count = codes "count"
 asking_word Show = codes "document"
 
--- what stands behind the word, with exactly one space before each word
+-- what follows the word, with exactly one space before each word
 abbrev pub AskedWith : List ℕ → Command → Type 0
 AskedWith tail (Move p q) = AreSpaced tail (p ∷ q ∷ [])
 AskedWith tail (Insert a b q) = AreSpaced tail (a ∷ b ∷ q ∷ [])

@@ -24,7 +24,7 @@ const MAX_BOUND: u128 = 8_000_000_000_000_000_000_000_000;
 /// The most bytes of a line.
 const MAX_LINE: usize = 8192;
 
-/// The position that stands behind a word.
+/// The position after a word.
 fn position_behind(tail: &[u8]) -> Option<Pos>
     ensures { Finds result (λ p. AreSpaced tail.now (p ∷ [])) }
 {
@@ -38,7 +38,7 @@ fn position_behind(tail: &[u8]) -> Option<Pos>
     }
 }
 
-/// The two positions that stand behind a word.
+/// The two positions after a word.
 fn pair_behind(tail: &[u8]) -> Option<(Pos, Pos)>
     ensures { Finds result (λ pair. AreSpaced tail.now (pair.0 ∷ pair.1 ∷ [])) }
 {
@@ -48,7 +48,7 @@ fn pair_behind(tail: &[u8]) -> Option<(Pos, Pos)>
     Some((first.0, position_behind(first.1)?))
 }
 
-/// The three positions that stand behind a word.
+/// The three positions after a word.
 fn triple_behind(tail: &[u8]) -> Option<(Pos, Pos, Pos)>
     ensures { Finds result (λ all. AreSpaced tail.now (all.0 ∷ all.1 ∷ all.2 ∷ [])) }
 {
@@ -59,7 +59,7 @@ fn triple_behind(tail: &[u8]) -> Option<(Pos, Pos, Pos)>
     Some((first.0, second, third))
 }
 
-/// The bound of a thinning that stands behind a word.
+/// The bound of a thinning after a word.
 fn bound_behind(tail: &[u8]) -> Option<i128>
     ensures { Finds result (λ t. AskedWith tail.now (Thinning t)) }
 {
@@ -72,7 +72,7 @@ fn bound_behind(tail: &[u8]) -> Option<i128>
     }
 }
 
-/// The number of a feature that stands behind a word.
+/// The number of a feature after a word.
 fn feature_behind(tail: &[u8]) -> Option<u32>
     ensures { Finds result (λ n. AreFeatures tail.now (n ∷ [])) }
 {
@@ -80,7 +80,7 @@ fn feature_behind(tail: &[u8]) -> Option<u32>
     if end.is_empty() { Some(feature) } else { None }
 }
 
-/// The numbers of two features that stand behind a word.
+/// The numbers of two features after a word.
 fn features_behind(tail: &[u8]) -> Option<(u32, u32)>
     ensures { Finds result (λ both. AreFeatures tail.now (both.0 ∷ both.1 ∷ [])) }
 {
@@ -88,7 +88,7 @@ fn features_behind(tail: &[u8]) -> Option<(u32, u32)>
     Some((first, feature_behind(rest)?))
 }
 
-/// The number of a feature and its new id that stand behind a word.
+/// The number of a feature and its new id after a word.
 #[tactic(auto, using(crate::proofs::CommandLemmas::renamed))]
 fn naming_behind(heap: Global, tail: &[u8]) -> Result<Option<(u32, IdText)>, AllocError>
     ensures { IfOk result (λ found. Finds found
@@ -109,7 +109,7 @@ fn naming_behind(heap: Global, tail: &[u8]) -> Result<Option<(u32, IdText)>, All
     }
 }
 
-/// The number of a feature, the id of the new one and the path that stand behind a word.
+/// The number of a feature, the id of the new one and the path after a word.
 #[tactic(auto, using(crate::proofs::CommandLemmas::cut))]
 fn cut_behind(heap: Global, tail: &[u8]) -> Result<Option<(u32, IdText, Path)>, AllocError>
     ensures { IfOk result (λ found. Finds found
@@ -180,12 +180,12 @@ fn is_comment(line: &[u8]) -> bool
     }
 }
 
-/// What a line of a script says, without its line feed and without the carriage return that is
-/// dropped before it. A line is a command's word and what it is asked with, with exactly one space
-/// between two of them, and none before or behind; a number is `0`, or digits of which the first is
-/// not `0`, perhaps behind a minus, and an id is a JSON string (RFC 8259, section 7). `heap` holds
-/// an id and a path. `BadLine` comes where the line says nothing, as any line of more than 8,192
-/// bytes, `OutOfMemory` where `heap` has no room for what it says.
+/// What a line of a script says, without its line feed and without the carriage return that is dropped
+/// before it. A line is a command's word and what it is asked with, with exactly one space between two
+/// of them, and none before or after; a number is `0`, or digits of which the first is not `0`, perhaps
+/// after a minus, and an id is a JSON string (RFC 8259, section 7). `heap` holds an id and a path.
+/// `BadLine` comes where the line says nothing, as any line of more than 8,192 bytes, `OutOfMemory`
+/// where `heap` has no room for what it says.
 #[tactic(auto, using(crate::proofs::CommandLemmas::no_memory))]
 pub fn parse_line(heap: Global, line: &[u8]) -> Result<Line, LineFault>
     ensures { MatchResult result

@@ -49,7 +49,7 @@ module _ {T : Type 0} (text : T → List ℕ) (xs : List T) (i : ℕ) where
       ∙ left_step (nat_lt 0 i) (text (get_or xs i d)) (map text (drop (i + 1) xs)) now mid end e f
       ∙ ap (λ ys. now ++ left_text (nat_lt 0 i) (map text ys)) (sym (drop_more xs i d l))
 
-  -- all items were appended behind the opening bracket
+  -- all items were appended after the opening bracket
   pub items_end : (old now end : List ℕ) → length xs ≤ i → now ++ left_text (nat_lt 0 i) (map text (drop i xs)) ≡ (old ++ codes "[") ++ commas (map text xs) → end ≡ now ++ codes "]"
       → end ≡ old ++ list_text (map text xs)
   items_end old now end past all e =
@@ -75,7 +75,7 @@ pub no_ring_shown : (d : Document) (n polygon ring : ℕ) → None ≡ frame_rin
     → end ≡ old ++ ring_list_text (get_or (get_or (feature_at d n).polygons polygon []) ring [])
 no_ring_shown d n polygon ring e old end f = f ∙ ap (λ ps. old ++ ring_list_text ps) (no_ring_read d n polygon ring e)
 
--- a list of numbers behind its name, and another behind that
+-- a list of numbers after its name, and another after that
 pub two_lists : (front between first second old a b c end : List ℕ) → a ≡ old ++ front → b ≡ a ++ first → c ≡ b ++ between → end ≡ c ++ second
     → end ≡ old ++ (front ++ (first ++ (between ++ second)))
 two_lists front between first second old a b c end e f g h =

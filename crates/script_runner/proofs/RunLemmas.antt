@@ -61,7 +61,7 @@ module _ (depth : ℕ) (d : Document) (before after : Devices) where
     cause = cause;
   }
 
-  -- a part of the reply to the kept line is the front of the reply to the next line
+  -- a part of the reply to the kept line is the prefix of the reply to the next line
   front : (ended : Bool) (read text : List ℕ) (p : Progress) (m : Mid depth d read text p) (further part : List ℕ) → IsNextLine m.pending further after.script.coming (line_at ended m.pending)
       → IsReplyFront ended p part → IsFront depth (state_after_all depth (opened_state d) m.meanings) (IsNextLine m.pending further after.script.coming) part
   front ended read text p m further part next h =
@@ -187,7 +187,7 @@ pub end_read : (a b c : Option (List ℕ)) (read room : List ℕ) (n : ℕ) → 
 end_read a b c read room n e h k =
     subst (Consumes a c) (append-nil read) (Consumes-trans a b c read [] h (subst (λ m. Consumes b c (take m room)) e k))
 
--- what came in one more call: a front of it that is fed, and the rest
+-- what came in one more call: a prefix of it that is fed, and the rest
 pub piece_came : (a b c : Option (List ℕ)) (read room : List ℕ) (n t : ℕ) → t ≤ n → Consumes a b read → Consumes b c (take n room)
     → Consumes a c (read ++ (take t room ++ drop t (take n room)))
 piece_came a b c read room n t within h k = Consumes-trans a b c read (take t room ++ drop t (take n room)) h (subst (Consumes b c) parts k)

@@ -23,7 +23,7 @@ pub OnErr-by : {A E : Type 0} (r : Result A E) {P : Type 0} → P → OnErr r P
 OnErr-by (Ok x) h = tt
 OnErr-by (Err e) h = h
 
--- the front of a reply
+-- the prefix of a reply
 pub put_part : (ended : Bool) (p : Progress) (old new : Option (List ℕ)) (e : Edited) (over : Bool) (line : List ℕ) (m : Meaning)
     → p.depth ≡ e.depth → p.state ≡ machine_of e → p.over ≡ over → p.line ≡ line → KeptMeans over ended line m → AppendsPrefix old new (reply_text e.depth (machine_of e) m)
     → PutsPart ended p old new

@@ -61,7 +61,7 @@ abbrev pub IsSaveEnd : WriteFault → RunFault → Type 0
 IsSaveEnd write.Device end = end ≡ fault.Save
 IsSaveEnd write.OutOfMemory end = end ≡ fault.OutOfMemory
 
--- why a map was not opened, want of memory apart
+-- why a map was not opened, allocation failure apart
 abbrev pub IsOpenEnd : RunFault → List ℕ → Type 0
 IsOpenEnd (fault.Open f) bytes = IsFault bytes f × (f ≢ opening.OutOfMemory) × IsUnopened bytes
 IsOpenEnd fault.Read bytes = ⊥

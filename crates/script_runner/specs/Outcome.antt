@@ -82,15 +82,15 @@ IsNextLine pending further left line =
     ((rest : List ℕ) × (further ≡ 10 ∷ rest) × (line ≡ ended_line pending))
     ⊎ ((further ≡ []) × IsAtEnd left × (pending ≢ []) × (line ≡ open_line pending))
 
--- nothing, or a front of the reply to the next line
+-- nothing, or a prefix of the reply to the next line
 abbrev pub IsFront : ℕ → State → (ScriptLine → Type 0) → List ℕ → Type 0
 IsFront depth st IsNext part =
     (part ≡ [])
     ⊎ ((line : ScriptLine) × (m : Meaning) × (k : ℕ) × IsNext line × LineMeans line m
     × (part ≡ take k (reply_text depth st m)))
 
--- the answering stopped at a byte of the script, or at its end: what was written of the next answer is a
--- front of it
+-- the answering stopped at a byte of the script, or at its end: what was written of the next answer is
+-- a prefix of it
 pub record AnswersPart (depth : ℕ) (d : Document) (before after : Devices) : Type 0 where
   pub lines : AnswersUpTo depth d before after
   pub stopped : lines.further ≡ [] → IsAtEnd after.script.coming
@@ -109,7 +109,7 @@ pub record Completes (bytes : List ℕ) (depth : ℕ) (before after : Devices) (
   pub sent : after.saved.flushed ≡ true
   pub saved : Saved (text_of last) last
 
--- the script was answered, and a front of the text of the last document was saved
+-- the script was answered, and a prefix of the text of the last document was saved
 pub record SavesPart (depth : ℕ) (d : Document) (before after : Devices) : Type 0 where
   pub last : Document
   pub summary : Summary

@@ -79,7 +79,7 @@ Feeds p (b ∷ bs) text q =
 abbrev pub Told : Option (List ℕ) → Option (List ℕ) → (List ℕ → Type 0) → Type 0
 Told old new P = (text : List ℕ) × Appends old new text × P text
 
--- the front of the reply to the kept line
+-- the prefix of the reply to the kept line
 abbrev pub IsReplyFront : Bool → Progress → List ℕ → Type 0
 IsReplyFront ended p part =
     (m : Meaning) × (k : ℕ) × KeptMeans p.over ended p.line m
@@ -89,7 +89,7 @@ IsReplyFront ended p part =
 abbrev pub PutsPart : Bool → Progress → Option (List ℕ) → Option (List ℕ) → Type 0
 PutsPart ended p old new = Told old new (λ part. (part ≡ []) ⊎ IsReplyFront ended p part)
 
--- nothing, or, where this byte is a line feed, the front of the reply to the line that it ends
+-- nothing, or, where this byte is a line feed, the prefix of the reply to the line that it ends
 abbrev pub IsPartAt : ℕ → Progress → List ℕ → Type 0
 IsPartAt b p part = (part ≡ []) ⊎ ((b ≡ 10) × IsReplyFront true p part)
 

@@ -49,7 +49,7 @@ fn push_common<A: Allocator + Copy>(text: &mut Vec<u8, A>, pos: Pos) -> Result<(
     push_position(text, pos)
 }
 
-/// Appends the text of a refusal; want of memory is none.
+/// Appends the text of a refusal; allocation failure is none.
 fn push_refusal<A: Allocator + Copy>(
     text: &mut Vec<u8, A>,
     fault: EditFault,

@@ -35,7 +35,7 @@ mid_link paths s inner i from to same l e k =
     subst (λ ps. Contains (over (s.lo ∷ ps ++ s.hi ∷ [])) (segment from to)) (sym same)
     (in_contains _ _ (mid_in s.lo s.hi inner i from to l e k))
 
--- an element behind the first one
+-- an element after the first one
 pub next_at : (a : Position) (xs : List Position) (i n : ℕ) (x : Position) → n ≡ suc i → x ≡ get_or xs i x → x ≡ get_or (a ∷ xs) n x
 next_at a xs i n x e h = h ∙ ap (λ k. get_or (a ∷ xs) k x) (sym e)
 

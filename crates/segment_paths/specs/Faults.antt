@@ -27,7 +27,7 @@ pub record IsUnmended (ss : List Segment) (s t : Segment) : Type 0 where
   pub are_paths : ArePaths ss paths
   pub conflict : StillConflict ss paths s t
 
--- why there are no paths of these segments that put in at most so many positions; want of memory
+-- why there are no paths of these segments that put in at most so many positions; allocation failure
 -- says nothing
 abbrev pub IsPathFault : List Segment → ℕ → PathFault → Type 0
 IsPathFault ss most TooMany = HasMore ss most

@@ -9,7 +9,7 @@ use edit_records::IdText;
 use segment_index::SegIndex;
 use std::alloc::Allocator;
 
-/// Gives feature f another id. Refused where no feature has the number, or for want of memory.
+/// Gives feature f another id. Refused where no feature has the number, or on allocation failure.
 pub fn rename<'a, I: SegIndex, A: Allocator + Copy>(
     map: &mut Map<'a, I, A>,
     f: u32,

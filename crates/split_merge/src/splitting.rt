@@ -19,7 +19,7 @@ use ring_parts::first_cut;
 use segment_index::SegIndex;
 use std::alloc::{AllocError, Allocator};
 
-/// Whether the path cuts a polygon of the feature. Fails for want of memory alone.
+/// Whether the path cuts a polygon of the feature. Fails only on allocation failure.
 fn is_cut<'a, I: SegIndex, A: Allocator + Copy>(
     map: &Map<'a, I, A>,
     f: u32,
@@ -103,11 +103,11 @@ fn split_now<'a, I: SegIndex, A: Allocator + Copy>(
     map.raw_split(f, text, positions)
 }
 
-/// Cuts the first polygon of feature f that the path, of 2 to 256 positions, leads across: f keeps
-/// the part in which the path runs backwards, and the other one becomes a new Polygon directly after
-/// it, with this id and the properties and unknown members of f. A hole goes with the part that it
-/// lies in. Answers the number of the new feature. Refused by the first condition that fails, or
-/// for want of memory.
+/// Cuts the first polygon of feature f that the path, of 2 to 256 positions, leads across: f keeps the
+/// part in which the path runs backwards, and the other one becomes a new Polygon directly after it,
+/// with this id and the properties and unknown members of f. A hole goes with the part that it lies in.
+/// Answers the number of the new feature. Refused by the first condition that fails, or on allocation
+/// failure.
 pub fn split<'a, I: SegIndex, A: Allocator + Copy>(
     map: &mut Map<'a, I, A>,
     f: u32,

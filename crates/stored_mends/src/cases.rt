@@ -1,5 +1,5 @@
-// Cases as a file has them. An empty line stands between two. Each line is a word, and a text behind a
-// space; the name of a case stands behind `=`. A line that begins with `#` is a remark.
+// Cases as a file has them. An empty line stands between two. Each line is a word, and a text after a
+// space; the name of a case follows `=`. A line that begins with `#` is a remark.
 use std::alloc::{AllocError, Global};
 
 /// A case: its lines.

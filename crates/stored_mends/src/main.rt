@@ -1,6 +1,6 @@
-//! A test: maps that do not open, or have decimals, beside the answers that are stored in `data/`: what is
-//! told of them, where it is, what they are mended to, and how they are put on a grid. Each answer that
-//! differs has a line, and each file its count.
+//! A test: maps that do not open, or have decimals, beside the answers that are stored in `data/`: what
+//! is reported of them, where it is, what they are mended to, and how they are put on a grid. Each
+//! answer that differs has a line, and each file its count.
 #![tactic(auto)]
 
 mod cases;

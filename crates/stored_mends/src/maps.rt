@@ -1,4 +1,4 @@
-// What is told of a map, and what it is mended to.
+// What is reported of a map, and what it is mended to.
 use crate::cases::Case;
 use crate::stored::Stored;
 use grid_reader::Wants;
@@ -62,7 +62,7 @@ fn compare_looked(
     compare_places(stored, "places", &texts.places)
 }
 
-/// Compares what is told of the map of a case.
+/// Compares what is reported of the map of a case.
 pub(crate) fn compare_report(stored: &mut Stored<'_>) -> Result<(), AllocError> {
     let (alloc, map) = (stored.alloc, stored.given("map")?);
     let (asked, mut texts) = (asked_of(&stored.case), no_texts(stored));

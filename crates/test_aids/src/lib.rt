@@ -1,4 +1,4 @@
-//! What tests of several crates share: an allocator that refuses one growth, a seed by which
+//! What tests of several crates share: an allocator that refuses one allocation, a seed by which
 //! positions are hashed alike in each run, and maps.
 #![tactic(auto)]
 

@@ -1,4 +1,4 @@
-//! Which of several growths is refused.
+//! Which of several allocations is refused.
 use super::Refusing;
 use std::alloc::Allocator;
 use std::process::Abort;
@@ -12,7 +12,7 @@ fn five_boxes<A: Allocator + Copy>(alloc: A) -> [bool; 5] {
     refused
 }
 
-/// The number of a growth, and which box is refused it, counted from 0.
+/// The number of an allocation, and which box is refused it, counted from 0.
 const ROWS: &[(u64, Option<usize>)] = &[
     (0, None),
     (1, Some(0)),

@@ -24,7 +24,7 @@ module _ {R : Type 0} where
   take-nil : (k : ℕ) → take {A = List (List R)} k [] ≡ []
   take-nil k = take_all {A = List (List R)} k [] (omega arith)
 
-  -- the polygons of feature n, and those of the features behind it
+  -- the polygons of feature n, and those of the features after it
   at_place : (all : List (List (List R))) (n k : ℕ)
       → rings_within (polygons_at all n) ++ flat_map rings_within (take k (drop (suc n) all))
       ≡ flat_map rings_within (take (suc k) (drop n all))

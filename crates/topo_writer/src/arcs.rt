@@ -62,7 +62,7 @@ fn backward(n: usize) -> i64
 
 impl<A: Allocator + Copy> Arcs<A> {
     /// No arc, with room for texts of so many bytes; the seed by which edges are hashed, and whether
-    /// positions are to be written as differences. Fails for want of memory alone.
+    /// positions are to be written as differences. Fails only on allocation failure.
     pub fn with_room(
         alloc: A,
         room: usize,

@@ -28,7 +28,7 @@ fn a_cut_text_has_the_fault_of_reading(rt: HostRuntime) {
     }
 }
 
-/// Whether the same is told of the map where any one byte is this.
+/// Whether the same is reported of the map where any one byte is this.
 fn are_same(alloc: Global, byte: u8) -> Result<bool, Fail> {
     for at in 0..MAP.len() {
         let mut text = Vec::from_slice(alloc, MAP.as_bytes())?;

@@ -1,4 +1,4 @@
-//! Each growth is refused in turn as a map is looked through, and as one is mended.
+//! Each allocation is refused in turn as a map is looked through, and as one is mended.
 use map_mending::MendFault;
 use mend_report::{Asked, LookFault, RepairFault, SaveFault, Texts, mend_map, report_map};
 use std::alloc::{Allocator, Global};
@@ -18,7 +18,7 @@ const LOOKED: &str = "counts short 1 repeats 1 on 1 cross 4\n";
 const MENDED: &str =
     "parts 0 0 2\narea 0 0 100 0\ncounts short 0 repeats 0 on 0 cross 1 paths 2 parts 1 areas 1\n";
 
-/// More than the growths of any call.
+/// More than the allocations of any call.
 const MANY: u64 = 4000;
 
 /// How a call ended.
@@ -65,7 +65,7 @@ fn mend<A: Allocator + Copy>(alloc: Global, heap: A) -> End {
     }
 }
 
-/// How a call ends where the growth of this number is refused, and whether there was one.
+/// How a call ends where the allocation of this number is refused, and whether there was one.
 fn ended(alloc: Global, nth: u64, mends: bool) -> (End, bool) {
     let refusing = Refusing::new(alloc, nth);
     let end = if mends {
@@ -76,7 +76,8 @@ fn ended(alloc: Global, nth: u64, mends: bool) -> (End, bool) {
     (end, refusing.was_refused())
 }
 
-/// How many growths a call has, if with each of them refused it tells all, or that there is no memory.
+/// How many allocations a call has, if with each of them refused it tells all, or that there is no
+/// memory.
 fn count_growths(alloc: Global, mends: bool) -> Option<u64> {
     for nth in 1..MANY {
         match ended(alloc, nth, mends) {

@@ -1,5 +1,5 @@
-//! Copies of a map: an edit of one leaves the map as it was, and so does a copy whose growth is refused,
-//! each in turn.
+//! Copies of a map: an edit of one leaves the map as it was, and so does a copy in which an allocation
+//! fails, each in turn.
 use crate::commands::{Call, is_made};
 use crate::maps::{MANY, SQUARES, editor_of, first_growth};
 use crate::written::{counts_of, is_written, written};
@@ -57,7 +57,7 @@ fn stands_alone<R: Abort, I: SegIndex, A: Allocator + Copy>(
         && is_written(rt, alloc, calm, map, before.as_slice())
 }
 
-/// A map that is copied again, where a growth was refused, and the copy is edited.
+/// A map that is copied again, where an allocation failed, and the copy is edited.
 fn copy_again<R: Abort, I: SegIndex, A: Allocator + Copy>(
     rt: &R,
     alloc: Global,
@@ -75,8 +75,8 @@ fn copy_again<R: Abort, I: SegIndex, A: Allocator + Copy>(
     assert!(rt; is_kept && is_same && is_alone);
 }
 
-/// What came of an edit and of a copy where the growth of this number is refused: whether one was, and
-/// whether it was one of the copy.
+/// What came of an edit and of a copy where the allocation of this number is refused: whether one was,
+/// and whether it was one of the copy.
 fn refuse<R: Abort>(rt: &R, alloc: Global, texts: &[Vec<u8>; 2], nth: u64) -> (bool, bool) {
     let (heap, calm) = (Refusing::new(alloc, nth), Refusing::new(alloc, 0));
     let mut editor = editor_of(&heap, alloc, SQUARES, DEPTH).expect(
@@ -91,7 +91,7 @@ fn refuse<R: Abort>(rt: &R, alloc: Global, texts: &[Vec<u8>; 2], nth: u64) -> (b
     (heap.was_refused(), is_refused)
 }
 
-/// Copies of the map, with each growth after the opening refused in turn. Gives how many of a copy
+/// Copies of the map, with each allocation after the opening refused in turn. Gives how many of a copy
 /// were.
 fn refuse_each<R: Abort>(rt: &R, alloc: Global, texts: &[Vec<u8>; 2]) -> u32 {
     let first = first_growth(rt, alloc, SQUARES);

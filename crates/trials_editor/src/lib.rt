@@ -1,5 +1,5 @@
-//! Tests of the editor: after each undo the map is written as it was before the change, a growth that is
-//! refused changes neither map nor history, and few pairs of segments are tested.
+//! Tests of the editor: after each undo the map is written as it was before the change, an allocation
+//! that is refused changes neither map nor history, and few pairs of segments are tested.
 #![tactic(auto)]
 
 #[cfg(test)]

@@ -1,4 +1,4 @@
-//! Maps, and editors of them in a heap that may refuse a growth.
+//! Maps, and editors of them in a heap that may refuse an allocation.
 ghost use Rattle.std.specs.Prelude.{◌≤◌};
 ghost use Rattle.topo_reader.specs.Document.{IsOfRings};
 ghost use Rattle.topo_reader.specs.DocumentView.{view_raw};
@@ -12,7 +12,7 @@ use test_aids::{Refusing, fixed_seed};
 use topo_reader::{RawDoc, read};
 use undo_ring::Editor;
 
-/// More than the growths of any run below.
+/// More than the allocations of any run below.
 pub(crate) const MANY: u64 = 4000;
 
 /// A square with a hole, its neighbours to the right and below, an object without a geometry, a point,
@@ -33,7 +33,7 @@ pub(crate) const INSIDE: &str =
 pub(crate) const ACROSS: &str =
     r#"{"type":"Topology","objects":{"m":{"type":"GeometryCollection","geometries":[{"type":"Polygon","arcs":[[0]]},{"type":"Polygon","arcs":[[1]]}]}},"arcs":[[[0,0],[30,0],[30,30],[0,30],[0,0]],[[10,12],[20,20],[10,14],[10,12]]]}"#;
 
-/// The map of what was read, in a grid; `None` where a growth was refused.
+/// The map of what was read, in a grid; `None` where an allocation failed.
 fn built<'a, A: Allocator + Copy>(
     heap: A,
     seed: RandomState,
@@ -50,7 +50,7 @@ fn built<'a, A: Allocator + Copy>(
     }
 }
 
-/// The map of the text, in a heap that may refuse a growth; `None` where it did.
+/// The map of the text, in a heap that may refuse an allocation; `None` where it did.
 pub(crate) fn map_of<'a, A: Allocator + Copy>(
     heap: A,
     alloc: Global,
@@ -63,7 +63,7 @@ pub(crate) fn map_of<'a, A: Allocator + Copy>(
     }
 }
 
-/// An editor of the map of the text, in a heap that may refuse a growth; `None` where it did.
+/// An editor of the map of the text, in a heap that may refuse an allocation; `None` where it did.
 pub(crate) fn editor_of<'a, A: Allocator + Copy>(
     heap: A,
     alloc: Global,
@@ -93,8 +93,8 @@ fn is_begun<A: Allocator + Copy>(heap: A, alloc: Global, text: &str) -> bool {
     is_there
 }
 
-/// The number of the first growth after the editor of the text is there. Each one before is refused in
-/// turn, and then there is none.
+/// The number of the first allocation after the editor of the text is there. Each one before is refused
+/// in turn, and then there is none.
 pub(crate) fn first_growth<R: Abort>(rt: &R, alloc: Global, text: &str) -> u64 {
     for nth in 1..MANY {
         let heap = Refusing::new(alloc, nth);

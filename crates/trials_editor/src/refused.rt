@@ -14,8 +14,8 @@ use undo_ring::{Editor, UndoFault};
 /// How many changes an editor keeps.
 const DEPTH: usize = 9;
 
-/// A call, its answer where there is memory, and how many growths are refused at least: of the call, of
-/// a thinning that was made in part, and of the undo. None is where none is to be.
+/// A call, its answer where there is memory, and how many allocations are refused at least: of the
+/// call, of a thinning that was made in part, and of the undo. None is where none is to be.
 type Row = (Call, &'static str, [u32; 3]);
 
 /// How a map is written, and its counts.
@@ -65,7 +65,7 @@ impl Usual {
     }
 }
 
-/// What came of a call where a growth may be refused.
+/// What came of a call where an allocation may be refused.
 #[derive(Clone, Copy, PartialEq, Eq)]
 enum Outcome {
     /// It had its answer.
@@ -138,7 +138,7 @@ fn undo_twice<R: Abort, I: SegIndex, A: Allocator + Copy>(
     is_refused
 }
 
-/// A change is made once more and taken back, behind the growth that was refused.
+/// A change is made once more and taken back, after the allocation that was refused.
 fn goes_again<R: Abort, I: SegIndex, A: Allocator + Copy>(
     rt: &R,
     alloc: Global,
@@ -151,8 +151,8 @@ fn goes_again<R: Abort, I: SegIndex, A: Allocator + Copy>(
     is_made && editor.undo() == Ok(()) && stands(rt, alloc, calm, editor.map(), &usual.before)
 }
 
-/// Makes a call and takes it back, where a growth may be refused. Gives what came of it, and whether
-/// the undo was refused memory.
+/// Makes a call and takes it back, where an allocation may be refused. Gives what came of it, and
+/// whether the undo was refused memory.
 fn make_and_undo<R: Abort, I: SegIndex, A: Allocator + Copy>(
     rt: &R,
     alloc: Global,
@@ -191,7 +191,7 @@ fn count(tally: &mut [u32; 3], (outcome, is_refused): (Outcome, bool)) {
     ];
 }
 
-/// A call and its undo where the growth of this number is refused; whether there was one.
+/// A call and its undo where the allocation of this number is refused; whether there was one.
 fn refuse<R: Abort>(
     rt: &R,
     alloc: Global,
@@ -208,7 +208,7 @@ fn refuse<R: Abort>(
     heap.was_refused()
 }
 
-/// A call and its undo, with each growth from this one on refused in turn.
+/// A call and its undo, with each allocation from this one on refused in turn.
 fn refuse_each<R: Abort>(rt: &R, alloc: Global, text: &str, usual: &Usual, first: u64) -> [u32; 3] {
     let mut tally = [0u32; 3];
     for after in 0..MANY {
@@ -253,8 +253,8 @@ fn are_enough(tally: &[u32; 3], least: &[u32; 3]) -> bool {
     tally.iter().zip(least).all(|(count, least)| *least <= *count && (0 < *least || *count == 0))
 }
 
-/// Each row of the map of this text, with each growth of opening, of the call and of its undo refused
-/// in turn.
+/// Each row of the map of this text, with each allocation of opening, of the call and of its undo
+/// refused in turn.
 fn refuse_rows<R: Abort>(rt: &R, alloc: Global, text: &str, rows: &[Row]) {
     let first = first_growth(rt, alloc, text);
     for (call, answer, least) in rows {
@@ -445,8 +445,8 @@ fn undo_all<R: Abort, I: SegIndex, A: Allocator + Copy>(
     refused
 }
 
-/// Makes one edit of each kind and takes all back, where a growth may be refused once. Gives how many
-/// undos were refused.
+/// Makes one edit of each kind and takes all back, where an allocation may be refused once. Gives how
+/// many undos were refused.
 fn make_and_undo_all<R: Abort, I: SegIndex, A: Allocator + Copy>(
     rt: &R,
     alloc: Global,
@@ -462,8 +462,8 @@ fn make_and_undo_all<R: Abort, I: SegIndex, A: Allocator + Copy>(
     refused
 }
 
-/// The same, where the growth of this number is refused. Gives how many undos were refused, and `None`
-/// where no growth was.
+/// The same, where the allocation of this number is refused. Gives how many undos were refused, and
+/// `None` where no growth was.
 fn refuse_one<R: Abort>(rt: &R, alloc: Global, nth: u64) -> Option<u32> {
     let (heap, calm) = (Refusing::new(alloc, nth), Refusing::new(alloc, 0));
     let mut editor = editor_of(&heap, alloc, TWO_SQUARES, DEPTH).expect(
@@ -479,7 +479,7 @@ fn refuse_one<R: Abort>(rt: &R, alloc: Global, nth: u64) -> Option<u32> {
     }
 }
 
-/// A whole history, with each growth refused in turn.
+/// A whole history, with each allocation refused in turn.
 #[test]
 fn one_edit_of_each_kind(rt: HostRuntime) {
     let first = first_growth(&rt, rt.alloc(), TWO_SQUARES);
@@ -522,8 +522,8 @@ fn opened<R: Abort, A: Allocator + Copy>(rt: &R, alloc: Global, heap: A, calm: A
     is_begun
 }
 
-/// The first growth that does not belong to the opening is the one of the history; the map is handed
-/// back where it is refused.
+/// The first allocation that does not belong to the opening is the one of the history; the map is
+/// handed back where it is refused.
 #[test]
 fn a_map_is_handed_back(rt: HostRuntime) {
     let alloc = rt.alloc();

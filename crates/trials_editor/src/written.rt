@@ -21,7 +21,7 @@ fn try_write<I: SegIndex, A: Allocator + Copy>(
     }
 }
 
-/// The text of the map. Its own heap may refuse a growth once; then it is written again.
+/// The text of the map. Its own heap may refuse an allocation once; then it is written again.
 pub(crate) fn written<R: Abort, I: SegIndex, A: Allocator + Copy>(
     rt: &R,
     alloc: Global,

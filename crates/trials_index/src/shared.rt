@@ -46,7 +46,7 @@ fn a_shared_side_is_counted_twice(rt: HostRuntime) {
     }
 }
 
-/// The rings of the side of vertices 1 and 2 are listed behind what stood there, each once.
+/// The rings of the side of vertices 1 and 2 are listed after what stood there, each once.
 fn list_both<R: Abort>(
     rt: &R,
     alloc: Global,

@@ -1,4 +1,4 @@
-//! What is told of a line that is bad, and of a refusal that names no place.
+//! What is reported of a line that is bad, and of a refusal that names no place.
 use edit_program::RefusedLines;
 use std::alloc::Global;
 use std::test::Fail;

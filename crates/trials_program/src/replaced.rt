@@ -138,7 +138,7 @@ fn told_of_each(alloc: Global, before: Before, is_lasting: bool) -> Option<(u32,
     Some((told, whole.calls))
 }
 
-/// Whether each fault is told but that of opening the folder, and all stands after each.
+/// Whether each fault is reported but that of opening the folder, and all stands after each.
 fn stands(alloc: Global, before: Before, is_lasting: bool) -> bool {
     match told_of_each(alloc, before, is_lasting) {
         Some((told, calls)) => told.saturating_add(1) == calls,
@@ -186,7 +186,7 @@ fn written_over(alloc: Global, kind: Kind, after: &[u8]) -> Result<(bool, bool),
 
 #[test]
 fn device_in_place(rt: HostRuntime) {
-    // A device takes what is written behind what it has taken.
+    // A device takes what is written after what it has taken.
     let after = b"the old mapthe new map, a longer one";
     let written = written_over(rt.alloc(), Kind::Device, after);
     assert!(rt; written == Ok((true, true)));

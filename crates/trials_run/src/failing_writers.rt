@@ -7,7 +7,7 @@ use std::process::Abort;
 /// The script of the runs whose writers fail.
 const SCRIPT: &[u8] = b"area 0\nrename 0 \"Z\"\nmove 10 10 12 12\ndocument\nundo\ndocument\nundo 1";
 
-/// Whether the writer of the answers has a front of them after it failed, and nothing is saved.
+/// Whether the writer of the answers has a prefix of them after it failed, and nothing is saved.
 fn is_unwritten(told: &Told, whole: &Told) -> bool {
     told.end.as_str() == "write fault"
         && whole
@@ -17,7 +17,7 @@ fn is_unwritten(told: &Told, whole: &Told) -> bool {
         && told.saved.is_empty()
 }
 
-/// Whether all answers stand after the writer of the saved map failed, and it has a front of the text.
+/// Whether all answers stand after the writer of the saved map failed, and it has a prefix of the text.
 fn is_unsaved(told: &Told, whole: &Told) -> bool {
     told.end.as_str() == "save fault"
         && told.answers.as_slice() == whole.answers.as_slice()

@@ -77,7 +77,7 @@ const SQUARE_AND_NULLS: &str =
 
 const SQUARE_END: &str = r#"]}},"arcs":[[[0,0],[10,0],[10,10],[0,10],[0,0]]]}"#;
 
-/// Features that have no polygons, alone and behind a square.
+/// Features that have no polygons, alone and after a square.
 const FEATURES: &[Case] = &[
     (
         "one feature more than a map may have",

@@ -6,7 +6,7 @@ use std::alloc::Global;
 use std::process::Abort;
 use test_aids::Refusing;
 
-/// More than the growths of any run below.
+/// More than the allocations of any run below.
 const MANY: u64 = 10_000;
 
 /// A map, a script and its answers.
@@ -40,8 +40,8 @@ const ROWS: &[Row] = &[
     ),
 ];
 
-/// Whether a run whose growth was refused ended for want of memory, with a front of the answers, or
-/// with all of them and a front of the saved text.
+/// Whether a run in which an allocation failed ended on allocation failure, with a prefix of the
+/// answers, or with all of them and a prefix of the saved text.
 fn is_front(told: &Told, answers: &[u8], whole: &[u8]) -> bool {
     let (said, kept) = (told.answers.as_slice(), told.saved.as_slice());
     told.end.as_str() == "out of memory"
@@ -57,7 +57,7 @@ fn is_whole(told: &Told, answers: &[u8], whole: &[u8]) -> bool {
         && told.saved.as_slice() == whole
 }
 
-/// Whether the growth of this number was refused in the run of this row, which ends as it should.
+/// Whether the allocation of this number was refused in the run of this row, which ends as it should.
 fn is_refused<R: Abort>(rt: &R, alloc: Global, row: &Row, whole: &[u8], nth: u64) -> bool {
     let (map, script, answers) = row;
     let heap = Refusing::new(alloc, nth);
@@ -79,7 +79,7 @@ fn is_refused<R: Abort>(rt: &R, alloc: Global, row: &Row, whole: &[u8], nth: u64
     }
 }
 
-/// How many growths the run of this row has, each of which was refused in turn.
+/// How many allocations the run of this row has, each of which was refused in turn.
 fn growths<R: Abort>(rt: &R, alloc: Global, row: &Row, whole: &[u8]) -> u64 {
     for nth in 1..MANY {
         if !is_refused(rt, alloc, row, whole, nth) {
@@ -89,7 +89,7 @@ fn growths<R: Abort>(rt: &R, alloc: Global, row: &Row, whole: &[u8]) -> u64 {
     panic!(rt; "the run ends");
 }
 
-/// That each of more than a hundred growths of the run of this row is refused.
+/// That each of more than a hundred allocations of the run of this row is refused.
 fn refuse_each<R: Abort>(rt: &R, alloc: Global, row: &Row) {
     let told = tell(rt, alloc, row.0.as_bytes(), row.1);
     let count = growths(rt, alloc, row, told.saved.as_slice());

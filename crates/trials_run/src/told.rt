@@ -1,4 +1,4 @@
-// How a run is told, to be compared.
+// How a run is reported, to be compared.
 ghost use Rattle.std.specs.Prelude.{◌≡◌, ◌≤◌, false};
 
 use device_io::{FailAt, FromReader, Sink, Source, ToWriter};
@@ -137,7 +137,7 @@ pub(crate) fn tell_unsaved<R: Abort>(
     }
 }
 
-/// Whether these are the answers with the end behind them.
+/// Whether these are the answers with the end after them.
 fn is_said(told: &Told, want: &[u8]) -> bool {
     match want.strip_prefix(told.answers.as_slice()) {
         Some(end) => end == told.end.as_bytes(),
@@ -145,7 +145,7 @@ fn is_said(told: &Told, want: &[u8]) -> bool {
     }
 }
 
-/// That the run is told so.
+/// That the run is reported so.
 pub(crate) fn says<R: Abort>(rt: &R, what: &str, told: &Told, want: &[u8]) {
     assert!(rt;
         is_said(told, want),

@@ -65,7 +65,7 @@ pub record IsCutShort (old new : Edited) (c : Command) : Type 0 where
   pub change : machine_of new ≡ changed old.depth (machine_of old) new.map.doc
   pub stays : StaysMade old new
 
--- what a fault leaves: a refusal, or else want of memory
+-- what a fault leaves: a refusal, or else allocation failure
 abbrev pub CommandFails : EditFault → Edited → Edited → Command → Type 0
 CommandFails fault old new c =
     MatchOption (refusal_of fault)

@@ -122,7 +122,7 @@ fn area_on<'a, I: SegIndex, A: Allocator + Copy>(
     }
 }
 
-/// The features at a position, found near it where the boxes of the rings are told.
+/// The features at a position, found near it where the boxes of the rings are given.
 fn found_at<'a, I: SegIndex, A: Allocator + Copy>(
     alloc: A,
     map: &Map<'a, I, A>,

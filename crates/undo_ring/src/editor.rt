@@ -23,7 +23,7 @@ pub enum UndoFault {
     OutOfMemory,
 }
 
-/// Puts a record in front of the others, where there is one.
+/// Puts a record before the others, where there is one.
 fn keep<'a, A: Allocator + Copy>(
     records: &mut HeapCircularBuffer<Record<'a, A>, A>,
     made: Option<Record<'a, A>>,
@@ -60,8 +60,8 @@ impl<'a, I: SegIndex, A: Allocator + Copy> Model for Editor<'a, I, A> {
 }
 
 impl<'a, I: SegIndex, A: Allocator + Copy> Editor<'a, I, A> {
-    /// A map with no history yet, of which so many changes will be kept. Fails for want of memory
-    /// alone, and then hands the map back.
+    /// A map with no history yet, of which so many changes will be kept. Fails only on allocation
+    /// failure, and then hands the map back.
     pub fn new(alloc: A, mut map: Map<'a, I, A>, depth: usize) -> Result<Self, Map<'a, I, A>>
         requires least { 1 ≤ depth }
         requires most { depth ≤ 1000 }
@@ -90,10 +90,10 @@ impl<'a, I: SegIndex, A: Allocator + Copy> Editor<'a, I, A> {
     }
 
     /// Answers a command: it is a step of the machine. An edit that is not refused is one change, a
-    /// thinning where it left something out. A refusal changes nothing but the count of tests. Want
-    /// of memory may stop a thinning on the way: what was left out so far is one change then. An edit
-    /// of vertices leaves every position on its side of every ring. The first question for what is at
-    /// a position walks the map; the others look near the position.
+    /// thinning where it left something out. A refusal changes nothing but the count of tests.
+    /// Allocation failure may stop a thinning on the way: what was left out so far is one change then.
+    /// An edit of vertices leaves every position on its side of every ring. The first question for what
+    /// is at a position walks the map; the others look near the position.
     pub fn apply(&mut self, command: Command) -> Result<Answer<A>, EditFault>
         requires { IsSound command }
         ensures applied { IfOk result

@@ -35,7 +35,7 @@ each_more f seen xs i x l e =
     ∙ ap (flat_map_at f 0) (map-append seen (take i xs) (x ∷ [])) ∙ each_at-append f 0 so_far (seen x ∷ [])
     ∙ ap (λ n. flat_map_at f 0 so_far ++ (f n (seen x) ++ [])) e' ∙ ap (λ z. flat_map_at f 0 so_far ++ z) (append-nil (f i (seen x)))
 
--- what one element gives comes behind those so far
+-- what one element gives comes after those so far
 pub one_appended : {X Y Z : Type 0} (f : ℕ → Y → List Z) (seen : X → Y) (xs : List X) (i : ℕ) (x : X) (old before after : List Z) → i < length xs → x ≡ get_or xs i x
     → before ≡ old ++ flat_map_at f 0 (map seen (take i xs)) → after ≡ before ++ f i (seen x)
     → after ≡ old ++ flat_map_at f 0 (map seen (take (i + 1) xs))

@@ -17,7 +17,7 @@ use std::alloc::Allocator;
 pub const MOST: usize = 4_000_000;
 
 /// All that keeps a map from opening. Its rings are given as walks, by feature, polygon and ring:
-/// closed lists of positions of any length. The index is empty. Fails for want of memory, and at
+/// closed lists of positions of any length. The index is empty. Fails on allocation failure, and at
 /// once where there are more than [`MOST`] findings of one kind.
 pub fn find<I: SegIndex, A: Allocator + Copy>(
     alloc: A,

@@ -47,8 +47,8 @@ fn push_bounding<A: Allocator + Copy>(
 }
 
 /// The segments that bound something in a map, ascending, each once. The map is given by feature,
-/// polygon and ring. In a polygon whose walks are all rings each segment bounds, in any other one
-/// those that stand an odd number of times in its walks. Fails for want of memory alone.
+/// polygon and ring. In a polygon whose walks are all rings each segment bounds, in any other one those
+/// that stand an odd number of times in its walks. Fails only on allocation failure.
 pub fn bounding_segments<A: Allocator + Copy>(
     alloc: A,
     polygons: &[Vec<Vec<Vec<Pos, A>, A>, A>],

@@ -42,9 +42,9 @@ fn push_edge<A: Allocator + Copy>(
     found.extend_from_slice(turned.as_slice())
 }
 
-/// The walk, led along the paths of its segments, which stand in the order of their segments, at
-/// most one for each: between two neighbours come the positions of the path of their segment, in
-/// the direction of the walk. Fails for want of memory alone.
+/// The walk, led along the paths of its segments, which stand in the order of their segments, at most
+/// one for each: between two neighbours come the positions of the path of their segment, in the
+/// direction of the walk. Fails only on allocation failure.
 pub fn laid_walk<A: Allocator + Copy>(
     alloc: A,
     paths: &[SegmentPath<A>],

@@ -32,7 +32,7 @@ pub exchange_features-requires-clause-texts : goal.exchange_features-requires-cl
 exchange_features-requires-clause-texts g c =
     texts_tables c.self.invariant c.self.view_is c.next.ensures.placed c.args.changes.now c.requires
 
--- refused for want of memory: the document is as it was
+-- refused on allocation failure: the document is as it was
 pub invariant_of-self : goal.invariant_of-self
 invariant_of-self g c =
     let m = c.self.inside in

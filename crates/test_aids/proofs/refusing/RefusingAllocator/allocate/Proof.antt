@@ -1,5 +1,5 @@
--- One growth is counted first. Where it is the one to refuse, the answer is `Err`, which the
--- trait allows at any call; else it is what the inner allocator answers.
+-- One allocation is counted first. Where it is the one to refuse, the answer is `Err`, which the trait
+-- allows at any call; else it is what the inner allocator answers.
 use Rattle.test_aids.proofs.Steps.{◌≡◌, ℕ, ◌+◌, ◌^◌, ◌<◌, true, false, List, [], ◌∷◌, Ok, Err, refl, w64, Bor, Ura, Ty, Args, Fn, a_type, dnil, dcons, Val, vbool, vint, vptr, inst_fn, SProp, ent, id⊢, Lft, Share, ftrue, flft, Memory, size, align, capped, up, Routine, WpFn, Tables, Logic, Sq, prop, ‵, raw, ◌⊛◌, some, later, given, at_ret, ◌$◌, ◌∵◌, !, qed, move, keep, use0, use1, use2, split, join, pick, learn, fsplit, fjoin, suffices, await, done, agg, stop, fld, addr, lit, no_more, and_then, first, branches, skips, exec, returns, returns_within, enter, alloc_all, pass_all, free_all, look_at, get, through, sets, lands_as, env, ◌⊑◌, ⊑_trans, Fun, fact, tables, tables_of, fm_of, WpFn-mono, yes, owns, shr_vals, unhide, bounded, param, uint_vals, uint_Tells, block_ptr, usize, RefOf, Slot, plain, types_at, heard, nothing, calls_at, Ended, Clauses, triple_of, Triple, entered, cited, Stays, stay_dropped, walk_of, ends_at, walked, Goes-dropped, walk_Meets, Al, α, seen}
 use Rattle.std.proofs.Common.{Bool}
 use mir.Syntax.{Body}
