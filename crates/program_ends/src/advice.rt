@@ -103,6 +103,7 @@ impl Diagnostic<'_> {
 }
 
 /// Standard error, which may be a terminal.
+#[derive(Drop)]
 pub struct Errors<'e, E> {
     pub writer: &'e mut E,
     pub is_terminal: bool,
