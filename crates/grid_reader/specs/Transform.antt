@@ -1,5 +1,5 @@
 -- The transform of a grid that is finer by a power of ten (TopoJSON 1.0, 2.1.2).
-use Rattle.std.specs.Prelude.{ℕ, zero, suc, pos, ◌&&◌, Bool, false, List, [], ◌∷◌, ◌++◌, codes, Option, Some, None, if◌then◌else◌, Result, Ok, Err}
+use Rattle.std.specs.Prelude.{ℕ, zero, suc, pos, ◌&&◌, false, List, [], ◌∷◌, ◌++◌, codes, Option, Some, None, if◌then◌else◌, Result, Ok, Err}
 use Rattle.json_spans.specs.Common.{Node, items, members, kind_of, decoded}
 use Rattle.ring_machine.specs.Common.{Text}
 use Rattle.topo_outline.specs.Common.{is_list, is_number, Fault, bad_member, ◌>>=◌}

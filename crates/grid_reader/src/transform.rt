@@ -71,7 +71,7 @@ fn value_named<'a>(
 }
 
 /// The parts of a list of two numbers.
-#[tactic(auto, unfolding(crate::specs::Transform::two_numbers))]
+#[tactic(auto, unfolding(crate::specs::Transform::two_number_nodes))]
 fn two_numbers<'a>(part: Span<'a>) -> Option<(Span<'a>, Span<'a>)>
     ensures { option_map (λ p. (node p.0, node p.1)) result ≡ two_number_nodes (node part.entry) }
 {

@@ -7,4 +7,5 @@ pub mod PlaceLemmas
 pub mod AreaLemmas
 pub mod CopiedWalks
 pub mod EditorOpens
+pub mod MendEnds
 mod Examples

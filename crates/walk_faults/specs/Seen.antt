@@ -3,7 +3,7 @@ use Rattle.std.specs.Prelude.{List, Vec, map}
 use Rattle.grid_geometry.specs.Common.{Position}
 use Rattle.walk_faults.specs.declared.walks.Walk.{Walk}
 use Rattle.walk_faults.specs.Walks.{Placed}
-use Rattle.ring_parts.specs.Common.{rings_seen, polygons_seen}
+use Rattle.ring_parts.specs.Common.{polygons_seen}
 
 -- a walk with its place
 abbrev pub walk_seen : Walk → Placed
