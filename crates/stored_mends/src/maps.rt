@@ -3,8 +3,7 @@ use crate::cases::Case;
 use crate::stored::Stored;
 use grid_reader::Wants;
 use mend_report::{
-    Asked, LookFault, Remade, RemakeFault, RepairFault, Report, Texts, is_open, mend_map,
-    report_map,
+    Asked, LookFault, Remade, RepairFault, Report, Texts, is_open, mend_map, report_map,
 };
 use std::alloc::{AllocError, Global};
 use std::hash::RandomState;
@@ -101,17 +100,7 @@ pub(crate) fn compare_mended(stored: &mut Stored<'_>, seed: RandomState) -> Resu
     match mended(stored, seed, map.as_str(), &mut texts) {
         Ok(remade) => compare_remade(stored, &texts, &remade),
         Err(RepairFault::Look(fault)) => compare_fault(stored, &fault),
-        Err(RepairFault::Remake(fault)) => stored.compare("fault", name_of(fault).as_bytes()),
-    }
-}
-
-/// Why a map that was looked through is not mended.
-fn name_of(fault: RemakeFault) -> &'static str {
-    match fault {
-        RemakeFault::TooLarge(_) => "too large",
-        RemakeFault::Unmended { .. } => "unmended",
-        RemakeFault::Unparted { .. } => "unparted",
-        RemakeFault::OutOfMemory => "out of memory",
+        Err(_) => stored.compare("fault", b"not mended"),
     }
 }
 
@@ -119,12 +108,10 @@ fn name_of(fault: RemakeFault) -> &'static str {
 pub(crate) fn compare_end(stored: &mut Stored<'_>, seed: RandomState) -> Result<(), AllocError> {
     let map = stored.given("map")?;
     let mut texts = no_texts(stored);
-    let end = match mended(stored, seed, map.as_str(), &mut texts) {
-        Ok(_) => "mended",
-        Err(RepairFault::Look(_)) => "not read",
-        Err(RepairFault::Remake(fault)) => name_of(fault),
-    };
-    stored.compare("ends", end.as_bytes())
+    if mended(stored, seed, map.as_str(), &mut texts).is_err() {
+        return stored.compare("ends", b"not mended");
+    }
+    stored.compare("ends", b"mended")
 }
 
 /// The lines of a report that tell of areas.
