@@ -2,9 +2,8 @@
 use crate::cases::Case;
 use crate::stored::Stored;
 use grid_reader::Wants;
-use map_mending::MendFault;
 use mend_report::{
-    Asked, LookFault, Remade, RepairFault, Report, SaveFault, Texts, is_open, mend_map, report_map,
+    Asked, LookFault, Remade, RepairFault, Report, Texts, is_open, mend_map, report_map,
 };
 use std::alloc::{AllocError, Global};
 use std::hash::RandomState;
@@ -101,27 +100,7 @@ pub(crate) fn compare_mended(stored: &mut Stored<'_>, seed: RandomState) -> Resu
     match mended(stored, seed, map.as_str(), &mut texts) {
         Ok(remade) => compare_remade(stored, &texts, &remade),
         Err(RepairFault::Look(fault)) => compare_fault(stored, &fault),
-        Err(RepairFault::Mend(fault)) => stored.compare("fault", unmended(&fault).as_bytes()),
-        Err(RepairFault::Save(fault)) => stored.compare("fault", unsaved(&fault).as_bytes()),
-    }
-}
-
-/// Why a map that was looked through is not mended.
-fn unmended(fault: &MendFault) -> &'static str {
-    match fault {
-        MendFault::TooLarge => "too large",
-        MendFault::Unmended { .. } => "unmended",
-        MendFault::Unparted { .. } => "unparted",
-        MendFault::OutOfMemory => "out of memory",
-    }
-}
-
-/// Why a map that was mended is not saved.
-fn unsaved(fault: &SaveFault) -> &'static str {
-    match fault {
-        SaveFault::Conflict { .. } => "unmended",
-        SaveFault::Unopened => "too large",
-        SaveFault::OutOfMemory => "out of memory",
+        Err(_) => stored.compare("fault", b"not mended"),
     }
 }
 
@@ -129,13 +108,10 @@ fn unsaved(fault: &SaveFault) -> &'static str {
 pub(crate) fn compare_end(stored: &mut Stored<'_>, seed: RandomState) -> Result<(), AllocError> {
     let map = stored.given("map")?;
     let mut texts = no_texts(stored);
-    let end = match mended(stored, seed, map.as_str(), &mut texts) {
-        Ok(_) => "mended",
-        Err(RepairFault::Look(_)) => "not read",
-        Err(RepairFault::Mend(fault)) => unmended(&fault),
-        Err(RepairFault::Save(fault)) => unsaved(&fault),
-    };
-    stored.compare("ends", end.as_bytes())
+    if mended(stored, seed, map.as_str(), &mut texts).is_err() {
+        return stored.compare("ends", b"not mended");
+    }
+    stored.compare("ends", b"mended")
 }
 
 /// The lines of a report that tell of areas.

@@ -65,21 +65,19 @@ fn more_positions_than_the_most_are_refused(rt: HostRuntime) -> Result<(), Fail>
 const BOW_TIE: &str =
     r#"{"type":"Topology","objects":{"l":{"type":"Polygon","arcs":[[0]]}},"arcs":[[[0,0],[10,10],[10,0],[0,10],[0,0]]]}"#;
 
-/// Whether a map is not saved for segments in conflict.
-fn is_in_conflict(alloc: Global, map: RawDoc<'_>) -> Option<bool> {
-    let saved = saved_text(alloc, alloc, fixed_seed()?, map);
-    Some(matches!(&saved, Err(SaveFault::Conflict { .. })))
-}
-
-/// Whether a text is a map that is not saved for that.
-fn is_unsaved(alloc: Global, text: &str) -> Option<bool> {
+/// Whether a text is a map that is not saved for segments in conflict.
+fn is_in_conflict(alloc: Global, text: &str) -> Option<bool> {
+    let seed = fixed_seed()?;
     match read(alloc, alloc, text.as_bytes()) {
-        Ok(map) => is_in_conflict(alloc, map),
+        Ok(map) => {
+            let saved = saved_text(alloc, alloc, seed, map);
+            Some(matches!(&saved, Err(SaveFault::Conflict { .. })))
+        }
         Err(_) => None,
     }
 }
 
 #[test]
 fn a_map_with_a_conflict_is_not_saved(rt: HostRuntime) {
-    assert!(rt; is_unsaved(rt.alloc(), BOW_TIE) == Some(true));
+    assert!(rt; is_in_conflict(rt.alloc(), BOW_TIE) == Some(true));
 }
