@@ -646,12 +646,12 @@ SMALL_MAPS = "union above", "holes", "two runs", "cells"
 REAL_MAPS = "columbus.json", "boston-tracts.json", "ny8-tracts.json", "ne-countries50.json"
 STORED = {
     "drawn_vertices.txt": [
-        *(Case(name, seed, 300, 100, VERTICES, SmallDrawing) for name in SMALL_MAPS for seed in (0, 1)),
+        *(Case(name, seed, 330, 100, VERTICES, SmallDrawing) for name in SMALL_MAPS for seed in (0, 1)),
         Case("cells", 2, 100, 100, {**VERTICES, "at": 20}, SmallDrawing),
         Case("columbus.json", 20, 300, 100, {**VERTICES, "at": 4}),
     ],
     "drawn_features.txt": [Case("squares.json", 1, 1000, 100, FEATURES, CornerDrawing)],
-    "drawn_undos.txt": [Case("columbus.json", 2, 1000, 50)],
+    "drawn_undos.txt": [Case("columbus.json", 2, 1100, 50)],
     "drawn_commands.txt": [Case(name, seed, 300, 10) for name in REAL_MAPS[:3] for seed in (3, 4)],
     "real_maps.txt": [Case(name, 5, 20, 1, QUESTIONS) for name in REAL_MAPS],
 }
