@@ -181,7 +181,9 @@ def copy_crates(top, room):
 def verdicts(crate, room):
     """What came of the edits of a crate in a copy. What is said of them is passed on."""
     found = {}
-    with subprocess.Popen(["rt", "must-fail", crate], cwd=room, stdout=subprocess.PIPE, text=True) as child:
+    # what `rt` leaves when it is ended is removed with the copy
+    how = {"cwd": room, "env": {**os.environ, "TMPDIR": str(room.parent)}, "stdout": subprocess.PIPE, "text": True}
+    with subprocess.Popen(["rt", "must-fail", crate], **how) as child:
         try:
             for line in child.stdout:
                 print(line, end="", flush=True)
@@ -215,7 +217,7 @@ def try_crate(top, crate, names, room, kit, anew):
     """Tries edits of a crate, those that were not tried on what stands or all. Returns whether all are refused then."""
     page, stands = Page(top), what_stands(top, crate, names, kit)
     untried = [name for name in names if anew or page.lack(f"{crate}/{name}", stands[f"{crate}/{name}"])]
-    if untried and not (room / "crates").exists():
+    if untried and not room.exists():
         copy_crates(top, room)
     for start in range(0, len(untried), PORTION):
         try_portion(top, crate, untried[start:start + PORTION], room, kit)
@@ -240,9 +242,9 @@ def main(words=None, top=TOP):
     if options.compare:
         return compare(top, kit())
     signal.signal(signal.SIGTERM, lambda number, _: sys.exit(128 + number))
-    with tempfile.TemporaryDirectory() as room:
-        refused = [try_crate(top, name, edits[name], pathlib.Path(room), kit(), options.anew)
-                   for name in options.names or edits]
+    with tempfile.TemporaryDirectory() as folder:
+        room = pathlib.Path(folder, "copy")
+        refused = [try_crate(top, name, edits[name], room, kit(), options.anew) for name in options.names or edits]
     return 0 if all(refused) else 1
 
 

@@ -23,9 +23,11 @@ FILES = {
     "crates/one/must-fail/gate.edit": REFUSED,
     "crates/two/src/lib.rt": "two", "crates/two/inner-edits/c.edit": REFUSED, "crates/two/must-fail/gate.edit": REFUSED,
 }
-# Tries what stands in must-fail of each crate below it, as `rt must-fail` does; one that kills ends what called it.
+# Tries what stands in must-fail of each crate below it, as `rt must-fail` does, and leaves a file of its own, as that
+# does where it is ended. An edit that kills ends what called it.
 STAND_IN = """#!/bin/sh
 [ "$1" = version ] && exec echo "$KIT logic"
+touch "$TMPDIR/left"
 for edit in crates/*/must-fail/*.edit; do
     name=$(basename "$(dirname "$(dirname "$edit")")")/$(basename "$edit")
     echo "$name" >>"$TRIED"
@@ -81,9 +83,15 @@ class Repository:
         return re.search("^to try:(.*)", self.page(), re.M)[1].split()
 
     def ran(self, *words, kit="kit-1"):
-        own = {"PATH": f"{self.folder}/kit:{os.environ['PATH']}", "KIT": kit, "TRIED": f"{self.folder}/tried"}
+        self.rooms().mkdir(exist_ok=True)
+        own = {"PATH": f"{self.folder}/kit:{os.environ['PATH']}", "KIT": kit, "TRIED": f"{self.folder}/tried",
+               "TMPDIR": str(self.rooms())}
         command = [sys.executable, self.folder / "bench/edits.py", *words]
         return subprocess.run(command, env={**os.environ, **own}, capture_output=True, text=True)
+
+    def rooms(self):
+        """Where it makes files of its own, none of which is left."""
+        return self.folder / "rooms"
 
     def tried(self):
         """The edits that were tried since it was last asked."""
@@ -239,8 +247,8 @@ def check_tried(checks, made):
         done = made.ran(*words)
         wanted = {**{name: "refused" for name in edits_of(made)}, **others}
         rows = sorted((name, said) for name, said in wanted.items() if said)
-        found = made.tried(), done.returncode, made.rows(), made.waiting()
-        checks.check(f"tried {number}, {what}, {words}", found, (tried, status, rows, waiting))
+        found = made.tried(), done.returncode, made.rows(), made.waiting(), list(made.rooms().iterdir())
+        checks.check(f"tried {number}, {what}, {words}", found, (tried, status, rows, waiting, []))
     gate = [(made.folder / "crates" / name / "must-fail/gate.edit").read_text() for name in ("one", "two")]
     checks.check("the gate's edits are left alone", gate, [REFUSED, REFUSED])
 
