@@ -12,9 +12,10 @@ the crate changes:
     python3 bench/edits.py --compare         tries none, and compares the page with the sources
 
 The page is bench/edits.txt. It has a row for each edit that was tried: its name, the kit, a sum of the crate's sources,
-a sum of the edit's text, and the verdict. The sources are the files of the crate's src, specs and proofs. Those of the
-crates below are not among them, though the crate is proved from their contracts and definitions: where a definition
-changes that its contracts cite, its edits are tried --anew. A crate after `to try:` has edits that were not tried yet.
+a sum of the edit's text, and the verdict. The sources are the files of the crate's src, specs and proofs, without lines
+of comment. Those of the crates below are not among them, though the crate is proved from their contracts and
+definitions: where a definition changes that its contracts cite, its edits are tried --anew. A crate after `to try:` has
+edits that were not tried yet.
 
 To try edits, the crates are copied, these edits put in the place of the others, and `rt must-fail` called, which proves
 a crate first unless it was proved before on this machine. RT_JOBS=1 has it try one at a time. The page is written after
@@ -68,10 +69,15 @@ def sum_of(pieces):
     return hashlib.sha256(repr(pieces).encode()).hexdigest()[:16]
 
 
+def code_of(path):
+    """A file without its lines of comment, which no proof reads."""
+    return [line for line in path.read_bytes().splitlines() if not line.strip().startswith((b"//", b"--"))]
+
+
 def sum_of_sources(crate):
-    """A sum of the names and bytes of the files of a crate that its proof reads."""
+    """A sum of the names and the code of the files of a crate that its proof reads."""
     files = sorted(path for part in ("src", "specs", "proofs") for path in (crate / part).rglob("*") if path.is_file())
-    return sum_of([(str(path.relative_to(crate)), path.read_bytes()) for path in files])
+    return sum_of([(str(path.relative_to(crate)), code_of(path)) for path in files])
 
 
 def inner_edits(top):
