@@ -71,18 +71,16 @@ pub(crate) struct Shown {
 fn single_feature(found: &[Shape<'_, Global>]) -> Result<Shown, NoFeature>
     ensures { IfOk result (IsShownFeature found.now) }
 {
-    let [shape, others @ ..] = found else {
-        return Err(NoFeature::Unknown);
-    };
-    if !others.is_empty() {
-        return Err(NoFeature::Several);
-    }
-    match shape.surroundings() {
-        Some(part) => Ok(Shown {
-            part,
-            number: Some(shape.number),
-        }),
-        None => Err(NoFeature::Empty),
+    match found {
+        [] => Err(NoFeature::Unknown),
+        [shape] => match shape.surroundings() {
+            Some(part) => Ok(Shown {
+                part,
+                number: Some(shape.number),
+            }),
+            None => Err(NoFeature::Empty),
+        },
+        _ => Err(NoFeature::Several),
     }
 }
 
