@@ -1,6 +1,6 @@
 // What features are called.
 ghost use Rattle.std.specs.Prelude.{◌≡◌, IfOk, option_map};
-ghost use Rattle.map_features.specs.Names.{is_called, stands_for, unquoted};
+ghost use Rattle.map_features.specs.Names.{is_called, stands_for, bare_value};
 
 use crate::shapes::Shape;
 use json_spans::{Span, TextFault, members, text};
@@ -25,7 +25,7 @@ fn first_bytes(words: &[u8]) -> &[u8] {
 
 /// A JSON value without the quotes of a string.
 fn without_quotes(token: &[u8]) -> &[u8]
-    ensures { result.now ≡ unquoted token.now }
+    ensures { result.now ≡ bare_value token.now }
 {
     match token {
         [b'"', inner @ .., b'"'] => inner,
