@@ -19,7 +19,7 @@ IsPartShown (part.Feature name) shown = Unit {0}
 abbrev pub IsViewAsked : Arguments → View → Type 0
 IsViewAsked asked view = IsPartShown asked.part view.part × (view.has_ids ≡ asked.has_ids)
 
--- a feature is asked for
+-- the surroundings of a feature are asked for
 abbrev pub IsFeaturePart : Part → Type 0
 IsFeaturePart (part.Feature name) = Unit {0}
 IsFeaturePart asked = ⊥
@@ -28,8 +28,3 @@ IsFeaturePart asked = ⊥
 abbrev pub IsShowFault : Option (Bor (List ℕ)) → List ℕ → Part → ShowFault → Type 0
 IsShowFault before bytes asked (Open fault) = IsFault bytes fault ⊎ IsSomeAnd before (λ b. IsFault b.now fault)
 IsShowFault before bytes asked (Feature why) = IsFeaturePart asked
-
--- the map has the fault
-abbrev pub IsMapFault : List ℕ → ShowFault → Type 0
-IsMapFault bytes (Open fault) = IsFault bytes fault
-IsMapFault bytes (Feature why) = ⊥

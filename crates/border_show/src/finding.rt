@@ -1,23 +1,32 @@
 //! The feature that `--feature` names.
-ghost use Rattle.std.specs.Prelude.{◌≡◌, [], IfOk, OnOk};
-ghost use Rattle.std.specs.List.{filter};
+ghost use Rattle.std.specs.Prelude.{◌≡◌, map, IfOk};
 ghost use Rattle.border_show.specs.Found.{is_shape_called, IsShownFeature};
 
 use map_features::{Shape, Window, has_id, shapes_of};
 use std::alloc::{AllocError, Global};
 use topo_reader::RawDoc;
 
+/// By feature, whether its `id` stands for this text.
+fn are_called(heap: Global, shapes: &[Shape<'_, Global>], id: &str) -> Result<Vec<bool>, AllocError>
+    ensures { IfOk result (λ flags. flags.items ≡ map (is_shape_called id.now) shapes.now) }
+{
+    let mut flags = Vec::new(heap);
+    for shape in shapes {
+        flags.push(has_id(heap, shape, id)?)?;
+    }
+    Ok(flags)
+}
+
 /// The features whose `id` stands for this text, in their order.
 fn features_called<'r>(
     heap: Global,
     shapes: &[Shape<'r, Global>],
     id: &str,
-) -> Result<Vec<Shape<'r, Global>>, AllocError>
-    ensures { IfOk result (λ found. found.items ≡ filter (is_shape_called id.now) shapes.now) }
-{
+) -> Result<Vec<Shape<'r, Global>>, AllocError> {
+    let flags = are_called(heap, shapes, id)?;
     let mut found = Vec::new(heap);
-    for shape in shapes {
-        if has_id(heap, shape, id)? {
+    for (shape, flag) in shapes.iter().zip(flags.as_slice()) {
+        if *flag {
             found.push(*shape)?;
         }
     }
@@ -71,18 +80,16 @@ pub(crate) struct Shown {
 fn single_feature(found: &[Shape<'_, Global>]) -> Result<Shown, NoFeature>
     ensures { IfOk result (IsShownFeature found.now) }
 {
-    let [shape, others @ ..] = found else {
-        return Err(NoFeature::Unknown);
-    };
-    if !others.is_empty() {
-        return Err(NoFeature::Several);
-    }
-    match shape.surroundings() {
-        Some(part) => Ok(Shown {
-            part,
-            number: Some(shape.number),
-        }),
-        None => Err(NoFeature::Empty),
+    match found {
+        [] => Err(NoFeature::Unknown),
+        [shape] => match shape.surroundings() {
+            Some(part) => Ok(Shown {
+                part,
+                number: Some(shape.number),
+            }),
+            None => Err(NoFeature::Empty),
+        },
+        _ => Err(NoFeature::Several),
     }
 }
 

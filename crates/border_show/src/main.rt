@@ -1,13 +1,13 @@
 //! The program: a map, or what an edit did to it, is drawn in a file.
 #![tactic(auto)]
 
-// The value of a result, or a return of its fault: what `?` does where it converts nothing. The
-// checker has no rule for the conversion of a fault that holds a position.
+// The value of a result, or a return of the fault of a map: what `?` does by a conversion. The checker
+// has no rule for the conversion of a fault that holds a position.
 macro_rules! or_return {
     ($result:expr) => {
         match $result {
             Ok(value) => value,
-            Err(fault) => return Err(fault),
+            Err(fault) => return Err(crate::showing::ShowFault::Open(fault)),
         }
     };
 }

@@ -1,7 +1,7 @@
 //! From the bytes of maps to the bytes of a picture.
-ghost use Rattle.std.specs.Prelude.{◌≡◌, ℕ, List, None, IfErr, IfOk};
-ghost use Rattle.topo_reader.specs.Common.{IsOfRings, view_raw};
-ghost use Rattle.border_show.specs.Shown.{IsMapFault, IsViewAsked, IsShowFault};
+ghost use Rattle.std.specs.Prelude.{◌≡◌, IfErr, IfOk, OnErr};
+ghost use Rattle.topo_reader.specs.Common.{IsFault};
+ghost use Rattle.border_show.specs.Shown.{IsFeaturePart, IsShowFault, IsViewAsked};
 
 use crate::arguments::{Arguments, Part};
 use crate::conflicts::first_conflict;
@@ -29,39 +29,31 @@ impl<'a> From<AllocError> for ShowFault<'a> {
     }
 }
 
-/// What the bytes of a map are read as.
-fn read_map<'a>(heap: Global, bytes: &'a [u8]) -> Result<RawDoc<'a, Global>, ShowFault<'a>>
-    ensures rings { IfOk result (λ map. IsOfRings (view_raw map)) }
-    ensures fault { IfErr result (IsMapFault bytes.now) }
-{
-    match read(heap, heap, bytes) {
-        Ok(map) => Ok(map),
-        Err(fault) => Err(ShowFault::Open(fault)),
-    }
-}
-
 /// The first conflict of the map that the bytes are. They are read anew: a map that is opened is taken
 /// apart.
 fn conflict_of<'a>(
     heap: Global,
     seed: RandomState,
     bytes: &'a [u8],
-) -> Result<Option<Conflict>, ShowFault<'a>>
-    ensures { IfErr result (IsMapFault bytes.now) }
+) -> Result<Option<Conflict>, OpenFault<'a>>
+    ensures { IfErr result (λ fault. IsFault bytes.now fault) }
 {
-    let map = or_return!(read_map(heap, bytes));
+    let map = match read(heap, heap, bytes) {
+        Ok(map) => map,
+        Err(fault) => return Err(fault),
+    };
     Ok(first_conflict(heap, seed, map)?)
 }
 
 /// What is drawn of a map, as the arguments ask.
-fn view_of<'a>(
+fn view_of(
     heap: Global,
-    before: Option<&RawDoc<'a, Global>>,
-    map: &RawDoc<'a, Global>,
+    before: Option<&RawDoc<'_, Global>>,
+    map: &RawDoc<'_, Global>,
     arguments: &Arguments,
-) -> Result<View, ShowFault<'a>>
-    ensures shown { IfOk result (IsViewAsked arguments.now) }
-    ensures fault { (bytes : List ℕ) → IfErr result (IsShowFault None bytes arguments.now.part) }
+) -> Result<Result<View, NoFeature>, AllocError>
+    ensures shown { IfOk result (λ view. IfOk view (IsViewAsked arguments.now)) }
+    ensures named { IfOk result (λ view. OnErr view (IsFeaturePart arguments.now.part)) }
 {
     let all = View {
         part: None,
@@ -70,18 +62,18 @@ fn view_of<'a>(
         conflict: None,
     };
     match &arguments.part {
-        Part::Whole => Ok(all),
-        Part::Square(square) => Ok(View {
+        Part::Whole => Ok(Ok(all)),
+        Part::Square(square) => Ok(Ok(View {
             part: Some(*square),
             ..all
-        }),
+        })),
         Part::Feature(name) => match named_feature(heap, before, map, name.as_str())? {
-            Ok(Shown { part, number }) => Ok(View {
+            Ok(Shown { part, number }) => Ok(Ok(View {
                 part: Some(part),
                 feature: number,
                 ..all
-            }),
-            Err(fault) => Err(ShowFault::Feature(fault)),
+            })),
+            Err(fault) => Ok(Err(fault)),
         },
     }
 }
@@ -99,13 +91,15 @@ pub(crate) fn show<'a>(
     ensures { IfErr result (IsShowFault before.entry bytes.now arguments.now.part) }
 {
     let before = match before {
-        Some(before) => Some(or_return!(read_map(heap, before))),
+        Some(before) => Some(or_return!(read(heap, heap, before))),
         None => None,
     };
     let conflict = or_return!(conflict_of(heap, seed, bytes));
-    let map = or_return!(read_map(heap, bytes));
-    let view = or_return!(view_of(heap, before.as_ref(), &map, arguments));
-    let view = View { conflict, ..view };
+    let map = or_return!(read(heap, heap, bytes));
+    let view = match view_of(heap, before.as_ref(), &map, arguments)? {
+        Ok(view) => View { conflict, ..view },
+        Err(fault) => return Err(ShowFault::Feature(fault)),
+    };
     match &before {
         Some(before) => Ok(draw_change(heap, heap, before, &map, view, title)?),
         None => Ok(draw_map(heap, heap, &map, view, title)?),

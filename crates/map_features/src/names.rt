@@ -1,6 +1,7 @@
 // What features are called.
 ghost use Rattle.std.specs.Prelude.{◌≡◌, IfOk, option_map};
-ghost use Rattle.map_features.specs.Names.{is_called, stands_for, unquoted};
+ghost use Rattle.topo_outline.specs.Shape.{unquoted};
+ghost use Rattle.map_features.specs.Names.{bare_value, is_called, is_quoted, stands_for};
 
 use crate::shapes::Shape;
 use json_spans::{Span, TextFault, members, text};
@@ -23,13 +24,31 @@ fn first_bytes(words: &[u8]) -> &[u8] {
     &words[..end]
 }
 
-/// A JSON value without the quotes of a string.
-fn without_quotes(token: &[u8]) -> &[u8]
+/// Whether a JSON value is a string.
+fn is_quoted(token: &[u8]) -> bool
+    ensures { result ≡ is_quoted token.now }
+{
+    1 < token.len() && token[0] == b'"' && token[token.len() - 1] == b'"'
+}
+
+/// A token without its first and its last byte.
+fn without_ends(token: &[u8]) -> &[u8]
     ensures { result.now ≡ unquoted token.now }
 {
     match token {
-        [b'"', inner @ .., b'"'] => inner,
-        _ => token,
+        [] => token,
+        [_, rest @ ..] => &rest[..rest.len().saturating_sub(1)],
+    }
+}
+
+/// A JSON value without the quotes of a string.
+fn without_quotes(token: &[u8]) -> &[u8]
+    ensures { result.now ≡ bare_value token.now }
+{
+    if is_quoted(token) {
+        without_ends(token)
+    } else {
+        token
     }
 }
 
