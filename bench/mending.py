@@ -31,7 +31,7 @@ import loose_maps
 from mended import check
 
 TOP = pathlib.Path(__file__).resolve().parent.parent
-FOLDERS = TOP / "examples", TOP / "crates/saved_trials/data"
+FOLDERS = TOP / "examples", TOP / "crates/stored_runs/data"
 MOST = "4000000"
 # How many seconds a program may take.
 LIMIT = 600

@@ -10,11 +10,17 @@ taken back that are kept. Compared are
 
     every answer, refusals and pairs in conflict included,
     the rings of all features after the last command,
-    the saved map: its features in their order with their ids and rings, and that each segment
-    stands in one arc and there once, and that arcs are cut at the junctions and nowhere else.
+    the saved map: its features in their order with their ids and rings, that each segment stands in
+    one arc and there once, that arcs are cut at the junctions and nowhere else; and its bytes.
 
 The program has to stand already (`rt ci` leaves it). There is one line a run; the status is 0 where
 nothing differs. A script that differs is left beside the maps that bench.py makes, in bench/out.
+
+With `--store FOLDER` no program is run. The model answers scripts that are drawn on the maps of
+FOLDER, which is crates/stored_runs/data: the files drawn_*.txt, real_maps.txt and squares.json there
+are written, the same bytes each time, for `stored_runs` to compare. There is one line a file. They
+never come from the program; after a change of this script or of a map they are written anew, and
+`git diff` shows what changed.
 """
 import argparse
 import collections
@@ -24,6 +30,8 @@ import random
 import subprocess
 import sys
 import tempfile
+
+from saved_text import Frame, saved_text
 
 TOP = pathlib.Path(__file__).resolve().parent.parent
 LARGEST_THINNED = 3000
@@ -134,14 +142,16 @@ def joined(arcs, indexes):
 
 
 class Model:
-    """A map as plain rings, by feature, polygon and ring, with counts of each segment's rings; the features' ids, and
-    their numbers in the order of the text; and the documents from before the newest changes."""
+    """A map as plain rings, by feature, polygon and ring, with counts of each segment's rings; the features' ids as
+    texts, and their numbers in the order of the text; and the documents from before the newest changes."""
 
-    def __init__(self, topology, depth=1):
+    def __init__(self, text, depth=1):
         self.features, self.layers, self.next = {}, set(), 0
         self.segments, self.places = {}, {}
-        self.ids, self.order = {}, []
+        self.frame, self.order = Frame(text), []
+        self.ids = dict(self.frame.ids)
         self.past = collections.deque(maxlen=depth)
+        topology = json.loads(text)
         arcs = arcs_of(topology)
         for geometry in topology["objects"].values():
             self.read(arcs, geometry, True)
@@ -156,7 +166,6 @@ class Model:
             if is_layer:
                 self.layers.add(self.next)
             self.put(self.next, [[joined(arcs, indexes) for indexes in rings] for rings in polygons])
-            self.ids[self.next] = geometry.get("id")
             self.order.append(self.next)
             self.next += 1
 
@@ -168,14 +177,14 @@ class Model:
         for name, ring in self.rings_at(number):
             self.add(name, ring)
 
-    def document(self):
+    def copy(self):
         """A copy of what the map means."""
         features = {number: [list(rings) for rings in polygons] for number, polygons in self.features.items()}
         return Document(features, set(self.layers), dict(self.ids), list(self.order))
 
     def shown(self):
         """The features in the order of the text, with their ids and rings."""
-        return [(self.ids[number], self.features[number]) for number in self.order]
+        return [(json.loads(self.ids[number] or "null"), self.features[number]) for number in self.order]
 
     def take_out(self, number):
         """A feature leaves the map."""
@@ -325,7 +334,8 @@ class Model:
         kept = self.take(number)
         self.put(number, kept[: cut[0]] + parts[:1] + kept[cut[0] + 1 :])
         self.put(self.next, parts[1:])
-        self.ids[self.next] = name
+        self.ids[self.next] = json.dumps(name, ensure_ascii=False)
+        self.frame.put_after(number, self.next)
         self.order.insert(self.order.index(number) + 1, self.next)
         self.next += 1
         return f"ok {self.next - 1}"
@@ -358,7 +368,7 @@ class Model:
 
     def rename(self, number, name):
         self.polygons(number)
-        self.ids[number] = name
+        self.ids[number] = json.dumps(name, ensure_ascii=False)
         return "ok"
 
     def delete(self, number):
@@ -396,6 +406,9 @@ class Model:
         inside = [n for n, it in sorted(self.features.items()) if n not in border and any(holds(rings, p) for rings in it)]
         return "inside:{} border:{}".format(*("".join(f" {n}" for n in some) for some in (inside, border)))
 
+    def document(self):
+        return saved_text(self.frame, self.features, self.ids, self.is_junction)
+
     def count(self):
         return f"features {len(self.features)} vertices {len(self.places)} segments {len(self.segments)}"
 
@@ -405,8 +418,14 @@ class Model:
 class Drawing:
     """Draws commands that a map may take, and some that it must refuse."""
 
-    def __init__(self, model, rand):
+    # how often each word comes, and the bounds of thinnings
+    WORDS = {"split": 30, "merge": 18, "delete": 2, "rename": 2, "move": 20, "insert": 12, "remove": 12, "undo": 24,
+             "thin": 1, "area": 4, "neighbours": 3, "rings": 3, "at": 3, "count": 1}
+    BOUNDS = (0, 10**6, 10**12, 10**14)
+
+    def __init__(self, model, rand, words=None):
         self.model, self.rand = model, rand
+        self.words = words or self.WORDS
 
     def feature(self):
         if self.rand.random() < 0.03 or not self.model.features:
@@ -466,17 +485,39 @@ class Drawing:
 
     def command(self):
         """A command's word and what it is given."""
-        words = {
-            "split": 30, "merge": 18, "delete": 2, "rename": 2, "move": 20, "insert": 12, "remove": 12, "undo": 24,
-            "thin": len(self.model.places) < LARGEST_THINNED, "area": 4, "neighbours": 3, "rings": 3, "at": 3, "count": 1,
-        }
+        words = dict(self.words)
+        if len(self.model.places) >= LARGEST_THINNED:
+            words.pop("thin", None)
         word = self.rand.choices(list(words), list(words.values()))[0]
         given = {
             "split": self.split, "merge": self.merge, "move": self.move, "insert": self.insert, "at": self.at, "count": tuple,
             "undo": tuple, "remove": lambda: (self.edge()[0],), "rename": lambda: (self.feature(), self.name()),
-            "thin": lambda: (self.rand.choice((0, 10**6, 10**12, 10**14)),),
+            "thin": lambda: (self.rand.choice(self.BOUNDS),),
         }
         return word, given.get(word, lambda: (self.feature(),))()
+
+
+class SmallDrawing(Drawing):
+    """Draws on a map of a few dozen units."""
+
+    BOUNDS = range(6)
+
+    def near(self, a, b):
+        """A position a few units from a, or anywhere."""
+        if self.rand.random() < 0.8:
+            return a[0] + self.rand.randint(-3, 3), a[1] + self.rand.randint(-3, 3)
+        return self.rand.randint(-2, 27), self.rand.randint(-2, 17)
+
+
+class CornerDrawing(Drawing):
+    """Draws paths that mostly cut off a corner."""
+
+    def path(self, ring):
+        at, is_far = self.rand.randrange(len(ring)), self.rand.random() < 0.25
+        ahead = self.rand.randrange(len(ring)) if is_far else 2
+        a, c, b = (ring[n % len(ring)] for n in (at, at + 1, at + ahead))
+        middle = tuple((a[k] + b[k] + 2 * c[k]) // 4 for k in (0, 1))
+        return [a, b] if self.rand.random() < 0.25 else [a, middle, b]
 
 
 def line_of(word, given):
@@ -490,7 +531,7 @@ def line_of(word, given):
 
 def answer_of(model, word, given):
     """The model's answer; it keeps the document from before a change."""
-    before = model.document() if word in EDITS else None
+    before = model.copy() if word in EDITS else None
     try:
         answer = getattr(model, word)(*given)
     except Refused as why:
@@ -512,15 +553,16 @@ def ends_well(model, arc):
 
 def saved_fault(model, saved):
     """What is wrong with the saved map, or None."""
-    topology = json.loads(saved)
-    again = Model(topology)
+    again = Model(saved)
     if again.shown() != model.shown():
         return "the features that were saved differ"
-    arcs = arcs_of(topology)
+    arcs = arcs_of(json.loads(saved))
     segments = [segment(a, b) for arc in arcs for a, b in zip(arc, arc[1:])]
     if len(segments) != len({*segments}) or {*segments} != {*model.segments}:
         return "a border does not stand once"
-    return None if all(ends_well(model, arc) for arc in arcs) else "an arc is not cut at the junctions alone"
+    if not all(ends_well(model, arc) for arc in arcs):
+        return "an arc is not cut at the junctions alone"
+    return None if saved == model.document() else "the bytes that were saved differ"
 
 
 class Script:
@@ -537,10 +579,16 @@ class Script:
         for number in sorted(self.model.features):
             self.give("rings", number)
 
+    def ask_changed(self, before):
+        """The rings of the features that are new, or have others than before."""
+        for number in sorted(self.model.features):
+            if self.model.features[number] != before.get(number):
+                self.give("rings", number)
+
 
 def drawn_script(path, seed, count, depth):
     """A drawn script, and the model after it."""
-    model = Model(json.loads(path.read_bytes()), depth)
+    model = Model(path.read_text(encoding="utf-8"), depth)
     drawing, script = Drawing(model, random.Random(seed)), Script(model)
     for _ in range(count):
         if len(model.features) < 2:
@@ -569,7 +617,7 @@ def compared(program, path, seed, count, depth):
         words = [program, path, script, "--out", saved, "--undo", str(depth)]
         done = subprocess.run(words, capture_output=True, text=True)
         told = done.stdout.splitlines()
-        fault = done.stderr.strip() or saved_fault(model, saved.read_bytes())
+        fault = done.stderr.strip() or saved_fault(model, saved.read_text(encoding="utf-8"))
     differ = next((n for n, (a, b) in enumerate(zip(told, answers)) if a != b), None)
     if differ is not None:
         fault = f"line {differ + 1}, {lines[differ]!r}: {told[differ]!r}, and by the model {answers[differ]!r}"
@@ -586,15 +634,113 @@ def compared(program, path, seed, count, depth):
     return f"{path.name} seed {seed} depth {depth}: {counts}: {fault or 'the same'}", not fault
 
 
+# ---- stored runs
+
+VERTICES = {"move": 36, "insert": 24, "remove": 24, "thin": 2, "area": 2, "neighbours": 2, "rings": 2, "count": 1}
+FEATURES = {"split": 56, "merge": 40, "delete": 3}
+QUESTIONS = {"area": 4, "neighbours": 4, "at": 8}
+
+# A drawn case: the map, the seed, how many commands, how many changes are kept, and how they are drawn.
+Case = collections.namedtuple("Case", "map seed count depth words kind", defaults=(None, Drawing))
+SMALL_MAPS = "union above", "holes", "two runs", "cells"
+REAL_MAPS = "columbus.json", "boston-tracts.json", "ny8-tracts.json", "ne-countries50.json"
+STORED = {
+    "drawn_vertices.txt": [
+        *(Case(name, seed, 330, 100, VERTICES, SmallDrawing) for name in SMALL_MAPS for seed in (0, 1)),
+        Case("cells", 2, 100, 100, {**VERTICES, "at": 20}, SmallDrawing),
+        Case("columbus.json", 20, 300, 100, {**VERTICES, "at": 4}),
+    ],
+    "drawn_features.txt": [Case("squares.json", 1, 1000, 100, FEATURES, CornerDrawing)],
+    "drawn_undos.txt": [Case("columbus.json", 2, 1100, 50)],
+    "drawn_commands.txt": [Case(name, seed, 300, 10) for name in REAL_MAPS[:3] for seed in (3, 4)],
+    "real_maps.txt": [Case(name, 5, 20, 1, QUESTIONS) for name in REAL_MAPS],
+}
+HEADING = "== Drawn commands. The answers are those of the model of bench/second_opinion.py, which writes this file.\n"
+# A longer saved text is stored as its length and sum.
+LONGEST_STORED = 4000
+
+
+def squares_text(columns, side):
+    """A map of squares in rows and columns, each with an arc of its own."""
+    numbers = range(columns * columns)
+    features = ",".join(f'{{"type":"Polygon","id":{n},"arcs":[[{n}]]}}' for n in numbers)
+    corners = [(n % columns * side, n // columns * side) for n in numbers]
+    arcs = [[[x, y], [x + side, y], [x + side, y + side], [x, y + side], [x, y]] for x, y in corners]
+    head = '{"type":"Topology","objects":{"m":{"type":"GeometryCollection","geometries":[' + features + "]}},"
+    return head + '"arcs":' + json.dumps(arcs, separators=(",", ":")) + "}"
+
+
+def sum_of(text):
+    """The sum of a text by the way of Fowler, Noll and Vo (FNV-1a, 64 bits)."""
+    total = 0xCBF29CE484222325
+    for byte in text.encode():
+        total = (total ^ byte) * 0x100000001B3 % 2**64
+    return total
+
+
+def stored_case(case, text):
+    """A case as stored_runs reads it, and the script."""
+    model = Model(text, case.depth)
+    before = model.copy().features
+    drawing, script = case.kind(model, random.Random(f"{case.map} {case.seed}"), case.words), Script(model)
+    for n in range(case.count):
+        script.give(*[it for part in [drawing.command()] for it in (part[0], *part[1])])
+        if case.kind is SmallDrawing and n % 20 == 19:
+            script.ask_rings()
+    if case.kind is SmallDrawing:
+        for _ in range(10):
+            script.give("at", *drawing.at())
+    are_few = len(model.places) < LARGEST_THINNED
+    if are_few:
+        script.ask_changed(before)
+    if case.words is None:
+        for _ in range(len(model.past) + 1):
+            script.give("undo")
+    script.give("count")
+    saved = model.document()
+    refused = sum(answer.startswith("refused") for answer in script.answers)
+    rows = [f"# {case.map}, seed {case.seed}", f"map: {case.map}", f"keeps: {case.depth}"]
+    rows += [f"{line} => {answer}" for line, answer in zip(script.lines, script.answers)]
+    rows += [f"saved: {saved}"] if len(saved) <= LONGEST_STORED else []
+    rows += [f"sum: {len(saved.encode())} bytes, {sum_of(saved):016x}"]
+    rows += [f"end: answered {len(script.answers)}, refused {refused}"]
+    return "".join(f"{row}\n" for row in rows), script
+
+
+def store(folder):
+    """Writes the stored runs that the model answers."""
+    (folder / "squares.json").write_text(squares_text(12, 10**6) + "\n", encoding="utf-8")
+    rows = (folder / "maps.txt").read_text(encoding="utf-8").splitlines()
+    named = dict(row.split(" = ", 1) for row in rows if " = " in row)
+    for name, cases in STORED.items():
+        texts, answers, counts = [], [], collections.Counter()
+        for case in cases:
+            text = named.get(case.map) or (folder / case.map).read_text(encoding="utf-8")
+            text, script = stored_case(case, text)
+            texts.append(text)
+            answers += script.answers
+            done = (line.split()[0] for line, answer in zip(script.lines, script.answers) if not answer.startswith("refused"))
+            counts.update(done)
+        (folder / name).write_text(HEADING + "\n".join(texts), encoding="utf-8")
+        refused = sum(answer.startswith("refused") for answer in answers)
+        told = ", ".join(f"{count} {word}" for word, count in sorted(counts.items()))
+        print(f"{name}: {len(cases)} cases, {len(answers)} answers, {refused} refused, {told}", flush=True)
+
+
 def main():
     parser = argparse.ArgumentParser(description=__doc__, formatter_class=argparse.RawDescriptionHelpFormatter)
-    parser.add_argument("map", nargs="+", type=pathlib.Path)
+    parser.add_argument("map", nargs="*", type=pathlib.Path)
     program = TOP / "crates" / "border_edit" / "out" / "border_edit"
     parser.add_argument("--program", default=program, help="the executable (%(default)s)")
     parser.add_argument("--seeds", type=int, default=4, help="how many scripts are drawn for each map (%(default)s)")
     parser.add_argument("--lines", type=int, default=600, help="how many commands a script has (%(default)s)")
     parser.add_argument("--undo", type=int, help="how many changes are kept; drawn for each script where it is not given")
+    parser.add_argument("--store", type=pathlib.Path, metavar="FOLDER", help="write the stored runs; no program is run")
     options = parser.parse_args()
+    if options.store:
+        return store(options.store)
+    if not options.map:
+        parser.error("a map is wanted, or --store")
     all_well = True
     for path in options.map:
         for seed in range(options.seeds):

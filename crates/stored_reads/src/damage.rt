@@ -12,7 +12,7 @@ pub(crate) enum Reader {
     Opening,
 }
 
-/// Appends a place behind the text's start: `end`, or how many bytes it is behind this one.
+/// Appends a place after the text's start: `end`, or how many bytes it is after this one.
 fn put_place(out: &mut String, text: &[u8], from: usize, place: usize) -> Result<(), AllocError> {
     if place == text.len() {
         return out.push_str("end");
@@ -44,7 +44,7 @@ fn put_opened(out: &mut String, alloc: Global, text: &[u8], from: usize) -> Resu
 }
 
 impl Reader {
-    /// What is said of the text. Places are told from this one on.
+    /// What is said of the text. Places are reported from this one on.
     fn answer(self, alloc: Global, text: &[u8], from: usize) -> Result<String, AllocError> {
         let mut out = String::new(alloc);
         match self {

@@ -1,5 +1,5 @@
-//! A test: the texts of `data/`, and what the scanner and the readers answer to each. An answer that is not the
-//! stored one is told, and each family of texts with the count of them.
+//! A test: the texts of `data/`, and what the scanner and the readers answer to each. An answer that is
+//! not the stored one is reported, and each family of texts with the count of them.
 #![tactic(auto)]
 
 mod damage;

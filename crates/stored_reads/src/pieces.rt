@@ -14,7 +14,8 @@ fn byte_of(high: u8, low: u8) -> Option<u8> {
     Some(digit(high)?.wrapping_mul(16).wrapping_add(digit(low)?))
 }
 
-/// Appends what stands between two percent signs: behind the first of them a byte is named by two digits.
+/// Appends what stands between two percent signs: after the first of them a byte is named by two
+/// digits.
 fn put_coded(out: &mut Vec<u8>, part: &[u8]) -> Result<(), AllocError> {
     if let [high, low, rest @ ..] = part {
         if let Some(byte) = byte_of(*high, *low) {

@@ -48,7 +48,7 @@ impl Runs {
         write!(self.told, "{first}-{} ", self.last)
     }
 
-    /// Appends the last run, if its answer is told: its keys, and its answer.
+    /// Appends the last run, if its answer is reported: its keys, and its answer.
     fn end(&mut self) -> Result<(), AllocError> {
         let Some(first) = self.first else {
             return Ok(());
@@ -75,7 +75,7 @@ impl Runs {
         Ok(())
     }
 
-    /// All runs that are told.
+    /// All runs that are reported.
     pub(crate) fn finish(mut self) -> Result<String, AllocError> {
         self.end()?;
         if self.told.is_empty() {

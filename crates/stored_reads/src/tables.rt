@@ -209,7 +209,7 @@ impl<'t> Table<'t> {
     }
 }
 
-/// Appends what is told of the families of a file, and gives the counts of its texts.
+/// Appends what is reported of the families of a file, and gives the counts of its texts.
 pub(crate) fn told(
     alloc: Global,
     door: Door,

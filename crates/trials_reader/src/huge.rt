@@ -10,7 +10,7 @@ use std::process::Abort;
 /// The most bytes of a text.
 const MAX_BYTES: usize = 67_108_864;
 
-/// What it shows, a text of pieces, each so many times, and what its opening is told.
+/// What it shows, a text of pieces, each so many times, and what its opening is reported.
 type Row = (
     &'static str,
     &'static [(&'static [u8], usize)],
@@ -59,7 +59,7 @@ const LONG_PARTS: &[Row] = &[
     ),
 ];
 
-/// That the opening of the text, on a heap of this size, is told so.
+/// That the opening of the text, on a heap of this size, is reported so.
 fn row_tells_within<R: Abort>(rt: &R, alloc: Global, size: usize, row: &Row) {
     let (what, pieces, want) = row;
     let text = text_of(rt, alloc, pieces);
@@ -194,7 +194,7 @@ const AT_LIMITS: &[Row] = &[
     ),
 ];
 
-/// That the opening of the text is told so.
+/// That the opening of the text is reported so.
 fn row_tells<R: Abort>(rt: &R, alloc: Global, (what, pieces, want): &Row) {
     let text = text_of(rt, alloc, pieces);
     holds(rt, what, is_told(rt, alloc, alloc, text.as_slice(), want));
@@ -239,7 +239,7 @@ const OF_ONE_HASH: Round = (
     8,
 );
 
-/// That the opening of the text of so many numbers is told so.
+/// That the opening of the text of so many numbers is reported so.
 fn numbers_tell<R: Abort>(rt: &R, alloc: Global, round: &Round, count: usize, want: &str) {
     let text = numbers(rt, alloc, round, count);
     holds(rt, want, is_told(rt, alloc, alloc, text.as_bytes(), want));

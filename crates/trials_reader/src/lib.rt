@@ -1,5 +1,5 @@
-//! Tests of reading that no file of texts holds: texts at the limits, little memory, growths that are refused, and the
-//! texts of faults that no text leads to.
+//! Tests of reading that no file of texts holds: texts at the limits, little memory, allocations that
+//! are refused, and the texts of faults that no text leads to.
 #![tactic(auto)]
 
 #[cfg(test)]

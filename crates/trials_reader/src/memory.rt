@@ -2,15 +2,16 @@
 use crate::maps::{ALL, map_of};
 use crate::told::{features, holds};
 use linked_list_allocator::LocalHeap;
-use refusing_allocator::Refusing;
 use std::alloc::{Allocator, Global};
 use std::process::Abort;
+use test_aids::Refusing;
 use topo_outline::OpenFault;
 
-/// More than the growths of any opening below.
+/// More than the allocations of any opening below.
 const MANY: u64 = 1000;
 
-/// Whether the map opens with so many features; else there is want of memory, which is its only fault.
+/// Whether the map opens with so many features; else there is allocation failure, which is its only
+/// fault.
 fn is_opened<R: Abort, A: Allocator + Copy>(
     rt: &R,
     alloc: A,
@@ -55,7 +56,7 @@ fn last_refused<R: Abort>(rt: &R, alloc: Global, map: &[u8], count: usize) -> us
     refused
 }
 
-/// From the least heap on each is too small for some growth, until they are enough.
+/// From the least heap on each is too small for some allocation, until they are enough.
 #[test]
 fn each_lesser_heap_is_refused(rt: HostRuntime) {
     for (name, count) in ALL {
@@ -64,7 +65,7 @@ fn each_lesser_heap_is_refused(rt: HostRuntime) {
     }
 }
 
-/// Whether the map opens where the growth of this number is refused. It does where there is none.
+/// Whether the map opens where the allocation of this number is refused. It does where there is none.
 fn is_opened_without<R: Abort>(rt: &R, alloc: Global, nth: u64, map: &[u8], count: usize) -> bool {
     let heap = Refusing::new(alloc, nth);
     let is_opened = is_opened(rt, &heap, alloc, map, count);
@@ -73,7 +74,7 @@ fn is_opened_without<R: Abort>(rt: &R, alloc: Global, nth: u64, map: &[u8], coun
     is_opened
 }
 
-/// How many growths the opening of a map has, each of which was refused in turn.
+/// How many allocations the opening of a map has, each of which was refused in turn.
 fn growths<R: Abort>(rt: &R, alloc: Global, map: &[u8], count: usize) -> u64 {
     for nth in 1..MANY {
         if is_opened_without(rt, alloc, nth, map, count) {

@@ -26,7 +26,7 @@ pub(crate) fn text_of<R: Abort>(rt: &R, alloc: Global, pieces: &[(&[u8], usize)]
     text
 }
 
-/// What stands before all numbers, before each, behind each, and behind all; and the least number of
+/// What stands before all numbers, before each, after each, and after all; and the least number of
 /// digits.
 pub(crate) type Round = (
     &'static str,

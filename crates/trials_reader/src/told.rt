@@ -1,4 +1,4 @@
-// How the opening of a text is told, to be compared.
+// How the opening of a text is reported, to be compared.
 use linked_list_allocator::LocalHeap;
 use std::alloc::{Allocator, Global};
 use std::process::Abort;
@@ -17,8 +17,8 @@ pub(crate) fn features<A: Allocator + Copy>(
     }
 }
 
-/// Whether the opening of the text is told so: `opened` and the number of features, or the text of the
-/// fault.
+/// Whether the opening of the text is reported so: `opened` and the number of features, or the text of
+/// the fault.
 pub(crate) fn is_told<R: Abort, A: Allocator + Copy>(
     rt: &R,
     alloc: A,
