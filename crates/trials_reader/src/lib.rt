@@ -7,6 +7,8 @@ mod faults;
 #[cfg(test)]
 mod huge;
 #[cfg(test)]
+mod kept;
+#[cfg(test)]
 mod maps;
 #[cfg(test)]
 mod memory;
