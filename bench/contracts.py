@@ -10,7 +10,7 @@ import re
 
 TOP = pathlib.Path(__file__).resolve().parent.parent
 MOST_PARAMETERS, MOST_LINES = 5, 10
-TESTS = re.compile(r"_trials$|^given_maps$|^fixed_seed$|^plain_rings$|^refusing_allocator$|^library_example$")
+TESTS = re.compile(r"_trials$|^trials_|^stored_|^test_aids$|^library_example$")
 OPENS, CLOSES = "([{<", ")]}>"
 
 

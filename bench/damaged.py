@@ -68,15 +68,15 @@ def changed(text, put):
     return saved_text(with_features(read(text), put))
 
 
-def worked_maps():
-    """The name of each worked map, and how it is mended."""
+def worked_maps(topology_of=framed):
+    """The name of each worked map, and how it is mended, where its features stand in such a topology."""
     page = re.sub(r"^#.*\n", "", WORKED.read_text(), flags=re.M).strip()
     for block in page.split("\n\n"):
         name, *rows = block.split("\n")
         before = [polygons_of(row[3:]) for row in rows if row.startswith("in")]
         after = [polygons_of(row[4:]) for row in rows if row.startswith("out")]
         report = [row for row in rows if not row.startswith(("in", "out"))]
-        text = framed(before)
+        text = topology_of(before)
 
         def put(number, feature):
             feature.polygons = (after + [[]])[number]

@@ -4,6 +4,7 @@
     links    each relative link names a file that is there, and a heading of it where it names one
     lines    `--help` and docs/FORMATS.md list the same lines of a script, and they begin with the words that
              crates/script_lines takes
+    edits    each must-fail edit that a table names after the word gate or inner is there, and is one of these
     sizes    no page of docs/ has over 250 lines, or a line over 120 columns but in a table or a block of code
     runs     each block that begins with ```sh run, in README.md, docs/TUTORIAL.md and docs/TESTED.md, is run
              at the top of a fresh clone of the last commit, one after another, and prints what the block after it
@@ -27,6 +28,7 @@ TOP = pathlib.Path(__file__).resolve().parent.parent
 MOST_LINES, MOST_COLUMNS = 250, 120
 TYPED = ["README.md", "docs/TUTORIAL.md", "docs/TESTED.md"]
 PROGRAMS = ["border_edit", "border_show", "border_mend"]
+FOLDERS = {"gate": "must-fail", "inner": "inner-edits"}
 # What ./run says of itself.
 NOTICE = re.compile(r"^programs: ")
 # The first words of a block of code, and its text.
@@ -65,6 +67,16 @@ def link_faults(page):
                 yield f"{number}: {target} is not there"
             elif anchor and anchor not in anchors(file):
                 yield f"{number}: {name} has no heading {anchor}"
+
+
+def edit_faults(page):
+    rows = [(number, line) for number, line, _ in parts(page.read_text()) if line.startswith("|")]
+    for number, row in rows:
+        folder = None
+        for kind, crate, edit in re.findall(r"\b(gate|inner)\b|`(\w+)/(\w+-\w+)`", row):
+            folder = FOLDERS.get(kind, folder)
+            if folder and edit and not (TOP / "crates" / crate / folder / f"{edit}.edit").is_file():
+                yield f"{number}: {crate}/{folder} has no edit {edit}"
 
 
 def size_faults(page):
@@ -126,6 +138,7 @@ def main():
     words.add_argument("--no-runs", action="store_true", help="links and sizes alone")
     options = words.parse_args()
     faults = [f"{page.relative_to(TOP)}:{fault}" for page in pages() for fault in link_faults(page)]
+    faults += [f"{page.relative_to(TOP)}:{fault}" for page in pages() for fault in edit_faults(page)]
     faults += [f"{page.relative_to(TOP)}:{fault}" for page in pages() if page.parent == TOP / "docs" for fault in size_faults(page)]
     faults += line_faults()
     runs = 0

@@ -42,9 +42,20 @@ FILES = {
 }
 
 # A run: the program, its arguments, its status, what is on standard error, and the folder before and after.
-# Of standard output what it begins with is looked at, and what comes then.
-FIELDS = "what program words status said before after user output"
-Row = collections.namedtuple("Row", FIELDS, defaults=({}, {}, None, None))
+# Of standard output what it begins with is looked at, and what comes then; or it fails in one of these ways.
+FIELDS = "what program words status said before after user output fails"
+Row = collections.namedtuple("Row", FIELDS, defaults=({}, {}, None, None, None))
+PIPE, FULL, MEMORY = "pipe", "full", "memory"
+# The call by which a program writes, which has no memory for standard output.
+UNWRITTEN = """#include <errno.h>
+#include <sys/syscall.h>
+#include <unistd.h>
+long write(int to, const void *bytes, unsigned long count) {
+    if (to != 1) return syscall(SYS_write, to, bytes, count);
+    errno = ENOMEM;
+    return -1;
+}
+"""
 
 # Each file that a program writes: the arguments with its path, the status, the line where it can't be written, what is
 # in it, and what else is written.
@@ -298,13 +309,37 @@ class Reader:
         return self.text
 
 
+def compiler():
+    return shutil.which("cc") or shutil.which("gcc")
+
+
+@contextlib.contextmanager
+def output_of(fails):
+    """How a run is started so that its standard output is read, or fails."""
+    with contextlib.ExitStack() as stack:
+        if fails == PIPE:
+            closed, output = os.pipe()
+            os.close(closed)
+            stack.callback(os.close, output)
+            yield {"stdout": output}
+        elif fails == FULL:
+            yield {"stdout": stack.enter_context(open("/dev/full", "wb"))}
+        elif fails == MEMORY:
+            library = pathlib.Path(stack.enter_context(tempfile.TemporaryDirectory())) / "unwritten.so"
+            subprocess.run([compiler(), "-shared", "-fPIC", "-x", "c", "-", "-o", library], input=UNWRITTEN.encode(), check=True)
+            yield {"stdout": subprocess.PIPE, "env": {**os.environ, "LD_PRELOAD": str(library)}}
+        else:
+            yield {"stdout": subprocess.PIPE}
+
+
 def ran(program, row, folder):
     """The status of a run, and what it wrote on standard output and standard error."""
     words = [word.replace("HERE", str(folder)) if isinstance(word, str) else word for word in row.words]
-    how = {"cwd": folder, "timeout": LIMIT, "stdin": subprocess.DEVNULL, "capture_output": True, "umask": 0o022}
+    how = {"cwd": folder, "timeout": LIMIT, "stdin": subprocess.DEVNULL, "stderr": subprocess.PIPE, "umask": 0o022}
     if row.user and os.getuid() == 0:
         how.update(user=row.user, group=row.user, extra_groups=[])
-    return subprocess.run([program, *words], **how)
+    with output_of(row.fails) as output:
+        return subprocess.run([program, *words], **how, **output)
 
 
 def faults(program, row):
@@ -332,7 +367,7 @@ def faults(program, row):
 
 
 def is_output(text, answers, rest):
-    return text.startswith(answers) and is_text(text[len(answers):], rest)
+    return text.startswith(answers) and (rest is None or is_text(text[len(answers):], rest))
 
 
 @contextlib.contextmanager
@@ -348,11 +383,13 @@ def lent(programs):
         yield copies
 
 
-def told(programs):
-    """Runs all rows, writes what differs, and counts the rows and those that differ."""
+def told(programs, rows):
+    """Runs rows, writes what differs, and counts the rows and those that differ."""
     count = wrong = 0
     with lent(programs) as copies:
-        for row in rows():
+        for row in rows:
+            if row.fails == MEMORY and not compiler():
+                continue
             count += 1
             found = list(faults(copies[row.program], row))
             wrong += bool(found)

@@ -124,16 +124,16 @@ def places(features, transform):
     return {"type": "Topology", **({"transform": transform} if transform else {}), "objects": layers, "arcs": arcs}
 
 
-def drawn(draw):
-    """A drawn topology, and its features as walks."""
+def drawn(draw, most=4, side=6):
+    """A drawn topology, and its features as walks: at most so many, on a grid of such a side."""
     arcs, features, geometries = [], [], []
     transform = draw.choice([None, {"scale": [0.5, 0.001], "translate": [-1.25, 50]}])
-    for _ in range(draw.randint(1, 4)):
+    for _ in range(draw.randint(1, most)):
         polygons = []
         for _ in range(draw.randint(1, 2)):
             rings = []
             for _ in range(draw.randint(1, 2)):
-                corners = [(draw.randint(0, 6), draw.randint(0, 6)) for _ in range(draw.randint(1, 5))]
+                corners = [(draw.randint(0, side), draw.randint(0, side)) for _ in range(draw.randint(1, 5))]
                 rings.append(corners + corners[:1])
             polygons.append(rings)
         features.append([[walk_of(ring) for ring in rings] for rings in polygons])

@@ -4,7 +4,8 @@
 The pictures are made by the built programs border_edit, border_show and border_mend (`rt ci` leaves
 them); others can be named. Then `--maps N` maps with drawn ids are drawn too, alone and as what an edit did. Each
 picture has to be well-formed XML with whole numbers alone, in which each feature's title is its number
-and what a model here makes of its id, and the same bytes again when it is drawn again. Damaged, deep and huge
+and what a model here makes of its id, the page that the second drawing of drawn.py makes, and the same bytes again when it
+is drawn again. `--stored` prints the page of the stored run of border_show, as the second drawing makes it. Damaged, deep and huge
 maps have to end with the fault that border_edit has for them, or, where it names a conflict, with a
 picture that names it. There is one line for each that is wrong; the status is 0 where none is.
 """
@@ -19,9 +20,12 @@ import sys
 import tempfile
 import xml.dom.minidom
 
+import drawn
+
 TOP = pathlib.Path(__file__).resolve().parent.parent
 EXAMPLES = TOP / "examples"
 PICTURES = TOP / "docs/pictures"
+STORED = TOP / "crates/border_show/data"
 
 # What is done to the map of Columbus.
 COLUMBUS = r"""move 532622 382902 545000 395000
@@ -131,6 +135,21 @@ def fault_of(bytes_, ids):
     return None if titles == wanted else f"titles {titles!r}, and not {wanted!r}"
 
 
+def second_page(folder, maps, ids):
+    """The page of a map, or of an edit, as the second drawing makes it."""
+    topologies = [drawn.read(folder / each) for each in maps]
+    names = [shown(token) for token in ids]
+    if len(maps) == 1:
+        return drawn.map_page(maps[0], topologies[0], True, names).encode()
+    return drawn.change_page(" \u2192 ".join(maps), *topologies, True, (names[1:], names)).encode()
+
+
+def stored_page():
+    """The page of the stored run of border_show."""
+    maps = ["before.json", "after.json"]
+    return drawn.change_page(" \u2192 ".join(maps), *(drawn.read(STORED / each) for each in maps), True).encode()
+
+
 def draw_maps(show, count, seed):
     """How many of so many drawn pictures are wrong."""
     draw, wrong = random.Random(seed), 0
@@ -146,6 +165,7 @@ def draw_maps(show, count, seed):
                 run(show, *(folder / each for each in maps), "--ids", "--out", folder / out)
                 bytes_.append((folder / out).read_bytes())
             fault = fault_of(bytes_[0], ids) or (None if bytes_[0] == bytes_[1] else "drawn again it differs")
+            fault = fault or (None if bytes_[0] == second_page(folder, maps, ids) else "the second drawing has another page")
             if fault:
                 wrong += 1
                 print(f"map {number}: {fault}")
@@ -201,7 +221,11 @@ def main():
     words.add_argument("--maps", type=int, default=0, help="how many maps with hostile ids are drawn")
     words.add_argument("--seed", type=int, default=1)
     words.add_argument("--no-pictures", action="store_true", help="leaves docs/pictures as it is")
+    words.add_argument("--stored", action="store_true", help="prints the stored page of border_show, and ends")
     asked = words.parse_args()
+    if asked.stored:
+        sys.stdout.buffer.write(stored_page())
+        return 0
     edit, show = os.path.abspath(asked.edit), os.path.abspath(asked.show)
     if not asked.no_pictures:
         make_pictures(edit, show, os.path.abspath(asked.mend))

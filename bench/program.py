@@ -1,16 +1,16 @@
 #!/usr/bin/env python3
-"""Runs the built program border_edit to each of its ends, and looks at FILE before and after; and runs all three programs
-on files of all kinds (bench/file_ends.py).
+"""Runs the built program border_edit to each of its ends, and looks at FILE before and after; and runs border_mend to each
+of its ends (bench/mend_ends.py), and all three programs on files of all kinds (bench/file_ends.py).
 
-The tests of the crate call what stands below `main`. Here the program itself is called: with words, on
-files, on devices that are full, with little memory, and with a terminal as standard error. Compared are
-the status, the answers, what stands on standard error, and what FILE holds at the end, and FILE2 where
-one is named; and no other file may be left.
+Tests of the crates call what `main` calls. Here the program itself is called: with arguments, on files, on devices
+that are full, with little memory, and with a terminal as standard error. The rows of bench/edit_ends.txt are run, and
+those below, of which are compared the status, the answers, what is on standard error, and what FILE holds at the end,
+and FILE2 where one is named; and no other file may be left.
 
-Without a C compiler the ends without a seed are left out, and that is said.
+Without a C compiler the ends without a seed, and those without memory for standard output, are left out, and that is said.
 
 The programs have to stand already (`rt ci` leaves them); others can be named. There is one line for
-each end that differs; the status is 0 where none does.
+each end that differs, and a last one that counts them; the status is 0 where none does.
 """
 import argparse
 import collections
@@ -20,12 +20,13 @@ import pathlib
 import pty
 import re
 import resource
-import shutil
 import subprocess
 import sys
 import tempfile
 
+import edit_ends
 import file_ends
+import mend_ends
 import running
 
 TOP = pathlib.Path(__file__).resolve().parent.parent
@@ -39,6 +40,16 @@ KEPT, SAVED = "kept", "saved"
 HELP = (TOP / "crates/edit_program/src/help.rt").read_text()
 SHARED = (TOP / "crates/program_ends/src/lib.rt").read_text()
 VERSION = "border_edit " + re.search('VERSION: &str = "(.*)"', SHARED).group(1) + "\n"
+
+# What a second line says at a terminal, after the path of the file that the first one is about.
+ADVICE = {
+    "not json": "it is cut off or damaged there, or is no JSON file",
+    "not a topology": "it is no TopoJSON topology, whose `type` is `Topology`",
+    "not whole": "`border_mend MAP --out NEW` puts its coordinates on a grid of whole numbers",
+    "conflict": "`border_mend MAP` lists all that keeps it from opening; with `--out NEW` it mends the map",
+    "read": "can it be read? Look at its name and its permissions",
+    "write": "can it be written? Look at its folder, its permissions and the space on the disk",
+}
 
 # What stands on standard error, or standard output, where its text is not fixed: something.
 SOME = object()
@@ -55,6 +66,10 @@ FILES = {
     "refused.txt": "move 1 1 2 2\narea 0\n",
     "bad.txt": "mend 1 1\n",
     "cut.json": "{",
+    "other.json": '{"type":"FeatureCollection"}',
+    "halves.json": '{"type":"Topology","objects":{"a":{"type":"Polygon","arcs":[[0]]}},"arcs":[[[0,0.5],[1,0],[1,1],[0,0.5]]]}',
+    "crossing.json": '{"type":"Topology","objects":{"a":{"type":"Polygon","arcs":[[0]]}},'
+                     '"arcs":[[[0,0],[10,10],[10,0],[0,10],[0,0]]]}',
     "long.txt": "document\n" * 100,
     "undone.txt": "move 0 0 1 1\nmove 10 10 12 12\nundo\nundo\n",
     "cut.txt": "move 10 10 12 12\narea 0",
@@ -131,11 +146,33 @@ def ends():
     yield Row("progress to no terminal", progress, 1, answers, "", SAVED)
     yield Row("no progress", progress[:-1], 1, answers, "", SAVED, terminal=True)
     unopened = words("cut.json", "refused.txt", "saved.json", "--progress")
-    said = "opening cut.json\nopen: not json at 1\n"
+    said = f"opening cut.json\nopen: not json at 1\ncut.json: {ADVICE['not json']}\n"
     yield Row("progress, not opened", unopened, 2, "", said, KEPT, terminal=True)
+    yield from advised_ends(words, listing)
 
     for map_file, script in ("squares.json", "accepted.txt"), ("none.json", "none.txt"):
         yield Row(f"no seed, {map_file}", words(map_file, script), 3, "", "no random seed\n", KEPT, unseeded=True)
+
+
+def advised_ends(words, listing):
+    """Ends at a terminal, where a second line says what can be done."""
+    refused = "refused no vertex\n200\n"
+    for map_file, status, said, advice in (
+        ("cut.json", 2, "open: not json at 1", "not json"), ("other.json", 2, "open: not a topology", "not a topology"),
+        ("halves.json", 2, "open: not whole at 79", "not whole"),
+        ("crossing.json", 2, "open: conflict 0 0 10 10 / 0 10 10 0", "conflict"), ("none.json", 3, "map fault", "read"),
+    ):
+        told = f"{said}\n{map_file}: {ADVICE[advice]}\n"
+        yield Row(f"advice, {map_file}", words(map_file, "refused.txt"), status, "", told, KEPT, terminal=True)
+    for script, out, list_file, answered, kept, said, path, advice in (
+        ("none.txt", "saved.json", "list.txt", "", KEPT, "script fault", "none.txt", "read"),
+        ("refused.txt", ".", "list.txt", refused, KEPT, "save fault", ".", "write"),
+        ("refused.txt", "saved.json", "none/list.txt", refused, SAVED, "refused fault", "none/list.txt", "write"),
+    ):
+        told = f"{said}\n{path}: {ADVICE[advice]}\n"
+        yield Row(f"advice, {said}", listing(script, list_file, out), 3, answered, told, kept, terminal=True)
+    full = words("squares.json", "refused.txt")
+    yield Row("no advice, full output", full, 3, None, "write fault\n", KEPT, output="/dev/full", terminal=True)
 
 
 def strict_ends(words):
@@ -169,14 +206,10 @@ def strict_ends(words):
     yield Row("strict, no list", strict("refused.txt", "--refused", "."), 3, refused, "refused fault\n", KEPT)
 
 
-def compiler():
-    return shutil.which("cc") or shutil.which("gcc")
-
-
 def unseeded(folder):
     """A library with which a program is given no random bytes."""
     library = folder / "unseeded.so"
-    subprocess.run([compiler(), "-shared", "-fPIC", "-x", "c", "-", "-o", library], input=UNSEEDED.encode(), check=True)
+    subprocess.run([file_ends.compiler(), "-shared", "-fPIC", "-x", "c", "-", "-o", library], input=UNSEEDED.encode(), check=True)
     return library
 
 
@@ -263,18 +296,19 @@ def main():
     words = argparse.ArgumentParser(description=__doc__.split("\n", 1)[0])
     running.add_programs(words, "edit", "show", "mend")
     programs = vars(words.parse_args())
-    count, wrong = file_ends.told(programs)
-    if not compiler():
-        print("no compiler: the ends without a seed are left out")
+    of_files = file_ends.told(programs, [*file_ends.rows(), *mend_ends.rows()])
+    count, wrong = map(sum, zip(of_files, edit_ends.told(programs["edit"])))
+    if not file_ends.compiler():
+        print("no compiler: the ends without a seed or memory are left out")
     for row in ends():
-        if row.unseeded and not compiler():
+        if row.unseeded and not file_ends.compiler():
             continue
         count += 1
         fault = faults(programs["edit"], row)
         if fault:
             wrong += 1
             print(f"{row.what}: {fault}")
-    print(f"{count} ends, {wrong} differ")
+    print(f"{count - wrong} passed, {wrong} failed")
     return 1 if wrong else 0
 
 

@@ -55,6 +55,14 @@ return [...document.querySelectorAll('text.name')].map(text => {
     return [text.textContent, box.x, box.y, box.x + box.width, box.y + box.height];
 });
 """
+# What the feature in the middle of the view is called, and how much of the greater extent of the view it takes.
+FEATURE_IN_MIDDLE = """
+const view = document.querySelector('svg > svg');
+const [x, y, width, height] = ['x', 'y', 'width', 'height'].map(name => Number(view.getAttribute(name)));
+const path = document.elementFromPoint(x + width / 2, y + height / 2);
+const box = path.getBoundingClientRect();
+return [path.querySelector('title').textContent, Math.max(box.width / width, box.height / height)];
+"""
 NUMBERS = """
 const found = [];
 for (const name of ['d', 'transform', 'viewBox', 'x', 'y', 'width', 'height', 'cx', 'cy', 'stroke-width'])
@@ -238,6 +246,28 @@ def check_title(checks, driver, show_map, folder):
     checks.that(any(text.endswith(" grid units") for text in texts), "a bar of length has its unit")
 
 
+def check_feature(checks, driver, show_map, folder, grid):
+    """A feature that is named by its id or its number takes two thirds of the view, in its middle."""
+    (folder / "map.json").write_text(json.dumps(topology_of(FEATURES, grid // 10)))
+    for text, name in ("lower", "lower"), ("1", "lower"), ("#2", "upper"):
+        subprocess.run([show_map, folder / "map.json", "--feature", text, "--out", folder / "part.svg"], check=True, timeout=120)
+        show(driver, folder / "part.svg")
+        title, share = driver.execute_script(FEATURE_IN_MIDDLE)
+        checks.that(title.endswith(f" {name}") and abs(share - 2 / 3) < 0.2, f"grid {grid:,}: {text} names {title}, {share:.2f} of the view")
+
+
+def check_no_feature(checks, show_map, folder):
+    """What names no feature, or several, is said, and no picture is made."""
+    twins = topology_of(FEATURES, 1000)
+    twins["objects"]["land"]["geometries"][1]["id"] = "upper"
+    (folder / "map.json").write_text(json.dumps(twins))
+    for text, reason in ("lower", "none has this id or number"), ("4", "none has this id or number"), ("upper", "several have this id"):
+        ran = subprocess.run([show_map, folder / "map.json", "--feature", text, "--out", folder / "none.svg"], stderr=subprocess.PIPE,
+                             timeout=120)
+        found = ran.returncode, ran.stderr.decode(), (folder / "none.svg").exists()
+        checks.that(found == (1, f"no feature: {reason}\n", False), f"--feature {text}: {found}")
+
+
 def table(driver):
     """The rows of the list of changes, by the lines that the texts stand in."""
     rows = driver.execute_script("return [...document.querySelectorAll('svg > text')].map(text => "
@@ -300,7 +330,9 @@ def main():
             folder = pathlib.Path(name)
             for grid in GRIDS:
                 check_grid(checks, driver, show_map, folder, grid)
+                check_feature(checks, driver, show_map, folder, grid)
             check_title(checks, driver, show_map, folder)
+            check_no_feature(checks, show_map, folder)
             for what, edit, rows, filled in EDITS:
                 check_edit(checks, driver, show_map, folder, edit, rows, filled, what)
     finally:

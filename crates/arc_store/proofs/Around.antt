@@ -14,7 +14,7 @@ use Rattle.ring_store.specs.declared.neighbours.Neighbours.TheVariants as Neighb
 use Rattle.ring_store.specs.declared.neighbours.Neighbours.TheVariants.{One, More}
 use Rattle.ring_store.specs.Common.{Joined, Three, Passes, AreNeighbours}
 use Rattle.vertex_index.specs.Common.{place}
-use Rattle.feature_exchange.specs.Common.{Stored, positions_along, document_of, IsWhole}
+use Rattle.feature_exchange.specs.Common.{Stored, positions_along, stored_document, IsWhole}
 use Rattle.ring_store.proofs.Common.{IsKept, place_is, place_kept, one_key, times_edge, edge_times}
 use Rattle.ring_store.proofs.Common.{edge_ends, of_canonical}
 use Rattle.feature_exchange.proofs.Common.{joined_apart, Laid, begin_kept, segment_between, joined_back, key_vertex}
@@ -30,7 +30,7 @@ use Rattle.arc_store.proofs.RingEdits.{BegunAt, edge_on, edge_back, sides_differ
 -- keys whose positions are the ends of a segment of the map are joined
 pub segment_joined : (s : Stored) (w : IsWhole s) (j k : ℕ) (a b : Position)
     → table.get s.places j ≡ Some a → table.get s.places k ≡ Some b
-    → is_segment (document_of s) (segment a b) ≡ true → Joined s.rings j k
+    → is_segment (stored_document s) (segment a b) ≡ true → Joined s.rings j k
 segment_joined s w j k a b e f h =
     let t = segment_between s w (segment a b) h in
     by t.a t.b t.joined (same_ends (place s.places t.a, place s.places t.b) (a, b) (sym t.is))
@@ -51,7 +51,7 @@ segment_joined s w j k a b e f h =
 
 -- the ends of a segment differ
 pub segment_differs : (s : Stored) (w : IsWhole s) (a b : Position)
-    → is_segment (document_of s) (segment a b) ≡ true → a ≢ b
+    → is_segment (stored_document s) (segment a b) ≡ true → a ≢ b
 segment_differs s w a b h e =
     let t = segment_between s w (segment a b) h in
     elim (same_ends (place s.places t.a, place s.places t.b) (a, b) (sym t.is)) [
@@ -61,9 +61,9 @@ segment_differs s w a b h e =
 
 -- the two segments that a new position between a and b has are segments, are two, and are new
 pub come_over : (s : Stored) (w : IsWhole s) (a b q : Position)
-    → is_segment (document_of s) (segment a b) ≡ true → is_vertex (document_of s) q ≡ false
-    → Comes (document_of s) (segment a q) (segment q b)
-come_over s w a b q h free = segments_come (document_of s) a b q (segment_differs s w a b h) h free
+    → is_segment (stored_document s) (segment a b) ≡ true → is_vertex (stored_document s) q ≡ false
+    → Comes (stored_document s) (segment a q) (segment q b)
+come_over s w a b q h free = segments_come (stored_document s) a b q (segment_differs s w a b h) h free
 
 -- a key without a position is joined to none
 pub none_joined : (s : Stored) (w : IsWhole s) (n : ℕ) → table.get s.places n ≡ None → (x : ℕ)
@@ -77,10 +77,10 @@ abbrev pub AreTwo : Stored → ℕ → ℕ → ℕ → Type 0
 AreTwo s m j k = (j ≢ k) × ((x : ℕ) → Joined s.rings m x ↔ ((x ≡ j) ⊎ (x ≡ k)))
 
 module _ (s : Stored) (w : IsWhole s) (m : ℕ) (p : Position) (here : table.get s.places m ≡ Some p) where
-  pub are_rings : AreRings (document_of s)
+  pub are_rings : AreRings (stored_document s)
   are_rings = document_ring s w
 
-  pub is_there : is_vertex (document_of s) p ≡ true
+  pub is_there : is_vertex (stored_document s) p ≡ true
   is_there = key_vertex s w m p here
 
   p_is : place s.places m ≡ p
@@ -96,7 +96,7 @@ module _ (s : Stored) (w : IsWhole s) (m : ℕ) (p : Position) (here : table.get
     pub is_x : place s.places x ≡ t.x
     pub is_y : place s.places y ≡ t.y
 
-  pub sides_of : (ring : List Position) → In ring (rings (document_of s)) → (t : BegunAt p ring) → Sides ring t
+  pub sides_of : (ring : List Position) → In ring (rings (stored_document s)) → (t : BegunAt p ring) → Sides ring t
   sides_of ring h t =
       let d = ring_distinct ring (are_rings ring h) in
       let l = laid_ring s w ring h in
@@ -120,12 +120,12 @@ module _ (s : Stored) (w : IsWhole s) (m : ℕ) (p : Position) (here : table.get
     pub apart : x ≢ y
     pub joined_x : Joined s.rings m x
     pub joined_y : Joined s.rings m y
-    pub around_it : In (segment (place s.places x) (place s.places y)) (around (document_of s) p)
+    pub around_it : In (segment (place s.places x) (place s.places y)) (around (stored_document s) p)
 
   pub joined_pair : Pair
   joined_pair =
-      let r = any_in (λ ring. has ring p) (rings (document_of s)) is_there in
-      let t = begun_there (document_of s) p are_rings r.0 r.1 r.2 in
+      let r = any_in (λ ring. has ring p) (rings (stored_document s)) is_there in
+      let t = begun_there (stored_document s) p are_rings r.0 r.1 r.2 in
       let i = sides_of r.0 r.1 t in
       let u = spot_of p r.0 (are_rings r.0 r.1) t in
       let is = spot_is p r.0 (ring_distinct r.0 (are_rings r.0 r.1)) t u.0 u.1 in
@@ -135,14 +135,14 @@ module _ (s : Stored) (w : IsWhole s) (m : ℕ) (p : Position) (here : table.get
         apart = i.apart;
         joined_x = i.joined_x;
         joined_y = i.joined_y;
-        around_it = subst (λ z. In z (around (document_of s) p)) (is ∙ ap₂ segment (sym i.is_x) (sym i.is_y)) (place_around (document_of s) r.0 p u.0 r.1 u.1);
+        around_it = subst (λ z. In z (around (stored_document s) p)) (is ∙ ap₂ segment (sym i.is_x) (sym i.is_y)) (place_around (stored_document s) r.0 p u.0 r.1 u.1);
       }
 
   -- ---- two
 
   -- in each ring these two are the neighbours
   pub two_ways : (j k : ℕ) → AreTwo s m j k → (ring : List Position)
-      → In ring (rings (document_of s)) → (t : BegunAt p ring)
+      → In ring (rings (stored_document s)) → (t : BegunAt p ring)
       → ((t.x ≡ place s.places j) × (t.y ≡ place s.places k)) ⊎ ((t.x ≡ place s.places k) × (t.y ≡ place s.places j))
   two_ways j k two ring h t =
       let i = sides_of ring h t in
@@ -156,32 +156,32 @@ module _ (s : Stored) (w : IsWhole s) (m : ℕ) (p : Position) (here : table.get
       by i (inr u) (inr v) = absurd (i.apart (u ∙ sym v))
 
   pub two_sides : (j k : ℕ) → AreTwo s m j k
-      → HasSides (document_of s) p (segment (place s.places j) (place s.places k))
+      → HasSides (stored_document s) p (segment (place s.places j) (place s.places k))
   two_sides j k two ring h t = elim (two_ways j k two ring h t) [
     | inl u ↦ ap₂ segment u.0 u.1
     | inr u ↦ ap₂ segment u.0 u.1 ∙ segment-comm (place s.places k) (place s.places j)
   ]
 
   -- their segment is all that stands around m
-  pub around_two : (j k : ℕ) → AreTwo s m j k → (t : Segment) → In t (around (document_of s) p)
+  pub around_two : (j k : ℕ) → AreTwo s m j k → (t : Segment) → In t (around (stored_document s) p)
       → t ≡ segment (place s.places j) (place s.places k)
-  around_two j k two = around_is (document_of s) p are_rings (segment (place s.places j) (place s.places k)) (two_sides j k two) is_there
+  around_two j k two = around_is (stored_document s) p are_rings (segment (place s.places j) (place s.places k)) (two_sides j k two) is_there
 
   pub bridged_two : (j k : ℕ) → AreTwo s m j k
-      → is_bridged (document_of s) p ≡ is_segment (document_of s) (segment (place s.places j) (place s.places k))
-  bridged_two j k two = bridged_by (document_of s) p are_rings (segment (place s.places j) (place s.places k)) (two_sides j k two) is_there
+      → is_bridged (stored_document s) p ≡ is_segment (stored_document s) (segment (place s.places j) (place s.places k))
+  bridged_two j k two = bridged_by (stored_document s) p are_rings (segment (place s.places j) (place s.places k)) (two_sides j k two) is_there
 
   -- a removal of m sweeps over what the triangle of the three holds
   pub sweeps_two : (j k : ℕ) → AreTwo s m j k
       → let t = segment (place s.places j) (place s.places k) in
-      remove_sweeps (document_of s) p ≡ holds_other (document_of s) (t.lo ∷ p ∷ t.hi ∷ []) t.lo p t.hi
-  sweeps_two j k two = sweeps_by (document_of s) p are_rings (segment (place s.places j) (place s.places k)) (two_sides j k two) is_there
+      remove_sweeps (stored_document s) p ≡ holds_other (stored_document s) (t.lo ∷ p ∷ t.hi ∷ []) t.lo p t.hi
+  sweeps_two j k two = sweeps_by (stored_document s) p are_rings (segment (place s.places j) (place s.places k)) (two_sides j k two) is_there
 
   -- without m the segments at it go, and that of the two comes
   pub segments_two : (j k : ℕ) → AreTwo s m j k → (t : Segment)
-      → is_segment (del (document_of s) p) t
-      ≡ ((is_segment (document_of s) t && not (is_end p t)) || segment_eq t (segment (place s.places j) (place s.places k)))
-  segments_two j k two = segments_del (document_of s) p are_rings (segment (place s.places j) (place s.places k)) (two_sides j k two) is_there
+      → is_segment (del (stored_document s) p) t
+      ≡ ((is_segment (stored_document s) t && not (is_end p t)) || segment_eq t (segment (place s.places j) (place s.places k)))
+  segments_two j k two = segments_del (stored_document s) p are_rings (segment (place s.places j) (place s.places k)) (two_sides j k two) is_there
 
   -- and that is a segment
   pub bridge_two : (j k : ℕ) → AreTwo s m j k → IsSegment (segment (place s.places j) (place s.places k))
@@ -191,7 +191,7 @@ module _ (s : Stored) (w : IsWhole s) (m : ℕ) (p : Position) (here : table.get
       two_positions (place s.places j) (place s.places k) (λ e. two.0 (one_key s.places w.distinct j k kept_j kept_k e))
 
   -- the two are not joined themselves, where the map has not their segment
-  pub unbridged_two : (j k : ℕ) → AreTwo s m j k → is_bridged (document_of s) p ≡ false
+  pub unbridged_two : (j k : ℕ) → AreTwo s m j k → is_bridged (stored_document s) p ≡ false
       → ¬ Joined s.rings j k
   unbridged_two j k two h g = false≢true (sym h ∙ bridged_two j k two ∙ joined_segment s w j k g)
 
@@ -200,12 +200,12 @@ module _ (s : Stored) (w : IsWhole s) (m : ℕ) (p : Position) (here : table.get
   two_apart j k two =
       (two.0, λ e. joined_differ s w m j ((two.1 j).1 (inl refl)) (sym e), λ e. joined_differ s w m k ((two.1 k).1 (inr refl)) (sym e))
 
-  pub two_no_junction : (j k : ℕ) → AreTwo s m j k → is_junction (document_of s) p ≡ false
-  two_no_junction j k two = no_junction (document_of s) p are_rings (segment (place s.places j) (place s.places k)) (two_sides j k two) is_there
+  pub two_no_junction : (j k : ℕ) → AreTwo s m j k → is_junction (stored_document s) p ≡ false
+  two_no_junction j k two = no_junction (stored_document s) p are_rings (segment (place s.places j) (place s.places k)) (two_sides j k two) is_there
 
   -- ---- and only two
 
-  pub single_two : is_junction (document_of s) p ≡ false → (j : ℕ) × (k : ℕ) × AreTwo s m j k
+  pub single_two : is_junction (stored_document s) p ≡ false → (j : ℕ) × (k : ℕ) × AreTwo s m j k
   single_two h =
       let u = joined_pair in
       (u.x, u.y, (u.apart, λ z. (only u z, λ e. elim e [ inl f ↦ subst (Joined s.rings m) (sym f) u.joined_x | inr f ↦ subst (Joined s.rings m) (sym f) u.joined_y ])))
@@ -213,7 +213,7 @@ module _ (s : Stored) (w : IsWhole s) (m : ℕ) (p : Position) (here : table.get
       only : (u : Pair) (z : ℕ) → Joined s.rings m z → (z ≡ u.x) ⊎ (z ≡ u.y)
       only u z g =
           let a = joined_around s w m p here z g in
-          let same = all_equal_in (around (document_of s) p) (not-false (all_equal (around (document_of s) p)) h) a.0 (segment (place s.places u.x) (place s.places u.y)) a.1 u.around_it in
+          let same = all_equal_in (around (stored_document s) p) (not-false (all_equal (around (stored_document s) p)) h) a.0 (segment (place s.places u.x) (place s.places u.y)) a.1 u.around_it in
           let kept = (joined_kept s w m z g).1 in
           elim (end_of_two (place s.places z) (place s.places u.x) (place s.places u.y) (ap (is_end (place s.places z)) (sym same) ∙ end_is (place s.places z) a.0 a.2)) [
             | inl e ↦ inl (one_key s.places w.distinct z u.x kept (joined_kept s w m u.x u.joined_x).1 e)
@@ -221,7 +221,7 @@ module _ (s : Stored) (w : IsWhole s) (m : ℕ) (p : Position) (here : table.get
           ]
 
   -- and is one where there are more
-  pub three_junction : Three s.rings m → is_junction (document_of s) p ≡ true
+  pub three_junction : Three s.rings m → is_junction (stored_document s) p ≡ true
   three_junction t = true_from_ne_false _ (λ h. let u = single_two h in among u.0 u.1 u.2)
     where
       among : (j k : ℕ) → AreTwo s m j k → ⊥
@@ -246,7 +246,7 @@ module _ (s : Stored) (w : IsWhole s) (m : ℕ) (p : Position) (here : table.get
       let u = joined_pair in
       u.apart ((h u.x).0 u.joined_x ∙ sym ((h u.y).0 u.joined_y))
 
-  pub neighbours_more : AreNeighbours s.rings m More → is_junction (document_of s) p ≡ true
+  pub neighbours_more : AreNeighbours s.rings m More → is_junction (stored_document s) p ≡ true
   neighbours_more h = three_junction h
 
   -- ---- long rings

@@ -5,7 +5,7 @@ use Rattle.grid_geometry.specs.Common.{Position, position}
 use Rattle.ring_machine.specs.Common.{canonical, DocumentOf, FeatureOf, Polygon, Leaf}
 use Rattle.vertex_index.specs.Common.{Placement, place}
 use Rattle.arc_tables.specs.Common.{Edge, Rings, edges, begins}
-use Rattle.feature_exchange.specs.Common.{Stored, positions_along, ring_under, document_of}
+use Rattle.feature_exchange.specs.Common.{Stored, positions_along, ring_under, stored_document}
 
 abbrev nowhere : Position
 nowhere = position (pos 0) (pos 0)
@@ -58,7 +58,7 @@ ring_kept r es e =
     ∙ ap canonical (corners_kept (begins es))
 
 -- the document has the two rings, each from its least position on
-as_a_document : document_of kept ≡ layer_with
+as_a_document : stored_document kept ≡ layer_with
     (position (pos 0) (pos 0) ∷ position (pos 10) (pos 0) ∷ position (pos 10) (pos 10) ∷ position (pos 0) (pos 10) ∷ [])
     (position (pos 10) (pos 0) ∷ position (pos 20) (pos 0) ∷ position (pos 20) (pos 10) ∷ position (pos 10) (pos 10) ∷ [])
 as_a_document = ap₂ layer_with (ring_kept 3 (edges (2 ∷ 3 ∷ 0 ∷ 1 ∷ [])) refl) (ring_kept 8 (edges (1 ∷ 4 ∷ 5 ∷ 2 ∷ [])) refl)

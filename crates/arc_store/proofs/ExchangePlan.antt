@@ -10,7 +10,7 @@ use Rattle.arc_tables.specs.Common.{Rings}
 use Rattle.topo_outline.specs.Common.{KeepsTexts}
 use Rattle.map_frame.specs.Common.{Framed, ArePlaced}
 use Rattle.feature_exchange.specs.Common.{seen, places_after, next_after, number_after, MayGrow, changed_as, stored}
-use Rattle.feature_exchange.specs.Common.{ring_under, document_of}
+use Rattle.feature_exchange.specs.Common.{ring_under, stored_document}
 use Rattle.feature_exchange.specs.declared.change.Change.{Change}
 use Rattle.feature_exchange.proofs.ExchangedWhole.{whole_size}
 use Rattle.arc_store.specs.Common.{asked_document, exchanged_state, MayExchange, IsKept, state_of, State}
@@ -22,7 +22,7 @@ module _ {A : Type 0} {frame : Framed} {rings : Rings} {places : Placement} {hel
     (is : state_of frame rings places l cells o ≡ now) (placed : ArePlaced frame.places frame.next frame.doc)
     {after : Option ℕ} (cs : List (Change A)) (may : MayExchange after (seen cs) now) where
   abbrev d : Document
-  d = document_of (stored frame rings places)
+  d = stored_document (stored frame rings places)
 
   pub apart_tables : are_distinct (map (λ c. c.number) cs) ≡ true
   apart_tables = apart_numbers cs may.apart

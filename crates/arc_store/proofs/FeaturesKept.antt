@@ -11,26 +11,26 @@ use Rattle.segment_index.specs.Common.{SegmentSet}
 use Rattle.segment_index.specs.Frames.{Frame as GridFrame}
 use Rattle.arc_tables.specs.Common.{Rings}
 use Rattle.map_frame.specs.Common.{Framed}
-use Rattle.feature_exchange.specs.Common.{Holds, IsIndexed, stored, document_of, ring_under}
+use Rattle.feature_exchange.specs.Common.{Holds, IsIndexed, stored, stored_document, ring_under}
 use Rattle.feature_exchange.proofs.Common.{named_document, renamed_holds}
 use Rattle.edit_records.specs.Common.{Record}
 use Rattle.arc_store.specs.Common.{IsKept, state_of, State}
 use Rattle.ring_parts.proofs.Common.{counted_flat}
 
 module _ {frame : Framed} {rings : Rings} {places : Placement} {held : SegmentSet} {positions : ℕ} where
-  pub kept_so : Holds (stored frame rings places) held → positions ≡ size (document_of (stored frame rings places))
+  pub kept_so : Holds (stored frame rings places) held → positions ≡ size (stored_document (stored frame rings places))
       → IsKept frame rings places held positions
   kept_so h sized = record { holds = h; sized = sized }
 
   -- where the document is another one, of so many positions
   pub kept_as : (d : Document) → Holds (stored frame rings places) held
-      → document_of (stored frame rings places) ≡ d → positions ≡ size d
+      → stored_document (stored frame rings places) ≡ d → positions ≡ size d
       → IsKept frame rings places held positions
   kept_as d h is sized = kept_so h (sized ∙ ap size (sym is))
 
   module _ (kept : IsKept frame rings places held positions) {l : ℕ} {cells : Option GridFrame} {o : Option Record} {now : State} (is : state_of frame rings places l cells o ≡ now) where
     -- the document is the one that is seen
-    pub seen_doc : document_of (stored frame rings places) ≡ now.doc
+    pub seen_doc : stored_document (stored frame rings places) ≡ now.doc
     seen_doc = ap (λ (z : State). z.doc) is
 
     pub seen_formed : WellFormed now.doc
@@ -67,7 +67,7 @@ module _ {frame : Framed} {rings : Rings} {places : Placement} {held : SegmentSe
     (kept : IsKept frame rings places held positions) (n : ℕ) (id : Text) (json : IsJson id) where
   pub kept_renamed : IsKept (record frame { doc = renamed frame.doc n id }) rings places held positions
   kept_renamed =
-      kept_as (renamed (document_of (stored frame rings places)) n id)
+      kept_as (renamed (stored_document (stored frame rings places)) n id)
       (renamed_holds (stored frame rings places) n id held json kept.holds)
       (named_document (stored frame rings places) n (Some id))
-      (kept.sized ∙ sym (size-renamed (document_of (stored frame rings places)) n id))
+      (kept.sized ∙ sym (size-renamed (stored_document (stored frame rings places)) n id))

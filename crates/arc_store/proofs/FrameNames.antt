@@ -4,7 +4,7 @@ use Rattle.kit_words.proofs.Common.{slice_get}
 use Rattle.ring_machine.specs.Common.{FeatureOf, DocumentOf, features, feature, rings, rings_of, are_distinct}
 use Rattle.ring_machine.proofs.Common.{In, found, in_flat, slice-in}
 use Rattle.map_frame.specs.declared.names.RingName.{RingName}
-use Rattle.map_frame.specs.Common.{number_at, element, ring_at}
+use Rattle.map_frame.specs.Common.{number_at, element, frame_ring}
 use Rattle.map_frame.proofs.Common.{element_is, same_some, in_part, one_part, found_at, ring_in, one_owner, of_in}
 use Rattle.map_frame.proofs.GrownTables.{part_distinct}
 use Rattle.map_frame.proofs.NamedLists.{name_same}
@@ -22,7 +22,7 @@ number_there d name r e =
 -- each ring of a feature
 pub ring_named : {R : Type 0} (d : DocumentOf R) → are_distinct (map (λ f. f.number) (features d)) ≡ true
     → (f : FeatureOf R) → In f (features d) → (r : R) → In r (rings_of f)
-    → (name : RingName) × (name.feature ≡ f.number) × (ring_at d name.feature name.polygon name.ring ≡ Some r)
+    → (name : RingName) × (name.feature ≡ f.number) × (frame_ring d name.feature name.polygon name.ring ≡ Some r)
 ring_named {R} d distinct f i r h =
     let p = in_flat (λ (polygon : List R). polygon) r f.polygons h in
     let at = of_in f.polygons p.0 p.1 in

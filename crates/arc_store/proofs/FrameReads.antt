@@ -5,7 +5,7 @@ use Rattle.ring_machine.specs.Common.{FeatureOf, ItemOf, Open, Close, Leaf, Kept
 use Rattle.ring_machine.specs.Common.{feature, has_feature, in_feature, in_item, in_layer, in_rings}
 use Rattle.ring_machine.proofs.Common.{feature-in_rings, has_feature-found, is_some-mapped, features-in_rings}
 use Rattle.map_frame.specs.Common.{Opens, Closes, Stands, Keeps, shown, shown_item, shown_layer, shown_frame, element}
-use Rattle.map_frame.specs.Common.{ring_at}
+use Rattle.map_frame.specs.Common.{frame_ring}
 
 module _ {R S : Type 0} (g : R → S) where
   -- ---- layers
@@ -59,7 +59,7 @@ module _ {R S : Type 0} (g : R → S) where
 
   -- at each place stands the changed ring
   pub ring-in_rings : (d : DocumentOf R) (n polygon ring : ℕ)
-      → ring_at (in_rings g d) n polygon ring ≡ option_map g (ring_at d n polygon ring)
+      → frame_ring (in_rings g d) n polygon ring ≡ option_map g (frame_ring d n polygon ring)
   ring-in_rings d n polygon ring =
       ap (λ o. element (element (option_map (λ f. f.polygons) o) polygon) ring) (feature-in_rings g d n)
       ∙ by (feature d n)

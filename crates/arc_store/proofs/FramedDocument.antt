@@ -5,7 +5,8 @@ use Rattle.grid_geometry.specs.Common.{Position}
 use Rattle.ring_machine.specs.Common.{DocumentOf, Open, Close, Leaf, Kept, in_feature, in_item, in_layer, in_rings}
 use Rattle.topo_outline.specs.Shape.{LayerText, Piece, starts, ends, leaf, text}
 use Rattle.topo_outline.specs.Outline.{leaves_in}
-use Rattle.topo_reader.specs.Common.{Opened, polygons_at, numbered, items_from, layers_from, document_of}
+use Rattle.topo_reader.specs.Common.{Opened, document_of}
+use Rattle.topo_outline.specs.Common.{polygons_at, numbered, items_from, layers_from}
 
 -- the shape of what was read, with these rings
 abbrev pub framed : {R : Type 0} → Opened → List (List (List R)) → DocumentOf R

@@ -15,7 +15,7 @@ use Rattle.arc_tables.specs.Common.{Rings, users_of}
 use Rattle.map_frame.specs.Common.{Framed}
 use Rattle.arc_store.specs.Common.{IsInsertable, IsPlaceable, IsKept, state_of, State}
 use Rattle.ring_store.specs.Common.{IsParting, PutBetween, AreNew, Exchanges, spokes}
-use Rattle.feature_exchange.specs.Common.{IsIndexed, stored, Stored, document_of}
+use Rattle.feature_exchange.specs.Common.{IsIndexed, stored, Stored, stored_document}
 use Rattle.edit_records.specs.Common.{Record}
 use Rattle.arc_store.proofs.Accepted.{insert_may}
 use Rattle.arc_store.proofs.Around.{come_over}
@@ -40,7 +40,7 @@ module _ {frame : Framed} {rings : Rings} {places : Placement} {held : SegmentSe
     {l : ℕ} {cells : Option GridFrame} {o : Option Record} {now : State} (is : state_of frame rings places l cells o ≡ now)
     (a b q : Position) (border : is_segment now.doc (segment a b) ≡ true) (free : is_vertex now.doc q ≡ false) where
   abbrev d : Document
-  d = document_of (stored frame rings places)
+  d = stored_document (stored frame rings places)
 
   has_border : is_segment d (segment a b) ≡ true
   has_border = ap (λ (s : State). is_segment s.doc (segment a b)) is ∙ border
@@ -104,27 +104,27 @@ module _ {frame : Framed} {rings : Rings} {places : Placement} {held : SegmentSe
 -- an insertion keeps what is true of the tables
 module _ {frame : Framed} {rings rings' : Rings} {places places' : Placement} {held : SegmentSet} {positions : ℕ} (h : IsKept frame rings places held positions)
     {j k : ℕ} {a b q : Position} {before : Segment} {read : List Segment} (r : IsParting places a b q j k before read)
-    (may : IsPlaceable (document_of (stored frame rings places)) a b q) (put : PutBetween places places' rings rings' j k q) where
+    (may : IsPlaceable (stored_document (stored frame rings places)) a b q) (put : PutBetween places places' rings rings' j k q) where
   abbrev was : Stored
   was = stored frame rings places
 
   insertion : Insertion was rings' j k put.key a b q
   insertion = record { first = r.first; second = r.second; new = put.new; edited = put.edited; may = may }
 
-  made : document_of (stored frame rings' (table.insert places put.key q)) ≡ ins (document_of was) a b q
+  made : stored_document (stored frame rings' (table.insert places put.key q)) ≡ ins (stored_document was) a b q
   made = document_inserted was rings' j k put.key a b q h.holds.whole h.holds.proper insertion
 
   -- the document is the one with q between a and b
-  pub doc_inserted : document_of (stored frame rings' places') ≡ ins (document_of was) a b q
-  doc_inserted = ap (λ z. document_of (stored frame rings' z)) put.placed ∙ made
+  pub doc_inserted : stored_document (stored frame rings' places') ≡ ins (stored_document was) a b q
+  doc_inserted = ap (λ z. stored_document (stored frame rings' z)) put.placed ∙ made
 
   module _ {count : ℕ} (users : count ≡ users_of rings j k) where
     -- how the size grows
-    pub size_grows : size (ins (document_of was) a b q) ≡ positions + count
+    pub size_grows : size (ins (stored_document was) a b q) ≡ positions + count
     size_grows = omega (arith, users, h.sized, users_same was h.holds.whole j k, size_inserted was rings' j k put.key a b q h.holds.whole h.holds.proper insertion)
 
     module _ (held' : SegmentSet) {after : List Segment} (same : after ≡ read) (e : Exchanges held after (before ∷ []) held') where
-      indexed : IsIndexed (ins (document_of was) a b q) held'
+      indexed : IsIndexed (ins (stored_document was) a b q) held'
       indexed =
           reindexed_inserted was rings' j k put.key a b q h.holds.whole h.holds.proper insertion held held' h.holds.indexed (λ t.
           e t ∙ ap₂ (λ x y. (set.contains held t || has_segment x t) && not (has_segment (y ∷ []) t))

@@ -15,7 +15,7 @@ use Rattle.segment_index.specs.Candidates.{SegmentSet, has as among}
 use Rattle.arc_tables.specs.Common.{Edge, is_seg, Rings, begins, over, through}
 use Rattle.ring_store.specs.Common.{Joined, GoesRound}
 use Rattle.vertex_index.specs.Common.{place}
-use Rattle.feature_exchange.specs.Common.{Stored, positions_along, ring_under, document_of, Visits, IsWhole, IsIndexed}
+use Rattle.feature_exchange.specs.Common.{Stored, positions_along, ring_under, stored_document, Visits, IsWhole, IsIndexed}
 use Rattle.feature_exchange.specs.Common.{Holds}
 use Rattle.ring_store.proofs.Common.{has-eq, IsKept, place_is, place_kept, one_key, place_alike, insert_other, laid}
 use Rattle.ring_store.proofs.Common.{edge_ends, ends_is_seg, times_edge}
@@ -95,14 +95,14 @@ pub record Insertion (s : Stored) (after : Rings) (j k n : ℕ) (a b q : Positio
   pub second : table.get s.places k ≡ Some b
   pub new : table.get s.places n ≡ None
   pub edited : (r : ℕ) → table.get after r ≡ option_map (through j k n) (table.get s.rings r)
-  pub may : IsPlaceable (document_of s) a b q
+  pub may : IsPlaceable (stored_document s) a b q
 
 -- the map with these rings, and one more vertex
 abbrev pub with_vertex : Stored → Rings → ℕ → Position → Stored
 with_vertex s after n q =
     record { frame = s.frame; rings = after; places = table.insert s.places n q }
 
-module _ (s : Stored) (after : Rings) (j k n : ℕ) (a b q : Position) (w : IsWhole s) (proper : Proper (document_of s)) (i : Insertion s after j k n a b q) where
+module _ (s : Stored) (after : Rings) (j k n : ℕ) (a b q : Position) (w : IsWhole s) (proper : Proper (stored_document s)) (i : Insertion s after j k n a b q) where
   abbrev next : Stored
   next = with_vertex s after n q
 
@@ -115,10 +115,10 @@ module _ (s : Stored) (after : Rings) (j k n : ℕ) (a b q : Position) (w : IsWh
   -- each edited ring of the document is a ring
   ring_stays : (r : ℕ) → In r (rings s.frame) → is_ring (ins_ring a b q (ring_under s r)) ≡ true
   ring_stays r h =
-      all_in is_ring (rings (ins (document_of s) a b q)) (ins_ring a b q (ring_under s r))
-      (ins_is_proper (document_of s) a b q proper i.may.free i.may.apart).are_rings
-      (subst (In (ins_ring a b q (ring_under s r))) (sym (rings-in_rings (ins_ring a b q) (document_of s)))
-      (in-map (ins_ring a b q) (ring_under s r) (rings (document_of s))
+      all_in is_ring (rings (ins (stored_document s) a b q)) (ins_ring a b q (ring_under s r))
+      (ins_is_proper (stored_document s) a b q proper i.may.free i.may.apart).are_rings
+      (subst (In (ins_ring a b q (ring_under s r))) (sym (rings-in_rings (ins_ring a b q) (stored_document s)))
+      (in-map (ins_ring a b q) (ring_under s r) (rings (stored_document s))
       (subst (In (ring_under s r)) (sym (rings-in_rings (ring_under s) s.frame)) (in-map (ring_under s) r (rings s.frame) h))))
 
   -- the ring of the edited edges
@@ -146,7 +146,7 @@ module _ (s : Stored) (after : Rings) (j k n : ℕ) (a b q : Position) (w : IsWh
       sym (ap (λ o. canonical (positions_along next.places (unwrap_or o []))) (edges_after r e.0 e.1) ∙ ring_edited r h e.0 e.1)
 
   -- the document is the one with q between a and b
-  pub document_inserted : document_of next ≡ ins (document_of s) a b q
+  pub document_inserted : stored_document next ≡ ins (stored_document s) a b q
   document_inserted =
       sym (document-agrees (ring_under s) (ins_ring a b q) (ring_under next) s.frame
       (all_of (λ r. ins_ring a b q (ring_under s r) ≡ ring_under next r) (rings s.frame) ring_after))
@@ -211,29 +211,29 @@ module _ (s : Stored) (after : Rings) (j k n : ℕ) (a b q : Position) (w : IsWh
 
   -- the segments after the insertion: that of a and b is led over q
   pub segments_inserted : (t : Segment)
-      → is_segment (ins (document_of s) a b q) t
-      ≡ ((is_segment (document_of s) t && not (segment_eq t (segment a b))) || list_any (segment_eq t) (segment a q ∷ segment q b ∷ []))
-  segments_inserted = segments_ins (document_of s) a b q i.may.border
+      → is_segment (ins (stored_document s) a b q) t
+      ≡ ((is_segment (stored_document s) t && not (segment_eq t (segment a b))) || list_any (segment_eq t) (segment a q ∷ segment q b ∷ []))
+  segments_inserted = segments_ins (stored_document s) a b q i.may.border
 
   -- those that come in are segments, are two, and are new
-  pub come_inserted : Comes (document_of s) (segment a q) (segment q b)
+  pub come_inserted : Comes (stored_document s) (segment a q) (segment q b)
   come_inserted = come_over s w a b q i.may.border i.may.free
 
   -- the size grows by one for each ring that has the segment
-  pub size_inserted : size (ins (document_of s) a b q) ≡ size (document_of s) + length (users_of s j k)
+  pub size_inserted : size (ins (stored_document s) a b q) ≡ size (stored_document s) + length (users_of s j k)
   size_inserted = size_over s w j k a b q i.first i.second
 
   -- ---- the index
 
   -- after the two segments came into the index and that of a and b went, it is that of the new map
-  pub reindexed_inserted : (held held' : SegmentSet) → IsIndexed (document_of s) held
+  pub reindexed_inserted : (held held' : SegmentSet) → IsIndexed (stored_document s) held
       → ((t : Segment) → set.contains held' t ≡ ((set.contains held t || among (segment a q ∷ segment q b ∷ []) t) && not (among (segment a b ∷ []) t)))
-      → IsIndexed (ins (document_of s) a b q) held'
+      → IsIndexed (ins (stored_document s) a b q) held'
   reindexed_inserted held held' x h t =
       h t
       ∙ ap₂ (λ y z. (set.contains held t || y) && not z) (has-eq (segment a q ∷ segment q b ∷ []) t) (has-eq (segment a b ∷ []) t)
       ∙ ap (λ y. (y || list_any (segment_eq t) (segment a q ∷ segment q b ∷ [])) && not (segment_eq t (segment a b) || false)) (x t)
-      ∙ by (is_segment (document_of s) t) (list_any (segment_eq t) (segment a q ∷ segment q b ∷ [])) (segment_eq t (segment a b)) apart_from_it
+      ∙ by (is_segment (stored_document s) t) (list_any (segment_eq t) (segment a q ∷ segment q b ∷ [])) (segment_eq t (segment a b)) apart_from_it
       ∙ sym (segments_inserted t)
     where
       by : (was comes goes : Bool) → (comes ≡ true → goes ≡ false)
@@ -250,12 +250,12 @@ module _ (s : Stored) (after : Rings) (j k n : ℕ) (a b q : Position) (w : IsWh
         ]
       ])
         where
-          new : (z : Segment) → is_segment (document_of s) z ≡ false → t ≡ z → segment_eq t (segment a b) ≡ true → ⊥
-          new z n e v = false≢true (sym n ∙ ap (is_segment (document_of s)) (sym e ∙ segment_eq-true t (segment a b) v) ∙ i.may.border)
+          new : (z : Segment) → is_segment (stored_document s) z ≡ false → t ≡ z → segment_eq t (segment a b) ≡ true → ⊥
+          new z n e v = false≢true (sym n ∙ ap (is_segment (stored_document s)) (sym e ∙ segment_eq-true t (segment a b) v) ∙ i.may.border)
 
 -- the map with the new vertex is held again, where the index has its segments
 pub holds_inserted : (s : Stored) (held held' : SegmentSet) (after : Rings) (j k n : ℕ) (a b q : Position)
-    → Holds s held → Insertion s after j k n a b q → IsIndexed (ins (document_of s) a b q) held'
+    → Holds s held → Insertion s after j k n a b q → IsIndexed (ins (stored_document s) a b q) held'
     → Holds (with_vertex s after n q) held'
 holds_inserted s held held' after j k n a b q h i x =
     let is = document_inserted s after j k n a b q h.whole h.proper i in
@@ -263,7 +263,7 @@ holds_inserted s held held' after j k n a b q h i x =
       whole = whole_inserted s after j k n a b q h.whole h.proper i;
       formed = h.formed;
       keeps = h.keeps;
-      proper = subst Proper (sym is) (ins_is_proper (document_of s) a b q h.proper i.may.free i.may.apart);
+      proper = subst Proper (sym is) (ins_is_proper (stored_document s) a b q h.proper i.may.free i.may.apart);
       small = subst (λ d. size d ≤ 4000000) (sym is) i.may.small;
       indexed = subst (λ d. IsIndexed d held') (sym is) x;
     }

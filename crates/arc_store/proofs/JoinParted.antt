@@ -14,7 +14,7 @@ use Rattle.ring_machine.proofs.Common.{feature-take_out_other, size-take_out_at,
 use Rattle.edit_records.specs.Common.{LayerTree, Fills, AreFormed, exchanged}
 use Rattle.edit_records.proofs.Common.{join-made, feature-own}
 use Rattle.map_frame.specs.Common.{texts_of, with_texts}
-use Rattle.arc_store.specs.Common.{with_polygons}
+use Rattle.arc_store.specs.Common.{feature_with}
 
 -- ---- how long a joined ring is
 
@@ -76,13 +76,13 @@ module _ (d : Document) (n m : ℕ) (formed : WellFormed d) (a : MergeAccepted d
 
   -- the joined rings come in the place of the first feature's polygon, and the second one goes
   pub merge_made : (trees : List LayerTree) → Fills trees d → AreFormed trees
-      → exchanged trees ((n, Some (with_polygons d n (merged ∷ []))) ∷ (m, None) ∷ []) d ≡ join d n (feature_at d m)
+      → exchanged trees ((n, Some (feature_with d n (merged ∷ []))) ∷ (m, None) ∷ []) d ≡ join d n (feature_at d m)
   merge_made trees fills formed_trees =
       ap₂ (λ x y. exchanged trees ((n, Some x) ∷ (y, None) ∷ []) d) (sym first_made) (sym a.second_number)
       ∙ join-made trees d n a.first a.second fills formed_trees a.first_is (eqb-false n a.second.number apart)
       ∙ ap (join d n) (sym second_is)
     where
-      first_made : record a.first { polygons = joined_polygons a.first.polygons a.second.polygons } ≡ with_polygons d n (merged ∷ [])
+      first_made : record a.first { polygons = joined_polygons a.first.polygons a.second.polygons } ≡ feature_with d n (merged ∷ [])
       first_made =
           ap₂ (λ k ps. with_texts k (texts_of a.first) ps) (feature-own d n a.first a.first_is) polygons_are
           ∙ ap (λ (f : Feature). with_texts n (texts_of f) (merged ∷ [])) (sym (ap (or_else no_feature) a.first_is))

@@ -9,7 +9,7 @@ use Rattle.segment_index.specs.Frames.{Frame as GridFrame}
 use Rattle.arc_tables.specs.Common.{Rings}
 use Rattle.map_frame.specs.Common.{Framed}
 use Rattle.edit_records.specs.Common.{Record}
-use Rattle.feature_exchange.specs.Common.{stored, document_of}
+use Rattle.feature_exchange.specs.Common.{stored, stored_document}
 use Rattle.arc_store.specs.Common.{state_of, IsLeftOut, State}
 use Rattle.arc_store.proofs.Around.{around_two, bridge_two}
 use Rattle.arc_store.proofs.Reading.{ends_make}
@@ -28,7 +28,7 @@ found_left {frame} {rings} {places} {p = p} {m = m} {j = j} {k = k} {after = aft
     subst (λ (s : State). IsLeftOut s.doc p (record { at = p; a = after.lo; b = after.hi })) is (record {
       at = refl;
       apart = ends_apart after made;
-      between = λ t h. same t (around_two (stored frame rings places) f.kept.holds.whole m p f.read.here j k f.read.two t (contains_in (around (document_of (stored frame rings places)) p) t h));
+      between = λ t h. same t (around_two (stored frame rings places) f.kept.holds.whole m p f.read.here j k f.read.two t (contains_in (around (stored_document (stored frame rings places)) p) t h));
     })
   where
     made : IsSegment after

@@ -25,6 +25,7 @@ pub mod Tested
 pub mod FrameReads
 pub mod FrameNames
 pub mod FramedDocument
+pub mod Standing
 pub mod Opened
 pub mod Reading
 pub mod SpotLemmas

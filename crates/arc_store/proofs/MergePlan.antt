@@ -11,7 +11,7 @@ use Rattle.edit_records.specs.Common.{exchanged, IsMap}
 use Rattle.topo_outline.specs.Common.{KeepsTexts}
 use Rattle.topo_outline.proofs.Common.{keeps-join}
 use Rattle.map_frame.specs.Common.{ArePlaced}
-use Rattle.arc_store.specs.Common.{MayExchange, asked_document, with_polygons, State}
+use Rattle.arc_store.specs.Common.{MayExchange, asked_document, feature_with, State}
 use Rattle.arc_store.proofs.ChangesCounted.{two_apart}
 use Rattle.arc_store.proofs.JoinParted.{merged, merge_made, join_size, merged_short, differ}
 use Rattle.arc_store.proofs.PlacedMap.{there_below}
@@ -57,7 +57,7 @@ module _ (st : State) (n m : ℕ) (asked : first_of (merge_refusals st.doc n m) 
     (w : made ≡ joined_rings (get_or (feature_at st.doc n).polygons 0 []) (get_or (feature_at st.doc m).polygons 0 [])) where
   -- n with these rings, and m taken out
   abbrev asked_for : List (ℕ × Option Feature)
-  asked_for = (n, Some (with_polygons st.doc n (made ∷ []))) ∷ (m, None) ∷ []
+  asked_for = (n, Some (feature_with st.doc n (made ∷ []))) ∷ (m, None) ∷ []
 
   abbrev accepted : MergeAccepted st.doc n m
   accepted = a st.doc n m asked
@@ -68,7 +68,7 @@ module _ (st : State) (n m : ℕ) (asked : first_of (merge_refusals st.doc n m) 
 
   pub merge_is : asked_document None asked_for st ≡ join st.doc n (feature_at st.doc m)
   merge_is =
-      ap (λ z. exchanged st.places ((n, Some (with_polygons st.doc n (z ∷ []))) ∷ (m, None) ∷ []) st.doc) made_is
+      ap (λ z. exchanged st.places ((n, Some (feature_with st.doc n (z ∷ []))) ∷ (m, None) ∷ []) st.doc) made_is
       ∙ merge_made st.doc n m is_map.formed accepted st.places placed.fills placed.formed
 
   join_map : IsMap (join st.doc n (feature_at st.doc m))

@@ -13,14 +13,14 @@ use Rattle.segment_index.specs.Candidates.{SegmentSet, AreAmong, AreSingle, segm
 use Rattle.segment_index.proofs.Common.{same_segment}
 use Rattle.arc_tables.specs.Common.{Rings}
 use Rattle.local_planarity.specs.declared.leaving.Leaving.TheVariants.{EndingAt}
-use Rattle.local_planarity.specs.Common.{AreApart, IsAfter, IsEnds, IsHeld}
+use Rattle.local_planarity.specs.Common.{NoneConflict, IsAfter, IsEnds, IsHeld}
 use Rattle.local_planarity.proofs.Least.{apart_if_none}
 use Rattle.arc_store.specs.Common.{EditFault, IsMovable, Refuses, IsKept}
 use Rattle.arc_store.specs.declared.fault.EditFault.TheVariants as edit
 use Rattle.map_frame.specs.Common.{Framed}
 use Rattle.ring_store.specs.Common.{HasMoving, AreAround, AreNew, Exchanges, spokes}
 use Rattle.ring_store.specs.declared.tables.RingTables.{RingTables}
-use Rattle.feature_exchange.specs.Common.{Stored, document_of, stored, stored_in, IsWhole, IsIndexed, Holds}
+use Rattle.feature_exchange.specs.Common.{Stored, stored_document, stored, stored_in, IsWhole, IsIndexed, Holds}
 use Rattle.ring_store.proofs.Common.{place_is, has-eq}
 use Rattle.feature_exchange.proofs.Common.{joined_kept, joined_apart, segments_to, segments_at, vertex_key}
 use Rattle.feature_exchange.proofs.Common.{sweeps_by_joined}
@@ -32,8 +32,8 @@ use Rattle.arc_store.proofs.Moved.{indexed_moved, reindexed, holds_moved, size_m
 -- ---- what stands around a vertex
 
 -- p is a vertex and q is none
-pub has_moving : (s : Stored) → IsWhole s → (p q : Position) → is_vertex (document_of s) p ≡ true
-    → is_vertex (document_of s) q ≡ false → HasMoving s.places s.rings p q
+pub has_moving : (s : Stored) → IsWhole s → (p q : Position) → is_vertex (stored_document s) p ≡ true
+    → is_vertex (stored_document s) q ≡ false → HasMoving s.places s.rings p q
 has_moving s w p q vertex free = record {
   here = vertex_key s w p vertex;
   placed = λ k at x j. (joined_kept s w k x j).1;
@@ -43,7 +43,7 @@ has_moving s w p q vertex free = record {
   );
 }
 
-module _ (s : Stored) (held : SegmentSet) (h : Holds s held) (k : ℕ) (p q : Position) (at : table.get s.places k ≡ Some p) (free : is_vertex (document_of s) q ≡ false) (around : List Position) (r : AreAround s.places s.rings k around) where
+module _ (s : Stored) (held : SegmentSet) (h : Holds s held) (k : ℕ) (p q : Position) (at : table.get s.places k ≡ Some p) (free : is_vertex (stored_document s) q ≡ false) (around : List Position) (r : AreAround s.places s.rings k around) where
   spokes_are : (z : Position) → spokes z around ≡ segments_to s.places z r.keys
   spokes_are z = ap (map (λ x. segment x z)) r.are ∙ map-map (λ x. segment x z) (place s.places) r.keys
 
@@ -52,7 +52,7 @@ module _ (s : Stored) (held : SegmentSet) (h : Holds s held) (k : ℕ) (p q : Po
   pub plan_new : AreNew held (spokes q around)
   plan_new t i =
       let u = any_in (segment_is t) (segments_to s.places q r.keys) (subst (λ z. has_segment z t ≡ true) (spokes_are q) i) in
-      h.indexed t ∙ ap (is_segment (document_of s)) (same_segment t u.0 u.2) ∙ added_new s h.whole k p q at free r.keys u.0 u.1
+      h.indexed t ∙ ap (is_segment (stored_document s)) (same_segment t u.0 u.2) ∙ added_new s h.whole k p q at free r.keys u.0 u.1
 
   pub plan_single : AreSingle (spokes q around)
   plan_single = subst AreSingle (sym (spokes_are q)) (added_single s h.whole k p q at free r.keys r.joined r.once)
@@ -60,7 +60,7 @@ module _ (s : Stored) (held : SegmentSet) (h : Holds s held) (k : ℕ) (p q : Po
   pub plan_held : AreAmong held (spokes p around)
   plan_held t i =
       h.indexed t
-      ∙ (and_parts (is_segment (document_of s) t) (is_end p t)
+      ∙ (and_parts (is_segment (stored_document s) t) (is_end p t)
       (segments_at s h.whole k p at r.keys r.joined t ∙ sym (has-eq (segments_to s.places p r.keys) t) ∙ subst (λ z. has_segment z t ≡ true) (spokes_are p) i)).0
 
   pub plan_once : AreSingle (spokes p around)
@@ -69,23 +69,23 @@ module _ (s : Stored) (held : SegmentSet) (h : Holds s held) (k : ℕ) (p q : Po
       (segments_to_single s.places p h.whole.distinct r.keys (λ x i. (joined_kept s h.whole k x ((r.joined x).0 (in_contains r.keys x i))).1) r.once)
 
   -- the segments of the moved document are there after the edit
-  pub plan_after : IsAfter held (EndingAt p) (spokes q around) (all_segments (put (document_of s) p q))
+  pub plan_after : IsAfter held (EndingAt p) (spokes q around) (all_segments (put (stored_document s) p q))
   plan_after t =
       indexed_moved s h.whole k p q at free r.keys r.joined held h.indexed t
       ∙ ap (λ z. (set.contains held t && not (is_end p t)) || has_segment z t) (sym (spokes_are q))
 
   -- what the positions around p say of the sweep
   plan_sweeps :
-      (list_any (edge_sweeps (document_of s) p q) around || crosses_on_way (document_of s) p q)
-      ≡ move_sweeps (document_of s) p q
+      (list_any (edge_sweeps (stored_document s) p q) around || crosses_on_way (stored_document s) p q)
+      ≡ move_sweeps (stored_document s) p q
   plan_sweeps =
-      ap (λ b. b || crosses_on_way (document_of s) p q)
-      (ap (list_any (edge_sweeps (document_of s) p q)) r.are ∙ any_mapped (place s.places) (edge_sweeps (document_of s) p q) r.keys)
+      ap (λ b. b || crosses_on_way (stored_document s) p q)
+      (ap (list_any (edge_sweeps (stored_document s) p q)) r.are ∙ any_mapped (place s.places) (edge_sweeps (stored_document s) p q) r.keys)
       ∙ sym (sweeps_by_joined s h.whole k p at r.keys r.joined q)
 
   -- the index holds the segments of the moved document
   plan_indexed : (held' : SegmentSet) → Exchanges held (spokes q around) (spokes p around) held'
-      → IsIndexed (put (document_of s) p q) held'
+      → IsIndexed (put (stored_document s) p q) held'
   plan_indexed held' e =
       reindexed s h.whole k p q at free r.keys r.joined held held' h.indexed (λ t.
       e t ∙ ap₂ (λ y z. (set.contains held t || has_segment y t) && not (has_segment z t)) (spokes_are q) (spokes_are p))
@@ -96,7 +96,7 @@ module _ (s : Stored) (held : SegmentSet) (h : Holds s held) (k : ℕ) (p q : Po
 kept_moved : (frame : Framed) (rings : Rings) (places : Placement) (held held' : SegmentSet)
     (size_kept : ℕ) → IsKept frame rings places held size_kept
     → (k : ℕ) (p q : Position) → table.get places k ≡ Some p
-    → IsMovable (document_of (stored frame rings places)) p q
+    → IsMovable (stored_document (stored frame rings places)) p q
     → (around : List Position) → AreAround places rings k around
     → Exchanges held (spokes q around) (spokes p around) held'
     → IsKept frame rings (table.insert places k q) held' size_kept
@@ -134,13 +134,13 @@ move_refuses d p q v f fault h =
 -- ---- the tests of a move, as the code makes them
 
 -- no two held segments conflict
-pub held_apart : (s : Stored) (held : SegmentSet) → Holds s held → AreApart held
+pub held_apart : (s : Stored) (held : SegmentSet) → Holds s held → NoneConflict held
 unfolding first_pair
 held_apart s held h =
-    apart_if_none held (all_segments (document_of s)) (indexed_has (document_of s) held h.indexed) h.proper.apart
+    apart_if_none held (all_segments (stored_document s)) (indexed_has (stored_document s) held h.indexed) h.proper.apart
 
-module _ (s : Stored) (held : SegmentSet) (h : Holds s held) (d : Document) (is : document_of s ≡ d) (k : ℕ) (p q : Position) (at : table.get s.places k ≡ Some p) (vertex : is_vertex d p ≡ true) (free : is_vertex d q ≡ false) (around : List Position) (r : AreAround s.places s.rings k around) (after : List Segment) (comes : after ≡ spokes q around) where
-  was_free : is_vertex (document_of s) q ≡ false
+module _ (s : Stored) (held : SegmentSet) (h : Holds s held) (d : Document) (is : stored_document s ≡ d) (k : ℕ) (p q : Position) (at : table.get s.places k ≡ Some p) (vertex : is_vertex d p ≡ true) (free : is_vertex d q ≡ false) (around : List Position) (r : AreAround s.places s.rings k around) (after : List Segment) (comes : after ≡ spokes q around) where
+  was_free : is_vertex (stored_document s) q ≡ false
   was_free = ap (λ z. is_vertex z q) is ∙ free
 
   passed : IsAfter held (EndingAt p) after (all_segments (put d p q))
@@ -162,24 +162,24 @@ module _ (s : Stored) (held : SegmentSet) (h : Holds s held) (d : Document) (is 
   move_decided seen all found f g =
       move_first d p q vertex free
       ∙ ap₂ (λ o b. first_of (conflict_of o ∷ (Sweeps unless not b) ∷ [])) (f (all_segments (put d p q)) passed)
-      (sym (g (document_of s) (indexed_ends (document_of s) held h.indexed) (indexed_has (document_of s) held h.indexed) ∙ ap (λ z. list_any (edge_sweeps (document_of s) p q) z || crosses_on_way (document_of s) p q) all
+      (sym (g (stored_document s) (indexed_ends (stored_document s) held h.indexed) (indexed_has (stored_document s) held h.indexed) ∙ ap (λ z. list_any (edge_sweeps (stored_document s) p q) z || crosses_on_way (stored_document s) p q) all
       ∙ plan_sweeps s held h k p q at was_free around r ∙ ap (λ z. move_sweeps z p q) is))
 
 -- ---- the map after the last call of a move
 
 -- the document is the moved one
 pub document_after : {I A : Type 0} (frame : Framed) (t u : RingTables I A) → IsWhole (stored_in frame t) → (d : Document)
-    → document_of (stored_in frame t) ≡ d → (k : ℕ) (p q : Position)
+    → stored_document (stored_in frame t) ≡ d → (k : ℕ) (p q : Position)
     → table.get t.vertices k ≡ Some p → is_vertex d q ≡ false → u.borders ≡ t.borders → u.vertices ≡ table.insert t.vertices k q
-    → document_of (stored_in frame u) ≡ put d p q
+    → stored_document (stored_in frame u) ≡ put d p q
 document_after frame t u w d is k p q at free same moved =
-    ap₂ (λ y z. document_of (stored frame y z)) same moved
+    ap₂ (λ y z. stored_document (stored frame y z)) same moved
     ∙ document_moved (stored_in frame t) w k p q at (ap (λ z. is_vertex z q) is ∙ free) ∙ ap (λ z. put z p q) is
 
 -- what is true of the tables stays, whether the call fails or not
 pub kept_after : {X E I A : Type 0} (result : Result X E) (frame : Framed) (t u : RingTables I A) (size_kept : ℕ)
     → IsKept frame t.borders t.vertices t.index.held size_kept → (d : Document)
-    → document_of (stored_in frame t) ≡ d → (k : ℕ) (p q : Position)
+    → stored_document (stored_in frame t) ≡ d → (k : ℕ) (p q : Position)
     → table.get t.vertices k ≡ Some p → IsMovable d p q
     → (around : List Position) → AreAround t.vertices t.borders k around
     → (added gone : List Segment) → added ≡ spokes q around → gone ≡ spokes p around

@@ -22,7 +22,7 @@ use Rattle.segment_index.specs.Candidates.{SegmentSet, AreSingle, has as has_seg
 use Rattle.segment_index.proofs.Common.{same_segment}
 use Rattle.arc_tables.specs.Common.{Edge, begins}
 use Rattle.ring_store.specs.Common.{Joined}
-use Rattle.feature_exchange.specs.Common.{Stored, positions_along, ring_under, document_of, Visits, IsWhole, IsIndexed}
+use Rattle.feature_exchange.specs.Common.{Stored, positions_along, ring_under, stored_document, Visits, IsWhole, IsIndexed}
 use Rattle.feature_exchange.specs.Common.{Holds}
 use Rattle.feature_exchange.proofs.Common.{end_of_two, two_ends, joined_back, framed, ring_laid, key_vertex, begin_kept}
 use Rattle.feature_exchange.proofs.Common.{positions_distinct, positions_long, ring_under_is, segment_between}
@@ -125,7 +125,7 @@ inserted_distinct places k q d none i j x e f = by (ℕ_discrete i k) (ℕ_discr
     by (no m) (yes n) = absurd (none i (sym (insert_other places k q i m) ∙ e ∙ is_q j n f))
     by (no m) (no n) = d i j x (sym (insert_other places k q i m) ∙ e) (sym (insert_other places k q j n) ∙ f)
 
-module _ (s : Stored) (w : IsWhole s) (k : ℕ) (p q : Position) (at : table.get s.places k ≡ Some p) (free : is_vertex (document_of s) q ≡ false) where
+module _ (s : Stored) (w : IsWhole s) (k : ℕ) (p q : Position) (at : table.get s.places k ≡ Some p) (free : is_vertex (stored_document s) q ≡ false) where
   kept : IsKept s.places k
   kept = place_kept s.places k p at
 
@@ -143,7 +143,7 @@ module _ (s : Stored) (w : IsWhole s) (k : ℕ) (p q : Position) (at : table.get
 
   ring_free : (r : ℕ) (es : List Edge) → table.get s.rings r ≡ Some es
       → has (positions_along s.places es) q ≡ false
-  ring_free r es e = false_from_ne_true _ (λ i. false≢true (sym (none_in (λ ring. has ring q) (rings (document_of s)) (canonical (positions_along s.places es)) free (ring_laid s w r es e))
+  ring_free r es e = false_from_ne_true _ (λ i. false≢true (sym (none_in (λ ring. has ring q) (rings (stored_document s)) (canonical (positions_along s.places es)) free (ring_laid s w r es e))
       ∙ in-has q (canonical (positions_along s.places es)) (in_canonical (positions_along s.places es) q (has-in q (positions_along s.places es) i))))
 
   positions_moved : (r : ℕ) (es : List Edge) → table.get s.rings r ≡ Some es
@@ -165,7 +165,7 @@ module _ (s : Stored) (w : IsWhole s) (k : ℕ) (p q : Position) (at : table.get
       ∙ ap (λ o. canonical (positions_along (table.insert s.places k q) (unwrap_or o []))) (sym e.1)
 
   -- the document of the moved map is the moved document
-  pub document_moved : document_of (moved_to s k q) ≡ put (document_of s) p q
+  pub document_moved : stored_document (moved_to s k q) ≡ put (stored_document s) p q
   document_moved = sym (document-agrees (ring_under s) (put_ring p q) (ring_under (moved_to s k q)) s.frame (all_of (λ r. put_ring p q (ring_under s r) ≡ ring_under (moved_to s k q) r) (rings s.frame) ring_moved))
 
   -- and its tables belong together
@@ -187,25 +187,25 @@ module _ (s : Stored) (w : IsWhole s) (k : ℕ) (p q : Position) (at : table.get
       passed j h (yes e) = w.passed j (ap (λ z. is_some (table.get s.places z)) e ∙ kept)
       passed j h (no n) = w.passed j (sym (ap is_some (insert_other s.places k q j n)) ∙ h)
 
-  pub size_moved : size (document_of (moved_to s k q)) ≡ size (document_of s)
-  size_moved = ap size document_moved ∙ size-put (document_of s) p q
+  pub size_moved : size (stored_document (moved_to s k q)) ≡ size (stored_document s)
+  size_moved = ap size document_moved ∙ size-put (stored_document s) p q
 
   -- ---- segments
 
   -- what is joined to the vertex goes to q
   to_q : (x : ℕ) → Joined s.rings k x
-      → is_segment (put (document_of s) p q) (segment (place s.places x) q) ≡ true
+      → is_segment (put (stored_document s) p q) (segment (place s.places x) q) ≡ true
   to_q x j =
       let other : x ≢ k = λ e. joined_differ s w k x j (sym e) in
-      ap₂ (λ (y : Position) z. is_segment (put (document_of s) p q) (segment y z)) (sym (place_other s.places k q x other)) (sym (place_here s.places k q))
+      ap₂ (λ (y : Position) z. is_segment (put (stored_document s) p q) (segment y z)) (sym (place_other s.places k q x other)) (sym (place_here s.places k q))
       ∙ ap (λ d. is_segment d (segment (place (table.insert s.places k q) x) (place (table.insert s.places k q) k))) (sym document_moved)
       ∙ joined_segment (moved_to s k q) whole_moved x k (joined_back s k x j)
 
   -- two other vertices keep their segment
   stays : (a b : ℕ) → Joined s.rings a b → a ≢ k → b ≢ k
-      → is_segment (put (document_of s) p q) (segment (place s.places a) (place s.places b)) ≡ true
+      → is_segment (put (stored_document s) p q) (segment (place s.places a) (place s.places b)) ≡ true
   stays a b j m n =
-      ap₂ (λ (y : Position) z. is_segment (put (document_of s) p q) (segment y z)) (sym (place_other s.places k q a m)) (sym (place_other s.places k q b n))
+      ap₂ (λ (y : Position) z. is_segment (put (stored_document s) p q) (segment y z)) (sym (place_other s.places k q a m)) (sym (place_other s.places k q b n))
       ∙ ap (λ d. is_segment d (segment (place (table.insert s.places k q) a) (place (table.insert s.places k q) b))) (sym document_moved)
       ∙ joined_segment (moved_to s k q) whole_moved a b j
 
@@ -220,25 +220,25 @@ module _ (s : Stored) (w : IsWhole s) (k : ℕ) (p q : Position) (at : table.get
 
   -- after the move there are the segments that do not end at p, and those to q
   pub segments_moved : (xs : List ℕ) → AreJoined s k xs → (t : Segment)
-      → is_segment (put (document_of s) p q) t
-      ≡ ((is_segment (document_of s) t && not (is_end p t)) || list_any (segment_eq t) (segments_to s.places q xs))
+      → is_segment (put (stored_document s) p q) t
+      ≡ ((is_segment (stored_document s) t && not (is_end p t)) || list_any (segment_eq t) (segments_to s.places q xs))
   segments_moved xs j t = same_answer _ _ (λ h.
       let b = segment_between (moved_to s k q) whole_moved t (ap (λ d. is_segment d t) document_moved ∙ h) in
       forth b.a b.b b.joined b.is (ℕ_discrete b.a k) (ℕ_discrete b.b k))
-      (λ h. elim (or_cases (is_segment (document_of s) t && not (is_end p t)) (list_any (segment_eq t) (segments_to s.places q xs)) h) [
+      (λ h. elim (or_cases (is_segment (stored_document s) t && not (is_end p t)) (list_any (segment_eq t) (segments_to s.places q xs)) h) [
         | inl i ↦
-            let both = and_parts (is_segment (document_of s) t) (not (is_end p t)) i in
+            let both = and_parts (is_segment (stored_document s) t) (not (is_end p t)) i in
             let b = segment_between s w t both.0 in
-            ap (is_segment (put (document_of s) p q)) b.is ∙ stays b.a b.b b.joined (off b.a b.b (not-true _ both.1) b.is).0 (off b.a b.b (not-true _ both.1) b.is).1
+            ap (is_segment (put (stored_document s) p q)) b.is ∙ stays b.a b.b b.joined (off b.a b.b (not-true _ both.1) b.is).0 (off b.a b.b (not-true _ both.1) b.is).1
         | inr i ↦
             let u = any_in (segment_eq t) (segments_to s.places q xs) i in
             let x = in_mapped (λ x. segment (place s.places x) q) u.0 xs u.1 in
-            ap (is_segment (put (document_of s) p q)) (segment_eq-true t u.0 u.2 ∙ sym x.2) ∙ to_q x.0 ((j x.0).0 (in_contains xs x.0 x.1))
+            ap (is_segment (put (stored_document s) p q)) (segment_eq-true t u.0 u.2 ∙ sym x.2) ∙ to_q x.0 ((j x.0).0 (in_contains xs x.0 x.1))
       ])
     where
       added : (x : ℕ) → Joined s.rings k x → t ≡ segment (place s.places x) q
-          → ((is_segment (document_of s) t && not (is_end p t)) || list_any (segment_eq t) (segments_to s.places q xs)) ≡ true
-      added x i e = or_right (is_segment (document_of s) t && not (is_end p t)) _
+          → ((is_segment (stored_document s) t && not (is_end p t)) || list_any (segment_eq t) (segments_to s.places q xs)) ≡ true
+      added x i e = or_right (is_segment (stored_document s) t && not (is_end p t)) _
           (in_any (segment_eq t) (segment (place s.places x) q) (segments_to s.places q xs) (in-map (λ x. segment (place s.places x) q) x xs (contains_in xs x ((j x).1 i)))
           (ap (segment_eq t) (sym e) ∙ segment_ordered.eq-refl t))
 
@@ -250,7 +250,7 @@ module _ (s : Stored) (w : IsWhole s) (k : ℕ) (p q : Position) (at : table.get
       forth : (a b : ℕ) → Joined s.rings a b
           → t ≡ segment (place (table.insert s.places k q) a) (place (table.insert s.places k q) b)
           → Dec (a ≡ k) → Dec (b ≡ k)
-          → ((is_segment (document_of s) t && not (is_end p t)) || list_any (segment_eq t) (segments_to s.places q xs)) ≡ true
+          → ((is_segment (stored_document s) t && not (is_end p t)) || list_any (segment_eq t) (segments_to s.places q xs)) ≡ true
       forth a b i e (yes m) (yes n) = absurd (joined_differ s w a b i (m ∙ sym n))
       forth a b i e (yes m) (no n) =
           added b (subst (λ z. Joined s.rings z b) m i)
@@ -261,7 +261,7 @@ module _ (s : Stored) (w : IsWhole s) (k : ℕ) (p q : Position) (at : table.get
       forth a b i e (no m) (no n) =
           let is = moved_segment a b (place s.places a) (place s.places b) e (place_other s.places k q a m) (place_other s.places k q b n) in
           ap₂ (λ y z. (y && not z) || list_any (segment_eq t) (segments_to s.places q xs))
-          (ap (is_segment (document_of s)) is ∙ joined_segment s w a b i) (ap (is_end p) is ∙ not_end a b i m n)
+          (ap (is_segment (stored_document s)) is ∙ joined_segment s w a b i) (ap (is_end p) is ∙ not_end a b i m n)
 
       -- a segment that does not end at p is of two other vertices
       off : (a b : ℕ) → is_end p t ≡ false → t ≡ segment (place s.places a) (place s.places b)
@@ -273,10 +273,10 @@ module _ (s : Stored) (w : IsWhole s) (k : ℕ) (p q : Position) (at : table.get
 
   -- and is new
   pub added_new : (xs : List ℕ) (t : Segment) → In t (segments_to s.places q xs)
-      → is_segment (document_of s) t ≡ false
+      → is_segment (stored_document s) t ≡ false
   added_new xs t i =
       let x = in_mapped (λ x. segment (place s.places x) q) t xs i in
-      false_from_ne_true _ (λ e. false≢true (sym free ∙ end_vertex (document_of s) q t e (ap (is_end q) (sym x.2) ∙ (two_ends (place s.places x.0) q).1)))
+      false_from_ne_true _ (λ e. false≢true (sym free ∙ end_vertex (stored_document s) q t e (ap (is_end q) (sym x.2) ∙ (two_ends (place s.places x.0) q).1)))
 
   -- no two are one
   pub added_single : (xs : List ℕ) → AreJoined s k xs → are_distinct xs ≡ true
@@ -287,23 +287,23 @@ module _ (s : Stored) (w : IsWhole s) (k : ℕ) (p q : Position) (at : table.get
 
   -- in the words of an index
   pub indexed_moved : (xs : List ℕ) → AreJoined s k xs → (held : SegmentSet)
-      → IsIndexed (document_of s) held → (t : Segment)
-      → has_segment (all_segments (put (document_of s) p q)) t
+      → IsIndexed (stored_document s) held → (t : Segment)
+      → has_segment (all_segments (put (stored_document s) p q)) t
       ≡ ((set.contains held t && not (is_end p t)) || has_segment (segments_to s.places q xs) t)
   indexed_moved xs j held i t =
-      has-eq (all_segments (put (document_of s) p q)) t ∙ segments_moved xs j t
+      has-eq (all_segments (put (stored_document s) p q)) t ∙ segments_moved xs j t
       ∙ ap₂ (λ a b. (a && not (is_end p t)) || b) (sym (i t)) (sym (has-eq (segments_to s.places q xs) t))
 
   -- after the added segments came into the index and those at p went, it is that of the moved map
   pub reindexed : (xs : List ℕ) → AreJoined s k xs → (held held' : SegmentSet)
-      → IsIndexed (document_of s) held
+      → IsIndexed (stored_document s) held
       → ((t : Segment) → set.contains held' t ≡ ((set.contains held t || has_segment (segments_to s.places q xs) t) && not (has_segment (segments_to s.places p xs) t)))
-      → IsIndexed (put (document_of s) p q) held'
+      → IsIndexed (put (stored_document s) p q) held'
   reindexed xs j held held' i h t =
       h t
       ∙ ap (λ b. (set.contains held t || has_segment (segments_to s.places q xs) t) && not b) (has-eq (segments_to s.places p xs) t ∙ sym (segments_at s w k p at xs j t) ∙ ap (λ b. b && is_end p t) (sym (i t)))
       ∙ either (set.contains held t) (has_segment (segments_to s.places q xs) t) (is_end p t) apart_from_held
-      ∙ sym (indexed_moved xs j held i t) ∙ has-eq (all_segments (put (document_of s) p q)) t
+      ∙ sym (indexed_moved xs j held i t) ∙ has-eq (all_segments (put (stored_document s) p q)) t
     where
       either : (held added at_p : Bool) → (held && added) ≡ false
           → ((held || added) && not (held && at_p)) ≡ ((held && not at_p) || added)
@@ -313,19 +313,19 @@ module _ (s : Stored) (w : IsWhole s) (k : ℕ) (p q : Position) (at : table.get
       apart_from_held = false_from_ne_true _ (λ e.
           let both = and_parts (set.contains held t) (has_segment (segments_to s.places q xs) t) e in
           let u = any_in (segment_eq t) (segments_to s.places q xs) (sym (has-eq (segments_to s.places q xs) t) ∙ both.1) in
-          false≢true (sym (added_new xs u.0 u.1) ∙ ap (is_segment (document_of s)) (sym (segment_eq-true t u.0 u.2)) ∙ sym (i t) ∙ both.0))
+          false≢true (sym (added_new xs u.0 u.1) ∙ ap (is_segment (stored_document s)) (sym (segment_eq-true t u.0 u.2)) ∙ sym (i t) ∙ both.0))
 
 -- a move gives a map with all that is true of maps
 pub holds_moved : (s : Stored) (held held' : SegmentSet) (k : ℕ) (p q : Position) → Holds s held
-    → table.get s.places k ≡ Some p → IsMovable (document_of s) p q
-    → IsIndexed (put (document_of s) p q) held' → Holds (moved_to s k q) held'
+    → table.get s.places k ≡ Some p → IsMovable (stored_document s) p q
+    → IsIndexed (put (stored_document s) p q) held' → Holds (moved_to s k q) held'
 holds_moved s held held' k p q h at may indexed =
     let is = document_moved s h.whole k p q at may.free in
     record {
       whole = whole_moved s h.whole k p q at may.free;
       formed = h.formed;
       keeps = h.keeps;
-      proper = subst Proper (sym is) (put_is_proper (document_of s) p q h.proper may.free may.apart);
+      proper = subst Proper (sym is) (put_is_proper (stored_document s) p q h.proper may.free may.apart);
       small = omega (arith, h.small, size_moved s h.whole k p q at may.free);
       indexed = subst (λ d. IsIndexed d held') (sym is) indexed;
     }

@@ -8,7 +8,7 @@ use Rattle.segment_index.specs.Common.{SegmentSet}
 use Rattle.segment_index.specs.Frames.{Frame as GridFrame}
 use Rattle.arc_tables.specs.Common.{Rings}
 use Rattle.map_frame.specs.Common.{Framed}
-use Rattle.feature_exchange.specs.Common.{Stored, stored, document_of}
+use Rattle.feature_exchange.specs.Common.{Stored, stored, stored_document}
 use Rattle.feature_exchange.proofs.Common.{rings-named, named_document, named_holds}
 use Rattle.arc_store.specs.Common.{IsKept, state_of, State}
 use Rattle.arc_store.proofs.FeaturesKept.{kept_as}
@@ -19,7 +19,7 @@ module _ {frame : Framed} {rings : Rings} {places : Placement} {held : SegmentSe
   abbrev was : Stored
   was = stored frame rings places
 
-  there : with_id now.doc n id ≡ with_id (document_of was) n id
+  there : with_id now.doc n id ≡ with_id (stored_document was) n id
   there = ap (λ (s : State). with_id s.doc n id) (sym is)
 
   module _ (frame' : Framed) (named : frame' ≡ record frame { doc = with_id frame.doc n id }) where
@@ -27,10 +27,10 @@ module _ {frame : Framed} {rings : Rings} {places : Placement} {held : SegmentSe
         → IsKept frame' rings places held positions
     kept_named m keeps =
         subst (λ f. IsKept f rings places held positions) (sym named)
-        (kept_as (with_id (document_of was) n id)
+        (kept_as (with_id (stored_document was) n id)
         (named_holds was n id held (subst IsMap there m) (subst KeepsTexts there keeps) kept.holds)
         (named_document was n id)
-        (kept.sized ∙ sym (ap (sum_by length) (rings-named n id (document_of was)))))
+        (kept.sized ∙ sym (ap (sum_by length) (rings-named n id (stored_document was)))))
 
     pub state_named : state_of frame' rings places l cells o ≡ record now { doc = with_id now.doc n id }
     state_named =

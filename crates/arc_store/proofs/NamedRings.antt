@@ -12,10 +12,10 @@ use Rattle.vertex_index.specs.Common.{Placement, place}
 use Rattle.arc_tables.specs.Common.{HasSegment, ListsUsers, Rings, Edge, is_seg, AllDifferent}
 use Rattle.arc_tables.proofs.Counting.{times_segment}
 use Rattle.ring_store.specs.Common.{Joined}
-use Rattle.map_frame.specs.Common.{Framed, number_at, ring_at}
+use Rattle.map_frame.specs.Common.{Framed, number_at, frame_ring}
 use Rattle.map_frame.specs.declared.names.RingName.{RingName}
 use Rattle.map_frame.proofs.Common.{same_some}
-use Rattle.feature_exchange.specs.Common.{IsWhole, stored, Stored, document_of, ring_under}
+use Rattle.feature_exchange.specs.Common.{IsWhole, stored, Stored, stored_document, ring_under}
 use Rattle.arc_store.specs.Common.{ListsNames, RingHas, AreOnce, ListsRings, users}
 use Rattle.feature_exchange.proofs.Common.{framed, joined_back, joined_kept, rings_are, segment_between, segment_ends}
 use Rattle.ring_store.proofs.Common.{kept_place, place_is, place_kept}
@@ -100,7 +100,7 @@ module _ (f : Framed) (m : Rings) (places : Placement) (whole : IsWhole (stored 
 
   -- the ring with a name is the one under its number
   pub ring_by_name : (name : RingName)
-      → ring_at (document_of s) name.feature name.polygon name.ring ≡ option_map (ring_under s) (number_at f.doc name)
+      → frame_ring (stored_document s) name.feature name.polygon name.ring ≡ option_map (ring_under s) (number_at f.doc name)
   ring_by_name name = ring-in_rings (ring_under s) f.doc name.feature name.polygon name.ring
 
   module _ (a b : ℕ) (p q : Position) (at_a : table.get places a ≡ Some p) (at_b : table.get places b ≡ Some q) where
@@ -115,14 +115,14 @@ module _ (f : Framed) (m : Rings) (places : Placement) (whole : IsWhole (stored 
         ∙ ring_has s whole a b (place_kept places a p at_a) (place_kept places b q at_b) r es e
 
     pub has_of : (name : RingName) (r : ℕ) → number_at f.doc name ≡ Some r → HasSegment m a b r
-        → RingHas (document_of s) t name
+        → RingHas (stored_document s) t name
     has_of name r e h = record {
       positions = ring_under s r;
       there = ring_by_name name ∙ ap (option_map (ring_under s)) e;
       has = has_by_keys r h.edges h.held ∙ h.has;
     }
 
-    pub of_has : (name : RingName) → RingHas (document_of s) t name
+    pub of_has : (name : RingName) → RingHas (stored_document s) t name
         → (r : ℕ) × (number_at f.doc name ≡ Some r) × HasSegment m a b r
     of_has name h =
         let k = mapped_there (ring_under s) (number_at f.doc name) h.positions (sym (ring_by_name name) ∙ h.there) in
@@ -147,7 +147,7 @@ module _ (f : Framed) (m : Rings) (places : Placement) (whole : IsWhole (stored 
 
     -- the names of the rings that were listed
     pub rings_listed : (numbers : List ℕ) → ListsUsers m a b [] numbers → (old new : List RingName)
-        → ListsNames f.doc numbers old new → ListsRings (document_of s) t old new
+        → ListsNames f.doc numbers old new → ListsRings (stored_document s) t old new
     rings_listed numbers l old new names = record {
       found = names.found;
       appended = names.appended;
@@ -167,7 +167,7 @@ module _ (f : Framed) (m : Rings) (places : Placement) (whole : IsWhole (stored 
         unlisted r c = subst (In r) (sym l.appended) (contains_in l.found r c)
 
   -- the other end of a segment has a key, and some ring has the segment of the two
-  pub other_end : (t : Segment) → is_segment (document_of s) t ≡ true → (a : ℕ) → table.get places a ≡ Some t.lo
+  pub other_end : (t : Segment) → is_segment (stored_document s) t ≡ true → (a : ℕ) → table.get places a ≡ Some t.lo
       → (b r : ℕ) × (table.get places b ≡ Some t.hi) × HasSegment m a b r
   other_end t h a at =
       let e = segment_between s whole t h in
@@ -190,7 +190,7 @@ module _ (f : Framed) (m : Rings) (places : Placement) (whole : IsWhole (stored 
   -- no ring has a segment with an end that has no key
   none_at : (t : Segment) (p : Position) → (t.lo ≡ p) ⊎ (t.hi ≡ p) → (o : Option ℕ) → o ≡ None
       → IfNone o ((k : ℕ) → table.get places k ≢ Some p) → (old : List RingName)
-      → ListsRings (document_of s) t old old
+      → ListsRings (stored_document s) t old old
   none_at t p end o e absent old = record {
     found = [];
     appended = sym (append-nil old);
@@ -198,20 +198,20 @@ module _ (f : Framed) (m : Rings) (places : Placement) (whole : IsWhole (stored 
       λ c. absurd (omega (arith, c.1)),
       λ h.
           let k = mapped_there (ring_under s) (number_at f.doc n) h.positions (sym (ring_by_name n) ∙ h.there) in
-          let there : In h.positions (rings (document_of s)) =
+          let there : In h.positions (rings (stored_document s)) =
           subst (λ z. In h.positions z) (sym (rings_are s whole)) (subst (λ z. In z (map (ring_under s) (rings f.doc))) k.2 (in-map (ring_under s) k.0 (rings f.doc) (number_there f.doc n k.0 k.1))) in
-          let some = some_there h.positions (users (document_of s) t) (filter-in (has_segment t) h.positions (rings (document_of s)) there h.has) in
+          let some = some_there h.positions (users (stored_document s) t) (filter-in (has_segment t) h.positions (rings (stored_document s)) there h.has) in
           absurd (omega (arith, some, unused_read s whole t p end o e absent)),
     );
     once = λ i j x d h. absurd cc;
   }
 
   pub none_from : (p q : Position) (o : Option ℕ) → o ≡ None → IfNone o ((k : ℕ) → table.get places k ≢ Some p)
-      → (old : List RingName) → ListsRings (document_of s) (segment p q) old old
+      → (old : List RingName) → ListsRings (stored_document s) (segment p q) old old
   none_from p q o e absent old =
       none_at (segment p q) p (elim (segment_ends p q) [ inl m ↦ inl m.0 | inr m ↦ inr m.1 ]) o e absent old
 
   pub none_to : (p q : Position) (o : Option ℕ) → o ≡ None → IfNone o ((k : ℕ) → table.get places k ≢ Some q)
-      → (old : List RingName) → ListsRings (document_of s) (segment p q) old old
+      → (old : List RingName) → ListsRings (stored_document s) (segment p q) old old
   none_to p q o e absent old =
       none_at (segment p q) q (elim (segment_ends p q) [ inl m ↦ inr m.1 | inr m ↦ inl m.0 ]) o e absent old

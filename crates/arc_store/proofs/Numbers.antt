@@ -9,7 +9,7 @@ use Rattle.ring_machine.proofs.Common.{is_of, In, any_in, in_any, canonical_turn
 use Rattle.arc_tables.specs.Common.{Edge, is_seg, times}
 use Rattle.vertex_index.specs.Common.{place}
 use Rattle.arc_tables.proofs.Common.{ends_of}
-use Rattle.feature_exchange.specs.Common.{Stored, positions_along, edges_under, ring_under, document_of, IsWhole}
+use Rattle.feature_exchange.specs.Common.{Stored, positions_along, edges_under, ring_under, stored_document, IsWhole}
 use Rattle.ring_store.proofs.Common.{place_is, place_kept, IsKept, one_key, filter-mapped, laid, edges_round, edge_ends}
 use Rattle.ring_store.proofs.Common.{times_edge, edge_times, ends_is_seg}
 use Rattle.feature_exchange.proofs.Common.{document_ring, begin_kept, framed, ring_under_is, rings_are}
@@ -55,7 +55,7 @@ module _ (s : Stored) (w : IsWhole s) (x y : ℕ) (x_kept : IsKept s.places x) (
 
   -- as many rings of the document have the segment as numbers
   pub users_count :
-      length (filter (has_segment (segment (place s.places x) (place s.places y))) (rings (document_of s)))
+      length (filter (has_segment (segment (place s.places x) (place s.places y))) (rings (stored_document s)))
       ≡ length (users_of s x y)
   users_count =
       ap (λ z. length (filter (has_segment (segment (place s.places x) (place s.places y))) z)) (rings_are s w)
@@ -64,9 +64,9 @@ module _ (s : Stored) (w : IsWhole s) (x y : ℕ) (x_kept : IsKept s.places x) (
 -- the size after an insertion between two vertices: one more for each ring that has their segment
 pub size_over : (s : Stored) (w : IsWhole s) (j k : ℕ) (a b q : Position)
     → table.get s.places j ≡ Some a → table.get s.places k ≡ Some b
-    → size (ins (document_of s) a b q) ≡ size (document_of s) + length (users_of s j k)
+    → size (ins (stored_document s) a b q) ≡ size (stored_document s) + length (users_of s j k)
 size_over s w j k a b q e f =
-    size_ins (document_of s) a b q (document_ring s w)
-    ∙ ap (λ z. size (document_of s) + z)
-    (ap₂ (λ y z. length (filter (has_segment (segment y z)) (rings (document_of s)))) (sym (place_is s.places j a e)) (sym (place_is s.places k b f))
+    size_ins (stored_document s) a b q (document_ring s w)
+    ∙ ap (λ z. size (stored_document s) + z)
+    (ap₂ (λ y z. length (filter (has_segment (segment y z)) (rings (stored_document s)))) (sym (place_is s.places j a e)) (sym (place_is s.places k b f))
     ∙ users_count s w j k (place_kept s.places j a e) (place_kept s.places k b f))

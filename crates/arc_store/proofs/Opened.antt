@@ -18,16 +18,17 @@ use Rattle.vertex_index.specs.Common.{Placement, place}
 use Rattle.arc_tables.specs.Common.{Edge, begins}
 use Rattle.ring_store.specs.Common.{ring_in}
 use Rattle.ring_store.specs.declared.tables.RingTables.{RingTables}
-use Rattle.map_opening.specs.Common.{all_rings, shape_of, ring_count, IsFlat, numbers_seen}
+use Rattle.map_opening.specs.Common.{rings_of_features, shape_of, ring_count, IsFlat, numbers_seen}
 use Rattle.ring_parts.specs.Common.{rings_seen}
 use Rattle.map_opening.specs.Opened.{AreOpened}
 use Rattle.map_opening.proofs.FlatLists.{length-all_rings}
 use Rattle.map_opening.proofs.NestedLists.{put_again}
 use Rattle.map_frame.specs.Common.{Framed, polygon_numbers, feature_numbers, CanStand}
 use Rattle.map_frame.specs.Opened as frame
-use Rattle.map_frame.proofs.BuiltAlike.{can_stand, lengths_of}
+use Rattle.map_frame.proofs.BuiltAlike.{lengths_of}
+use Rattle.arc_store.proofs.Standing.{can_stand}
 use Rattle.map_frame.proofs.BuiltNumbers.{layers_length}
-use Rattle.feature_exchange.specs.Common.{Holds, stored_in, Stored, ring_under, document_of}
+use Rattle.feature_exchange.specs.Common.{Holds, stored_in, Stored, ring_under, stored_document}
 use Rattle.feature_exchange.proofs.Whole.{map_holds}
 use Rattle.arc_store.specs.Common.{IsKept}
 use Rattle.arc_store.proofs.AllCanonical.{all_canonical}
@@ -52,7 +53,7 @@ module _ {A : Type 0} (raw : RawDoc A) (h : IsOfRings (view_raw raw)) {given all
   read_rings : rings (read.document_of (view_raw raw)) ≡ rings_seen given
   read_rings =
       let o = view_raw raw in
-      rings_document o.polygons o.layers ∙ ap all_rings (take_all (length (leaves o.layers)) o.polygons (omega (arith, h.counted)))
+      rings_document o.polygons o.layers ∙ ap rings_of_features (take_all (length (leaves o.layers)) o.polygons (omega (arith, h.counted)))
       ∙ flat.all ∙ ap rings_seen (sym same)
 
   pub read_are_rings : list_all is_ring (rings_seen given) ≡ true
@@ -104,7 +105,7 @@ module _ {I A : Type 0} (raw : RawDoc A) (h : IsOfRings (view_raw raw)) {given a
   opened_map = record { frame = read_frame; rings = t.borders; places = t.vertices }
 
   -- the map means what was read
-  opened_document : document_of opened_map ≡ read.document_of o
+  opened_document : stored_document opened_map ≡ read.document_of o
   opened_document =
       read_framed (ring_under opened_map) o (numbers_seen polygons)
       (put_again (ring_under opened_map) o.polygons (numbers_seen polygons) alike
@@ -115,7 +116,7 @@ module _ {I A : Type 0} (raw : RawDoc A) (h : IsOfRings (view_raw raw)) {given a
   opened_rings : rings read_frame ≡ numbers
   opened_rings =
       rings_document (numbers_seen polygons) o.layers
-      ∙ ap (λ (ps : List (List (List ℕ))). all_rings ps) (take_all (length (leaves o.layers)) (numbers_seen polygons) (omega (arith, opened_stands.counted, length-map polygons (feature_numbers {A = A}))))
+      ∙ ap (λ (ps : List (List (List ℕ))). rings_of_features ps) (take_all (length (leaves o.layers)) (numbers_seen polygons) (omega (arith, opened_stands.counted, length-map polygons (feature_numbers {A = A}))))
       ∙ again.all ∙ same_numbers
 
   -- a ring stands under each number
@@ -139,18 +140,18 @@ module _ {I A : Type 0} (raw : RawDoc A) (h : IsOfRings (view_raw raw)) {given a
       }))
       (subst (λ d. size d ≤ 4000000) (sym opened_document) h.small)
 
-  opened_size : positions ≡ size (document_of opened_map)
+  opened_size : positions ≡ size (stored_document opened_map)
   opened_size = opened.size ∙ ap (sum_by length) (sym (read_rings raw h same flat)) ∙ ap size (sym opened_document)
 
   -- ---- the map
 
   module _ (framed : Framed) (is : framed.doc ≡ read_frame) where
     -- the map means what was read
-    pub map_document : document_of (stored_in framed t) ≡ read.document_of o
-    map_document = ap (λ d. document_of (record { frame = d; rings = t.borders; places = t.vertices })) is ∙ opened_document
+    pub map_document : stored_document (stored_in framed t) ≡ read.document_of o
+    map_document = ap (λ d. stored_document (record { frame = d; rings = t.borders; places = t.vertices })) is ∙ opened_document
 
     -- it has as many features as lists of polygons
-    pub map_features : length (features (document_of (stored_in framed t))) ≡ length polygons
+    pub map_features : length (features (stored_document (stored_in framed t))) ≡ length polygons
     map_features =
         feature_count-in_rings (ring_under (stored_in framed t)) framed.doc
         ∙ ap (λ d. length (features d)) is ∙ layers_length 0 (numbers_seen polygons) o.layers ∙ sym opened_stands.counted
@@ -158,8 +159,8 @@ module _ {I A : Type 0} (raw : RawDoc A) (h : IsOfRings (view_raw raw)) {given a
     pub map_kept : first ≡ None → IsKept framed t.borders t.vertices t.index.held positions
     map_kept none = record {
       holds = subst (λ d. Holds (record { frame = d; rings = t.borders; places = t.vertices }) t.index.held) (sym is) (opened_holds none);
-      sized = opened_size ∙ ap (λ d. size (document_of (record { frame = d; rings = t.borders; places = t.vertices }))) (sym is);
+      sized = opened_size ∙ ap (λ d. size (stored_document (record { frame = d; rings = t.borders; places = t.vertices }))) (sym is);
     }
 
-    pub map_proper : first ≡ None → Proper (document_of (stored_in framed t))
+    pub map_proper : first ≡ None → Proper (stored_document (stored_in framed t))
     map_proper none = (map_kept none).holds.proper

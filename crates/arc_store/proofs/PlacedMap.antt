@@ -13,7 +13,7 @@ use Rattle.arc_tables.specs.Common.{Rings}
 use Rattle.topo_outline.specs.Common.{KeepsTexts}
 use Rattle.topo_outline.proofs.Common.{keeps-in_rings}
 use Rattle.map_frame.specs.Common.{Framed, ArePlaced, Texts, texts_of}
-use Rattle.feature_exchange.specs.Common.{trees_after, stored, ring_under, document_of}
+use Rattle.feature_exchange.specs.Common.{trees_after, stored, ring_under, stored_document}
 use Rattle.arc_store.specs.Common.{IsKept, state_of, State}
 use Rattle.arc_store.proofs.FeaturesKept.{seen_doc, seen_formed, seen_proper, seen_size, seen_small}
 
@@ -69,7 +69,7 @@ module _ {frame : Framed} {rings : Rings} {places : Placement} {held : SegmentSe
       by (feature frame.doc n) refl e ∙ ap (λ d. texts_of (feature_at d n)) (seen_doc kept is)
     where
       by : (o : Option (FeatureOf ℕ)) → feature frame.doc n ≡ o → Some t ≡ option_map texts_of o
-          → t ≡ texts_of (feature_at (document_of (stored frame rings places)) n)
+          → t ≡ texts_of (feature_at (stored_document (stored frame rings places)) n)
       by None h k = absurd cc
       by (Some f) h k =
           let same : t ≡ texts_of f = cc in

@@ -7,7 +7,7 @@ use Rattle.ring_machine.specs.Common.{canonical, rings}
 use Rattle.ring_machine.proofs.Common.{canonical_parts, rings-in_rings}
 use Rattle.vertex_index.specs.Common.{Placement, place, AreInRange}
 use Rattle.arc_tables.specs.Common.{begins}
-use Rattle.feature_exchange.specs.Common.{Stored, edges_under, ring_under, document_of}
+use Rattle.feature_exchange.specs.Common.{Stored, edges_under, ring_under, stored_document}
 
 each_made : {A B : Type 0} (P : B → Type 0) (f : A → B) (xs : List A) → ((x : A) → P (f x)) → AllByRecursion P (map f xs)
 each_made P f [] h = tt
@@ -26,7 +26,7 @@ place_in_range m k h = by (table.get m k) refl
     by None e = record { across = omega arith; upward = omega arith }
     by (Some p) e = h k p e
 
-pub rings_in_range : (s : Stored) → AreInRange s.places → AllByRecursion (AllByRecursion InRange) (rings (document_of s))
+pub rings_in_range : (s : Stored) → AreInRange s.places → AllByRecursion (AllByRecursion InRange) (rings (stored_document s))
 rings_in_range s h =
     subst (AllByRecursion (AllByRecursion InRange)) (sym (rings-in_rings (ring_under s) s.frame))
     (each_made (AllByRecursion InRange) (ring_under s) (rings s.frame) (λ r. each_canonical InRange (map (place s.places) (begins (edges_under s.rings r)))

@@ -18,7 +18,7 @@ use Rattle.ring_store.specs.Common.{Joined, AreNeighbours, HasBridging, IsBridgi
 use Rattle.map_frame.specs.Common.{Framed}
 use Rattle.edit_records.specs.Common.{Record}
 use Rattle.arc_store.specs.Common.{IsLeavable, IsRemovable, IsKept, state_of, State}
-use Rattle.feature_exchange.specs.Common.{IsWhole, IsIndexed, stored, Stored, document_of}
+use Rattle.feature_exchange.specs.Common.{IsWhole, IsIndexed, stored, Stored, stored_document}
 use Rattle.arc_store.proofs.Around.{bridged_two, segments_two, sweeps_two, unbridged_two}
 use Rattle.arc_store.proofs.Around.{two_apart, neighbours_none, neighbours_one, neighbours_more}
 use Rattle.ring_store.proofs.Common.{place_is}
@@ -31,7 +31,7 @@ use Rattle.arc_store.proofs.RingUsers.{users_same}
 
 -- where a vertex is no junction, the answer on its neighbours gives two
 pub two_neighbours : (s : Stored) → IsWhole s → (m : ℕ) (p : Position) → table.get s.places m ≡ Some p
-    → is_junction (document_of s) p ≡ false → (n : Neighbours) → AreNeighbours s.rings m n
+    → is_junction (stored_document s) p ≡ false → (n : Neighbours) → AreNeighbours s.rings m n
     → (j : ℕ) × (k : ℕ) × (n ≡ Two j k)
 two_neighbours s w m p here inner neighbours.None h = absurd (neighbours_none s w m p here h)
 two_neighbours s w m p here inner (One a) h = absurd (neighbours_one s w m p here a h)
@@ -39,8 +39,8 @@ two_neighbours s w m p here inner (Two j k) h = (j, k, refl)
 two_neighbours s w m p here inner More h = absurd (false≢true (sym inner ∙ neighbours_more s w m p here h))
 
 -- p is a vertex and no junction
-pub has_bridging : (s : Stored) → IsWhole s → (p : Position) → is_vertex (document_of s) p ≡ true
-    → is_junction (document_of s) p ≡ false → HasBridging s.places s.rings p
+pub has_bridging : (s : Stored) → IsWhole s → (p : Position) → is_vertex (stored_document s) p ≡ true
+    → is_junction (stored_document s) p ≡ false → HasBridging s.places s.rings p
 has_bridging s w p vertex inner = record {
   here = vertex_key s w p vertex;
   two = λ k here found are. two_neighbours s w k p here inner found are;
@@ -64,9 +64,9 @@ pub record IsFound (frame : Framed) (rings : Rings) (places : Placement) (held :
     (positions : ℕ) (p : Position) (m j k : ℕ) (before : List Segment) (after : Segment) : Type 0 where
   pub kept : IsKept frame rings places held positions
   pub read : IsBridging places rings p m j k before after
-  pub inner : is_junction (document_of (stored frame rings places)) p ≡ false
-  pub long : are_long (document_of (stored frame rings places)) p ≡ true
-  pub unjoined : is_bridged (document_of (stored frame rings places)) p ≡ false
+  pub inner : is_junction (stored_document (stored frame rings places)) p ≡ false
+  pub long : are_long (stored_document (stored frame rings places)) p ≡ true
+  pub unjoined : is_bridged (stored_document (stored frame rings places)) p ≡ false
 
 -- as the map's callers see it
 pub found : {frame : Framed} {rings : Rings} {places : Placement} {held : SegmentSet} {positions l : ℕ}
@@ -125,16 +125,16 @@ module _ {frame : Framed} {rings : Rings} {places : Placement} {held : SegmentSe
   remove_held : AreAmong held (spokes p (a ∷ b ∷ []))
   remove_held t i =
       let u = any_in (segment_is t) (spokes p (a ∷ b ∷ [])) i in
-      f.kept.holds.indexed t ∙ ap (is_segment (document_of s)) (same_segment t u.0 u.2) ∙ at u.0 u.1
+      f.kept.holds.indexed t ∙ ap (is_segment (stored_document s)) (same_segment t u.0 u.2) ∙ at u.0 u.1
     where
-      to : (x : ℕ) → Joined rings m x → is_segment (document_of s) (segment (place places x) p) ≡ true
+      to : (x : ℕ) → Joined rings m x → is_segment (stored_document s) (segment (place places x) p) ≡ true
       to x g =
-          ap (λ z. is_segment (document_of s) (segment (place places x) z)) (sym (place_is places m p f.read.here))
+          ap (λ z. is_segment (stored_document s) (segment (place places x) z)) (sym (place_is places m p f.read.here))
           ∙ joined_segment s whole x m (joined_back s m x g)
 
-      at : (z : Segment) → In z (spokes p (a ∷ b ∷ [])) → is_segment (document_of s) z ≡ true
-      at z (inl e) = ap (is_segment (document_of s)) (sym e) ∙ to j joined_j
-      at z (inr (inl e)) = ap (is_segment (document_of s)) (sym e) ∙ to k joined_k
+      at : (z : Segment) → In z (spokes p (a ∷ b ∷ [])) → is_segment (stored_document s) z ≡ true
+      at z (inl e) = ap (is_segment (stored_document s)) (sym e) ∙ to j joined_j
+      at z (inr (inl e)) = ap (is_segment (stored_document s)) (sym e) ∙ to k joined_k
       at z (inr (inr e)) = absurd e
 
   -- and are two
@@ -143,10 +143,10 @@ module _ {frame : Framed} {rings : Rings} {places : Placement} {held : SegmentSe
       two_single (segment a p) (segment b p) (false_from_ne_true _ (λ e.
       f.read.two.0 (one_to places p whole.distinct j k (joined_kept s whole m j joined_j).1 (joined_kept s whole m k joined_k).1 (segment_eq-true (segment a p) (segment b p) e))))
 
-  pub planned : IsPlanned (document_of s) held p after before
+  pub planned : IsPlanned (stored_document s) held p after before
   planned =
-      subst (λ z. IsPlanned (document_of s) held p z before) is_after
-      (subst (IsPlanned (document_of s) held p (segment a b)) is_before (record {
+      subst (λ z. IsPlanned (stored_document s) held p z before) is_after
+      (subst (IsPlanned (stored_document s) held p (segment a b)) is_before (record {
         new = f.kept.holds.indexed (segment a b) ∙ sym (bridged_two s whole m p f.read.here j k f.read.two) ∙ f.unjoined;
         among = remove_held;
         single = remove_single;
@@ -165,7 +165,7 @@ module _ {frame : Framed} {rings : Rings} {places : Placement} {held : SegmentSe
 pub record IsTaken (frame : Framed) (rings rings' : Rings) (places places' : Placement)
     (held' : SegmentSet) (positions : ℕ) (p : Position) (m k : ℕ) : Type 0 where
   -- the document is the one without p
-  pub doc : document_of (stored frame rings' places') ≡ del (document_of (stored frame rings places)) p
+  pub doc : stored_document (stored frame rings' places') ≡ del (stored_document (stored frame rings places)) p
   -- there were positions to go
   pub positions_there : users_of rings m k ≤ positions
   -- what is true of the tables stayed true
@@ -173,14 +173,14 @@ pub record IsTaken (frame : Framed) (rings rings' : Rings) (places places' : Pla
 
 module _ {frame : Framed} {rings rings' : Rings} {places places' : Placement} {held : SegmentSet} {positions : ℕ} {p : Position}
     {m j k : ℕ} {before : List Segment} {after : Segment} (f : IsFound frame rings places held positions p m j k before after)
-    (may : IsLeavable (document_of (stored frame rings places)) p) (out : TakenOut places places' rings rings' m k) where
+    (may : IsLeavable (stored_document (stored frame rings places)) p) (out : TakenOut places places' rings rings' m k) where
   removing : Removing (stored frame rings places) rings' m j k p
   removing = record { here = f.read.here; two = f.read.two; edited = out.edited; may = may }
 
-  is_removed : document_of (without_vertex (stored frame rings places) rings' m) ≡ del (document_of (stored frame rings places)) p
+  is_removed : stored_document (without_vertex (stored frame rings places) rings' m) ≡ del (stored_document (stored frame rings places)) p
   is_removed = document_removed (stored frame rings places) rings' m j k p (whole f) f.kept.holds.proper removing
 
-  size_shrinks : positions ≡ size (del (document_of (stored frame rings places)) p) + users_of rings m k
+  size_shrinks : positions ≡ size (del (stored_document (stored frame rings places)) p) + users_of rings m k
   size_shrinks =
       omega (
         arith,
@@ -195,16 +195,16 @@ module _ {frame : Framed} {rings rings' : Rings} {places places' : Placement} {h
         subst (λ z. Exchanges held (z ∷ []) (spokes p (place places j ∷ place places k ∷ [])) held') (sym (is_after f))
         (subst (λ z. Exchanges held (after ∷ []) z held') (sym (is_before f)) e)
 
-    remove_indexed : IsIndexed (del (document_of (stored frame rings places)) p) held'
+    remove_indexed : IsIndexed (del (stored_document (stored frame rings places)) p) held'
     remove_indexed =
         reindexed_removed (stored frame rings places) rings' m j k p (whole f) f.kept.holds.proper removing held held' f.kept.holds.indexed exchanged
 
     -- the tables and the index changed
     pub taken : IsTaken frame rings rings' places places' held' positions p m k
     taken =
-        let shrunk : positions - users_of rings m k ≡ size (del (document_of (stored frame rings places)) p) = omega (arith, size_shrinks) in
+        let shrunk : positions - users_of rings m k ≡ size (del (stored_document (stored frame rings places)) p) = omega (arith, size_shrinks) in
         record {
-          doc = ap (λ z. document_of (stored frame rings' z)) out.placed ∙ is_removed;
+          doc = ap (λ z. stored_document (stored frame rings' z)) out.placed ∙ is_removed;
           positions_there = omega (arith, size_shrinks);
           kept = subst (λ z. IsKept frame rings' z held' (positions - users_of rings m k)) (sym out.placed) (record {
             holds = holds_removed (stored frame rings places) held held' rings' m j k p f.kept.holds removing remove_indexed;

@@ -20,7 +20,7 @@ use Rattle.segment_index.specs.Candidates.{SegmentSet, has as among}
 use Rattle.arc_tables.specs.Common.{Edge, is_seg, Rings, begins, onto, drawn, collapsed}
 use Rattle.ring_store.specs.Common.{Joined, GoesRound}
 use Rattle.vertex_index.specs.Common.{place}
-use Rattle.feature_exchange.specs.Common.{Stored, positions_along, edges_under, ring_under, document_of, IsWhole}
+use Rattle.feature_exchange.specs.Common.{Stored, positions_along, edges_under, ring_under, stored_document, IsWhole}
 use Rattle.feature_exchange.specs.Common.{IsIndexed, Holds}
 use Rattle.ring_store.proofs.Common.{has-eq, filter-mapped, IsKept, place_is, place_kept, one_key, place_alike}
 use Rattle.ring_store.proofs.Common.{remove_here, remove_other, laid, edge_ends, edge_apart, ends_is_seg, of_canonical}
@@ -93,14 +93,14 @@ pub record Removing (s : Stored) (after : Rings) (m j k : ℕ) (p : Position) : 
   pub here : table.get s.places m ≡ Some p
   pub two : AreTwo s m j k
   pub edited : (r : ℕ) → table.get after r ≡ option_map (collapsed m k) (table.get s.rings r)
-  pub may : IsLeavable (document_of s) p
+  pub may : IsLeavable (stored_document s) p
 
 -- the map with these rings, and one vertex less
 abbrev pub without_vertex : Stored → Rings → ℕ → Stored
 without_vertex s after m =
     record { frame = s.frame; rings = after; places = table.remove s.places m }
 
-module _ (s : Stored) (after : Rings) (m j k : ℕ) (p : Position) (w : IsWhole s) (proper : Proper (document_of s)) (i : Removing s after m j k p) where
+module _ (s : Stored) (after : Rings) (m j k : ℕ) (p : Position) (w : IsWhole s) (proper : Proper (stored_document s)) (i : Removing s after m j k p) where
   abbrev next : Stored
   next = without_vertex s after m
 
@@ -126,19 +126,19 @@ module _ (s : Stored) (after : Rings) (m j k : ℕ) (p : Position) (w : IsWhole 
   elsewhere : (x : ℕ) → IsKept s.places x → x ≢ m → place s.places x ≢ p
   elsewhere x h f e = f (one_key s.places w.distinct x m h m_kept (e ∙ sym p_is))
 
-  ring_there : (r : ℕ) → In r (rings s.frame) → In (ring_under s r) (rings (document_of s))
+  ring_there : (r : ℕ) → In r (rings s.frame) → In (ring_under s r) (rings (stored_document s))
   ring_there r h =
       subst (In (ring_under s r)) (sym (rings-in_rings (ring_under s) s.frame)) (in-map (ring_under s) r (rings s.frame) h)
 
   -- each edited ring of the document is a ring
   ring_stays : (r : ℕ) → In r (rings s.frame) → is_ring (del_ring p (ring_under s r)) ≡ true
   ring_stays r h =
-      all_in is_ring (rings (del (document_of s) p)) (del_ring p (ring_under s r))
-      (del_is_proper (document_of s) p proper i.may.long i.may.apart).are_rings
-      (subst (In (del_ring p (ring_under s r))) (sym (rings-in_rings (del_ring p) (document_of s)))
-      (in-map (del_ring p) (ring_under s r) (rings (document_of s)) (ring_there r h)))
+      all_in is_ring (rings (del (stored_document s) p)) (del_ring p (ring_under s r))
+      (del_is_proper (stored_document s) p proper i.may.long i.may.apart).are_rings
+      (subst (In (del_ring p (ring_under s r))) (sym (rings-in_rings (del_ring p) (stored_document s)))
+      (in-map (del_ring p) (ring_under s r) (rings (stored_document s)) (ring_there r h)))
 
-  beside_k : (ring : List Position) → In ring (rings (document_of s)) → is_ring ring ≡ true
+  beside_k : (ring : List Position) → In ring (rings (stored_document s)) → is_ring ring ≡ true
       → has ring p ≡ true → Beside p (place s.places k) ring
   beside_k ring h is t =
       let d = ring_distinct ring is in
@@ -218,7 +218,7 @@ module _ (s : Stored) (after : Rings) (m j k : ℕ) (p : Position) (w : IsWhole 
       sym (ap (λ o. canonical (positions_along next.places (unwrap_or o []))) (edges_after r e.0 e.1) ∙ ring_edited r h e.0 e.1)
 
   -- the document is the one without p
-  pub document_removed : document_of next ≡ del (document_of s) p
+  pub document_removed : stored_document next ≡ del (stored_document s) p
   document_removed =
       sym (document-agrees (ring_under s) (del_ring p) (ring_under next) s.frame
       (all_of (λ r. del_ring p (ring_under s r) ≡ ring_under next r) (rings s.frame) ring_after))
@@ -311,15 +311,15 @@ module _ (s : Stored) (after : Rings) (m j k : ℕ) (p : Position) (w : IsWhole 
 
   -- the segments after the removal: those at p go, and that of its neighbours comes
   pub segments_removed : (t : Segment)
-      → is_segment (del (document_of s) p) t
-      ≡ ((is_segment (document_of s) t && not (is_end p t)) || segment_eq t (segment (place s.places j) (place s.places k)))
+      → is_segment (del (stored_document s) p) t
+      ≡ ((is_segment (stored_document s) t && not (is_end p t)) || segment_eq t (segment (place s.places j) (place s.places k)))
   segments_removed = segments_two s w m p i.here j k i.two
 
-  pub bridge_new : is_segment (document_of s) (segment (place s.places j) (place s.places k)) ≡ false
+  pub bridge_new : is_segment (stored_document s) (segment (place s.places j) (place s.places k)) ≡ false
   bridge_new = sym (bridged_two s w m p i.here j k i.two) ∙ i.may.unjoined
 
   -- a ring with p has the segment of p and k
-  has_by_segment : (ring : List Position) → In ring (rings (document_of s))
+  has_by_segment : (ring : List Position) → In ring (rings (stored_document s))
       → has ring p ≡ has_segment (segment p (place s.places k)) ring
   has_by_segment ring h = same_answer (has ring p) _ (λ t.
       let b = begun_at p ring (has-in p ring t) (ring_long ring (document_ring s w ring h)) in
@@ -334,10 +334,10 @@ module _ (s : Stored) (after : Rings) (m j k : ℕ) (p : Position) (w : IsWhole 
       back false t g = absurd (false≢true (sym (segments_off p ring t (segment p (place s.places k)) g) ∙ (two_ends p (place s.places k)).0))
 
   -- the size shrinks by one for each ring that has p, and so the segment of m and k
-  pub size_removed : size (document_of s) ≡ size (del (document_of s) p) + length (users_of s m k)
+  pub size_removed : size (stored_document s) ≡ size (del (stored_document s) p) + length (users_of s m k)
   size_removed =
-      size_del (document_of s) p (document_ring s w)
-      ∙ ap (λ z. size (del (document_of s) p) + z)
+      size_del (stored_document s) p (document_ring s w)
+      ∙ ap (λ z. size (del (stored_document s) p) + z)
       (ap (λ z. length (filter (λ ring. has ring p) z)) (rings_are s w)
       ∙ filter-mapped (ring_under s) (λ ring. has ring p) (λ r. list_any (is_seg m k) (edges_under s.rings r)) (rings s.frame)
       (λ r h. has_by_segment (ring_under s r) (ring_there r h) ∙ ap (λ z. has_segment (segment z (place s.places k)) (ring_under s r)) (sym p_is) ∙ framed_has s w m k m_kept k_kept r h))
@@ -355,15 +355,15 @@ module _ (s : Stored) (after : Rings) (m j k : ℕ) (p : Position) (w : IsWhole 
   )
 
   -- after the new segment came into the index and those at p went, it is that of the new map
-  pub reindexed_removed : (held held' : SegmentSet) → IsIndexed (document_of s) held
+  pub reindexed_removed : (held held' : SegmentSet) → IsIndexed (stored_document s) held
       → ((t : Segment) → set.contains held' t ≡ ((set.contains held t || among (segment (place s.places j) (place s.places k) ∷ []) t) && not (among (segment (place s.places j) p ∷ segment (place s.places k) p ∷ []) t)))
-      → IsIndexed (del (document_of s) p) held'
+      → IsIndexed (del (stored_document s) p) held'
   reindexed_removed held held' x h t =
       h t
       ∙ ap₂ (λ y z. (set.contains held t || y) && not z) (has-eq (segment (place s.places j) (place s.places k) ∷ []) t) (has-eq (segment (place s.places j) p ∷ segment (place s.places k) p ∷ []) t ∙ sym (segments_at s w m p i.here (j ∷ k ∷ []) two_joined t))
-      ∙ ap (λ y. (y || (segment_eq t (segment (place s.places j) (place s.places k)) || false)) && not (is_segment (document_of s) t && is_end p t)) (x t)
-      ∙ by (is_segment (document_of s) t) (segment_eq t (segment (place s.places j) (place s.places k))) (is_end p t)
-      (λ e. ap (is_segment (document_of s)) (segment_eq-true t (segment (place s.places j) (place s.places k)) e) ∙ bridge_new)
+      ∙ ap (λ y. (y || (segment_eq t (segment (place s.places j) (place s.places k)) || false)) && not (is_segment (stored_document s) t && is_end p t)) (x t)
+      ∙ by (is_segment (stored_document s) t) (segment_eq t (segment (place s.places j) (place s.places k))) (is_end p t)
+      (λ e. ap (is_segment (stored_document s)) (segment_eq-true t (segment (place s.places j) (place s.places k)) e) ∙ bridge_new)
       ∙ sym (segments_removed t)
     where
       by : (was comes at_p : Bool) → (comes ≡ true → was ≡ false)
@@ -372,7 +372,7 @@ module _ (s : Stored) (after : Rings) (m j k : ℕ) (p : Position) (w : IsWhole 
 
 -- the map without the vertex is held again, where the index has its segments
 pub holds_removed : (s : Stored) (held held' : SegmentSet) (after : Rings) (m j k : ℕ) (p : Position)
-    → Holds s held → Removing s after m j k p → IsIndexed (del (document_of s) p) held'
+    → Holds s held → Removing s after m j k p → IsIndexed (del (stored_document s) p) held'
     → Holds (without_vertex s after m) held'
 holds_removed s held held' after m j k p h i x =
     let is = document_removed s after m j k p h.whole h.proper i in
@@ -380,7 +380,7 @@ holds_removed s held held' after m j k p h i x =
       whole = whole_removed s after m j k p h.whole h.proper i;
       formed = h.formed;
       keeps = h.keeps;
-      proper = subst Proper (sym is) (del_is_proper (document_of s) p h.proper i.may.long i.may.apart);
+      proper = subst Proper (sym is) (del_is_proper (stored_document s) p h.proper i.may.long i.may.apart);
       small = subst (λ d. size d ≤ 4000000) (sym is) (omega (arith, h.small, size_removed s after m j k p h.whole h.proper i));
       indexed = subst (λ d. IsIndexed d held') (sym is) x;
     }

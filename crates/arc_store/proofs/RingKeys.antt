@@ -8,7 +8,7 @@ use Rattle.ring_machine.proofs.Common.{In, in_contains, in-map, rings-in_rings, 
 use Rattle.vertex_index.specs.Common.{place}
 use Rattle.arc_tables.specs.Common.{begins, Edge}
 use Rattle.ring_store.proofs.Common.{begins_round}
-use Rattle.feature_exchange.specs.Common.{IsWhole, Stored, document_of, ring_under}
+use Rattle.feature_exchange.specs.Common.{IsWhole, Stored, stored_document, ring_under}
 
 part_of_sum : {X : Type 0} (f : X → ℕ) (xs : List X) (x : X) → In x xs → f x ≤ sum_by f xs
 part_of_sum f [] x h = absurd h
@@ -54,7 +54,7 @@ module _ (s : Stored) (whole : IsWhole s) (number : ℕ) where
         ∙ sym (ap (λ o. canonical (map (place s.places) (begins (unwrap_or o [])))) es.1)
 
     -- its positions are among those that the document has in all
-    pub keys_few : In number (rings s.frame) → length keys ≤ size (document_of s)
+    pub keys_few : In number (rings s.frame) → length keys ≤ size (stored_document s)
     keys_few h =
         let all = rings s.frame in
         let one = part_of_sum length (map (ring_under s) all) (ring_under s number) (in-map (ring_under s) number all h) in

@@ -8,7 +8,7 @@ use Rattle.segment_index.specs.Common.{SegmentSet, AreSingle, segment_is, has}
 use Rattle.segment_index.proofs.Common.{segment_total, same_sets, is-itself}
 use Rattle.local_planarity.proofs.Added.{single_first, single_rest}
 use Rattle.feature_exchange.specs.Common.{IsIndexed}
-use Rattle.ring_store.specs.Common.{AreNew, Gains}
+use Rattle.ring_store.specs.Common.{AreNew, GainsSegments}
 use Rattle.ring_store.proofs.Common.{has-eq, or_nothing, has_all, single_all}
 
 or_swap : (a b c : Bool) → (a || (b || c)) ≡ (b || (a || c))
@@ -41,7 +41,7 @@ len_gained h (x ∷ xs) single new =
 
 -- as many more as came
 pub len_gains : (old new : SegmentSet) (xs : List Segment) → AreSingle xs → AreNew old xs
-    → Gains old xs new → set.len new ≡ set.len old + length xs
+    → GainsSegments old xs new → set.len new ≡ set.len old + length xs
 len_gains old new xs single free h =
     ap set.len (same_sets new (gained old xs) (λ t. h t ∙ sym (contains_gained old xs t))) ∙ len_gained old xs single free
 
@@ -57,7 +57,7 @@ list_len ss held h =
       set.len-empty segment_cmp,
     )
   where
-    is : Gains set.empty (fold add_segment [] ss) held
+    is : GainsSegments set.empty (fold add_segment [] ss) held
     is t =
         h t ∙ sym (has_all [] ss t)
         ∙ ap (λ b. b || has (fold add_segment [] ss) t) (sym (set.contains-empty segment_cmp t))

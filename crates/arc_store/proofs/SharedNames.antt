@@ -11,7 +11,7 @@ use Rattle.arc_tables.specs.Common.{Rings, HasSegment, HaveCommon, ListsSharing}
 use Rattle.map_frame.specs.Common.{Framed, number_at}
 use Rattle.map_frame.specs.declared.names.RingName.{RingName}
 use Rattle.ring_store.proofs.Common.{IsKept, kept_place}
-use Rattle.feature_exchange.specs.Common.{IsWhole, stored, Stored, document_of, ring_under}
+use Rattle.feature_exchange.specs.Common.{IsWhole, stored, Stored, stored_document, ring_under}
 use Rattle.feature_exchange.proofs.Common.{framed, rings_are, segment_between, joined_kept}
 use Rattle.arc_store.specs.Common.{ListsNames, RingHas, HasOne, ListsUsers}
 use Rattle.arc_store.proofs.FrameNames.{name_there, number_there}
@@ -49,11 +49,11 @@ module _ (f : Framed) (m : Rings) (places : Placement) (whole : IsWhole (stored 
     both_kept a b h = joined_kept s whole a b (record { ring = r; edges = h.edges; held = h.held; has = (any_times a b h.edges).0 h.has })
 
     -- a ring with a segment in common has that of one of the edges
-    one_of : (name : RingName) (x : ℕ) → number_at f.doc name ≡ Some x → HaveCommon m r x → HasOne (document_of s) es name
+    one_of : (name : RingName) (x : ℕ) → number_at f.doc name ≡ Some x → HaveCommon m r x → HasOne (stored_document s) es name
     one_of name x e h =
         let kept = both_kept h.a h.b h.one in
         let t = segment (place places h.a) (place places h.b) in
-        let other : RingHas (document_of s) t name =
+        let other : RingHas (stored_document s) t name =
         has_of f m places whole h.a h.b (place places h.a) (place places h.b) (kept_place places h.a kept.0) (kept_place places h.b kept.1) name x e h.other in
         let mine : has_segment t ring ≡ true = ring_has s whole h.a h.b kept.0 kept.1 r h.one.edges h.one.held ∙ h.one.has in
         let u = any_in (segment_eq t) (segments ring) mine in
@@ -61,24 +61,24 @@ module _ (f : Framed) (m : Rings) (places : Placement) (whole : IsWhole (stored 
         record {
           edge = k.0;
           there = in_contains es k.0 k.1;
-          has = subst (λ z. RingHas (document_of s) z name) (segment_eq-true t u.0 u.2 ∙ sym k.2) other;
+          has = subst (λ z. RingHas (stored_document s) z name) (segment_eq-true t u.0 u.2 ∙ sym k.2) other;
         }
 
     -- a ring with the segment of one of the edges has a segment in common
-    common_of : (name : RingName) → HasOne (document_of s) es name
+    common_of : (name : RingName) → HasOne (stored_document s) es name
         → (x : ℕ) × (number_at f.doc name ≡ Some x) × HaveCommon m r x
     common_of name h =
         let t = segment h.edge.0 h.edge.1 in
         let number : In r (rings f.doc) = number_there f.doc own r is in
         let mine : has_segment t ring ≡ true =
         in_any (segment_eq t) t (segments ring) (in-map segment_of h.edge es (contains_in es h.edge h.there)) (segment_ordered.eq-refl t) in
-        let there : In ring (rings (document_of s)) = subst (In ring) (sym (rings_are s whole)) (in-map (ring_under s) r (rings f.doc) number) in
-        let listed : is_segment (document_of s) t ≡ true =
-        is_segment_by (document_of s) t ∙ in_any (has_segment t) ring (rings (document_of s)) there mine in
+        let there : In ring (rings (stored_document s)) = subst (In ring) (sym (rings_are s whole)) (in-map (ring_under s) r (rings f.doc) number) in
+        let listed : is_segment (stored_document s) t ≡ true =
+        is_segment_by (stored_document s) t ∙ in_any (has_segment t) ring (rings (stored_document s)) there mine in
         let b = segment_between s whole t listed in
         let kept = joined_kept s whole b.a b.b b.joined in
         let other = of_has f m places whole b.a b.b (place places b.a) (place places b.b) (kept_place places b.a kept.0) (kept_place places b.b kept.1) name
-        (subst (λ z. RingHas (document_of s) z name) b.is h.has) in
+        (subst (λ z. RingHas (stored_document s) z name) b.is h.has) in
         let held = framed s whole r number in (
           other.0,
           other.1,
@@ -96,7 +96,7 @@ module _ (f : Framed) (m : Rings) (places : Placement) (whole : IsWhole (stored 
 
     -- the names of the rings that were listed
     pub sharing_listed : (numbers : List ℕ) → ListsSharing m r [] numbers → (old new : List RingName)
-        → ListsNames f.doc numbers old new → ListsUsers (document_of s) es old new
+        → ListsNames f.doc numbers old new → ListsUsers (stored_document s) es old new
     sharing_listed numbers l old new names = record {
       found = names.found;
       appended = names.appended;

@@ -9,7 +9,7 @@ use Rattle.ring_machine.proofs.Common.{has_feature-found, there, new_feature}
 use Rattle.edit_records.specs.Common.{LayerTree, grown, exchanged}
 use Rattle.edit_records.proofs.Common.{cut-made, feature-own}
 use Rattle.map_frame.specs.Common.{ArePlaced, texts_of, with_texts}
-use Rattle.arc_store.specs.Common.{with_polygons, part_of, IsCuttable, IsFirstCut}
+use Rattle.arc_store.specs.Common.{feature_with, part_of, IsCuttable, IsFirstCut}
 use Rattle.arc_store.proofs.PlacedMap.{next_free}
 
 module _ {A : Type 0} (test : A → Bool) where
@@ -31,7 +31,7 @@ module _ {A : Type 0} (test : A → Bool) where
 -- what is asked for: both parts of feature n, cut in the polygon p at this place
 abbrev pub both_parts : Document → ℕ → ℕ → Text → Path → ℕ → List (List Position) → List (ℕ × Option Feature)
 both_parts d n new id path place p =
-    (n, Some (with_polygons d n (slice_set (feature_at d n).polygons place (first_polygon path p))))
+    (n, Some (feature_with d n (slice_set (feature_at d n).polygons place (first_polygon path p))))
     ∷ (new, Some (part_of d n new id (second_polygon path p))) ∷ []
 
 module _ (trees : List LayerTree) (d : Document) (n new : ℕ) (id : Text) (path : Path) (place : ℕ)
@@ -54,7 +54,7 @@ module _ (trees : List LayerTree) (d : Document) (n new : ℕ) (id : Text) (path
       (ap (is_cut_by path) (sym h.at) ∙ first_passes (is_cut_by path) found.0.polygons p h.first)
       ∙ ap (λ q. slice_set found.0.polygons place (first_polygon path q)) (sym h.at)
 
-  stays_is : stays path found.0 ≡ with_polygons d n (slice_set (feature_at d n).polygons place (first_polygon path p))
+  stays_is : stays path found.0 ≡ feature_with d n (slice_set (feature_at d n).polygons place (first_polygon path p))
   stays_is =
       ap₂ (λ m ps. with_texts m (texts_of found.0) ps) (feature-own d n found.0 found.1) here
       ∙ ap (λ (f : Feature). with_texts n (texts_of f) (slice_set f.polygons place (first_polygon path p))) (sym at)

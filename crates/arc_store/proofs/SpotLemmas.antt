@@ -10,7 +10,7 @@ use Rattle.ring_store.specs.declared.neighbours.Neighbours.TheVariants.{One, Two
 use Rattle.ring_store.specs.Common.{Passes, AreNeighbours}
 use Rattle.arc_tables.specs.Common.{Edge}
 use Rattle.vertex_index.specs.Common.{place}
-use Rattle.feature_exchange.specs.Common.{Stored, positions_along, document_of, IsWhole}
+use Rattle.feature_exchange.specs.Common.{Stored, positions_along, stored_document, IsWhole}
 use Rattle.arc_store.specs.Common.{IsBetween, IsShortest}
 use Rattle.arc_store.proofs.Around.{is_there, two_no_junction, around_two, bridge_two, neighbours_none}
 use Rattle.arc_store.proofs.Around.{neighbours_one, neighbours_more, ring_length, passes_has, has_passes}
@@ -28,7 +28,7 @@ length_among xs (ys ∷ xss) (inr i) = omega (arith, sum_by-cons length ys xss, 
 module _ (s : Stored) (w : IsWhole s) (m : ℕ) (p : Position) (here : table.get s.places m ≡ Some p) where
   -- a vertex that has not two neighbours is a junction
   pub spot_junction : (r : Neighbours) → AreNeighbours s.rings m r → ((a b : ℕ) → r ≢ Two a b)
-      → (is_vertex (document_of s) p ≡ true) × (is_junction (document_of s) p ≡ true)
+      → (is_vertex (stored_document s) p ≡ true) × (is_junction (stored_document s) p ≡ true)
   spot_junction Neighbours.None h n = absurd (neighbours_none s w m p here h)
   spot_junction (One a) h n = absurd (neighbours_one s w m p here a h)
   spot_junction (Two a b) h n = absurd (n a b refl)
@@ -47,7 +47,7 @@ module _ (s : Stored) (w : IsWhole s) (m : ℕ) (p : Position) (here : table.get
 
     -- it stands between them
     pub two_between :
-        let t = segment (place s.places a) (place s.places b) in IsBetween (document_of s) p t.lo t.hi
+        let t = segment (place s.places a) (place s.places b) in IsBetween (stored_document s) p t.lo t.hi
     two_between =
         let t = segment (place s.places a) (place s.places b) in
         record {
@@ -61,9 +61,9 @@ module _ (s : Stored) (w : IsWhole s) (m : ℕ) (p : Position) (here : table.get
   capped n l most e f g = omega (arith, e, f, g)
 
   -- the shortest ring with it has as many positions as that at its key has edges
-  pub shortest_read : size (document_of s) ≤ 4000000 → (n most : ℕ) → 4000000 ≤ most
+  pub shortest_read : size (stored_document s) ≤ 4000000 → (n most : ℕ) → 4000000 ≤ most
       → (es : List Edge) × Passes s.rings m es × (n ≡ min (length es) most)
-      → ((es : List Edge) → Passes s.rings m es → n ≤ length es) → IsShortest (document_of s) p n
+      → ((es : List Edge) → Passes s.rings m es → n ≤ length es) → IsShortest (stored_document s) p n
   shortest_read small n most large some least =
       let es = some.0 in
       let v = some.1 in
@@ -71,10 +71,10 @@ module _ (s : Stored) (w : IsWhole s) (m : ℕ) (p : Position) (here : table.get
       let long = ring_length s w m p here es in
       record {
         ring = canonical (positions_along s.places es);
-        there = in_contains (rings (document_of s)) (canonical (positions_along s.places es)) there;
+        there = in_contains (rings (stored_document s)) (canonical (positions_along s.places es)) there;
         through = passes_has s w m p here v.ring es v.held v.other v.has;
-        long = capped n (length es) most some.2 (omega (arith, length_among (canonical (positions_along s.places es)) (rings (document_of s)) there, long, small)) large ∙ sym long;
+        long = capped n (length es) most some.2 (omega (arith, length_among (canonical (positions_along s.places es)) (rings (stored_document s)) there, long, small)) large ∙ sym long;
         least = λ r i h.
-            let l = laid_ring s w r (contains_in (rings (document_of s)) r i) in
+            let l = laid_ring s w r (contains_in (rings (stored_document s)) r i) in
             omega (arith, least l.along (has_passes s w m p here r l h), ring_length s w m p here l.along, ap length l.is);
       }

@@ -7,14 +7,14 @@ use Rattle.segment_index.specs.Frames.{Frame as GridFrame}
 use Rattle.vertex_index.specs.Common.{Placement}
 use Rattle.arc_tables.specs.Common.{Rings}
 use Rattle.map_frame.specs.Common.{Framed}
-use Rattle.feature_exchange.specs.Common.{stored, document_of}
+use Rattle.feature_exchange.specs.Common.{stored, stored_document}
 use Rattle.arc_store.specs.Common.{IsKept, state_of, IsSameMap, State}
 
 module _ {frame : Framed} {rings : Rings} {places : Placement} {held : SegmentSet} {positions : ℕ}
     (kept : IsKept frame rings places held positions) {l : ℕ} {cells : Option GridFrame} {o : Option Record} {now : State}
     (is : state_of frame rings places l cells o ≡ now) (rings' : Rings) (places' : Placement) (cells' : Option GridFrame) where
   -- another document
-  pub with_document : {d : Document} → document_of (stored frame rings' places') ≡ d → cells' ≡ cells
+  pub with_document : {d : Document} → stored_document (stored frame rings' places') ≡ d → cells' ≡ cells
       → state_of frame rings' places' l cells' o ≡ record now { doc = d }
   with_document {d} e c =
       ap₂ (λ y z. record { doc = y; next = frame.next; places = frame.places; tests = l; cells = z; last = o }) e c
@@ -33,7 +33,7 @@ module _ {frame : Framed} {rings : Rings} {places : Placement} {held : SegmentSe
       ∙ ap (λ (s : State). record s { tests = l' }) is
 
   -- another document, whatever was tested
-  pub with_document_tested : {d : Document} (l' : ℕ) → document_of (stored frame rings' places') ≡ d
+  pub with_document_tested : {d : Document} (l' : ℕ) → stored_document (stored frame rings' places') ≡ d
       → cells' ≡ cells → IsSameMap (record now { doc = d }) (state_of frame rings' places' l' cells' o)
   with_document_tested {d} l' e c =
       ap₂ (λ y z. record { doc = y; next = frame.next; places = frame.places; tests = l'; cells = z; last = o }) e c
@@ -41,7 +41,7 @@ module _ {frame : Framed} {rings : Rings} {places : Placement} {held : SegmentSe
 
   -- and what takes that back
   pub with_record : {d : Document} {l' : ℕ} {made : Option Record} {new : State}
-      → document_of (stored frame rings' places') ≡ d → cells' ≡ cells
+      → stored_document (stored frame rings' places') ≡ d → cells' ≡ cells
       → new ≡ state_of frame rings' places' l' cells' made
       → IsSameMap (record now { doc = d; last = made }) new
   with_record {d} {l'} {made} e c n =

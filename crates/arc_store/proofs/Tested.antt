@@ -13,11 +13,11 @@ use Rattle.segment_index.proofs.Common.{same_segment}
 use Rattle.arc_tables.specs.Common.{Rings}
 use Rattle.local_planarity.specs.declared.leaving.Leaving.{Leaving}
 use Rattle.local_planarity.specs.declared.leaving.Leaving.TheVariants.{EndingAt, One}
-use Rattle.local_planarity.specs.Common.{IsAfter, IsHeld, stays, most_given, most_tests, added, most_for, most_for_move}
+use Rattle.local_planarity.specs.Common.{IsAfter, IsHeld, stays_held, most_given, most_tests, added, most_for, most_for_move}
 use Rattle.local_planarity.proofs.Added.{tests_among}
 use Rattle.local_planarity.proofs.Nearby.{has-filter}
 use Rattle.map_frame.specs.Common.{Framed}
-use Rattle.feature_exchange.specs.Common.{IsIndexed, stored, document_of}
+use Rattle.feature_exchange.specs.Common.{IsIndexed, stored, stored_document}
 use Rattle.edit_records.specs.Common.{Record}
 use Rattle.arc_store.specs.Common.{IsKept, state_of, State}
 use Rattle.ring_store.specs.Common.{AreAround, AreNew, spokes}
@@ -43,7 +43,7 @@ module _ (d edited : Document) (held : SegmentSet) (indexed : IsIndexed d held) 
       → has (added d edited) t ≡ true
   planned_added new t h =
       has-filter (λ s. not (is_segment d s)) (distinct_segments edited) t
-      ∙ ap₂ (λ a b. a && not b) (after_distinct t ∙ or_right (stays held leaving t) (has planned t) h) (sym (indexed t) ∙ new t h)
+      ∙ ap₂ (λ a b. a && not b) (after_distinct t ∙ or_right (stays_held held leaving t) (has planned t) h) (sym (indexed t) ∙ new t h)
 
   pub edit_few : (times : Segment → Box → ℕ) → AreNew held planned → AreSingle planned → (m n : ℕ)
       → ((ss : List Segment) → IsAfter held leaving planned ss → n ≤ m + most_tests times ss planned)
@@ -82,7 +82,7 @@ new_one held x new t h = ap (set.contains held) (same_segment t x (or_nothing (s
 
 module _ {frame : Framed} {rings : Rings} {places : Placement} {held : SegmentSet} {positions : ℕ} (kept : IsKept frame rings places held positions) {l : ℕ} {cells : Option GridFrame} {o : Option Record} {now : State} (is : state_of frame rings places l cells o ≡ now) where
   abbrev doc : Document
-  doc = document_of (stored frame rings places)
+  doc = stored_document (stored frame rings places)
 
   -- a move from p to q, where these stand around p
   module _ (k : ℕ) (p q : Position) (at : table.get places k ≡ Some p) (free : is_vertex now.doc q ≡ false) (around : List Position) (r : AreAround places rings k around) (after : List Segment) (comes : after ≡ spokes q around) (m : ℕ) (few : (ss : List Segment) → IsAfter held (EndingAt p) after ss → m ≤ l + most_tests (times_by cells) ss after) where

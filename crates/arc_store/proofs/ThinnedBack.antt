@@ -16,7 +16,7 @@ use Rattle.map_frame.specs.Common.{Framed}
 use Rattle.ring_store.proofs.Common.{insert_other}
 use Rattle.edit_records.specs.Common.{IsRemoved, Record}
 use Rattle.segment_index.specs.Frames.{Frame as GridFrame}
-use Rattle.feature_exchange.specs.Common.{Stored, stored, document_of, IsWhole, IsIndexed}
+use Rattle.feature_exchange.specs.Common.{Stored, stored, stored_document, IsWhole, IsIndexed}
 use Rattle.feature_exchange.proofs.Common.{vertex_key, key_vertex}
 use Rattle.ring_store.specs.Common.{ArePlaceable, comings, goings, AreKeyed, ArePutBack, AreNew, Exchanges}
 use Rattle.ring_store.specs.declared.removal.Removal.{Removal}
@@ -118,9 +118,9 @@ with_tables s rings places = record { frame = s.frame; rings = rings; places = p
 
 -- the map has the document with all, and its size grew as the puts say
 record BackAgain (s : Stored) (rs : List Removal) (puts : List Put) (after : Stored) : Type 0 where
-  document : document_of after ≡ with_all (document_of s) rs
+  document : stored_document after ≡ with_all (stored_document s) rs
   whole : IsWhole after
-  grown : size (with_all (document_of s) rs) ≡ size (document_of s) + gained puts (table.values s.rings)
+  grown : size (with_all (stored_document s) rs) ≡ size (stored_document s) + gained puts (table.values s.rings)
 
 option_twice : {A B C : Type 0} (f : A → B) (g : B → C) (o : Option A)
     → option_map (λ x. g (f x)) o ≡ option_map g (option_map f o)
@@ -128,13 +128,13 @@ option_twice f g None = refl
 option_twice f g (Some x) = refl
 
 back_again : (s : Stored) (rs : List Removal) (puts : List Put) (rings : Rings) (places : Placement)
-    → IsWhole s → Proper (document_of s) → AreOut (document_of s) rs → AreKeyed s.places rs puts places
+    → IsWhole s → Proper (stored_document s) → AreOut (stored_document s) rs → AreKeyed s.places rs puts places
     → ((r : ℕ) → table.get rings r ≡ option_map (throughs puts) (table.get s.rings r))
     → BackAgain s rs puts (with_tables s rings places)
 back_again s [] [] rings places w proper h k e =
     let same : with_tables s rings places ≡ s = ap₂ (with_tables s) (table.same_map nat_cmp_total table.nat_cmp-IsAntisymmetric rings s.rings (λ r. e r ∙ option_map_id (table.get s.rings r))) k in
     record {
-      document = ap document_of same;
+      document = ap stored_document same;
       whole = subst IsWhole (sym same) w;
       grown = omega arith;
     }
@@ -142,9 +142,9 @@ back_again s [] (p ∷ ps) rings places w proper h k e = absurd k
 back_again s (r ∷ rs) [] rings places w proper h k e = absurd k
 back_again s (r ∷ rs) (p ∷ ps) rings places w proper h k e =
     let led = mapped (through p.a p.b p.q) s.rings in
-    let may : IsPlaceable (document_of s) r.a r.b r.at = record { different = h.0.apart; border = h.0.joined; free = h.0.free; small = h.0.map.small; apart = h.0.map.proper.apart } in
+    let may : IsPlaceable (stored_document s) r.a r.b r.at = record { different = h.0.apart; border = h.0.joined; free = h.0.free; small = h.0.map.small; apart = h.0.map.proper.apart } in
     let i : Insertion s led p.a p.b p.q r.a r.b r.at = record { first = k.0; second = k.1; new = k.2; edited = get-mapped (through p.a p.b p.q) s.rings; may = may } in
-    let is : document_of (with_vertex s led p.q r.at) ≡ with_one (document_of s) r = document_inserted s led p.a p.b p.q r.a r.b r.at w proper i in
+    let is : stored_document (with_vertex s led p.q r.at) ≡ with_one (stored_document s) r = document_inserted s led p.a p.b p.q r.a r.b r.at w proper i in
     let rest = back_again (with_vertex s led p.q r.at) rs ps rings places (whole_inserted s led p.a p.b p.q r.a r.b r.at w proper i) (subst Proper (sym is) h.0.map.proper) (subst (λ d. AreOut d rs) (sym is) h.1) k.3 (λ n. e n ∙ option_twice (through p.a p.b p.q) (throughs ps) (table.get s.rings n) ∙ ap (option_map (throughs ps)) (sym (get-mapped (through p.a p.b p.q) s.rings n))) in
     record {
       document = rest.document ∙ ap (λ d. with_all d rs) is;
@@ -168,27 +168,27 @@ module _ {frame : Framed} {rings : Rings} {places : Placement} {held : SegmentSe
   abbrev was : Stored
   was = stored frame rings places
 
-  h : AreOut (document_of was) rs
+  h : AreOut (stored_document was) rs
   h = subst (λ (s : State). AreOut s.doc rs) (sym is) fits
 
-  pub small_again : size (with_all (document_of was) rs) ≤ 4000000
-  small_again = true_of_all (λ d. size d ≤ 4000000) (λ d i. i.small) (document_of was) rs h m.holds.small
+  pub small_again : size (with_all (stored_document was) rs) ≤ 4000000
+  small_again = true_of_all (λ d. size d ≤ 4000000) (λ d i. i.small) (stored_document was) rs h m.holds.small
 
   pub all_placeable : ArePlaceable places rs
   all_placeable =
-      placeable (document_of was) places rs h (λ p. (vertex_key was m.holds.whole p, λ o. key_vertex was m.holds.whole o.0 p o.1))
+      placeable (stored_document was) places rs h (λ p. (vertex_key was m.holds.whole p, λ o. key_vertex was m.holds.whole o.0 p o.1))
 
   pub all_new : AreNew held (comings rs)
-  all_new t i = m.holds.indexed t ∙ comings_new (document_of was) rs h t i
+  all_new t i = m.holds.indexed t ∙ comings_new (stored_document was) rs h t i
 
   pub all_come_once : AreSingle (comings rs)
-  all_come_once = comings_single (document_of was) rs h
+  all_come_once = comings_single (stored_document was) rs h
 
   pub all_there : (t : Segment) → has (goings rs) t ≡ true → (set.contains held t || has (comings rs) t) ≡ true
-  all_there t i = ap (λ b. b || has (comings rs) t) (m.holds.indexed t) ∙ goings_there (document_of was) rs h t i
+  all_there t i = ap (λ b. b || has (comings rs) t) (m.holds.indexed t) ∙ goings_there (stored_document was) rs h t i
 
   pub all_go_once : AreSingle (goings rs)
-  all_go_once = goings_single (document_of was) rs h
+  all_go_once = goings_single (stored_document was) rs h
 
   module _ (puts : List Put) (places' : Placement) (k : AreKeyed places rs puts places') where
     pub few_gained : gained puts (table.values rings) < 2 ^ 64
@@ -200,17 +200,17 @@ module _ {frame : Framed} {rings : Rings} {places : Placement} {held : SegmentSe
     again : BackAgain was rs b.puts (stored frame rings' places')
     again = back_again was rs b.puts rings' places' m.holds.whole m.holds.proper h b.keyed b.edited
 
-    pub document_now : document_of (stored frame rings' places') ≡ with_all now.doc rs
+    pub document_now : stored_document (stored frame rings' places') ≡ with_all now.doc rs
     document_now = again.document ∙ ap (λ (s : State). with_all s.doc rs) is
 
-    pub size_again : size (with_all (document_of was) rs) ≡ positions + n
+    pub size_again : size (with_all (stored_document was) rs) ≡ positions + n
     size_again = omega (arith, again.grown, b.many, m.sized)
 
     module _ (held' : SegmentSet) (x : Exchanges held (comings rs) (goings rs) held') where
-      indexed_again : IsIndexed (with_all (document_of was) rs) held'
+      indexed_again : IsIndexed (with_all (stored_document was) rs) held'
       indexed_again t =
           x t ∙ ap (λ b. (b || has (comings rs) t) && not (has (goings rs) t)) (m.holds.indexed t)
-          ∙ sym (segments_back (document_of was) rs h t)
+          ∙ sym (segments_back (stored_document was) rs h t)
 
       pub kept_again : IsKept frame rings' places' held' (positions + n)
       kept_again = record {
@@ -218,7 +218,7 @@ module _ {frame : Framed} {rings : Rings} {places : Placement} {held : SegmentSe
           whole = again.whole;
           formed = m.holds.formed;
           keeps = m.holds.keeps;
-          proper = subst Proper (sym again.document) (true_of_all Proper (λ d i. i.proper) (document_of was) rs h m.holds.proper);
+          proper = subst Proper (sym again.document) (true_of_all Proper (λ d i. i.proper) (stored_document was) rs h m.holds.proper);
           small = subst (λ d. size d ≤ 4000000) (sym again.document) small_again;
           indexed = subst (λ d. IsIndexed d held') (sym again.document) indexed_again;
         };

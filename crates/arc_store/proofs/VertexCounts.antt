@@ -13,7 +13,7 @@ use Rattle.ring_machine.proofs.Common.{in-has, Rising, position_total, ties}
 use Rattle.vertex_index.specs.Common.{place}
 use Rattle.ring_store.proofs.Common.{has_key, kept_place, place_is, place_kept, distinct_places, IsKept, first_of_two}
 use Rattle.ring_store.proofs.Common.{second_of_two}
-use Rattle.feature_exchange.specs.Common.{IsWhole, Stored, document_of}
+use Rattle.feature_exchange.specs.Common.{IsWhole, Stored, stored_document}
 use Rattle.feature_exchange.proofs.Common.{key_vertex, vertex_key}
 use Rattle.feature_exchange.proofs.VertexLists.{vertices_rise, in_vertices, of_vertices}
 
@@ -100,21 +100,21 @@ module _ (s : Stored) (w : IsWhole s) where
       let j = any_in (eq_by_cmp nat_cmp k) (table.keys s.places) (sym (table.contains_key-keys s.places k) ∙ h) in
       subst (λ z. In z (table.keys s.places)) (sym (one_key k j.0 j.2)) j.1
 
-  position_vertex : (p : Position) → In p (positions (document_of s)) → is_vertex (document_of s) p ≡ true
+  position_vertex : (p : Position) → In p (positions (stored_document s)) → is_vertex (stored_document s) p ≡ true
   position_vertex p i =
-      let u = in_flat (λ ring. ring) p (rings (document_of s)) i in
-      in_any (λ ring. has ring p) u.0 (rings (document_of s)) u.1 (in-has p u.0 u.2)
+      let u = in_flat (λ ring. ring) p (rings (stored_document s)) i in
+      in_any (λ ring. has ring p) u.0 (rings (stored_document s)) u.1 (in-has p u.0 u.2)
 
-  vertex_position : (p : Position) → is_vertex (document_of s) p ≡ true → In p (positions (document_of s))
+  vertex_position : (p : Position) → is_vertex (stored_document s) p ≡ true → In p (positions (stored_document s))
   vertex_position p h =
-      let u = any_in (λ ring. has ring p) (rings (document_of s)) h in
-      in-flat_map (λ ring. ring) u.0 p (rings (document_of s)) u.1 (has-in p u.0 u.2)
+      let u = any_in (λ ring. has ring p) (rings (stored_document s)) h in
+      in-flat_map (λ ring. ring) u.0 p (rings (stored_document s)) u.1 (has-in p u.0 u.2)
 
   -- as many vertices as keys
-  pub vertices_counted : table.len s.places ≡ length (vertices (document_of s))
+  pub vertices_counted : table.len s.places ≡ length (vertices (stored_document s))
   vertices_counted =
       let ks = table.keys s.places in
-      let qs = positions (document_of s) in
+      let qs = positions (stored_document s) in
       table.len-entries s.places
       ∙ sym (length-map (table.entries s.places) (λ e. e.0))
       ∙ sym (length-map ks (place s.places))

@@ -32,8 +32,8 @@ pub record MayExchange (after : Option ℕ) (cs : List (ℕ × Option Feature)) 
   pub texts : KeepsTexts (asked_document after cs st)
 
 -- feature n with these polygons
-abbrev pub with_polygons : Document → ℕ → List (List (List Position)) → Feature
-with_polygons d n polygons = with_texts n (texts_of (feature_at d n)) polygons
+abbrev pub feature_with : Document → ℕ → List (List (List Position)) → Feature
+feature_with d n polygons = with_texts n (texts_of (feature_at d n)) polygons
 
 -- a new Polygon of these rings, with this id and the properties and unknown members of feature n
 abbrev pub part_of : Document → ℕ → ℕ → Text → List (List Position) → Feature

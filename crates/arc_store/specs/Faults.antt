@@ -8,7 +8,7 @@ use Rattle.arc_store.specs.declared.fault.BuildFault.TheVariants as build
 use Rattle.arc_store.specs.declared.fault.EditFault.{EditFault}
 use Rattle.arc_store.specs.declared.fault.EditFault.TheVariants as edit
 
--- the fault names the refusal; want of memory says nothing
+-- the fault names the refusal; allocation failure says nothing
 abbrev pub Refuses : EditFault → Option Refusal → Type 0
 Refuses edit.NoFeature refusal = refusal ≡ Some machine.NoFeature
 Refuses edit.NoCollection refusal = refusal ≡ Some machine.NoCollection
@@ -32,7 +32,7 @@ Refuses edit.SameSide refusal = refusal ≡ Some machine.SameSide
 Refuses edit.Sweeps refusal = refusal ≡ Some machine.Sweeps
 Refuses edit.OutOfMemory refusal = Unit {0}
 
--- the fault names the pair of segments in conflict; want of memory says nothing
+-- the fault names the pair of segments in conflict; allocation failure says nothing
 abbrev pub Names : BuildFault → Option (Segment × Segment) → Type 0
 Names (build.Conflict s t) pair = pair ≡ Some (s, t)
 Names build.OutOfMemory pair = Unit {0}

@@ -9,13 +9,13 @@ use Rattle.arc_tables.specs.Common.{Rings}
 use Rattle.ring_store.specs.declared.neighbours.Neighbours.{Neighbours}
 use Rattle.ring_store.specs.Common.{AreNeighbours}
 use Rattle.map_frame.specs.Common.{Framed}
-use Rattle.feature_exchange.specs.Common.{Stored, stored, document_of, is_meeting, meets, IsWhole, Holds}
+use Rattle.feature_exchange.specs.Common.{Stored, stored, stored_document, is_meeting, meets, IsWhole, Holds}
 use Rattle.arc_store.specs.State.{State}
 
 -- the map as its callers see it
 abbrev pub state_of : Framed → Rings → Placement → ℕ → Option GridFrame → Option Record → State
 state_of frame rings places tests cells last = record {
-  doc = document_of (stored frame rings places);
+  doc = stored_document (stored frame rings places);
   next = frame.next;
   places = frame.places;
   tests = tests;
@@ -27,7 +27,7 @@ state_of frame rings places tests cells last = record {
 pub record IsKept (frame : Framed) (rings : Rings) (places : Placement) (held : SegmentSet)
     (positions : ℕ) : Type 0 where
   pub holds : Holds (stored frame rings places) held
-  pub sized : positions ≡ size (document_of (stored frame rings places))
+  pub sized : positions ≡ size (stored_document (stored frame rings places))
 
 -- the tables belong together, and the list has at which vertices borders meet
 pub record HasMeetings (s : Stored) (meetings : List Bool) : Type 0 where

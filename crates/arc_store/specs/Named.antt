@@ -4,7 +4,7 @@ use Rattle.std.specs.List.{list_any}
 use Rattle.grid_geometry.specs.Common.{Position, Segment, segment_eq}
 use Rattle.ring_machine.specs.Common.{DocumentOf, Document, segments}
 use Rattle.map_frame.specs.declared.names.RingName.{RingName}
-use Rattle.map_frame.specs.Common.{number_at, ring_at}
+use Rattle.map_frame.specs.Common.{number_at, frame_ring}
 
 -- what was appended are the names of the rings with these numbers, in order
 pub record ListsNames (d : DocumentOf ℕ) (numbers : List ℕ) (old new : List RingName) : Type 0 where
@@ -15,7 +15,7 @@ pub record ListsNames (d : DocumentOf ℕ) (numbers : List ℕ) (old new : List 
 -- the ring with this name has the segment
 pub record RingHas (d : Document) (s : Segment) (name : RingName) : Type 0 where
   pub positions : List Position
-  pub there : ring_at d name.feature name.polygon name.ring ≡ Some positions
+  pub there : frame_ring d name.feature name.polygon name.ring ≡ Some positions
   pub has : IsTrue (list_any (segment_eq s) (segments positions))
 
 -- no element stands at two places

@@ -25,7 +25,7 @@ split_map s n id path = record s {
 }
 
 -- no condition fails, and this state is reached; or the edit is refused by the first condition that
--- fails, or for want of memory, and the state stays. How many tests were made is no part of it
+-- fails, or on allocation failure, and the state stays. How many tests were made is no part of it
 pub record Edits {R : Type 0} (old new : State) (result : Result R EditFault)
     (refusal : Option Refusal) (reached : State) : Type 0 where
   pub accepted : OnOk result (refusal ≡ None)

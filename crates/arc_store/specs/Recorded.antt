@@ -35,9 +35,9 @@ left_out (Some (machine.Thinned rs)) = rs
 left_out _ = []
 
 -- what is kept of vertices that were left out in this order
-abbrev pub thinned : List Removal → Option machine.Record
-thinned [] = None
-thinned (r ∷ rs) = Some (machine.Thinned (reverse (map removal_seen (r ∷ rs))))
+abbrev pub thinning_record : List Removal → Option machine.Record
+thinning_record [] = None
+thinning_record (r ∷ rs) = Some (machine.Thinned (reverse (map removal_seen (r ∷ rs))))
 
 -- the edit has left out such vertices, or nothing is to be taken back
 abbrev pub IsThinning : Option machine.Record → Type 0

@@ -15,8 +15,8 @@ use std::hash::RandomState;
 use topo_reader::RawDoc;
 
 impl<'a, I: SegIndex, A: Allocator + Copy> Map<'a, I, A> {
-    /// The map of what was read, in an index that is empty; positions are hashed by a seed. Fails with the least pair of segments in
-    /// conflict, or for want of memory.
+    /// The map of what was read, in an index that is empty; positions are hashed by a seed. Fails with
+    /// the least pair of segments in conflict, or on allocation failure.
     pub fn build(
         alloc: A,
         seed: RandomState,

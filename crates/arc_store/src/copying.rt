@@ -6,8 +6,8 @@ use std::alloc::{AllocError, Allocator};
 
 impl<'a, I: SegIndex, A: Allocator + Copy> Map<'a, I, A> {
     /// Another map with the same document, places, next number and count of tests, in memory of the
-    /// same allocator; what takes the last edit back stays with this one. Fails for want of memory
-    /// alone.
+    /// same allocator; what takes the last edit back stays with this one. Fails only on allocation
+    /// failure.
     pub fn copy(&self) -> Result<Map<'a, I, A>, AllocError>
         ensures { IfOk result (λ copy. copy ≡ record self.now { last = None }) }
     {

@@ -4,7 +4,7 @@ ghost use Rattle.edit_records.specs.Common.{had_before};
 ghost use Rattle.ring_machine.specs.Common.{has_feature};
 ghost use Rattle.ring_parts.specs.Common.{rings_seen, polygons_seen};
 ghost use Rattle.feature_exchange.specs.Common.{seen};
-ghost use Rattle.arc_store.specs.Exchanged.{MayExchange, exchanged_state, with_polygons, part_of};
+ghost use Rattle.arc_store.specs.Exchanged.{MayExchange, exchanged_state, feature_with, part_of};
 
 use crate::map::Map;
 use feature_exchange::{Change, WholeFeature, count_changes, exchange_features, one_polygon};
@@ -13,7 +13,7 @@ use segment_index::SegIndex;
 use std::alloc::{AllocError, Allocator};
 
 impl<'a, I: SegIndex, A: Allocator + Copy> Map<'a, I, A> {
-    /// Feature `n` with these polygons in the place of its own. Fails for want of memory alone.
+    /// Feature `n` with these polygons in the place of its own. Fails only on allocation failure.
     pub(crate) fn with_polygons(
         &self,
         n: u32,
@@ -21,7 +21,7 @@ impl<'a, I: SegIndex, A: Allocator + Copy> Map<'a, I, A> {
     ) -> Result<Change<'a, A>, AllocError>
         requires { has_feature self.now.doc n ≡ true }
         ensures { IfOk result (λ change. seen (change ∷ [])
-            ≡ (n, Some (with_polygons self.now.doc n (polygons_seen polygons.items))) ∷ []) }
+            ≡ (n, Some (feature_with self.now.doc n (polygons_seen polygons.items))) ∷ []) }
     {
         let Some(texts) = self.frame.texts(n)? else {
             unreachable!()
@@ -33,7 +33,7 @@ impl<'a, I: SegIndex, A: Allocator + Copy> Map<'a, I, A> {
     }
 
     /// A new Polygon of these rings under this number, with this id and the properties and unknown
-    /// members of feature `n`. Fails for want of memory alone.
+    /// members of feature `n`. Fails only on allocation failure.
     pub(crate) fn part_of(
         &self,
         n: u32,
@@ -58,9 +58,9 @@ impl<'a, I: SegIndex, A: Allocator + Copy> Map<'a, I, A> {
         })
     }
 
-    /// Gives the numbers of these changes the features that they name, each in the place of its
-    /// number; where `after` is a feature, a new number comes directly after it first. Afterwards the
-    /// changes have what was there. Fails for want of memory alone, and then changes nothing.
+    /// Gives the numbers of these changes the features that they name, each in the place of its number;
+    /// where `after` is a feature, a new number comes directly after it first. Afterwards the changes
+    /// have what was there. Fails only on allocation failure, and then changes nothing.
     pub(crate) fn exchange(
         &mut self,
         after: Option<u32>,

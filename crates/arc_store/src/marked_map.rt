@@ -1,6 +1,6 @@
 ghost use Rattle.std.specs.Prelude.{◌≡◌, ◌++◌, [], map, option_map, unwrap_or, IfOk, OnOk};
 ghost use Rattle.ring_machine.specs.Common.{feature, is_junction};
-ghost use Rattle.map_frame.specs.Common.{ring_at, shown};
+ghost use Rattle.map_frame.specs.Common.{frame_ring, shown};
 
 use crate::map::Map;
 use feature_exchange::{meetings, push_marked_ring};
@@ -23,12 +23,12 @@ pub struct MarkedMap<'m, 'a, I: SegIndex, A: Allocator + Copy = Global> {
 
 impl<'m, 'a, I: SegIndex, A: Allocator + Copy> Model for MarkedMap<'m, 'a, I, A> {
     ghost use Rattle.ring_machine.specs.Document.{Document};
-    ghost use Rattle.feature_exchange.specs.Stored.{stored_in, document_of};
+    ghost use Rattle.feature_exchange.specs.Stored.{stored_in, stored_document};
     ghost use Rattle.arc_store.specs.Kept.{HasMeetings};
 
     ghost Value = { Document };
 
-    ghost view = { λ m. document_of (stored_in m.frame.now m.rings.now) };
+    ghost view = { λ m. stored_document (stored_in m.frame.now m.rings.now) };
 
     ghost invariant = { λ m. HasMeetings (stored_in m.frame.now m.rings.now) m.meetings.items };
 }
@@ -46,10 +46,10 @@ impl<'m, 'a, I: SegIndex, A: Allocator + Copy> MarkedMap<'m, 'a, I, A> {
         self.frame.feature(n)
     }
 
-    /// Appends the positions of a ring, from the least one on, and for each whether borders meet
-    /// there: of the feature with this number the polygon and the ring of these numbers, where the
-    /// outer ring is the first one. Appends nothing where there is no such ring. Fails for want of
-    /// memory alone; some of them may then have been appended.
+    /// Appends the positions of a ring, from the least one on, and for each whether borders meet there:
+    /// of the feature with this number the polygon and the ring of these numbers, where the outer ring
+    /// is the first one. Appends nothing where there is no such ring. Fails only on allocation failure;
+    /// some of them may then have been appended.
     pub fn push_ring(
         &self,
         feature: u32,
@@ -59,9 +59,9 @@ impl<'m, 'a, I: SegIndex, A: Allocator + Copy> MarkedMap<'m, 'a, I, A> {
         marks: &mut Vec<bool, A>,
     ) -> Result<(), AllocError>
         ensures positions { OnOk result (positions.new.items
-            ≡ positions.old.items ++ unwrap_or (ring_at self.now feature polygon ring) []) }
+            ≡ positions.old.items ++ unwrap_or (frame_ring self.now feature polygon ring) []) }
         ensures marks { OnOk result (marks.new.items ≡ marks.old.items
-            ++ map (is_junction self.now) (unwrap_or (ring_at self.now feature polygon ring) [])) }
+            ++ map (is_junction self.now) (unwrap_or (frame_ring self.now feature polygon ring) [])) }
     {
         let Some(number) = self.frame.ring(feature, polygon, ring) else {
             return Ok(());
@@ -78,7 +78,7 @@ impl<'m, 'a, I: SegIndex, A: Allocator + Copy> MarkedMap<'m, 'a, I, A> {
 }
 
 impl<'a, I: SegIndex, A: Allocator + Copy> Map<'a, I, A> {
-    /// The map with its junctions known. Walks the borders. Fails for want of memory alone.
+    /// The map with its junctions known. Walks the borders. Fails only on allocation failure.
     pub fn marked(&self) -> Result<MarkedMap<'_, 'a, I, A>, AllocError>
         ensures { IfOk result (λ m. m ≡ self.now.doc) }
     {

@@ -1,7 +1,7 @@
 ghost use Rattle.std.specs.Prelude.{◌≡◌, ℕ, [], length, unwrap_or, Some, Contains, IsTrue, OnOk};
 ghost use Rattle.grid_geometry.specs.Common.{edges, segment};
 ghost use Rattle.ring_machine.specs.Common.{is_segment};
-ghost use Rattle.map_frame.specs.Common.{number_at, ring_at};
+ghost use Rattle.map_frame.specs.Common.{number_at, frame_ring};
 ghost use Rattle.map_frame.specs.declared.names.RingName.{RingName};
 ghost use Rattle.arc_store.specs.Named.{ListsNames, ListsRings};
 ghost use Rattle.arc_store.specs.Spots.{users};
@@ -13,7 +13,7 @@ use map_frame::{Frame, RingName};
 use segment_index::SegIndex;
 use std::alloc::{AllocError, Allocator};
 
-/// Appends the names of the rings with these numbers, in order. Fails for want of memory alone.
+/// Appends the names of the rings with these numbers, in order. Fails only on allocation failure.
 fn push_names<'a, A: Allocator + Copy, B: Allocator>(
     frame: &Frame<'a, A>,
     numbers: &[usize],
@@ -45,8 +45,8 @@ impl<'a, I: SegIndex, A: Allocator + Copy> Map<'a, I, A> {
         }
     }
 
-    /// Appends the rings that have the segment of these two positions, each once. Fails for want of
-    /// memory alone; some of them may then have been appended.
+    /// Appends the rings that have the segment of these two positions, each once. Fails only on
+    /// allocation failure; some of them may then have been appended.
     pub fn push_users<B: Allocator>(
         &self,
         a: Pos,
@@ -67,8 +67,8 @@ impl<'a, I: SegIndex, A: Allocator + Copy> Map<'a, I, A> {
         Ok(())
     }
 
-    /// Appends the rings that have this segment of the map, each once. Fails for want of memory alone;
-    /// some of them may then have been appended.
+    /// Appends the rings that have this segment of the map, each once. Fails only on allocation
+    /// failure; some of them may then have been appended.
     pub fn push_rings_of<B: Allocator>(
         &self,
         s: Seg,
@@ -86,11 +86,11 @@ impl<'a, I: SegIndex, A: Allocator + Copy> Map<'a, I, A> {
         }
     }
 
-    /// Appends the rings that have a segment in common with this ring: of the feature with this
-    /// number the polygon, and of that the ring, where the outer ring is the first one, each
-    /// counted from 0. It is itself among them, and a ring may come several times; where there is
-    /// no such ring nothing is appended. Reads the arcs of the ring alone. Fails for want of memory
-    /// alone; some of the rings may then have been appended.
+    /// Appends the rings that have a segment in common with this ring: of the feature with this number
+    /// the polygon, and of that the ring, where the outer ring is the first one, each counted from 0.
+    /// It is itself among them, and a ring may come several times; where there is no such ring nothing
+    /// is appended. Reads the arcs of the ring alone. Fails only on allocation failure; some of the
+    /// rings may then have been appended.
     pub fn push_sharing<B: Allocator>(
         &self,
         feature: u32,
@@ -99,7 +99,7 @@ impl<'a, I: SegIndex, A: Allocator + Copy> Map<'a, I, A> {
         out: &mut Vec<RingName, B>,
     ) -> Result<(), AllocError>
         ensures { OnOk result (ListsUsers self.now.doc
-            (edges (unwrap_or (ring_at self.now.doc feature polygon ring) []))
+            (edges (unwrap_or (frame_ring self.now.doc feature polygon ring) []))
             out.old.items out.new.items) }
     {
         let Some(number) = self.frame.ring(feature, polygon, ring) else {

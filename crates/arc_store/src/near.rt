@@ -9,7 +9,7 @@ use std::alloc::{AllocError, Allocator};
 
 impl<'a, I: SegIndex, A: Allocator + Copy> Map<'a, I, A> {
     /// Appends segments of the map, among them every one whose box meets the asked box; a segment may
-    /// be appended more than once. Fails for want of memory alone; some of them may then have been
+    /// be appended more than once. Fails only on allocation failure; some of them may then have been
     /// appended. No two features have one number.
     pub fn candidates<B: Allocator>(
         &self,

@@ -3,7 +3,7 @@ ghost use Rattle.std.specs.Prelude.{◌≡◌, ◌≤◌, ◌+◌, List, None, O
 ghost use Rattle.grid_geometry.specs.Common.{Segment};
 ghost use Rattle.ring_machine.specs.Common.{least_conflict, conflict_of};
 ghost use Rattle.segment_index.specs.Common.{times_by};
-ghost use Rattle.local_planarity.specs.Common.{AreApart, IsAfter, most_tests};
+ghost use Rattle.local_planarity.specs.Common.{NoneConflict, IsAfter, most_tests};
 ghost use Rattle.arc_store.specs.Faults.{Refuses};
 
 use crate::fault::EditFault;
@@ -12,8 +12,8 @@ use local_planarity::{Leaving, TestCount, first_conflict, first_conflict_near};
 use segment_index::{ListIndex, SegIndex};
 use std::alloc::Allocator;
 
-/// Tests that no two segments conflict once the added ones come and the leaving ones go. Fails with
-/// the least pair that does, or for want of memory.
+/// Tests that no two segments conflict once the added ones come and the leaving ones go. Fails with the
+/// least pair that does, or on allocation failure.
 pub(crate) fn test_planar<I: SegIndex, A: Allocator + Copy>(
     alloc: A,
     index: &I,
@@ -21,7 +21,7 @@ pub(crate) fn test_planar<I: SegIndex, A: Allocator + Copy>(
     added: &[Seg],
     tests: &mut TestCount,
 ) -> Result<(), EditFault>
-    requires { AreApart (I.held index.now) }
+    requires { NoneConflict (I.held index.now) }
     ensures apart { OnOk result ((ss : List Segment)
         → IsAfter (I.held index.now) leaving added.now ss → least_conflict ss ≡ None) }
     ensures refused { IfErr result (λ fault. (ss : List Segment)
@@ -44,7 +44,7 @@ pub(crate) fn test_near<A: Allocator + Copy>(
     added: &[Seg],
     tests: &mut TestCount,
 ) -> Result<(), EditFault>
-    requires { AreApart near.now }
+    requires { NoneConflict near.now }
     ensures apart { OnOk result ((ss : List Segment)
         → IsAfter near.now leaving added.now ss → least_conflict ss ≡ None) }
     ensures refused { IfErr result (λ fault. (ss : List Segment)

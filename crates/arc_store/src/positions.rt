@@ -1,7 +1,7 @@
 ghost use Rattle.std.specs.Prelude.{◌≡◌, IfOk};
 ghost use Rattle.ring_machine.specs.Common.{vertices, feature_at};
 ghost use Rattle.ring_parts.specs.Common.{polygons_seen};
-ghost use Rattle.map_frame.specs.Common.{ring_at};
+ghost use Rattle.map_frame.specs.Common.{frame_ring};
 
 use crate::map::Map;
 use feature_exchange::{RingIter, read_polygons, read_vertices};
@@ -11,7 +11,7 @@ use std::alloc::{AllocError, Allocator};
 
 impl<'a, I: SegIndex, A: Allocator + Copy> Map<'a, I, A> {
     /// The polygons of feature `n`, each ring as its positions from the least one on, the outer ring
-    /// first; none where no feature has the number. Fails for want of memory alone.
+    /// first; none where no feature has the number. Fails only on allocation failure.
     pub fn polygons(&self, n: u32) -> Result<Vec<Vec<Vec<Pos, A>, A>, A>, AllocError>
         ensures { IfOk result
             (λ found. polygons_seen found.items ≡ (feature_at self.now.doc n).polygons) }
@@ -23,7 +23,7 @@ impl<'a, I: SegIndex, A: Allocator + Copy> Map<'a, I, A> {
     /// and the ring of these numbers, where the outer ring is the first one. `None` where there is
     /// no such ring. Takes no memory.
     pub fn ring(&self, n: u32, polygon: usize, ring: usize) -> Option<RingIter<'_, A>>
-        ensures { result ≡ ring_at self.now.doc n polygon ring }
+        ensures { result ≡ frame_ring self.now.doc n polygon ring }
     {
         let number = self.frame.ring(n, polygon, ring)?;
         RingIter::begin(self.rings.borders.keys(number)?, &self.rings.vertices)

@@ -12,8 +12,8 @@ use std::alloc::Allocator;
 
 impl<'a, I: SegIndex, A: Allocator + Copy> Map<'a, I, A> {
     /// Takes feature `n` out of its collection; one that is itself the geometry of a layer becomes an
-    /// empty collection (TopoJSON 1.0, 2.2.7). A number that no feature has changes nothing. Fails
-    /// for want of memory alone, and then changes nothing.
+    /// empty collection (TopoJSON 1.0, 2.2.7). A number that no feature has changes nothing. Fails only
+    /// on allocation failure, and then changes nothing.
     pub fn raw_delete(&mut self, n: u32) -> Result<(), EditFault>
         ensures edits { Edits self.old self.new result None
             (record self.old { doc = take_out self.old.doc n; last = self.new.last }) }

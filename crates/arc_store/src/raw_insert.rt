@@ -5,7 +5,7 @@ ghost use Rattle.ring_machine.specs.Common.{Document, is_vertex, is_segment, siz
 ghost use Rattle.ring_machine.specs.Common.{insert_refusals, ins};
 ghost use Rattle.edit_records.specs.Records as made;
 ghost use Rattle.segment_index.specs.Common.{times_by};
-ghost use Rattle.local_planarity.specs.Common.{AreApart, IsAfter, most_for, most_tests};
+ghost use Rattle.local_planarity.specs.Common.{NoneConflict, IsAfter, most_for, most_tests};
 ghost use Rattle.local_planarity.specs.declared.leaving.Leaving.TheVariants.{One};
 ghost use Rattle.arc_store.specs.Edits.{IsInsertable, IsPlaceable};
 ghost use Rattle.arc_store.specs.Faults.{Refuses};
@@ -33,7 +33,7 @@ fn test_insert<I: SegIndex, A: Allocator + Copy>(
     after: &[Seg],
     tests: &mut TestCount,
 ) -> Result<(), EditFault>
-    requires apart { AreApart (I.held index.now) }
+    requires apart { NoneConflict (I.held index.now) }
     requires before { before ≡ segment ends.0 ends.1 }
     requires after { after.now ≡ planned.spokes q (ends.0 ∷ ends.1 ∷ []) }
     ensures accepted { OnOk result ((d : Document)
@@ -57,9 +57,9 @@ fn test_insert<I: SegIndex, A: Allocator + Copy>(
 }
 
 impl<'a, I: SegIndex, A: Allocator + Copy> Map<'a, I, A> {
-    /// Puts q, which is no vertex, between a and b in every ring that has their segment. Refused
-    /// where two segments would be in conflict, where the border sweeps over a position, or for want
-    /// of memory; then nothing changes but the count of tests.
+    /// Puts q, which is no vertex, between a and b in every ring that has their segment. Refused where
+    /// two segments would be in conflict, where the border sweeps over a position, or on allocation
+    /// failure; then nothing changes but the count of tests.
     pub fn raw_insert(&mut self, a: Pos, b: Pos, q: Pos) -> Result<(), EditFault>
         requires apart { a ≢ b }
         requires segment { is_segment self.old.doc (segment a b) ≡ true }
@@ -82,9 +82,9 @@ impl<'a, I: SegIndex, A: Allocator + Copy> Map<'a, I, A> {
         Ok(())
     }
 
-    /// Puts q between a and b as a raw insertion does, but makes no test of two segments and asks of
-    /// no sweep: no two segments would be in conflict. Fails for want of memory alone, and then
-    /// changes nothing.
+    /// Puts q between a and b as a raw insertion does, but makes no test of two segments and asks of no
+    /// sweep: no two segments would be in conflict. Fails only on allocation failure, and then changes
+    /// nothing.
     pub(crate) fn insert_tables(&mut self, a: Pos, b: Pos, q: Pos) -> Result<(), AllocError>
         requires placeable { IsPlaceable self.old.doc a b q }
         ensures inserted { OnOk result (self.new ≡ record self.old { doc = ins self.old.doc a b q }) }

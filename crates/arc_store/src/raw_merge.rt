@@ -13,8 +13,8 @@ use std::alloc::Allocator;
 
 impl<'a, I: SegIndex, A: Allocator + Copy> Map<'a, I, A> {
     /// Joins feature `g` to feature `n` along the common run of their outer rings: `n` has the holes of
-    /// both then, and keeps its id, its properties and its members, and `g` is taken out. Fails for
-    /// want of memory alone, and then changes nothing.
+    /// both then, and keeps its id, its properties and its members, and `g` is taken out. Fails only on
+    /// allocation failure, and then changes nothing.
     pub fn raw_merge(&mut self, n: u32, g: u32) -> Result<(), EditFault>
         requires { first_of (merge_refusals self.old.doc n g) ≡ None }
         ensures edits { Edits self.old self.new result None (record self.old {

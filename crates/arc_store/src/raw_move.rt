@@ -17,9 +17,9 @@ use segment_index::SegIndex;
 use std::alloc::{AllocError, Allocator};
 
 impl<'a, I: SegIndex, A: Allocator + Copy> Map<'a, I, A> {
-    /// Moves the vertex at p to q, which is none, in every ring that has it. Refused where two
-    /// segments would be in conflict, where the move sweeps over a position or a segment, or for want
-    /// of memory; then nothing changes but the count of tests.
+    /// Moves the vertex at p to q, which is none, in every ring that has it. Refused where two segments
+    /// would be in conflict, where the move sweeps over a position or a segment, or on allocation
+    /// failure; then nothing changes but the count of tests.
     pub fn raw_move(&mut self, p: Pos, q: Pos) -> Result<(), EditFault>
         requires vertex { is_vertex self.old.doc p ≡ true }
         requires free { is_vertex self.old.doc q ≡ false }
@@ -42,9 +42,9 @@ impl<'a, I: SegIndex, A: Allocator + Copy> Map<'a, I, A> {
         Ok(())
     }
 
-    /// Moves the vertex at p to q as a raw move does, but makes no test of two segments and asks of
-    /// no sweep: no two segments would be in conflict. Fails for want of memory alone, and then
-    /// changes nothing.
+    /// Moves the vertex at p to q as a raw move does, but makes no test of two segments and asks of no
+    /// sweep: no two segments would be in conflict. Fails only on allocation failure, and then changes
+    /// nothing.
     pub(crate) fn move_tables(&mut self, p: Pos, q: Pos) -> Result<(), AllocError>
         requires movable { IsMovable self.old.doc p q }
         ensures moved { OnOk result (self.new ≡ record self.old { doc = put self.old.doc p q }) }

@@ -5,7 +5,7 @@ ghost use Rattle.ring_machine.specs.Common.{Document, is_vertex, first_of, remov
 ghost use Rattle.ring_machine.specs.Common.{are_long, is_bridged, del, is_junction};
 ghost use Rattle.edit_records.specs.Records as made;
 ghost use Rattle.segment_index.specs.Common.{times_by};
-ghost use Rattle.local_planarity.specs.Common.{AreApart, IsAfter, most_for, most_tests};
+ghost use Rattle.local_planarity.specs.Common.{NoneConflict, IsAfter, most_for, most_tests};
 ghost use Rattle.local_planarity.specs.declared.leaving.Leaving.TheVariants.{EndingAt};
 ghost use Rattle.arc_store.specs.Edits.{IsLeavable, IsRemovable};
 ghost use Rattle.arc_store.specs.Faults.{Refuses};
@@ -30,7 +30,7 @@ fn test_remove<I: SegIndex, A: Allocator + Copy>(
     after: Seg,
     tests: &mut TestCount,
 ) -> Result<(), EditFault>
-    requires apart { AreApart (I.held index.now) }
+    requires apart { NoneConflict (I.held index.now) }
     ensures accepted { OnOk result ((d : Document)
         → IsRemovable d (I.held index.now) p after
         → first_of (remove_refusals d p) ≡ None) }
@@ -82,7 +82,7 @@ impl<'a, I: SegIndex, A: Allocator + Copy> Map<'a, I, A> {
 
     /// Takes the vertex at p out of every ring. It is no junction, its rings have more than three
     /// positions, and its neighbours are not joined. Refused where two segments would be in conflict,
-    /// where the border sweeps over a position, or for want of memory; then nothing changes but the
+    /// where the border sweeps over a position, or on allocation failure; then nothing changes but the
     /// count of tests.
     pub fn raw_remove(&mut self, p: Pos) -> Result<(), EditFault>
         requires vertex { is_vertex self.old.doc p ≡ true }
@@ -103,7 +103,7 @@ impl<'a, I: SegIndex, A: Allocator + Copy> Map<'a, I, A> {
     }
 
     /// Takes the vertex at p out as a raw removal does, but makes no test of two segments and asks of
-    /// no sweep: no two segments would be in conflict. Fails for want of memory alone, and then
+    /// no sweep: no two segments would be in conflict. Fails only on allocation failure, and then
     /// changes nothing.
     pub(crate) fn remove_tables(&mut self, p: Pos) -> Result<(), AllocError>
         requires leavable { IsLeavable self.old.doc p }

@@ -9,7 +9,7 @@ ghost use Rattle.ring_machine.specs.Common.{is_distinct, segment_of, WellFormed}
 ghost use Rattle.topo_outline.specs.Common.{IsJson};
 ghost use Rattle.ring_parts.specs.Common.{path_seen, rings_seen, outer_length};
 ghost use Rattle.segment_index.specs.Common.{times_by};
-ghost use Rattle.local_planarity.specs.Common.{AreApart, IsAfter, most_for, most_tests};
+ghost use Rattle.local_planarity.specs.Common.{NoneConflict, IsAfter, most_for, most_tests};
 ghost use Rattle.local_planarity.specs.declared.leaving.Leaving.TheVariants.{Nothing};
 ghost use Rattle.arc_store.specs.Faults.{Refuses};
 ghost use Rattle.arc_store.specs.Outcomes.{Edits, split_map};
@@ -48,7 +48,7 @@ fn test_split<I: SegIndex, A: Allocator + Copy>(
     room: bool,
     tests: &mut TestCount,
 ) -> Result<(), EditFault>
-    requires apart { AreApart (I.held index.now) }
+    requires apart { NoneConflict (I.held index.now) }
     requires short { outer_length (rings_seen polygon.now) + length path.now.inner.now
         < 1099511627776 }
     requires added { added.now ≡ map segment_of (links (positions_of (path_seen path.now))) }
@@ -89,8 +89,8 @@ struct FirstCut<A: Allocator + Copy> {
 }
 
 impl<'a, I: SegIndex, A: Allocator + Copy> Map<'a, I, A> {
-    /// The first polygon of feature `n` that a path cuts. Fails for want of memory alone. Every map is
-    /// well formed, and no two of its segments conflict.
+    /// The first polygon of feature `n` that a path cuts. Fails only on allocation failure. Every map
+    /// is well formed, and no two of its segments conflict.
     fn find_cut(&self, n: u32, path: &Path<'_>) -> Result<FirstCut<A>, AllocError>
         requires { list_any (is_cut_by (path_seen path.now)) (feature_at self.now.doc n).polygons
             ≡ true }
@@ -145,7 +145,7 @@ impl<'a, I: SegIndex, A: Allocator + Copy> Map<'a, I, A> {
     }
 
     /// Parts feature `n` in the polygon that was found, along a path that may cut it, and answers the
-    /// number of the new feature. Fails for want of memory alone, and then changes nothing.
+    /// number of the new feature. Fails only on allocation failure, and then changes nothing.
     fn exchange_parts(
         &mut self,
         n: u32,
@@ -179,11 +179,11 @@ impl<'a, I: SegIndex, A: Allocator + Copy> Map<'a, I, A> {
         Ok(number)
     }
 
-    /// Cuts the first polygon of feature `n` that the path of these positions cuts: `n` keeps the
-    /// part in which the path runs backwards, and the other one becomes a new Polygon directly after
-    /// it, with this id and the properties and unknown members of `n`. Answers the number of the new
+    /// Cuts the first polygon of feature `n` that the path of these positions cuts: `n` keeps the part
+    /// in which the path runs backwards, and the other one becomes a new Polygon directly after it,
+    /// with this id and the properties and unknown members of `n`. Answers the number of the new
     /// feature. Refused where two segments would be in conflict, where a part would lie on the wrong
-    /// side, where no number is left or the map would be too large, or for want of memory; then
+    /// side, where no number is left or the map would be too large, or on allocation failure; then
     /// nothing changes but the count of tests.
     pub fn raw_split(&mut self, n: u32, id: Vec<u8, A>, positions: &[Pos]) -> Result<u32, EditFault>
         requires long { 2 ≤ length positions.now }

@@ -5,7 +5,7 @@ ghost use Rattle.edit_records.specs.Records as made;
 ghost use Rattle.segment_index.specs.Common.{times_by};
 ghost use Rattle.local_planarity.specs.Common.{most_for};
 ghost use Rattle.arc_store.specs.Outcomes.{Edits};
-ghost use Rattle.arc_store.specs.Recorded.{IsLeftOut, IsThinning, left_out, thinned};
+ghost use Rattle.arc_store.specs.Recorded.{IsLeftOut, IsThinning, left_out, thinning_record};
 
 use crate::edit_record::Record;
 use crate::fault::EditFault;
@@ -19,7 +19,7 @@ impl<'a, I: SegIndex, A: Allocator + Copy> Map<'a, I, A> {
     /// Hands out the vertices that the edit has left out so far.
     fn take_thinned(&mut self) -> Vec<Removal, A>
         requires thinning { IsThinning self.old.last }
-        ensures handed { thinned result.items ≡ self.old.last }
+        ensures handed { thinning_record result.items ≡ self.old.last }
         ensures taken { self.new ≡ record self.old { last = None } }
     {
         match self.last.take() {
@@ -31,7 +31,7 @@ impl<'a, I: SegIndex, A: Allocator + Copy> Map<'a, I, A> {
 
     /// Keeps them as what takes the edit back.
     fn keep_thinned(&mut self, removals: Vec<Removal, A>)
-        ensures { self.new ≡ record self.old { last = thinned removals.items } }
+        ensures { self.new ≡ record self.old { last = thinning_record removals.items } }
     {
         self.last = if removals.is_empty() {
             None

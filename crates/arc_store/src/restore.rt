@@ -121,9 +121,9 @@ impl<'a, I: SegIndex, A: Allocator + Copy> Map<'a, I, A> {
         }
     }
 
-    /// Takes an edit back: the map has the document again that it had before. No test is made. The
-    /// next number stays, and so do the places of all numbers. Fails for want of memory alone; then
-    /// the document is as it was, and the record is handed back.
+    /// Takes an edit back: the map has the document again that it had before. No test is made. The next
+    /// number stays, and so do the places of all numbers. Fails only on allocation failure; then the
+    /// document is as it was, and the record is handed back.
     pub fn restore(&mut self, made: Record<'a, A>) -> Result<(), Record<'a, A>>
         requires undoes { Undoes self.old.places self.old.next self.old.doc (record_seen made) }
         requires texts { KeepsTexts (back self.old.places (record_seen made) self.old.doc) }

@@ -61,7 +61,7 @@ impl<A: Allocator + Copy> Tables<A> {
     }
 
     /// Puts these vertices in, one after the other, each in the one arc that has its segment, and says
-    /// how many positions the rings gain. Fails for want of memory alone, and then all are taken out
+    /// how many positions the rings gain. Fails only on allocation failure, and then all are taken out
     /// again.
     pub fn insert_all(&mut self, puts: &[Put]) -> Result<usize, AllocError>
         requires whole { Whole self.old }

@@ -6,7 +6,7 @@ use crate::tables::Tables;
 use std::alloc::{AllocError, Allocator};
 
 impl<A: Allocator + Copy> Tables<A> {
-    /// Tables that hold the same. Fails for want of memory alone.
+    /// Tables that hold the same. Fails only on allocation failure.
     pub fn copy(&self) -> Result<Tables<A>, AllocError>
         ensures arcs { IfOk result (λ copy. SamePaths self.now.arcs copy.arcs × SameUsers self.now.arcs copy.arcs) }
         ensures rings { IfOk result (λ copy. SameRings self.now.rings copy.rings × SameKeys self.now.rings copy.rings) }

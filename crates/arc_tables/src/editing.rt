@@ -121,8 +121,8 @@ fn forget_arcs<A: Allocator + Copy>(stands: &mut Vec<Stand<A>, A>, k: VertexKey)
 }
 
 impl<A: Allocator + Copy> Tables<A> {
-    /// Puts `q` between `a` and `b` in the one arc that has their segment. Fails for want of memory
-    /// alone.
+    /// Puts `q` between `a` and `b` in the one arc that has their segment. Fails only on allocation
+    /// failure.
     pub fn insert(&mut self, a: VertexKey, b: VertexKey, q: VertexKey) -> Result<(), AllocError>
         requires whole { Whole self.old }
         requires once { Once (path_of self.old) }
@@ -141,7 +141,7 @@ impl<A: Allocator + Copy> Tables<A> {
         Ok(())
     }
 
-    /// Takes `p` out of the arcs: it moves onto its neighbour `b`. Fails for want of memory alone.
+    /// Takes `p` out of the arcs: it moves onto its neighbour `b`. Fails only on allocation failure.
     pub fn remove(&mut self, p: VertexKey, b: VertexKey) -> Result<(), AllocError>
         requires whole { Whole self.old }
         requires once { Once (path_of self.old) }

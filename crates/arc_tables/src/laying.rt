@@ -79,8 +79,8 @@ fn learn<A: Allocator + Copy>(
     arc.rings.push(alloc, r)
 }
 
-/// Appends the next key of an arc. Most arcs have two keys or several: so room for several is taken
-/// at once, behind the second.
+/// Appends the next key of an arc. Most arcs have two keys or several: so room for several is taken at
+/// once, after the second.
 fn push_key<A: Allocator + Copy>(
     keys: &mut Vec<VertexKey, A>,
     k: VertexKey,
@@ -316,8 +316,8 @@ impl<A: Allocator + Copy> Tables<A> {
         Ok(())
     }
 
-    /// A new ring along these keys, the first of which comes again as the last. Fails for want of
-    /// memory alone, and then no ring has changed.
+    /// A new ring along these keys, the first of which comes again as the last. Fails only on
+    /// allocation failure, and then no ring has changed.
     pub fn add_ring(&mut self, keys: &[VertexKey]) -> Result<usize, AllocError>
         requires whole { Whole self.old }
         requires some { 1 ≤ length keys.now }

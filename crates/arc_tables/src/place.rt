@@ -179,9 +179,9 @@ impl<A: Allocator + Copy> Tables<A> {
         find_among(&self.arcs, among, a, b)
     }
 
-    /// The place of the segment of a and b in the arc of the place, where it stands beside that:
-    /// behind it in the direction in which the segment there was gone along, where a ring goes on, or
-    /// before it.
+    /// The place of the segment of a and b in the arc of the place, where it stands beside that: after
+    /// it in the direction in which the segment there was gone along, where a ring goes on, or before
+    /// it.
     fn find_near(&self, near: Place, a: VertexKey, b: VertexKey) -> Option<Place>
         ensures some { IfSome result (λ p. IsPlace (path_of self.now p.arc) p.at p.back a b) }
         ensures there { IfSome result (λ p. ContainsKey self.now.arcs p.arc) }

@@ -29,7 +29,7 @@ fn push_sharers<A: Allocator + Copy, B: Allocator>(
 
 impl<A: Allocator + Copy> Tables<A> {
     /// Appends the numbers of the rings that have the segment of a and b, in either direction, each
-    /// once: those of the arc that has it. Fails for want of memory alone.
+    /// once: those of the arc that has it. Fails only on allocation failure.
     pub fn push_users<B: Allocator>(
         &self,
         a: VertexKey,
@@ -61,10 +61,9 @@ impl<A: Allocator + Copy> Tables<A> {
         Some(arc.rings.as_slice())
     }
 
-    /// Appends the numbers of the rings that have a segment in common with ring `r`, itself among
-    /// them, some perhaps several times: those of each arc that it uses. Where there is no such
-    /// ring nothing is appended. Fails for want of memory alone; some of them may then have been
-    /// appended.
+    /// Appends the numbers of the rings that have a segment in common with ring `r`, itself among them,
+    /// some perhaps several times: those of each arc that it uses. Where there is no such ring nothing
+    /// is appended. Fails only on allocation failure; some of them may then have been appended.
     pub fn push_sharing<B: Allocator>(
         &self,
         r: usize,

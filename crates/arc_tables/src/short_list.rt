@@ -143,7 +143,7 @@ impl<A: Allocator + Copy> ShortList<A> {
         }
     }
 
-    /// Appends a number; more than three take memory of `alloc`. Fails for want of memory alone, and
+    /// Appends a number; more than three take memory of `alloc`. Fails only on allocation failure, and
     /// then the list is as it was.
     pub fn push(&mut self, alloc: A, n: usize) -> Result<(), AllocError>
         ensures ok { OnOk result (self.new ≡ self.old ++ n ∷ []) }

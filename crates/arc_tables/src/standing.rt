@@ -96,7 +96,7 @@ pub(crate) fn unlist_moved<A: Allocator + Copy>(
     }
 }
 
-/// New arcs end at vertex `k` from now on. Fails for want of memory alone.
+/// New arcs end at vertex `k` from now on. Fails only on allocation failure.
 pub fn mark_end<A: Allocator + Copy>(
     stands: &mut Vec<Stand<A>, A>,
     k: VertexKey,

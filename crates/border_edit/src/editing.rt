@@ -5,7 +5,7 @@ use device_io::{FromReader, Sink, Source, ToWriter};
 use edit_program::{
     NotedAnswers, NotedScript, RefusedLines, ScriptTail, Words, ending_of_run, strict_ending,
 };
-use program_ends::{Ending, Stop, end, hash_seed, map_bytes, replace_file};
+use program_ends::{Ending, Errors, Paths, Stop, hash_seed, map_bytes, replace_file};
 use script_runner::{RunFault, Summary, run};
 use std::alloc::Allocator;
 use std::cell::RefCell;
@@ -16,10 +16,25 @@ use std::io::{BufWriter, Read, Write};
 /// The SCRIPT that is standard input.
 pub(crate) const STANDARD_INPUT: &str = "-";
 
-/// Tells what is begun, and with which file, where the words ask for it.
-fn tell<E: Write>(words: &Words, begun: &str, path: &str, errors: &mut E) {
-    if words.progress {
-        let _ = writeln!(errors, "{begun} {path}");
+/// Reports on a terminal what is begun, and with which file, where the arguments ask for it.
+fn report<E: Write>(words: &Words, begun: &str, path: &str, errors: &mut Errors<'_, E>) {
+    if words.progress && errors.is_terminal {
+        let _ = writeln!(errors.writer, "{begun} {path}");
+    }
+}
+
+/// The paths of the files that the arguments name.
+fn paths_of(words: &Words) -> Paths<'_> {
+    let list = match &words.refused {
+        Some(path) => path.as_str(),
+        None => "",
+    };
+    Paths {
+        map: words.map.as_str(),
+        script: words.script.as_str(),
+        file: words.out.as_str(),
+        list,
+        mends: false,
     }
 }
 
@@ -28,13 +43,13 @@ fn save<'a, E: Write>(
     rt: &HostRuntime,
     words: &Words,
     ending: Ending<'a>,
-    errors: &mut E,
+    errors: &mut Errors<'_, E>,
 ) -> Ending<'a> {
     let Some(text) = ending.file else {
         return ending;
     };
     let file = words.out.as_str();
-    tell(words, "saving", file, errors);
+    report(words, "saving", file, errors);
     ending.once_written(replace_file(rt, file, text))
 }
 
@@ -91,7 +106,7 @@ impl Editing<'_> {
         &self,
         script: &mut ScriptTail<R>,
         answers: &mut W,
-        errors: &mut E,
+        errors: &mut Errors<'_, E>,
     ) -> u8
         requires reader { ⟦<ScriptTail<R> as Source>⟧.has_failed script.old ≡ false }
         requires writer { W.has_failed answers.old ≡ false }
@@ -104,7 +119,8 @@ impl Editing<'_> {
         );
         let saved = saved.writer.as_slice();
         let ending = ending_of(self.words, &outcome, saved, script.is_whole());
-        end(save(self.rt, self.words, ending, errors), errors)
+        let ending = save(self.rt, self.words, ending, errors);
+        errors.end(ending, &paths_of(self.words))
     }
 
     /// The same, and writes the refused lines in FILE2.
@@ -113,7 +129,7 @@ impl Editing<'_> {
         script: ScriptTail<R>,
         answers: W,
         path: &str,
-        errors: &mut E,
+        errors: &mut Errors<'_, E>,
     ) -> u8
         requires reader { ⟦<ScriptTail<R> as Source>⟧.has_failed script ≡ false }
         requires writer { W.has_failed answers ≡ false }
@@ -144,7 +160,7 @@ impl Editing<'_> {
             Ok(lines) => list(self.rt, ending, path, lines.rows()),
             Err(_) => ending,
         };
-        end(ending, errors)
+        errors.end(ending, &paths_of(self.words))
     }
 
     /// Runs a script that comes from a reader.
@@ -152,7 +168,7 @@ impl Editing<'_> {
         &self,
         script: R,
         answers: W,
-        errors: &mut E,
+        errors: &mut Errors<'_, E>,
     ) -> Result<u8, Stop> {
         // Standard output sends on each piece at once, and an answer is a short one.
         let answers = BufWriter::new(self.rt.alloc(), answers).map_err(|_| Stop::NoMemory)?;
@@ -171,10 +187,10 @@ fn edit_files<W: Write + Drop, E: Write>(
     rt: &HostRuntime,
     words: &Words,
     answers: W,
-    errors: &mut E,
+    errors: &mut Errors<'_, E>,
 ) -> Result<u8, Stop> {
     let seed = hash_seed(rt)?;
-    tell(words, "opening", words.map.as_str(), errors);
+    report(words, "opening", words.map.as_str(), errors);
     let map = map_bytes(rt, words.map.as_str())?;
     let map = map.as_slice();
     let editing = Editing {
@@ -192,19 +208,22 @@ fn edit_files<W: Write + Drop, E: Write>(
 
 /// Runs a script on a map as the words ask, and saves the map where the whole script was answered and,
 /// with `--strict`, accepted.
-/// Answers the status that the program ends with; the answers and the line that says why it ends go
-/// to these two writers. Faults are found in this order: a seed, MAP, opening SCRIPT, the run, FILE, FILE2.
+/// Answers the status that the program ends with; the answers and the line that says why it ends go to these two
+/// writers, and where the second is a terminal also what is begun, if that is asked for, and what can be done. Faults
+/// are found in this order: a seed, MAP, opening SCRIPT, the run, FILE, FILE2.
 pub(crate) fn edit<W: Write + Drop, E: Write>(
     rt: &HostRuntime,
     words: &Words,
+    is_terminal: bool,
     answers: W,
     errors: &mut E,
 ) -> u8 {
-    match edit_files(rt, words, answers, errors) {
+    let mut errors = Errors {
+        writer: errors,
+        is_terminal,
+    };
+    match edit_files(rt, words, answers, &mut errors) {
         Ok(status) => status,
-        Err(stop) => end(Ending::of_stop(&stop), errors),
+        Err(stop) => errors.end(Ending::of_stop(&stop), &paths_of(words)),
     }
 }
-
-#[cfg(test)]
-mod tests;

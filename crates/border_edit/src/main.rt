@@ -59,15 +59,12 @@ fn words_given(rt: &HostRuntime) -> Result<Words, Stop> {
 
 fn main(rt: HostRuntime) -> ExitCode {
     let status = match words_given(&rt) {
-        Ok(mut words) => {
+        Ok(words) => {
             let mut errors = rt.stderr();
-            words.progress = words.progress && errors.is_terminal();
-            edit(&rt, &words, rt.stdout(), &mut errors)
+            let is_terminal = errors.is_terminal();
+            edit(&rt, &words, is_terminal, rt.stdout(), &mut errors)
         }
         Err(stop) => end_stopped(&rt, &stop),
     };
     ExitCode::from(status)
 }
-
-#[cfg(test)]
-mod tests;

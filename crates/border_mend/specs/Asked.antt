@@ -8,10 +8,10 @@ use Rattle.program_ends.specs.Common.{with_version}
 use Rattle.clap.specs.declared.builder.action.ArgAction.TheVariants.{Set}
 
 -- MAP stands in its place and is required
-abbrev pub map_rule : Rule
-map_rule = record (new_rule (codes "MAP")) { required = true; action = Some Set }
+abbrev pub map_argument : Rule
+map_argument = record (new_rule (codes "MAP")) { required = true; action = Some Set }
 
--- an argument that need not be there, and takes a value behind its name
+-- an argument that need not be there, and takes a value after its name
 abbrev pub option_rule : List ℕ → Rule
 option_rule name = record (new_rule name) {
   long = Some name;
@@ -20,19 +20,19 @@ option_rule name = record (new_rule name) {
 }
 
 -- MAP, --most N, --places FILE, --out FILE, --digits K, --refine K, --drop WHAT
-abbrev pub program : App
-program =
+abbrev pub mend_program : App
+mend_program =
     with_rule (with_rule (with_rule (with_rule (with_rule (with_rule (with_rule
-    (with_version (new_app (codes "border_mend"))) map_rule) (option_rule (codes "most")))
+    (with_version (new_app (codes "border_mend"))) map_argument) (option_rule (codes "most")))
     (option_rule (codes "places"))) (option_rule (codes "out"))) (option_rule (codes "digits")))
     (option_rule (codes "refine"))) (option_rule (codes "drop"))
 
 -- the value that clap finds for an argument among the words, the program's name first
-abbrev pub text_of : List ℕ → List (List ℕ) → Option (List ℕ)
-text_of id words = first_of id (matches_of program words)
+abbrev pub value_given : List ℕ → List (List ℕ) → Option (List ℕ)
+value_given id words = first_of id (matches_of mend_program words)
 
--- a number: what a value says, digits that perhaps stand behind a plus, up to the greatest; and the
--- usual one where there is no value
+-- a number: what a value says, digits that perhaps follow a plus, up to the greatest; and the usual one
+-- where there is no value
 abbrev pub IsCount : ℕ → ℕ → Option (List ℕ) → ℕ → Type 0
 IsCount usual greatest None n = n ≡ usual
 IsCount usual greatest (Some text) n =
@@ -60,5 +60,5 @@ pub record IsAsked (most digits refine drop : Option (List ℕ)) (asked : Asked)
   pub not_lying : asked.grid.points_lie ≡ false
 
 -- two paths that are given are not the same
-abbrev pub AreApart : Option (List ℕ) → Option (List ℕ) → Type 0
-AreApart one other = (path : List ℕ) → one ≡ Some path → other ≢ Some path
+abbrev pub AreDifferent : Option (List ℕ) → Option (List ℕ) → Type 0
+AreDifferent one other = (path : List ℕ) → one ≡ Some path → other ≢ Some path

@@ -5,9 +5,9 @@ use Rattle.grid_reader.specs.declared.wants.Wants.{Wants}
 use Rattle.mend_report.specs.declared.asked.Asked.{Asked}
 use Rattle.mend_report.specs.declared.looking.LookFault.{LookFault}
 use Rattle.mend_report.specs.declared.looking.LookFault.TheVariants as look
-use Rattle.point_rounding.specs.Common.{rounded_points}
-use Rattle.point_rounding.specs.declared.fault.PointFault.{PointFault}
-use Rattle.point_rounding.specs.declared.fault.PointFault.TheVariants as point
+use Rattle.decimal_texts.specs.Common.{rounded_points}
+use Rattle.decimal_texts.specs.declared.fault.PointFault.{PointFault}
+use Rattle.decimal_texts.specs.declared.fault.PointFault.TheVariants as point
 use Rattle.topo_outline.specs.declared.fault.OpenFault.TheVariants as open_fault
 
 -- where the grid has so many decimals; without them the text stays as it is
@@ -16,8 +16,8 @@ rounded_to grid text None = Ok text
 rounded_to grid text (Some digits) = rounded_points digits grid.finer text
 
 -- the text with its points on the grid that is asked for
-abbrev pub on_grid : Wants → List ℕ → Result (List ℕ) PointFault
-on_grid grid text = rounded_to grid text (point_digits grid text)
+abbrev pub points_on_grid : Wants → List ℕ → Result (List ℕ) PointFault
+points_on_grid grid text = rounded_to grid text (point_digits grid text)
 
 -- the same is asked, of a text whose points lie on the grid
 pub record AsksOfLying (before after : Asked) : Type 0 where

@@ -2,8 +2,8 @@
 ghost use Rattle.std.specs.Prelude.{◌≡◌, ◌≢◌, ◌≤◌, ℕ, [], Some, false, map, codes, string_bytes, unwrap_or};
 ghost use Rattle.std.specs.Prelude.{option_map, IfOk, MatchOption};
 ghost use Rattle.clap.specs.Words.{app_of, rule_of};
-ghost use Rattle.border_mend.specs.Asked.{option_rule, program, text_of, IsCount, dropped};
-ghost use Rattle.border_mend.specs.Asked.{IsAsked, AreApart};
+ghost use Rattle.border_mend.specs.Asked.{option_rule, mend_program, value_given, IsCount, dropped};
+ghost use Rattle.border_mend.specs.Asked.{IsAsked, AreDifferent};
 
 use crate::asked::Words;
 use crate::help;
@@ -14,7 +14,7 @@ use mend_report::Asked;
 use program_ends::{VERSION, copied, is_file};
 use std::alloc::Global;
 
-/// An argument that takes a value behind its name.
+/// An argument that takes a value after its name.
 fn option<'a>(alloc: Global, name: &'static str, value: &'static str, help: &'static str) -> Arg<'a>
     ensures rule { rule_of result ≡ option_rule name.now }
     ensures local { result.global ≡ false }
@@ -28,7 +28,7 @@ fn option<'a>(alloc: Global, name: &'static str, value: &'static str, help: &'st
 
 /// The program's words and their help.
 fn command<'a>(alloc: Global) -> Result<Command<'a>, clap::Error>
-    ensures { IfOk result (λ command. app_of command ≡ program) }
+    ensures { IfOk result (λ command. app_of command ≡ mend_program) }
 {
     let map = Arg::new(alloc, "MAP")
         .help("The TopoJSON topology to look at")
@@ -86,7 +86,7 @@ fn dropped(given: Option<&str>) -> Option<(bool, bool)>
 
 /// Whether both files are given, and are one.
 fn is_both(one: Option<&str>, other: Option<&str>) -> bool
-    ensures { result ≡ false → AreApart (option_map (λ text. text.now) one.entry)
+    ensures { result ≡ false → AreDifferent (option_map (λ text. text.now) one.entry)
         (option_map (λ text. text.now) other.entry) }
 {
     match other {
@@ -137,19 +137,19 @@ fn asked_of(
 /// here too, and so are words that name one path for the places and for MAP or FILE.
 pub(crate) fn words(alloc: Global, given: &[String]) -> Result<Words, clap::Error>
     ensures map { IfOk result (λ words. string_bytes words.map
-        ≡ unwrap_or (text_of (codes "MAP") (map string_bytes given.now)) []) }
+        ≡ unwrap_or (value_given (codes "MAP") (map string_bytes given.now)) []) }
     ensures asked { IfOk result (λ words.
-        IsAsked (text_of (codes "most") (map string_bytes given.now))
-        (text_of (codes "digits") (map string_bytes given.now))
-        (text_of (codes "refine") (map string_bytes given.now))
-        (text_of (codes "drop") (map string_bytes given.now)) words.asked words.drop_lines) }
+        IsAsked (value_given (codes "most") (map string_bytes given.now))
+        (value_given (codes "digits") (map string_bytes given.now))
+        (value_given (codes "refine") (map string_bytes given.now))
+        (value_given (codes "drop") (map string_bytes given.now)) words.asked words.drop_lines) }
     ensures places { IfOk result (λ words. option_map string_bytes words.places
-        ≡ text_of (codes "places") (map string_bytes given.now)) }
+        ≡ value_given (codes "places") (map string_bytes given.now)) }
     ensures apart { IfOk result (λ words.
         option_map string_bytes words.places ≢ Some (string_bytes words.map)) }
     ensures out { IfOk result (λ words. option_map string_bytes words.out
-        ≡ text_of (codes "out") (map string_bytes given.now)) }
-    ensures files { IfOk result (λ words. AreApart (option_map string_bytes words.places)
+        ≡ value_given (codes "out") (map string_bytes given.now)) }
+    ensures files { IfOk result (λ words. AreDifferent (option_map string_bytes words.places)
         (option_map string_bytes words.out)) }
 {
     let mut command = command(alloc)?;

@@ -1,15 +1,17 @@
 //! How a report ends the program: with which status, with what on standard output, and with which line.
 ghost use Rattle.std.specs.Prelude.{◌≡◌, None, Some, option_map, OnOk, OnErr, IfErr, IsSomeAnd};
-ghost use Rattle.mend_report.specs.Common.{status_of, mended_status, unmended_status};
-ghost use Rattle.border_mend.specs.Endings.{Tells, TellsUnmade, TellsUnmended};
+ghost use Rattle.mend_report.specs.Common.{report_status, mended_status, unmended_status};
+ghost use Rattle.border_mend.specs.Endings.{TellsNoReport, TellsUnmade, TellsUnsaved, TellsUnmended};
 
-use mend_report::{LookFault, Remade, RemakeFault, RepairFault, Report, is_open};
+use map_mending::MendFault;
+use mend_report::{LookFault, Remade, RepairFault, Report, SaveFault, is_open};
 use program_ends::{Diagnostic, Ending};
 use std::alloc::Allocator;
+use topo_outline::Limit;
 
 /// The status that the program ends with after a report.
 fn status<A: Allocator + Copy>(outcome: &Result<Report<A>, LookFault<'_>>) -> u8
-    ensures { result ≡ status_of outcome.now }
+    ensures { result ≡ report_status outcome.now }
 {
     match outcome {
         Ok(report) if is_open(report) => 0,
@@ -21,7 +23,7 @@ fn status<A: Allocator + Copy>(outcome: &Result<Report<A>, LookFault<'_>>) -> u8
 
 /// The line that tells why there is no report.
 fn line_of<'a>(fault: &'a LookFault<'a>) -> Diagnostic<'a>
-    ensures { Tells fault.now result }
+    ensures { TellsNoReport fault.now result }
 {
     match fault {
         LookFault::Open(fault) => Diagnostic::Open(fault),
@@ -35,12 +37,12 @@ pub(crate) fn ending_of_report<'a, A: Allocator + Copy>(
     outcome: &'a Result<Report<A>, LookFault<'a>>,
     report: &'a [u8],
 ) -> Ending<'a>
-    ensures status { result.status ≡ status_of outcome.now }
+    ensures status { result.status ≡ report_status outcome.now }
     ensures printed { OnOk outcome.now
         (option_map (λ text. text.now) result.file ≡ Some report.now) }
     ensures silent { OnOk outcome.now (result.line ≡ None) }
     ensures kept { OnErr outcome.now (result.file ≡ None) }
-    ensures told { IfErr outcome.now (λ fault. IsSomeAnd result.line (Tells fault)) }
+    ensures told { IfErr outcome.now (λ fault. IsSomeAnd result.line (TellsNoReport fault)) }
 {
     let status = status(outcome);
     match outcome {
@@ -58,24 +60,36 @@ fn status_of_unmended(fault: &RepairFault<'_>) -> u8
     ensures { result ≡ unmended_status fault.now }
 {
     match fault {
-        RepairFault::Look(LookFault::OutOfMemory) | RepairFault::Remake(RemakeFault::OutOfMemory) =>
-            3,
+        RepairFault::Look(LookFault::OutOfMemory)
+        | RepairFault::Mend(MendFault::OutOfMemory)
+        | RepairFault::Save(SaveFault::OutOfMemory) => 3,
         _ => 2,
     }
 }
 
 /// The line that tells why a map that was looked through is not mended.
-fn line_of_remaking<'a>(fault: &'a RemakeFault) -> Diagnostic<'a>
+fn line_of_unmade<'a>(fault: &'a MendFault) -> Diagnostic<'a>
     ensures { TellsUnmade fault.now result }
 {
     match fault {
-        RemakeFault::TooLarge(what) => Diagnostic::TooLarge(*what),
-        RemakeFault::Unmended { s, t } => Diagnostic::Unmended { s, t },
-        RemakeFault::Unparted { feature, polygon } => Diagnostic::Unparted {
+        MendFault::TooLarge => Diagnostic::TooLarge(Limit::Positions),
+        MendFault::Unmended { s, t } => Diagnostic::Unmended { s, t },
+        MendFault::Unparted { feature, polygon } => Diagnostic::Unparted {
             feature: *feature,
             polygon: *polygon,
         },
-        RemakeFault::OutOfMemory => Diagnostic::NoMemory,
+        MendFault::OutOfMemory => Diagnostic::NoMemory,
+    }
+}
+
+/// The line that tells why what a map was mended to is not saved.
+fn line_of_unsaved<'a>(fault: &'a SaveFault) -> Diagnostic<'a>
+    ensures { TellsUnsaved fault.now result }
+{
+    match fault {
+        SaveFault::Conflict { s, t } => Diagnostic::Unmended { s, t },
+        SaveFault::Unopened => Diagnostic::TooLarge(Limit::Bytes),
+        SaveFault::OutOfMemory => Diagnostic::NoMemory,
     }
 }
 
@@ -85,7 +99,8 @@ fn line_of_unmended<'a>(fault: &'a RepairFault<'a>) -> Diagnostic<'a>
 {
     match fault {
         RepairFault::Look(fault) => line_of(fault),
-        RepairFault::Remake(fault) => line_of_remaking(fault),
+        RepairFault::Mend(fault) => line_of_unmade(fault),
+        RepairFault::Save(fault) => line_of_unsaved(fault),
     }
 }
 

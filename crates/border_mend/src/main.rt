@@ -11,7 +11,8 @@ mod telling;
 
 use asked::Words;
 use command_line::words;
-use program_ends::{Stop, check_apart, end_stopped, given_words};
+use program_ends::{Errors, Stop, check_apart, end_stopped, given_words};
+use std::io::IsTerminal;
 use std::process::ExitCode;
 use telling::tell;
 
@@ -25,11 +26,16 @@ fn words_given(rt: &HostRuntime) -> Result<Words, Stop> {
 
 fn main(rt: HostRuntime) -> ExitCode {
     let status = match words_given(&rt) {
-        Ok(words) => tell(&rt, &words, &mut rt.stdout(), &mut rt.stderr()),
+        Ok(words) => {
+            let mut writer = rt.stderr();
+            let is_terminal = writer.is_terminal();
+            let mut errors = Errors {
+                writer: &mut writer,
+                is_terminal,
+            };
+            tell(&rt, &words, &mut rt.stdout(), &mut errors)
+        }
         Err(stop) => end_stopped(&rt, &stop),
     };
     ExitCode::from(status)
 }
-
-#[cfg(test)]
-mod tests;

@@ -1,12 +1,12 @@
 //! The points of a map, put on the grid that is asked for.
 ghost use Rattle.std.specs.Prelude.{◌≡◌, ◌≤◌, ◌<◌, length, IfOk, Ok};
 ghost use Rattle.json_spans.specs.Common.{Json};
-ghost use Rattle.point_rounding.specs.Common.{Gives};
-ghost use Rattle.border_mend.specs.Points.{on_grid, AsksOfLying, unread};
+ghost use Rattle.decimal_texts.specs.Common.{AnswersAs};
+ghost use Rattle.border_mend.specs.Points.{points_on_grid, AsksOfLying, unread};
 
+use decimal_texts::{PointFault, rounded_points};
 use grid_reader::point_digits;
 use mend_report::{Asked, LookFault};
-use point_rounding::{PointFault, rounded_points};
 use std::alloc::Global;
 use topo_outline::OpenFault;
 
@@ -19,11 +19,11 @@ pub(crate) fn with_points_on_grid(
     asked: Asked,
 ) -> Result<(Vec<u8>, Asked), PointFault>
     ensures text { length text.items ≤ 67108864 → Json 100 text.items →
-        Gives (λ pair. pair.0.items) result (on_grid asked.grid text.items) }
+        AnswersAs (λ pair. pair.0.items) result (points_on_grid asked.grid text.items) }
     ensures no_json { (¬ Json 100 text.items) →
-        Gives (λ pair. pair.0.items) result (Ok text.items) }
+        AnswersAs (λ pair. pair.0.items) result (Ok text.items) }
     ensures too_long { 67108864 < length text.items →
-        Gives (λ pair. pair.0.items) result (Ok text.items) }
+        AnswersAs (λ pair. pair.0.items) result (Ok text.items) }
     ensures asked { IfOk result (λ pair. AsksOfLying asked pair.1) }
 {
     let mut asked = asked;

@@ -2,10 +2,9 @@
 use crate::asked::Words;
 use crate::ending::{ending_of_mending, ending_of_report};
 use crate::points::{unread, with_points_on_grid};
-use line_dropping::{Dropped, without_lines};
+use decimal_texts::{Dropped, PointFault, without_lines};
 use mend_report::{Asked, LookFault, Remade, RepairFault, Report, Texts, mend_map, report_map};
-use point_rounding::PointFault;
-use program_ends::{Ending, Stop, end, hash_seed, map_bytes, replace_file};
+use program_ends::{Ending, Errors, Paths, Stop, hash_seed, map_bytes, replace_file};
 use std::alloc::Global;
 use std::hash::RandomState;
 use std::io::{Result as IoResult, Write};
@@ -82,12 +81,27 @@ fn mended<'a>(
     }
 }
 
+/// The paths of the files that the arguments name: of FILE and the places the only one.
+fn paths_of(words: &Words) -> Paths<'_> {
+    let file = match (&words.out, &words.places) {
+        (Some(path), None) | (None, Some(path)) => path.as_str(),
+        _ => "",
+    };
+    Paths {
+        map: words.map.as_str(),
+        script: "",
+        file,
+        list: "",
+        mends: true,
+    }
+}
+
 /// Reads MAP, writes its report and its places, and ends as the report did.
 fn tell_file<W: Write, E: Write>(
     rt: &HostRuntime,
     words: &Words,
     output: &mut W,
-    errors: &mut E,
+    errors: &mut Errors<'_, E>,
 ) -> Result<u8, Stop> {
     let alloc = rt.alloc();
     let (map, asked) = map_asked(rt, words)?;
@@ -96,7 +110,7 @@ fn tell_file<W: Write, E: Write>(
     let outcome = reported(alloc, &map, &mut texts);
     let ending = ending_of_report(&outcome, texts.report.as_slice());
     let ending = print_and_place(rt, words, &texts, ending, output);
-    Ok(end(ending, errors))
+    Ok(errors.end(ending, &paths_of(words)))
 }
 
 /// Reads MAP, mends it, writes its report and its places, and at last the mended map in FILE.
@@ -105,7 +119,7 @@ fn mend_file<W: Write, E: Write>(
     words: &Words,
     out: &str,
     output: &mut W,
-    errors: &mut E,
+    errors: &mut Errors<'_, E>,
 ) -> Result<u8, Stop> {
     let alloc = rt.alloc();
     let seed = hash_seed(rt)?;
@@ -119,7 +133,7 @@ fn mend_file<W: Write, E: Write>(
         Ok(remade) => save(rt, ending, out, remade.text.as_slice()),
         Err(_) => ending,
     };
-    Ok(end(ending, errors))
+    Ok(errors.end(ending, &paths_of(words)))
 }
 
 /// Tells what the words ask. Answers the status that the program ends with; the report and the line
@@ -130,7 +144,7 @@ pub(crate) fn tell<W: Write, E: Write>(
     rt: &HostRuntime,
     words: &Words,
     output: &mut W,
-    errors: &mut E,
+    errors: &mut Errors<'_, E>,
 ) -> u8 {
     let told = match &words.out {
         Some(out) => mend_file(rt, words, out.as_str(), output, errors),
@@ -138,6 +152,6 @@ pub(crate) fn tell<W: Write, E: Write>(
     };
     match told {
         Ok(status) => status,
-        Err(stop) => end(Ending::of_stop(&stop), errors),
+        Err(stop) => errors.end(Ending::of_stop(&stop), &paths_of(words)),
     }
 }

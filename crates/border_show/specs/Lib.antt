@@ -1,2 +1,6 @@
 pub mod Status
 pub mod Endings
+pub mod Conflicts
+pub mod Found
+pub mod Shown
+pub mod Asked

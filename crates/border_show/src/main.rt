@@ -12,29 +12,41 @@ macro_rules! or_return {
     };
 }
 
-mod asked;
+mod arguments;
 mod command_line;
+mod conflicts;
 mod drawing;
 mod ending;
+mod finding;
+mod help;
 mod showing;
 
-use asked::Words;
-use command_line::words;
+use arguments::Arguments;
+use command_line::arguments_of;
 use drawing::draw;
-use program_ends::{Stop, check_apart, end_stopped, given_words};
+use program_ends::{Errors, Stop, check_apart, end_stopped, given_words};
+use std::io::IsTerminal;
 use std::process::ExitCode;
 
-/// What the words that the program was called with ask for.
-fn words_given(rt: &HostRuntime) -> Result<Words, Stop> {
+/// What the arguments that the program was called with ask for.
+fn given_arguments(rt: &HostRuntime) -> Result<Arguments, Stop> {
     let given = given_words(rt)?;
-    let words = words(rt.alloc(), given.as_slice())?;
-    check_apart(rt, &words.files())?;
-    Ok(words)
+    let arguments = arguments_of(rt.alloc(), given.as_slice())?;
+    check_apart(rt, &arguments.files())?;
+    Ok(arguments)
 }
 
 fn main(rt: HostRuntime) -> ExitCode {
-    let status = match words_given(&rt) {
-        Ok(words) => draw(&rt, &words, &mut rt.stderr()),
+    let status = match given_arguments(&rt) {
+        Ok(arguments) => {
+            let mut writer = rt.stderr();
+            let is_terminal = writer.is_terminal();
+            let mut errors = Errors {
+                writer: &mut writer,
+                is_terminal,
+            };
+            draw(&rt, &arguments, &mut errors)
+        }
         Err(stop) => end_stopped(&rt, &stop),
     };
     ExitCode::from(status)

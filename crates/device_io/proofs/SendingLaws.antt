@@ -22,7 +22,7 @@ module _ {W : Type 0} {its : sink.Ghosts W} where
     works = q.works;
   }
 
-  -- a front of the first text is a front of both, and so is the first with a front of the second
+  -- a prefix of the first text is a prefix of both, and so is the first with a prefix of the second
   pub took_first : {failed : Bool} {old new : W} {text : List ℕ} (more : List ℕ)
       → TookFront its failed old new text → TookFront its failed old new (text ++ more)
   took_first {old = old} {new = new} {text = text} more p = record {

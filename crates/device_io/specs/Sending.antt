@@ -10,14 +10,14 @@ pub record Took {W : Type 0} (its : sink.Ghosts W) (old new : W) (text : List �
   pub taken : Appends (its.taken old) (its.taken new) text
   pub works : its.has_failed new ≡ false
 
--- the sink took a front of the text, and has failed or not
+-- the sink took a prefix of the text, and has failed or not
 pub record TookFront {W : Type 0} (its : sink.Ghosts W) (failed : Bool) (old new : W)
     (text : List ℕ) : Type 0 where
   pub taken : AppendsPrefix (its.taken old) (its.taken new) text
   pub stands : its.has_failed new ≡ failed
 
--- a call sends the text: the sink took it; or a front of it, and has failed exactly where the fault
--- is its own
+-- a call sends the text: the sink took it; or a prefix of it, and has failed exactly where the fault is
+-- its own
 abbrev pub Sends : {W T E : Type 0} → sink.Ghosts W → (E → Bool) → W → W → Result T E → List ℕ → Type 0
 Sends its is_its old new result text =
     MatchResult result

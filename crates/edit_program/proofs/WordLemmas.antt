@@ -5,11 +5,11 @@ use Rattle.clap.specs.Words.{App, HasMatchesOf, first_value, found_of, is_simple
 use Rattle.clap.specs.declared.parser.matches.ArgMatches.{ArgMatches}
 use Rattle.clap.proofs.WalkLemmas.{one_text-rows}
 use Rattle.program_ends.proofs.Common.{read_text}
-use Rattle.edit_program.specs.Common.{program, text_of, flag_of, IsDepth, IsFlag}
+use Rattle.edit_program.specs.Common.{program, argument_of, flag_of, IsDepth, IsFlag}
 
 pub depth_is : (a : App) (m : ArgMatches) (words : List (List ℕ)) (id key : List ℕ) (given : Option (Bor (List ℕ))) (n : ℕ)
     → a ≡ program → HasMatchesOf a words m → key ≡ id → option_map (λ s. s.now) given ≡ first_value (found_of m) key
-    → IsDepth (option_map (λ s. s.now) given) n → IsDepth (text_of id words) n
+    → IsDepth (option_map (λ s. s.now) given) n → IsDepth (argument_of id words) n
 depth_is a m words id key given n is has same read depth =
     subst (λ (o : Option (List ℕ)). IsDepth o n) (read_text program refl a m words id key given is has same read) depth
 

@@ -53,8 +53,8 @@ program =
     map_rule) script_rule) out_rule) undo_rule) refused_rule) progress_rule) strict_rule
 
 -- the value that clap finds for an argument among the words, the program's name first
-abbrev pub text_of : List ℕ → List (List ℕ) → Option (List ℕ)
-text_of id words = first_of id (matches_of program words)
+abbrev pub argument_of : List ℕ → List (List ℕ) → Option (List ℕ)
+argument_of id words = first_of id (matches_of program words)
 
 -- what clap reads a flag as among the words
 abbrev pub flag_of : List ℕ → List (List ℕ) → Option (List ℕ)
@@ -65,8 +65,8 @@ abbrev pub IsFlag : Option (List ℕ) → Bool → Type 0
 IsFlag None on = on ≡ false
 IsFlag (Some text) on = (text ≡ codes "true" → on ≡ true) × (text ≡ codes "false" → on ≡ false)
 
--- how many changes can be taken back: what the value of --undo says, digits that perhaps stand behind
--- a plus, and 100 where there is none
+-- how many changes can be taken back: what the value of --undo says, digits that perhaps follow a plus,
+-- and 100 where there is none
 abbrev pub IsDepth : Option (List ℕ) → ℕ → Type 0
 IsDepth None n = n ≡ 100
 IsDepth (Some text) n =

@@ -6,13 +6,14 @@ use Rattle.program_ends.specs.Common.{IsOpen}
 use Rattle.program_ends.specs.declared.diagnostic.Diagnostic.{Diagnostic}
 use Rattle.program_ends.specs.declared.diagnostic.Diagnostic.TheVariants.{Script, Write, Save, NoMemory, LinesRefused, CutOff}
 
--- the line tells this fault of a run; a script that can't be read is told as one that can't be opened
-abbrev pub Tells : RunFault → Diagnostic → Type 0
-Tells (fault.Open f) line = IsOpen f line
-Tells fault.Read line = line ≡ Script
-Tells fault.Write line = line ≡ Write
-Tells fault.Save line = line ≡ Save
-Tells fault.OutOfMemory line = line ≡ NoMemory
+-- the line tells this fault of a run; a script that can't be read is reported as one that can't be
+-- opened
+abbrev pub TellsRunFault : RunFault → Diagnostic → Type 0
+TellsRunFault (fault.Open f) line = IsOpen f line
+TellsRunFault fault.Read line = line ≡ Script
+TellsRunFault fault.Write line = line ≡ Write
+TellsRunFault fault.Save line = line ≡ Save
+TellsRunFault fault.OutOfMemory line = line ≡ NoMemory
 
 -- a strict run that answered the whole script saves this text where it refused no line and the script is
 -- whole, and leaves FILE as it was elsewhere

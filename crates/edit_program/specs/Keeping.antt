@@ -12,8 +12,8 @@ abbrev pub is_short : {R : Type 0} → NotedScript R → Bool
 is_short script = script.is_short
 
 -- whether a script has failed where a piece of it was not noted
-abbrev pub fails_itself : {R : Type 0} → NotedScript R → Bool
-fails_itself script = script.failed
+abbrev pub fails_noted : {R : Type 0} → NotedScript R → Bool
+fails_noted script = script.failed
 
 -- the sink that noted answers go to
 abbrev pub sink_of : {W : Type 0} → NotedAnswers W → W

@@ -23,16 +23,16 @@ pub record Gains (old : ScriptLine) (more : List ℕ) (new : ScriptLine) : Type 
 
 -- what of a line is read: its bytes without the carriage return before its line feed; of one that was cut
 -- all that is kept
-abbrev pub text_of : ScriptLine → List ℕ
-text_of line = if (line.is_ended && not line.is_over) then without_return line.bytes.items else line.bytes.items
+abbrev pub listed_text : ScriptLine → List ℕ
+listed_text line = if (line.is_ended && not line.is_over) then without_return line.bytes.items else line.bytes.items
 
 -- an empty line, or a comment, which has no answer
 abbrev pub IsSkipped : ScriptLine → Type 0
-IsSkipped line = (line.is_over ≡ false) × Says (text_of line) None
+IsSkipped line = (line.is_over ≡ false) × Says (listed_text line) None
 
 -- a line that says nothing, or is too long
 abbrev pub IsBad : ScriptLine → Type 0
-IsBad line = line.is_over ≡ false → (said : Option Command) → ¬ Says (text_of line) said
+IsBad line = line.is_over ≡ false → (said : Option Command) → ¬ Says (listed_text line) said
 
 -- ---- rows
 
@@ -61,15 +61,16 @@ abbrev pub IsNoReason : Why → Type 0
 IsNoReason (Bad reason) = ⊥
 IsNoReason why = Unit {0}
 
--- a reason is told of a bad line, and of no other one
+-- a reason is reported of a bad line, and of no other one
 abbrev pub TellsWhy : ScriptLine → Why → Type 0
 TellsWhy line (Bad reason) = IsBad line
 TellsWhy line why = ¬ IsBad line
 
--- the number of the line, its answer, the line, and what is told of it, with a tab between two of them
+-- the number of the line, its answer, the line, and what is reported of it, with a tab between two of
+-- them
 abbrev pub row_text : ScriptLine → List ℕ → Why → List ℕ
 row_text line answer why =
-    decimal line.number ++ (9 ∷ (answer ++ (9 ∷ (text_of line ++ (9 ∷ (why_text why ++ 10 ∷ []))))))
+    decimal line.number ++ (9 ∷ (answer ++ (9 ∷ (listed_text line ++ (9 ∷ (why_text why ++ 10 ∷ []))))))
 
 -- the list with the row of this line
 abbrev pub AddsRow : ScriptLine → List ℕ → List ℕ → List ℕ → Type 0

@@ -4,8 +4,8 @@ use Rattle.script_runner.specs.declared.runner.Summary.{Summary}
 use Rattle.script_runner.specs.declared.fault.RunFault.{RunFault}
 use Rattle.script_runner.specs.declared.fault.RunFault.TheVariants.{Open, Read, Write, Save, OutOfMemory}
 
--- 0 where all lines were accepted, 1 where some answer is a refusal or a bad line, 2 where the map
--- was not opened, and 3 where a device failed or a growth was refused
+-- 0 where all lines were accepted, 1 where some answer is a refusal or a bad line, 2 where the map was
+-- not opened, and 3 where a device failed or an allocation failed
 abbrev pub status_of : Result Summary RunFault → ℕ
 status_of (Ok summary) = if summary.refused == 0 then 0 else 1
 status_of (Err (Open fault)) = 2

@@ -2,7 +2,7 @@
 ghost use Rattle.std.specs.Prelude.{◌≡◌, ◌≢◌, ◌≤◌, ℕ, [], Some, map, codes, string_bytes, unwrap_or};
 ghost use Rattle.std.specs.Prelude.{option_map, IfOk, MatchOption};
 ghost use Rattle.clap.specs.Words.{app_of};
-ghost use Rattle.edit_program.specs.Asked.{program, text_of, flag_of, IsDepth, IsFlag};
+ghost use Rattle.edit_program.specs.Asked.{program, argument_of, flag_of, IsDepth, IsFlag};
 
 use crate::asked::Words;
 use crate::help::{ABOUT, LINES};
@@ -86,15 +86,15 @@ fn depth_of(given: Option<&str>) -> Option<usize>
 /// here too, and so are words that name one path for FILE and FILE2.
 pub fn words(alloc: Global, given: &[String]) -> Result<Words, clap::Error>
     ensures map { IfOk result (λ words. string_bytes words.map
-        ≡ unwrap_or (text_of (codes "MAP") (map string_bytes given.now)) []) }
+        ≡ unwrap_or (argument_of (codes "MAP") (map string_bytes given.now)) []) }
     ensures script { IfOk result (λ words. string_bytes words.script
-        ≡ unwrap_or (text_of (codes "SCRIPT") (map string_bytes given.now)) []) }
+        ≡ unwrap_or (argument_of (codes "SCRIPT") (map string_bytes given.now)) []) }
     ensures out { IfOk result (λ words. string_bytes words.out
-        ≡ unwrap_or (text_of (codes "out") (map string_bytes given.now)) []) }
+        ≡ unwrap_or (argument_of (codes "out") (map string_bytes given.now)) []) }
     ensures depth { IfOk result (λ words.
-        IsDepth (text_of (codes "undo") (map string_bytes given.now)) words.depth) }
+        IsDepth (argument_of (codes "undo") (map string_bytes given.now)) words.depth) }
     ensures refused { IfOk result (λ words. option_map string_bytes words.refused
-        ≡ text_of (codes "refused") (map string_bytes given.now)) }
+        ≡ argument_of (codes "refused") (map string_bytes given.now)) }
     ensures apart { IfOk result (λ words.
         option_map string_bytes words.refused ≢ Some (string_bytes words.out)) }
     ensures progress { IfOk result (λ words.

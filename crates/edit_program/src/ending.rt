@@ -1,7 +1,7 @@
 //! How a run ends the program: with which status, with what in FILE, and with which line.
 ghost use Rattle.std.specs.Prelude.{◌≡◌, None, Some, option_map, OnOk, OnErr, IfOk, IfErr, IsSomeAnd};
 ghost use Rattle.edit_program.specs.Status.{status_of, strict_status};
-ghost use Rattle.edit_program.specs.Endings.{Tells, strict_file, strict_line};
+ghost use Rattle.edit_program.specs.Endings.{TellsRunFault, strict_file, strict_line};
 
 use program_ends::{Diagnostic, Ending};
 use script_runner::{RunFault, Summary};
@@ -20,7 +20,7 @@ fn status(outcome: &Result<Summary, RunFault<'_>>) -> u8
 
 /// The line that tells a fault of a run.
 fn line_of<'a>(fault: &'a RunFault<'a>) -> Diagnostic<'a>
-    ensures { Tells fault.now result }
+    ensures { TellsRunFault fault.now result }
 {
     match fault {
         RunFault::Open(fault) => Diagnostic::Open(fault),
@@ -39,7 +39,7 @@ pub fn ending_of_run<'a>(outcome: &'a Result<Summary, RunFault<'a>>, saved: &'a 
         (option_map (λ text. text.now) result.file ≡ Some saved.now) }
     ensures silent { OnOk outcome.now (result.line ≡ None) }
     ensures kept { OnErr outcome.now (result.file ≡ None) }
-    ensures told { IfErr outcome.now (λ fault. IsSomeAnd result.line (Tells fault)) }
+    ensures told { IfErr outcome.now (λ fault. IsSomeAnd result.line (TellsRunFault fault)) }
 {
     let status = status(outcome);
     match outcome {
@@ -80,7 +80,7 @@ pub fn strict_ending<'a>(
     ensures why { IfOk outcome.now (λ summary.
         result.line ≡ strict_line summary.refused is_whole) }
     ensures kept { OnErr outcome.now (result.file ≡ None) }
-    ensures told { IfErr outcome.now (λ fault. IsSomeAnd result.line (Tells fault)) }
+    ensures told { IfErr outcome.now (λ fault. IsSomeAnd result.line (TellsRunFault fault)) }
 {
     let ending = ending_of_run(outcome, saved);
     match outcome {

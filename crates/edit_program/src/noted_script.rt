@@ -18,13 +18,13 @@ pub struct NotedScript<'a, R> {
 }
 
 impl<'a, R> NotedScript<'a, R> {
-    ghost use Rattle.edit_program.specs.Keeping.{source_of, is_short, fails_itself};
+    ghost use Rattle.edit_program.specs.Keeping.{source_of, is_short, fails_noted};
 
     /// A source over this one, of which nothing is noted yet.
     pub fn new(list: &'a RefCell<RefusedLines>, source: R) -> Self
         ensures source { source_of result ≡ source }
         ensures whole { is_short result ≡ false }
-        ensures works { fails_itself result ≡ false }
+        ensures works { fails_noted result ≡ false }
     {
         NotedScript {
             source,
@@ -53,8 +53,8 @@ impl<'a, R> NotedScript<'a, R> {
         ensures source { source_of self.new ≡ source_of self.old }
         ensures short { is_short self.new ≡ is_short self.old }
         ensures whole { OnOk result (is_short self.old ≡ false) }
-        ensures works { OnOk result (fails_itself self.new ≡ fails_itself self.old) }
-        ensures failed { OnErr result (fails_itself self.new ≡ true) }
+        ensures works { OnOk result (fails_noted self.new ≡ fails_noted self.old) }
+        ensures failed { OnErr result (fails_noted self.new ≡ true) }
     {
         if self.is_short {
             self.failed = true;
@@ -66,7 +66,7 @@ impl<'a, R> NotedScript<'a, R> {
     /// Notes a piece, or the end of the script, or that it could not be noted.
     fn note(&mut self, piece: &[u8], is_end: bool)
         ensures source { source_of self.new ≡ source_of self.old }
-        ensures works { fails_itself self.new ≡ fails_itself self.old }
+        ensures works { fails_noted self.new ≡ fails_noted self.old }
     {
         let noted = match self.list.try_borrow_mut() {
             Ok(mut list) if is_end => list.end_script().is_ok(),
@@ -78,25 +78,25 @@ impl<'a, R> NotedScript<'a, R> {
 }
 
 impl<R: Source> Source for NotedScript<'_, R> {
-    ghost use Rattle.edit_program.specs.Keeping.{source_of, is_short, fails_itself};
+    ghost use Rattle.edit_program.specs.Keeping.{source_of, is_short, fails_noted};
 
     ghost coming = { λ s. R.coming (source_of s) };
 
-    ghost has_failed = { λ s. fails_itself s || R.has_failed (source_of s) };
+    ghost has_failed = { λ s. fails_noted s || R.has_failed (source_of s) };
 
     fn get(&mut self, room: &mut [u8]) -> Result<usize, Failed>
-        requires { (fails_itself self.old || R.has_failed (source_of self.old)) ≡ false }
+        requires { (fails_noted self.old || R.has_failed (source_of self.old)) ≡ false }
         ensures within { IfOk result (λ n. n ≤ length room.new) }
         ensures ok { IfOk result (λ n. Consumes (R.coming (source_of self.old))
             (R.coming (source_of self.new)) (take n room.new)) }
         ensures end { IfOk result (λ n.
             n ≡ 0 → 0 < length room.new → IsAtEnd (R.coming (source_of self.new))) }
         ensures works { OnOk result
-            ((fails_itself self.new || R.has_failed (source_of self.new)) ≡ false) }
+            ((fails_noted self.new || R.has_failed (source_of self.new)) ≡ false) }
         ensures err { OnErr result
             (Keeps (R.coming (source_of self.old)) (R.coming (source_of self.new))) }
         ensures failed { OnErr result
-            ((fails_itself self.new || R.has_failed (source_of self.new)) ≡ true) }
+            ((fails_noted self.new || R.has_failed (source_of self.new)) ≡ true) }
 
         // A piece comes only where each one before it was noted.
         ensures whole { OnOk result (is_short self.old ≡ false) }

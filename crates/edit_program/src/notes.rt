@@ -4,7 +4,7 @@ use std::alloc::{AllocError, Global};
 /// Where the next byte of the answers stands.
 #[derive(Clone, Copy, Debug, PartialEq, Eq)]
 enum Place {
-    /// In front of an answer.
+    /// Before an answer.
     Start,
     /// In a refusal, or in `bad line`.
     Refusal,
@@ -12,14 +12,14 @@ enum Place {
     Text { depth: u64 },
     /// In a string of that text.
     Quoted { depth: u64 },
-    /// Behind a backslash in such a string.
+    /// After a backslash in such a string.
     Escaped { depth: u64 },
     /// In any other answer.
     Other,
 }
 
 impl Place {
-    /// Where the byte behind the first byte of an answer stands.
+    /// Where the byte after the first byte of an answer stands.
     fn behind_first(byte: u8) -> Place {
         match byte {
             b'\n' => Place::Start,
@@ -30,7 +30,7 @@ impl Place {
         }
     }
 
-    /// Where the byte behind a byte of the text of a map stands, one outside its strings. Such a text
+    /// Where the byte after a byte of the text of a map stands, one outside its strings. Such a text
     /// may hold line feeds; one that stands in no object of it ends the answer.
     fn behind_text(depth: u64, byte: u8) -> Place {
         match byte {
@@ -46,7 +46,7 @@ impl Place {
         }
     }
 
-    /// Where the byte behind this one stands.
+    /// Where the byte after this one stands.
     fn behind(self, byte: u8) -> Place {
         match self {
             Place::Start => Place::behind_first(byte),

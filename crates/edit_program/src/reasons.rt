@@ -29,9 +29,9 @@ pub(crate) enum Reason {
     UnknownWord,
     /// Two spaces stand between two words.
     TwoSpaces,
-    /// A space comes behind its last word.
+    /// A space comes after its last word.
     SpaceAtEnd,
-    /// A number is not `0`, and not digits of which the first is not `0`, perhaps behind a minus.
+    /// A number is not `0`, and not digits of which the first is not `0`, perhaps after a minus.
     NotWhole,
     /// A number is out of its range.
     OutOfRange,
@@ -97,13 +97,13 @@ fn arguments_of(word: &[u8]) -> Option<&'static [Argument]> {
     }
 }
 
-/// The word in front, and what stands from the space behind it on.
+/// The first word, and what stands from the space after it on.
 fn split_word(text: &[u8]) -> (&[u8], &[u8]) {
     let length = text.iter().take_while(|byte| **byte != b' ').count();
     text.split_at(length)
 }
 
-/// What stands behind the space in front of an argument.
+/// What follows the space before an argument.
 fn behind_space(rest: &[u8]) -> Result<&[u8], Reason> {
     match rest {
         [] => Err(Reason::TooFew),
@@ -115,7 +115,7 @@ fn behind_space(rest: &[u8]) -> Result<&[u8], Reason> {
     }
 }
 
-/// Whether a word is `0`, or digits of which the first is not `0`, perhaps behind a minus.
+/// Whether a word is `0`, or digits of which the first is not `0`, perhaps after a minus.
 fn is_whole(word: &[u8]) -> bool {
     let digits = word.strip_prefix(b"-").unwrap_or(word);
     match digits {
@@ -135,7 +135,7 @@ fn is_in_range(argument: Argument, word: &str) -> bool {
     }
 }
 
-/// What stands behind a number.
+/// What follows a number.
 fn behind_number(argument: Argument, text: &[u8]) -> Result<&[u8], Reason> {
     let (word, rest) = split_word(text);
     if !is_whole(word) {
@@ -147,7 +147,7 @@ fn behind_number(argument: Argument, text: &[u8]) -> Result<&[u8], Reason> {
     }
 }
 
-/// What stands behind a string, which goes from a quotation mark to the last one of the line.
+/// What follows a string, which goes from a quotation mark to the last one of the line.
 fn behind_string(text: &[u8]) -> Result<&[u8], Reason> {
     if !text.starts_with(b"\"") {
         return Err(Reason::NotString);
@@ -158,12 +158,12 @@ fn behind_string(text: &[u8]) -> Result<&[u8], Reason> {
     }
 }
 
-/// What stands behind a number and the space in front of it.
+/// What follows a number and the space before it.
 fn behind_spaced(argument: Argument, rest: &[u8]) -> Result<&[u8], Reason> {
     behind_number(argument, behind_space(rest)?)
 }
 
-/// What stands behind a path, which is nothing.
+/// What follows a path, which is nothing.
 fn behind_path(text: &[u8]) -> Result<&[u8], Reason> {
     let mut rest = text;
     for count in 0..=MAX_PATH {
@@ -176,7 +176,7 @@ fn behind_path(text: &[u8]) -> Result<&[u8], Reason> {
     Err(Reason::TooMany)
 }
 
-/// What stands behind the argument in front of which this stands.
+/// What follows the argument before which this stands.
 fn behind_argument(argument: Argument, rest: &[u8]) -> Result<&[u8], Reason> {
     match argument {
         Path => behind_path(rest),
@@ -185,7 +185,7 @@ fn behind_argument(argument: Argument, rest: &[u8]) -> Result<&[u8], Reason> {
     }
 }
 
-/// What is wrong with what stands behind the word of a command.
+/// What is wrong with what follows the word of a command.
 fn fault_of(arguments: &[Argument], tail: &[u8]) -> Result<(), Reason> {
     let mut rest = tail;
     for argument in arguments {

@@ -80,7 +80,7 @@ impl RefusedLines {
         Ok(())
     }
 
-    /// Takes the next bytes of the open line, and the line feed behind them where it has come.
+    /// Takes the next bytes of the open line, and the line feed after them where it has come.
     fn take_part(&mut self, part: &[u8]) -> Result<(), NotListed>
         ensures { OnOk result (Awaits self.old self.new) }
     {

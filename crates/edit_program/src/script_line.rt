@@ -35,7 +35,7 @@ pub(crate) struct ScriptLine {
 
 impl ScriptLine {
     ghost use Rattle.std.specs.Prelude.{[], false, MatchBool, OnOk};
-    ghost use Rattle.edit_program.specs.Listing.{Gains, IsSkipped, text_of};
+    ghost use Rattle.edit_program.specs.Listing.{Gains, IsSkipped, listed_text};
 
     /// A line of this number that has no bytes yet.
     pub(crate) fn new(alloc: Global, number: u64) -> ScriptLine
@@ -65,7 +65,7 @@ impl ScriptLine {
     /// What of it is read: its bytes without the carriage return before its line feed. Of a line that
     /// was cut all that is kept.
     pub(crate) fn text(&self) -> &[u8]
-        ensures text { result.now ≡ text_of self.now }
+        ensures text { result.now ≡ listed_text self.now }
         ensures within { length result.now ≤ 8192 }
     {
         let bytes = self.bytes.as_slice();

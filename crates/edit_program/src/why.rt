@@ -1,4 +1,4 @@
-//! What is told of a refused line beside its answer.
+//! What is reported of a refused line beside its answer.
 ghost use Rattle.std.specs.Prelude.{IfOk};
 ghost use Rattle.edit_program.specs.Listing.{IsNoReason, TellsWhy};
 
@@ -88,7 +88,7 @@ fn subject_of(said: &Line, answer: &[u8]) -> Why
     }
 }
 
-/// What is told of a line with this answer: a reason exactly of a bad line.
+/// What is reported of a line with this answer: a reason exactly of a bad line.
 pub(crate) fn why_of(heap: Global, line: &ScriptLine, answer: &[u8]) -> Result<Why, AllocError>
     ensures { IfOk result (TellsWhy line.now) }
 {

@@ -1,4 +1,5 @@
 -- The words of this crate that others cite most, passed on from one place. Declares nothing.
+pub use Rattle.edit_records.specs.Commands.{IsSound, command_of}
 pub use Rattle.edit_records.specs.Histories.{AreUndoing, documents}
 pub use Rattle.edit_records.specs.Places.{Alone, AreFormed, AreNumbered, Begins, Ends, Fills, LayerTree, Number, Place}
 pub use Rattle.edit_records.specs.Places.{Places, Text_of, Tree, exchanged, exchanged_features, filled, grown}
@@ -10,3 +11,5 @@ pub use Rattle.edit_records.specs.Records.{IsRemoved, Moved, Record, Removal, Re
 pub use Rattle.edit_records.specs.Records.{put_back, with_id}
 unfoldable pub use Rattle.edit_records.specs.Records.{back}
 pub use Rattle.edit_records.specs.Sizes.{weight, weights}
+pub use Rattle.edit_records.specs.Strings.{string_text}
+pub use Rattle.edit_records.specs.declared.command.Command.{Command}

@@ -11,7 +11,7 @@ use Rattle.ring_machine.proofs.Common.{same_ends, segment_eq-true, ring_distinct
 use Rattle.arc_store.specs.Common.{Refuses, users}
 use Rattle.arc_store.specs.declared.fault.EditFault.{EditFault}
 use Rattle.arc_store.proofs.Common.{has_segment, has_segment_by, is_segment_by, size_ins}
-use Rattle.edit_vertex.specs.Common.{is_early}
+use Rattle.edit_vertex.specs.Common.{needs_no_pairs}
 use Rattle.edit_vertex.proofs.Late.{is_late, late_end, late_fault}
 
 -- ---- the segment
@@ -136,7 +136,7 @@ module _ (d : Document) (a b q : Position) where
 
   pub insert_late : is_segment d (segment a b) ≡ true → is_vertex d q ≡ false
       → size (ins d a b q) ≤ 4000000 → (fault : EditFault)
-      → Refuses fault (first_of (insert_refusals d a b q)) → is_early fault ≡ false
+      → Refuses fault (first_of (insert_refusals d a b q)) → needs_no_pairs fault ≡ false
   unfolding insert_refusals
   insert_late h k l fault r =
       let small = le-leb (size (ins d a b q)) 4000000 l in

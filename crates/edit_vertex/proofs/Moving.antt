@@ -5,7 +5,7 @@ use Rattle.ring_machine.specs.Common.{Document, is_vertex, put, first_pair, move
 use Rattle.ring_machine.specs.Common.{Sweeps, ◌unless◌, first_of, planar, move_refusals}
 use Rattle.arc_store.specs.Common.{Refuses}
 use Rattle.arc_store.specs.declared.fault.EditFault.{EditFault}
-use Rattle.edit_vertex.specs.Common.{is_early}
+use Rattle.edit_vertex.specs.Common.{needs_no_pairs}
 use Rattle.edit_vertex.proofs.Late.{is_late, late_end, late_fault}
 
 -- the first refusal by the answers
@@ -32,7 +32,7 @@ module _ (d : Document) (p q : Position) where
   move_occupied h k = ap₂ by h k
 
   pub move_late : is_vertex d p ≡ true → is_vertex d q ≡ false → (fault : EditFault)
-      → Refuses fault (first_of (move_refusals d p q)) → is_early fault ≡ false
+      → Refuses fault (first_of (move_refusals d p q)) → needs_no_pairs fault ≡ false
   unfolding move_refusals
   move_late h k fault r =
       late_fault fault (first_of (move_refusals d p q)) (ap is_late (ap₂ by h k) ∙ late_end (first_pair (put d p q)) (not (move_sweeps d p q))) r

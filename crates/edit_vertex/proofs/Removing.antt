@@ -11,7 +11,7 @@ use Rattle.ring_machine.proofs.Common.{In, all_in, has-in, begin_place, place_ar
 use Rattle.ring_machine.proofs.Common.{any_in, in_contains, contains_in, in_mapped, pass_all}
 use Rattle.arc_store.specs.Common.{Refuses, IsShortest, IsBetween}
 use Rattle.arc_store.specs.declared.fault.EditFault.{EditFault}
-use Rattle.edit_vertex.specs.Common.{is_early}
+use Rattle.edit_vertex.specs.Common.{needs_no_pairs}
 use Rattle.edit_vertex.proofs.Late.{is_late, late_end, late_fault}
 use Rattle.edit_vertex.proofs.Lists.{not_all, any_same}
 
@@ -122,7 +122,7 @@ module _ (d : Document) (p : Position) where
         ap₂ (λ v j. by v j (are_long d p) (is_bridged d p)) h k ∙ ap₂ (by true false) l m
 
     pub remove_late : are_long d p ≡ true → is_bridged d p ≡ false → (fault : EditFault)
-        → Refuses fault (first_of (remove_refusals d p)) → is_early fault ≡ false
+        → Refuses fault (first_of (remove_refusals d p)) → needs_no_pairs fault ≡ false
     unfolding remove_refusals
     remove_late l m fault r =
         late_fault fault (first_of (remove_refusals d p))

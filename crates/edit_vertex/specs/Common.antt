@@ -2,4 +2,4 @@
 pub use Rattle.edit_vertex.specs.Kept.{IsThinRecorded, IsThinnedFrom}
 pub use Rattle.edit_vertex.specs.Tested.{most_at, most_over}
 unfoldable pub use Rattle.edit_vertex.specs.Tested.{most_for_thin}
-pub use Rattle.edit_vertex.specs.Untested.{is_early}
+pub use Rattle.edit_vertex.specs.Untested.{needs_no_pairs}

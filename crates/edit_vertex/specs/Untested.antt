@@ -4,8 +4,8 @@ use Rattle.arc_store.specs.declared.fault.EditFault.{EditFault}
 use Rattle.arc_store.specs.declared.fault.EditFault.TheVariants.{Conflict, Sweeps, OutOfMemory}
 
 -- the edit fails by a condition that no pair of segments decides
-abbrev pub is_early : EditFault → Bool
-is_early (Conflict s t) = false
-is_early Sweeps = false
-is_early OutOfMemory = false
-is_early _ = true
+abbrev pub needs_no_pairs : EditFault → Bool
+needs_no_pairs (Conflict s t) = false
+needs_no_pairs Sweeps = false
+needs_no_pairs OutOfMemory = false
+needs_no_pairs _ = true

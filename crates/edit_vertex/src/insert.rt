@@ -4,7 +4,7 @@ ghost use Rattle.edit_records.specs.Records as made;
 ghost use Rattle.segment_index.specs.Common.{times_by};
 ghost use Rattle.local_planarity.specs.Common.{most_for};
 ghost use Rattle.arc_store.specs.Common.{Edits, edit_begun, IsRecorded};
-ghost use Rattle.edit_vertex.specs.Untested.{is_early};
+ghost use Rattle.edit_vertex.specs.Untested.{needs_no_pairs};
 
 use arc_store::{EditFault, Map};
 use grid_geometry::{Pos, Seg};
@@ -25,7 +25,7 @@ fn insert_now<'a, I: SegIndex, A: Allocator + Copy>(
     ensures edits { Edits map.old map.new result (first_of (insert_refusals map.old.doc a b q))
         (record map.old { doc = ins map.old.doc a b q; last = Some (made.Inserted q) }) }
     ensures untested { IfErr result
-        (λ fault. IsTrue (is_early fault) → map.new.tests ≡ map.old.tests) }
+        (λ fault. IsTrue (needs_no_pairs fault) → map.new.tests ≡ map.old.tests) }
     ensures few { map.new.tests ≤ map.old.tests
         + most_for (times_by map.old.cells) map.old.doc (ins map.old.doc a b q) }
 {
@@ -45,8 +45,8 @@ fn insert_now<'a, I: SegIndex, A: Allocator + Copy>(
     map.raw_insert(a, b, q)
 }
 
-/// Puts q between a and b, in every ring in which they are neighbours. Refused by the first
-/// condition that fails, or for want of memory.
+/// Puts q between a and b, in every ring in which they are neighbours. Refused by the first condition
+/// that fails, or on allocation failure.
 pub fn insert_vertex<'a, I: SegIndex, A: Allocator + Copy>(
     map: &mut Map<'a, I, A>,
     a: Pos,
@@ -58,7 +58,7 @@ pub fn insert_vertex<'a, I: SegIndex, A: Allocator + Copy>(
         (record map.old { doc = ins map.old.doc a b q; last = map.new.last }) }
     ensures sides { OnOk result (KeepsSides map.old.doc map.new.doc) }
     ensures recorded { OnOk result (IsRecorded map.old map.new) }
-    ensures untested { IfErr result (λ fault. IsTrue (is_early fault) → map.new.tests ≡ 0) }
+    ensures untested { IfErr result (λ fault. IsTrue (needs_no_pairs fault) → map.new.tests ≡ 0) }
     ensures few { map.new.tests
         ≤ most_for (times_by map.old.cells) map.old.doc (ins map.old.doc a b q) }
 {

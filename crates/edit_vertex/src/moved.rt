@@ -4,7 +4,7 @@ ghost use Rattle.edit_records.specs.Records as made;
 ghost use Rattle.segment_index.specs.Common.{times_by};
 ghost use Rattle.local_planarity.specs.Common.{most_for_move};
 ghost use Rattle.arc_store.specs.Common.{Edits, edit_begun, IsRecorded};
-ghost use Rattle.edit_vertex.specs.Untested.{is_early};
+ghost use Rattle.edit_vertex.specs.Untested.{needs_no_pairs};
 
 use arc_store::{EditFault, Map};
 use grid_geometry::Pos;
@@ -20,7 +20,7 @@ fn move_now<'a, I: SegIndex, A: Allocator + Copy>(
     ensures edits { Edits map.old map.new result (first_of (move_refusals map.old.doc p q))
         (record map.old { doc = put map.old.doc p q; last = Some (made.Moved p q) }) }
     ensures untested { IfErr result
-        (λ fault. IsTrue (is_early fault) → map.new.tests ≡ map.old.tests) }
+        (λ fault. IsTrue (needs_no_pairs fault) → map.new.tests ≡ map.old.tests) }
     ensures few { map.new.tests ≤ map.old.tests
         + most_for_move (times_by map.old.cells) map.old.doc p q }
 {
@@ -33,8 +33,8 @@ fn move_now<'a, I: SegIndex, A: Allocator + Copy>(
     map.raw_move(p, q)
 }
 
-/// Moves the vertex at p to q, in every ring that has it. Refused by the first condition that
-/// fails, or for want of memory.
+/// Moves the vertex at p to q, in every ring that has it. Refused by the first condition that fails, or
+/// on allocation failure.
 pub fn move_vertex<'a, I: SegIndex, A: Allocator + Copy>(
     map: &mut Map<'a, I, A>,
     p: Pos,
@@ -45,7 +45,7 @@ pub fn move_vertex<'a, I: SegIndex, A: Allocator + Copy>(
         (record map.old { doc = put map.old.doc p q; last = map.new.last }) }
     ensures sides { OnOk result (KeepsSides map.old.doc map.new.doc) }
     ensures recorded { OnOk result (IsRecorded map.old map.new) }
-    ensures untested { IfErr result (λ fault. IsTrue (is_early fault) → map.new.tests ≡ 0) }
+    ensures untested { IfErr result (λ fault. IsTrue (needs_no_pairs fault) → map.new.tests ≡ 0) }
     ensures few { map.new.tests
         ≤ most_for_move (times_by map.old.cells) map.old.doc p q }
 {

@@ -7,7 +7,7 @@ ghost use Rattle.edit_records.specs.Common.{IsInserted};
 ghost use Rattle.segment_index.specs.Common.{times_by};
 ghost use Rattle.local_planarity.specs.Common.{most_for};
 ghost use Rattle.arc_store.specs.Common.{Refuses, Edits, edit_begun, IsLeftOut, IsRecorded};
-ghost use Rattle.edit_vertex.specs.Untested.{is_early};
+ghost use Rattle.edit_vertex.specs.Untested.{needs_no_pairs};
 
 use arc_store::{EditFault, Map, Spot};
 use grid_geometry::{Pos, Seg};
@@ -66,7 +66,7 @@ fn remove_now<'a, I: SegIndex, A: Allocator + Copy>(
     ensures recorded { OnOk result ((r : made.Removal)
         × (map.new.last ≡ Some (made.Removed r)) × IsLeftOut map.old.doc p r) }
     ensures untested { IfErr result
-        (λ fault. IsTrue (is_early fault) → map.new.tests ≡ map.old.tests) }
+        (λ fault. IsTrue (needs_no_pairs fault) → map.new.tests ≡ map.old.tests) }
     ensures few { map.new.tests ≤ map.old.tests
         + most_for (times_by map.old.cells) map.old.doc (del map.old.doc p) }
 {
@@ -76,7 +76,7 @@ fn remove_now<'a, I: SegIndex, A: Allocator + Copy>(
     map.raw_remove(p)
 }
 
-/// Leaves p out of every ring. Refused by the first condition that fails, or for want of memory.
+/// Leaves p out of every ring. Refused by the first condition that fails, or on allocation failure.
 pub fn remove_vertex<'a, I: SegIndex, A: Allocator + Copy>(
     map: &mut Map<'a, I, A>,
     p: Pos,
@@ -86,7 +86,7 @@ pub fn remove_vertex<'a, I: SegIndex, A: Allocator + Copy>(
         (record map.old { doc = del map.old.doc p; last = map.new.last }) }
     ensures sides { OnOk result (KeepsSides map.old.doc map.new.doc) }
     ensures recorded { OnOk result (IsRecorded map.old map.new) }
-    ensures untested { IfErr result (λ fault. IsTrue (is_early fault) → map.new.tests ≡ 0) }
+    ensures untested { IfErr result (λ fault. IsTrue (needs_no_pairs fault) → map.new.tests ≡ 0) }
     ensures few { map.new.tests
         ≤ most_for (times_by map.old.cells) map.old.doc (del map.old.doc p) }
 {

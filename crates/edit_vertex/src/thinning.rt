@@ -98,10 +98,10 @@ fn thin_at<'a, I: SegIndex, A: Allocator + Copy>(
     }
 }
 
-/// One pass over the vertices that the map has at the start, in ascending order: each is left out
-/// where twice the area of the triangle with its neighbours is at most t, it is no junction, and its
-/// removal would be accepted, as the map is then. Returns how many were. For want of memory it stops
-/// on the way, and what was left out so far stays out.
+/// One pass over the vertices that the map has at the start, in ascending order: each is left out where
+/// twice the area of the triangle with its neighbours is at most t, it is no junction, and its removal
+/// would be accepted, as the map is then. Returns how many were. On allocation failure it stops on the
+/// way, and what was left out so far stays out.
 pub fn thin<'a, I: SegIndex, A: Allocator + Copy>(
     map: &mut Map<'a, I, A>,
     t: i128,

@@ -17,7 +17,7 @@ use Rattle.ring_machine.proofs.Common.{in_mapped, in_flat, any_in, in_any, same_
 use Rattle.vertex_index.specs.Common.{Placement, AreDistinct, place}
 use Rattle.arc_tables.specs.Common.{Edge, begins}
 use Rattle.ring_store.specs.Common.{Joined, GoesRound}
-use Rattle.feature_exchange.specs.Common.{Stored, positions_along, ring_under, document_of, IsWhole}
+use Rattle.feature_exchange.specs.Common.{Stored, positions_along, ring_under, stored_document, IsWhole}
 use Rattle.ring_store.proofs.Common.{IsKept, place_is, kept_place, place_kept, one_key, distinct_places}
 use Rattle.ring_store.proofs.Common.{edge_of_canonical, edge_in_canonical, of_canonical, laid, begins_round}
 use Rattle.ring_store.proofs.Common.{edges_round, edge_ends, edge_apart, times_edge, edge_times, beside_edges}
@@ -100,27 +100,27 @@ module _ (s : Stored) (w : IsWhole s) where
   ring_is_ring r es e =
       ap is_ring (ring_under_is r es e) ∙ canonical_is_ring (positions_along s.places es) (positions_long r es e) (positions_distinct r es e)
 
-  pub rings_are : rings (document_of s) ≡ map (ring_under s) (rings s.frame)
+  pub rings_are : rings (stored_document s) ≡ map (ring_under s) (rings s.frame)
   rings_are = rings-in_rings (ring_under s) s.frame
 
   -- a number of the frame has a ring
   pub framed : (r : ℕ) → In r (rings s.frame) → (es : List Edge) × (table.get s.rings r ≡ Some es)
   framed r h = there (table.get s.rings r) ((w.named r).0 (in_contains (rings s.frame) r h))
 
-  pub laid_ring : (ring : List Position) → In ring (rings (document_of s)) → Laid s ring
+  pub laid_ring : (ring : List Position) → In ring (rings (stored_document s)) → Laid s ring
   laid_ring ring h =
       let n = in_mapped (ring_under s) ring (rings s.frame) (subst (In ring) rings_are h) in
       let e = framed n.0 n.1 in
       record { number = n.0; along = e.0; held = e.1; round = w.round n.0 e.0 e.1; is = sym n.2 ∙ ring_under_is n.0 e.0 e.1 }
 
-  pub document_ring : (ring : List Position) → In ring (rings (document_of s))
+  pub document_ring : (ring : List Position) → In ring (rings (stored_document s))
       → is_ring ring ≡ true
   document_ring ring h =
       let l = laid_ring ring h in
       ap is_ring (l.is ∙ sym (ring_under_is l.number l.along l.held)) ∙ ring_is_ring l.number l.along l.held
 
   pub ring_laid : (r : ℕ) (es : List Edge) → table.get s.rings r ≡ Some es
-      → In (canonical (positions_along s.places es)) (rings (document_of s))
+      → In (canonical (positions_along s.places es)) (rings (stored_document s))
   ring_laid r es e =
       subst (In (canonical (positions_along s.places es))) (sym rings_are)
       (subst (λ z. In z (map (ring_under s) (rings s.frame))) (ring_under_is r es e)
@@ -129,10 +129,10 @@ module _ (s : Stored) (w : IsWhole s) where
   -- ---- vertices
 
   -- a vertex of the document has a key
-  pub vertex_key : (p : Position) → is_vertex (document_of s) p ≡ true
+  pub vertex_key : (p : Position) → is_vertex (stored_document s) p ≡ true
       → (k : ℕ) × (table.get s.places k ≡ Some p)
   vertex_key p h =
-      let r = any_in (λ ring. has ring p) (rings (document_of s)) h in
+      let r = any_in (λ ring. has ring p) (rings (stored_document s)) h in
       let l = laid_ring r.0 r.1 in
       let i = of_canonical (positions_along s.places l.along) p (subst (In p) l.is (has-in p r.0 r.2)) in
       let k = in_mapped (place s.places) p (begins l.along) i in
@@ -140,19 +140,19 @@ module _ (s : Stored) (w : IsWhole s) where
 
   -- what has a key is a vertex of the document
   pub kept_vertex : (k : ℕ) → IsKept s.places k
-      → is_vertex (document_of s) (place s.places k) ≡ true
+      → is_vertex (stored_document s) (place s.places k) ≡ true
   kept_vertex k h =
       let v = w.passed k h in
       let es = v.1.0 in
       let i = in_canonical (positions_along s.places es) (place s.places k)
       (in-map (place s.places) k (begins es) (contains_in (begins es) k v.1.2)) in
-      in_any (λ ring. has ring (place s.places k)) (canonical (positions_along s.places es)) (rings (document_of s))
+      in_any (λ ring. has ring (place s.places k)) (canonical (positions_along s.places es)) (rings (stored_document s))
       (ring_laid v.0 es v.1.1) (in-has (place s.places k) (canonical (positions_along s.places es)) i)
 
   pub key_vertex : (k : ℕ) (p : Position) → table.get s.places k ≡ Some p
-      → is_vertex (document_of s) p ≡ true
+      → is_vertex (stored_document s) p ≡ true
   key_vertex k p e =
-      ap (is_vertex (document_of s)) (sym (place_is s.places k p e)) ∙ kept_vertex k (place_kept s.places k p e)
+      ap (is_vertex (stored_document s)) (sym (place_is s.places k p e)) ∙ kept_vertex k (place_kept s.places k p e)
 
   -- ---- segments
 
@@ -172,10 +172,10 @@ module _ (s : Stored) (w : IsWhole s) where
       (in-map (laid (place s.places)) f es h))
 
   -- a segment of the document is that of two joined vertices
-  pub segment_between : (t : Segment) → is_segment (document_of s) t ≡ true → Between s t
+  pub segment_between : (t : Segment) → is_segment (stored_document s) t ≡ true → Between s t
   segment_between t h =
-      let u = any_in (segment_eq t) (all_segments (document_of s)) h in
-      let r = in_flat segments u.0 (rings (document_of s)) u.1 in
+      let u = any_in (segment_eq t) (all_segments (stored_document s)) h in
+      let r = in_flat segments u.0 (rings (stored_document s)) u.1 in
       let e = in_mapped segment_of u.0 (geometry.edges r.0) r.2 in
       let l = laid_ring r.0 r.1 in
       let f = key_edge r.0 l e.0 e.1 in
@@ -188,22 +188,22 @@ module _ (s : Stored) (w : IsWhole s) where
 
   -- two joined vertices have a segment of the document
   pub joined_segment : (j k : ℕ) → Joined s.rings j k
-      → is_segment (document_of s) (segment (place s.places j) (place s.places k)) ≡ true
+      → is_segment (stored_document s) (segment (place s.places j) (place s.places k)) ≡ true
   joined_segment j k h =
       let e = times_edge j k h.edges h.has in
       let t = segment_of (laid (place s.places) e.0) in
-      let i : In t (all_segments (document_of s)) =
-      in-flat_map segments (canonical (positions_along s.places h.edges)) t (rings (document_of s)) (ring_laid h.ring h.edges h.held)
+      let i : In t (all_segments (stored_document s)) =
+      in-flat_map segments (canonical (positions_along s.places h.edges)) t (rings (stored_document s)) (ring_laid h.ring h.edges h.held)
       (in-map segment_of (laid (place s.places) e.0) (geometry.edges (canonical (positions_along s.places h.edges))) (edge_key h.ring h.edges h.held e.0 e.1)) in
       let is : t ≡ segment (place s.places j) (place s.places k) = elim e.2 [
         | inl m ↦ ap₂ (λ x y. segment (place s.places x) (place s.places y)) m.0 m.1
         | inr m ↦ ap₂ (λ x y. segment (place s.places x) (place s.places y)) m.0 m.1 ∙ segment-comm (place s.places k) (place s.places j)
       ] in
-      in_any (segment_eq (segment (place s.places j) (place s.places k))) t (all_segments (document_of s)) i
+      in_any (segment_eq (segment (place s.places j) (place s.places k))) t (all_segments (stored_document s)) i
       (ap (segment_eq (segment (place s.places j) (place s.places k))) is ∙ segment_ordered.eq-refl (segment (place s.places j) (place s.places k)))
 
-  pub segment_iff : (t : Segment) → (is_segment (document_of s) t ≡ true) ↔ Between s t
-  segment_iff t = (segment_between t, λ b. ap (is_segment (document_of s)) b.is ∙ joined_segment b.a b.b b.joined)
+  pub segment_iff : (t : Segment) → (is_segment (stored_document s) t ≡ true) ↔ Between s t
+  segment_iff t = (segment_between t, λ b. ap (is_segment (stored_document s)) b.is ∙ joined_segment b.a b.b b.joined)
 
   -- joined vertices are kept
   pub joined_kept : (j k : ℕ) → Joined s.rings j k → IsKept s.places j × IsKept s.places k
@@ -247,15 +247,15 @@ module _ (s : Stored) (w : IsWhole s) where
 
   -- each segment around a vertex goes between two that are joined to it
   around_place : (k : ℕ) → IsKept s.places k → (t : Segment)
-      → In t (around (document_of s) (place s.places k)) → Beside s k t
+      → In t (around (stored_document s) (place s.places k)) → Beside s k t
   around_place k h t i =
       let p = place s.places k in
-      let u = in_mapped (λ (spot : Position × Segment). spot.1) t (filter (λ spot. position_eq p spot.0) (flat_map spots (rings (document_of s)))) i in
-      let f = in-filter (λ (spot : Position × Segment). position_eq p spot.0) u.0 (flat_map spots (rings (document_of s))) u.1 in
-      let r = in_flat spots u.0 (rings (document_of s)) f.0 in
+      let u = in_mapped (λ (spot : Position × Segment). spot.1) t (filter (λ spot. position_eq p spot.0) (flat_map spots (rings (stored_document s)))) i in
+      let f = in-filter (λ (spot : Position × Segment). position_eq p spot.0) u.0 (flat_map spots (rings (stored_document s))) u.1 in
+      let r = in_flat spots u.0 (rings (stored_document s)) f.0 in
       at r.0 r.1 u.0 (position_eq-true p u.0.0 f.1) u.2 r.2
     where
-      at : (ring : List Position) → In ring (rings (document_of s)) → (u : Position × Segment)
+      at : (ring : List Position) → In ring (rings (stored_document s)) → (u : Position × Segment)
           → place s.places k ≡ u.0 → u.1 ≡ t → In u (spots ring) → Beside s k t
       at [] m u e g n = absurd n
       at (x ∷ []) m u e g n = absurd n
@@ -268,7 +268,7 @@ module _ (s : Stored) (w : IsWhole s) where
 
   -- each that is joined to a vertex is an end of a segment around it
   place_around_joined : (k x : ℕ) → Joined s.rings k x
-      → (t : Segment) × In t (around (document_of s) (place s.places k)) × ((t.lo ≡ place s.places x) ⊎ (t.hi ≡ place s.places x))
+      → (t : Segment) × In t (around (stored_document s) (place s.places k)) × ((t.lo ≡ place s.places x) ⊎ (t.hi ≡ place s.places x))
   place_around_joined k x h =
       let e = times_edge k x h.edges h.has in
       at (canonical (positions_along s.places h.edges)) (ring_laid h.ring h.edges h.held) (laid (place s.places) e.0) (edge_key h.ring h.edges h.held e.0 e.1)
@@ -282,32 +282,32 @@ module _ (s : Stored) (w : IsWhole s) where
       ends t p e (inl i) = inl (i ∙ e)
       ends t p e (inr i) = inr (i ∙ e)
 
-      at : (ring : List Position) → In ring (rings (document_of s)) → (e : geometry.Edge)
+      at : (ring : List Position) → In ring (rings (stored_document s)) → (e : geometry.Edge)
           → In e (geometry.edges ring)
           → ((e.0 ≡ place s.places k) × (e.1 ≡ place s.places x)) ⊎ ((e.0 ≡ place s.places x) × (e.1 ≡ place s.places k))
-          → (t : Segment) × In t (around (document_of s) (place s.places k)) × ((t.lo ≡ place s.places x) ⊎ (t.hi ≡ place s.places x))
+          → (t : Segment) × In t (around (stored_document s) (place s.places k)) × ((t.lo ≡ place s.places x) ⊎ (t.hi ≡ place s.places x))
       at [] m e i j = absurd i
       at (y ∷ []) m e i j = absurd (false≢true (document_ring (y ∷ []) m))
       at (y ∷ z ∷ zs) m e i (inl j) =
           let b = begin_place y z zs e i in
-          (segment b.0 e.1, place_around (document_of s) (y ∷ z ∷ zs) (place s.places k) (segment b.0 e.1) m (subst (λ v. In (v, segment b.0 e.1) (spots (y ∷ z ∷ zs))) j.0 b.1), ends (segment b.0 e.1) e.1 j.1 (second_end b.0 e.1))
+          (segment b.0 e.1, place_around (stored_document s) (y ∷ z ∷ zs) (place s.places k) (segment b.0 e.1) m (subst (λ v. In (v, segment b.0 e.1) (spots (y ∷ z ∷ zs))) j.0 b.1), ends (segment b.0 e.1) e.1 j.1 (second_end b.0 e.1))
       at (y ∷ z ∷ zs) m e i (inr j) =
           let b = end_place y z zs e i in
-          (segment e.0 b.0, place_around (document_of s) (y ∷ z ∷ zs) (place s.places k) (segment e.0 b.0) m (subst (λ v. In (v, segment e.0 b.0) (spots (y ∷ z ∷ zs))) j.1 b.1), ends (segment e.0 b.0) e.0 j.0 (first_end e.0 b.0))
+          (segment e.0 b.0, place_around (stored_document s) (y ∷ z ∷ zs) (place s.places k) (segment e.0 b.0) m (subst (λ v. In (v, segment e.0 b.0) (spots (y ∷ z ∷ zs))) j.1 b.1), ends (segment e.0 b.0) e.0 j.0 (first_end e.0 b.0))
 
   pub joined_around : (k : ℕ) (p : Position) → table.get s.places k ≡ Some p → (x : ℕ)
       → Joined s.rings k x
-      → (t : Segment) × In t (around (document_of s) p) × ((t.lo ≡ place s.places x) ⊎ (t.hi ≡ place s.places x))
+      → (t : Segment) × In t (around (stored_document s) p) × ((t.lo ≡ place s.places x) ⊎ (t.hi ≡ place s.places x))
   joined_around k p e x h =
       let t = place_around_joined k x h in
-      (t.0, subst (λ z. In t.0 (around (document_of s) z)) (place_is s.places k p e) t.1, t.2)
+      (t.0, subst (λ z. In t.0 (around (stored_document s) z)) (place_is s.places k p e) t.1, t.2)
 
   -- the edges at a vertex, by those that are joined to it
   pub edges_sweep : (k : ℕ) → IsKept s.places k → (xs : List ℕ) → AreJoined s k xs → (q : Position)
-      → list_any (λ t. edge_sweeps (document_of s) (place s.places k) q t.lo || edge_sweeps (document_of s) (place s.places k) q t.hi) (around (document_of s) (place s.places k))
-      ≡ list_any (λ x. edge_sweeps (document_of s) (place s.places k) q (place s.places x)) xs
+      → list_any (λ t. edge_sweeps (stored_document s) (place s.places k) q t.lo || edge_sweeps (stored_document s) (place s.places k) q t.hi) (around (stored_document s) (place s.places k))
+      ≡ list_any (λ x. edge_sweeps (stored_document s) (place s.places k) q (place s.places x)) xs
   edges_sweep k h xs j q = same_answer _ _ (λ t.
-      let u = any_in at_ends (around (document_of s) p) t in
+      let u = any_in at_ends (around (stored_document s) p) t in
       let b = around_place k h u.0 u.1 in
       let in_a = contains_in xs b.a ((j b.a).1 b.joined_a) in
       let in_b = contains_in xs b.b ((j b.b).1 b.joined_b) in
@@ -325,7 +325,7 @@ module _ (s : Stored) (w : IsWhole s) where
       ]) (λ t.
       let x = any_in (λ x. sweeps (place s.places x)) xs t in
       let u = place_around_joined k x.0 ((j x.0).0 (in_contains xs x.0 x.1)) in
-      in_any at_ends u.0 (around (document_of s) p) u.1 (elim u.2 [
+      in_any at_ends u.0 (around (stored_document s) p) u.1 (elim u.2 [
         | inl m ↦ ap (λ b. b || sweeps u.0.hi) (ap sweeps m ∙ x.2)
         | inr m ↦ or_right (sweeps u.0.lo) (sweeps u.0.hi) (ap sweeps m ∙ x.2)
       ]))
@@ -334,7 +334,7 @@ module _ (s : Stored) (w : IsWhole s) where
       p = place s.places k
 
       sweeps : Position → Bool
-      sweeps a = edge_sweeps (document_of s) (place s.places k) q a
+      sweeps a = edge_sweeps (stored_document s) (place s.places k) q a
 
       at_ends : Segment → Bool
       at_ends t = sweeps t.lo || sweeps t.hi
@@ -342,22 +342,22 @@ module _ (s : Stored) (w : IsWhole s) where
   -- a move of a vertex sweeps over a position, by those that are joined to it
   pub sweeps_by_joined : (k : ℕ) (p : Position) → table.get s.places k ≡ Some p → (xs : List ℕ)
       → AreJoined s k xs → (q : Position)
-      → move_sweeps (document_of s) p q
-      ≡ (list_any (λ x. holds_other (document_of s) (place s.places x ∷ p ∷ []) (place s.places x) p q) xs || crosses_on_way (document_of s) p q)
+      → move_sweeps (stored_document s) p q
+      ≡ (list_any (λ x. holds_other (stored_document s) (place s.places x ∷ p ∷ []) (place s.places x) p q) xs || crosses_on_way (stored_document s) p q)
   unfolding move_sweeps
   sweeps_by_joined k p e xs j q =
-      subst (λ z. (list_any (λ t. edge_sweeps (document_of s) z q t.lo || edge_sweeps (document_of s) z q t.hi) (around (document_of s) z) || crosses_on_way (document_of s) z q) ≡ (list_any (λ x. edge_sweeps (document_of s) z q (place s.places x)) xs || crosses_on_way (document_of s) z q))
+      subst (λ z. (list_any (λ t. edge_sweeps (stored_document s) z q t.lo || edge_sweeps (stored_document s) z q t.hi) (around (stored_document s) z) || crosses_on_way (stored_document s) z q) ≡ (list_any (λ x. edge_sweeps (stored_document s) z q (place s.places x)) xs || crosses_on_way (stored_document s) z q))
       (place_is s.places k p e)
-      (ap (λ b. b || crosses_on_way (document_of s) (place s.places k) q) (edges_sweep k (place_kept s.places k p e) xs j q))
+      (ap (λ b. b || crosses_on_way (stored_document s) (place s.places k) q) (edges_sweep k (place_kept s.places k p e) xs j q))
 
   -- ---- the segments at a vertex
 
   -- those that end at a vertex go to what is joined to it
   pub segments_at : (k : ℕ) (p : Position) → table.get s.places k ≡ Some p → (xs : List ℕ)
       → AreJoined s k xs → (t : Segment)
-      → (is_segment (document_of s) t && is_end p t) ≡ list_any (segment_eq t) (segments_to s.places p xs)
+      → (is_segment (stored_document s) t && is_end p t) ≡ list_any (segment_eq t) (segments_to s.places p xs)
   segments_at k p e xs j t = same_answer _ _ (λ h.
-      let k' = and_parts (is_segment (document_of s) t) (is_end p t) h in
+      let k' = and_parts (is_segment (stored_document s) t) (is_end p t) h in
       let b = segment_between t k'.0 in
       let kept = joined_kept b.a b.b b.joined in
       let here : (x : ℕ) → Joined s.rings k x → t ≡ segment (place s.places x) p → list_any (segment_eq t) (segments_to s.places p xs) ≡ true
@@ -375,7 +375,7 @@ module _ (s : Stored) (w : IsWhole s) where
       let m : t ≡ segment (place s.places x.0) p = segment_eq-true t u.0 u.2 ∙ sym x.2 in
       let joined = joined_back s k x.0 ((j x.0).0 (in_contains xs x.0 x.1)) in
       ap₂ (λ a b. a && b)
-      (ap (is_segment (document_of s)) (m ∙ ap (segment (place s.places x.0)) (sym is)) ∙ joined_segment x.0 k joined)
+      (ap (is_segment (stored_document s)) (m ∙ ap (segment (place s.places x.0)) (sym is)) ∙ joined_segment x.0 k joined)
       (ap (is_end p) m ∙ (two_ends (place s.places x.0) p).1))
     where
       is : place s.places k ≡ p

@@ -6,7 +6,7 @@ use Rattle.kit_words.proofs.Common.{flat_map-map, get_or-append_seam, set-append
 use Rattle.grid_geometry.specs.Common.{Position}
 use Rattle.ring_machine.specs.Common.{FeatureOf, feature, fits_form}
 use Rattle.ring_machine.proofs.Common.{In, in_contains}
-use Rattle.map_frame.specs.Common.{IsOf, feature_numbers, polygon_numbers, Framed, with_texts}
+use Rattle.map_frame.specs.Common.{IsNumberOf, feature_numbers, polygon_numbers, Framed, with_texts}
 use Rattle.edit_records.specs.Common.{exchanged, exchanged_features}
 use Rattle.edit_records.proofs.Common.{exchanged-append, exchanged-feature, filled-agree}
 use Rattle.feature_exchange.specs.Common.{IsReady, numbered, all_numbered, change_had, all_had, put_in, had, rings_in}
@@ -209,7 +209,7 @@ module _ {A : Type 0} (frame : Framed) (c : Change A) (l : Came A) (ready : IsRe
     pub one_fits : fits_form (with_texts c.number w.texts (feature_numbers l)) ≡ true
     one_fits = ready.fits.0 new new_is
 
-    pub one_room : (r : ℕ) → IsOf (flat_map polygon_numbers l.items) r → r < frame.room
+    pub one_room : (r : ℕ) → IsNumberOf (flat_map polygon_numbers l.items) r → r < frame.room
     one_room r i =
         let coming_is : coming (numbered c (feature_numbers l) ∷ []) ≡ flat_map polygon_numbers l.items =
         append-nil (rings_in (option_map (λ w. with_texts c.number w.texts (feature_numbers l)) c.was))

@@ -14,9 +14,9 @@ use Rattle.edit_records.proofs.ExchangesSeen.{exchanged-rings}
 use Rattle.segment_index.specs.Common.{SegmentSet}
 use Rattle.topo_outline.specs.Common.{KeepsTexts}
 use Rattle.topo_outline.proofs.Common.{keeps-before_rings}
-use Rattle.ring_store.specs.Common.{ring_at}
+use Rattle.ring_store.specs.Common.{keyed_ring}
 use Rattle.feature_exchange.specs.Common.{seen, Holds, asked_rings, coming, IsReady, all_numbered, Stored, ring_under}
-use Rattle.feature_exchange.specs.Common.{document_of, rings_under, Change}
+use Rattle.feature_exchange.specs.Common.{stored_document, rings_under, Change}
 use Rattle.feature_exchange.proofs.Asked.{AreFor, for_coming, for_rings, for_seen}
 use Rattle.feature_exchange.proofs.Changes.{Changes}
 use Rattle.feature_exchange.proofs.Exchanges.{Exchanged, ring_stays, rings_came, exchanged_holds}
@@ -27,7 +27,7 @@ module _ {A : Type 0} (old mid new : Stored) (h i j : SegmentSet) (frame : Frame
     (ls : List (Vec (Vec ℕ A) A)) (same_frame : frame.doc ≡ old.frame) (ready : IsReady frame (all_numbered cs ls))
     (is : new.frame ≡ exchanged frame.places (all_numbered cs ls) frame.doc)
     (e : Exchanged old mid new h i j (coming (all_numbered cs ls)) (going old.frame (all_numbered cs ls)))
-    (at : AreFor (ring_at mid.places mid.rings) cs ls)
+    (at : AreFor (keyed_ring mid.places mid.rings) cs ls)
     (are_rings : list_all is_ring (flat_map asked_rings cs) ≡ true) where
   abbrev pairs : List (ℕ × Option (FeatureOf ℕ))
   pairs = all_numbered cs ls
@@ -39,25 +39,25 @@ module _ {A : Type 0} (old mid new : Stored) (h i j : SegmentSet) (frame : Frame
       (all_changes frame pairs ready))
 
   -- a ring that came is as it was laid
-  ring_laid : (r : ℕ) → In r (coming pairs) → ring_under new r ≡ ring_at mid.places mid.rings r
+  ring_laid : (r : ℕ) → In r (coming pairs) → ring_under new r ≡ keyed_ring mid.places mid.rings r
   ring_laid r k =
-      let listed = subst (In r) (for_coming (ring_at mid.places mid.rings) cs ls at) k in
-      let ring : is_ring (ring_at mid.places mid.rings r) ≡ true =
-      all_in is_ring (flat_map asked_rings cs) (ring_at mid.places mid.rings r) are_rings
-      (subst (In (ring_at mid.places mid.rings r)) (for_rings (ring_at mid.places mid.rings) cs ls at)
-      (in-map (ring_at mid.places mid.rings) r (flat_map (λ l. flat_map (λ p. p) (feature_numbers l)) ls) listed)) in
+      let listed = subst (In r) (for_coming (keyed_ring mid.places mid.rings) cs ls at) k in
+      let ring : is_ring (keyed_ring mid.places mid.rings r) ≡ true =
+      all_in is_ring (flat_map asked_rings cs) (keyed_ring mid.places mid.rings r) are_rings
+      (subst (In (keyed_ring mid.places mid.rings r)) (for_rings (keyed_ring mid.places mid.rings) cs ls at)
+      (in-map (keyed_ring mid.places mid.rings) r (flat_map (λ l. flat_map (λ p. p) (feature_numbers l)) ls) listed)) in
       ap (λ (z : List (List Position)). get_or z 0 (ring_under new r))
       (rings_came old mid new h i j (coming pairs) (going old.frame pairs) e changes.was (r ∷ [])
       (λ x l. elim l [ inl s ↦ subst (λ z. In z (coming pairs)) s k | inr m ↦ absurd m ])
-      (ring_at mid.places mid.rings r ∷ []) refl)
-      ∙ ring_is_canonical (ring_at mid.places mid.rings r) ring
+      (keyed_ring mid.places mid.rings r ∷ []) refl)
+      ∙ ring_is_canonical (keyed_ring mid.places mid.rings r) ring
 
   for_new : AreFor (ring_under new) cs ls
   for_new =
-      map_there (λ l. map (map (ring_under new)) (feature_numbers l)) (λ l. map (map (ring_at mid.places mid.rings)) (feature_numbers l)) ls
-      (λ l k. map_there (map (ring_under new)) (map (ring_at mid.places mid.rings)) (feature_numbers l) (λ p m.
-      map_there (ring_under new) (ring_at mid.places mid.rings) p (λ r o.
-      ring_laid r (subst (In r) (sym (for_coming (ring_at mid.places mid.rings) cs ls at))
+      map_there (λ l. map (map (ring_under new)) (feature_numbers l)) (λ l. map (map (keyed_ring mid.places mid.rings)) (feature_numbers l)) ls
+      (λ l k. map_there (map (ring_under new)) (map (keyed_ring mid.places mid.rings)) (feature_numbers l) (λ p m.
+      map_there (ring_under new) (keyed_ring mid.places mid.rings) p (λ r o.
+      ring_laid r (subst (In r) (sym (for_coming (keyed_ring mid.places mid.rings) cs ls at))
       (in-flat_map (λ (l : Vec (Vec ℕ A) A). flat_map (λ p. p) (feature_numbers l)) l r ls k
       (in-flat_map (λ (p : List ℕ). p) p r (feature_numbers l) m o))))))
       ∙ at
@@ -72,14 +72,14 @@ module _ {A : Type 0} (old mid new : Stored) (h i j : SegmentSet) (frame : Frame
       (λ s. false≢true (sym (none_in (λ (c : ℕ × Option (FeatureOf ℕ)). f.number == c.0) pairs w.0 off w.1) ∙ eq-eqb f.number w.0.0 s))
       r l w.2))
 
-  pub exchanged_document : document_of new ≡ exchanged frame.places (seen cs) (document_of old)
+  pub exchanged_document : stored_document new ≡ exchanged frame.places (seen cs) (stored_document old)
   exchanged_document =
       ap (in_rings (ring_under new)) (is ∙ ap (exchanged frame.places pairs) same_frame)
       ∙ exchanged-rings (ring_under old) (ring_under new) frame.places pairs old.frame others_stay
-      ∙ ap (λ z. exchanged frame.places z (document_of old)) (for_seen (ring_under new) cs ls for_new)
+      ∙ ap (λ z. exchanged frame.places z (stored_document old)) (for_seen (ring_under new) cs ls for_new)
 
-  pub exchanged_map : IsMap (exchanged frame.places (seen cs) (document_of old))
-      → KeepsTexts (exchanged frame.places (seen cs) (document_of old)) → Holds new j
+  pub exchanged_map : IsMap (exchanged frame.places (seen cs) (stored_document old))
+      → KeepsTexts (exchanged frame.places (seen cs) (stored_document old)) → Holds new j
   exchanged_map map_is keeps =
       exchanged_holds old mid new h i j (coming pairs) (going old.frame pairs) e changes
       (formed-before_rings (ring_under new) new.frame (subst WellFormed (sym exchanged_document) map_is.formed))

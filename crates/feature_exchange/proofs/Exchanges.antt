@@ -8,8 +8,8 @@ use Rattle.ring_machine.proofs.Common.{In, contains_in, in_contains, map_there}
 use Rattle.topo_outline.specs.Common.{KeepsTexts}
 use Rattle.segment_index.specs.Common.{SegmentSet}
 use Rattle.feature_exchange.proofs.Staying.{ring_at-stays}
-use Rattle.feature_exchange.specs.Common.{AreAdded, AreGone, KeepsPlaces, Holds, Stored, ring_under, document_of}
-use Rattle.ring_store.specs.Common.{ring_at, Stands}
+use Rattle.feature_exchange.specs.Common.{AreAdded, AreGone, KeepsPlaces, Holds, Stored, ring_under, stored_document}
+use Rattle.ring_store.specs.Common.{keyed_ring, Stands}
 use Rattle.feature_exchange.proofs.Numbered.{contained_or}
 use Rattle.feature_exchange.proofs.Changes.{Changes}
 use Rattle.feature_exchange.proofs.Whole.{tables_stand, map_holds}
@@ -58,11 +58,11 @@ module _ (old mid new : Stored) (h i j : SegmentSet) (came gone : List ℕ)
 
     -- rings that came are as they were laid
     pub rings_came : (rs : List ℕ) → ((r : ℕ) → In r rs → In r came) → (laid : List (List Position))
-        → map (ring_at mid.places mid.rings) rs ≡ laid → map (ring_under new) rs ≡ map canonical laid
+        → map (keyed_ring mid.places mid.rings) rs ≡ laid → map (ring_under new) rs ≡ map canonical laid
     rings_came rs among laid at =
-        mapped_twice (ring_at new.places new.rings) canonical rs
+        mapped_twice (keyed_ring new.places new.rings) canonical rs
         ∙ ap (map canonical)
-        (map_there (ring_at new.places new.rings) (ring_at mid.places mid.rings) rs (λ r k.
+        (map_there (keyed_ring new.places new.rings) (keyed_ring mid.places mid.rings) rs (λ r k.
         ring_at-stays mid.places mid.places new.places mid.rings new.rings i j e.laid e.stands (λ x p q. q) e.left r (e.there r (among r k)) (came_held r (among r k)))
         ∙ at)
 
@@ -86,6 +86,6 @@ module _ (old mid new : Stored) (h i j : SegmentSet) (came gone : List ℕ)
       ]),
     )
 
-    pub exchanged_holds : WellFormed new.frame → KeepsTexts new.frame → Proper (document_of new)
-        → size (document_of new) ≤ 4000000 → Holds new j
+    pub exchanged_holds : WellFormed new.frame → KeepsTexts new.frame → Proper (stored_document new)
+        → size (stored_document new) ≤ 4000000 → Holds new j
     exchanged_holds = map_holds new j e.stands named changes.once

@@ -6,7 +6,7 @@ use Rattle.ring_machine.specs.Common.{FeatureOf, feature, in_feature, feature_at
 use Rattle.ring_machine.proofs.Common.{feature-in_rings, contains_in, there}
 use Rattle.arc_tables.specs.Common.{Rings, begins, Edge}
 use Rattle.map_frame.specs.Common.{polygon_numbers}
-use Rattle.feature_exchange.specs.Common.{IsWhole, Stored, document_of, edges_under, ring_under, AlongVertices, ring_in}
+use Rattle.feature_exchange.specs.Common.{IsWhole, Stored, stored_document, edges_under, ring_under, AlongVertices, ring_in}
 use Rattle.feature_exchange.proofs.KeyLists.{AreHeld}
 use Rattle.feature_exchange.proofs.KeysByNumber.{at_held}
 use Rattle.feature_exchange.proofs.Under.{numbers_read}
@@ -36,7 +36,7 @@ module _ (s : Stored) (w : IsWhole s) where
         at_held s.frame s.rings (λ r h. (w.named r).0 h) n (flat_map polygon_numbers ps) (numbers_read s.frame n ps e)
 
     pub polygons_read : (ps : List (Vec ℕ A)) → Some (map polygon_numbers ps) ≡ option_map (λ f. f.polygons) (feature s.frame n)
-        → map (map (ring_in s.places s.rings)) (map polygon_numbers ps) ≡ (feature_at (document_of s) n).polygons
+        → map (map (ring_in s.places s.rings)) (map polygon_numbers ps) ≡ (feature_at (stored_document s) n).polygons
     polygons_read ps e =
         by (feature s.frame n) e
         ∙ sym (ap (λ o. (or_else no_feature o).polygons) (feature-in_rings (ring_under s) s.frame n))
@@ -49,7 +49,7 @@ module _ (s : Stored) (w : IsWhole s) where
 
   -- no feature has no polygons
   pub no_polygons : (n : ℕ) → None ≡ option_map (λ f. f.polygons) (feature s.frame n)
-      → [] ≡ (feature_at (document_of s) n).polygons
+      → [] ≡ (feature_at (stored_document s) n).polygons
   no_polygons n e =
       by (feature s.frame n) e
       ∙ sym (ap (λ o. (or_else no_feature o).polygons) (feature-in_rings (ring_under s) s.frame n))

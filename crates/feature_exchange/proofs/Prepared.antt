@@ -5,7 +5,7 @@ use Rattle.grid_geometry.specs.Common.{Position}
 use Rattle.ring_machine.specs.Common.{Feature, rings, are_distinct}
 use Rattle.ring_machine.proofs.Common.{In, contains_in, in_contains, slice-in}
 use Rattle.arc_tables.specs.Common.{Rings}
-use Rattle.map_frame.specs.Common.{IsOf, feature_numbers, Framed, ArePlaced}
+use Rattle.map_frame.specs.Common.{IsNumberOf, feature_numbers, Framed, ArePlaced}
 use Rattle.segment_index.specs.Common.{SegmentSet}
 use Rattle.feature_exchange.specs.Common.{AreAdded, seen, Holds, coming, IsReady, FitsForm, all_numbered, Stored}
 use Rattle.feature_exchange.specs.Common.{Change}
@@ -21,7 +21,7 @@ module _ {A : Type 0} (s : Stored) (held : SegmentSet) (h : Holds s held) (frame
     (m : Rings) (numbers : List ℕ) (added : AreAdded s.rings m numbers)
     (listed : numbers ≡ flat_map (λ l. flat_map (λ p. p) (feature_numbers l)) ls)
     (g : ℕ → List Position) (at : AreFor g cs ls) (fits : (c : ℕ × Option Feature) → In c (seen cs) → FitsForm c.1)
-    (room : (r : ℕ) → IsOf numbers r → r < frame.room) where
+    (room : (r : ℕ) → IsNumberOf numbers r → r < frame.room) where
   pub came_is : coming (all_numbered cs ls) ≡ numbers
   came_is = for_coming g cs ls at ∙ sym listed
 

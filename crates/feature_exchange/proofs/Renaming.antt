@@ -10,7 +10,7 @@ use Rattle.edit_records.specs.Common.{with_id, IsMap}
 use Rattle.topo_outline.specs.Common.{KeepsTexts, IsJson}
 use Rattle.topo_outline.proofs.Common.{keeps-in_rings, keeps-before_rings, keeps-renamed}
 use Rattle.segment_index.specs.Common.{SegmentSet}
-use Rattle.feature_exchange.specs.Common.{Holds, Stored, ring_under, document_of}
+use Rattle.feature_exchange.specs.Common.{Holds, Stored, ring_under, stored_document}
 use Rattle.feature_exchange.proofs.Whole.{tables_stand, map_holds}
 
 -- the feature with this id, or none, where it has the number n
@@ -47,10 +47,10 @@ module _ (s : Stored) (n : ℕ) (id : Option Text) where
   abbrev named_tables : Stored
   named_tables = record s { frame = with_id s.frame n id }
 
-  pub named_document : document_of named_tables ≡ with_id (document_of s) n id
+  pub named_document : stored_document named_tables ≡ with_id (stored_document s) n id
   named_document = in_rings-named (ring_under s) s.frame n id
 
-  pub named_holds : (held : SegmentSet) → IsMap (with_id (document_of s) n id) → KeepsTexts (with_id (document_of s) n id)
+  pub named_holds : (held : SegmentSet) → IsMap (with_id (stored_document s) n id) → KeepsTexts (with_id (stored_document s) n id)
       → Holds s held → Holds named_tables held
   named_holds held m keeps h =
       let same = rings-named n id s.frame in
@@ -64,14 +64,14 @@ module _ (s : Stored) (n : ℕ) (id : Option Text) where
 
 -- an id that is a JSON value leaves a map one
 module _ (s : Stored) (n : ℕ) (id : Text) (held : SegmentSet) (json : IsJson id) (h : Holds s held) where
-  renamed_map : IsMap (with_id (document_of s) n (Some id))
+  renamed_map : IsMap (with_id (stored_document s) n (Some id))
   renamed_map = record {
-    proper = proper-renamed (document_of s) n id h.proper;
-    formed = formed-renamed (document_of s) n id (formed-in_rings (ring_under s) s.frame h.formed);
-    small = omega (arith, size-renamed (document_of s) n id, h.small);
+    proper = proper-renamed (stored_document s) n id h.proper;
+    formed = formed-renamed (stored_document s) n id (formed-in_rings (ring_under s) s.frame h.formed);
+    small = omega (arith, size-renamed (stored_document s) n id, h.small);
   }
 
   pub renamed_holds : Holds (named_tables s n (Some id)) held
   renamed_holds =
       named_holds s n (Some id) held renamed_map
-      (keeps-renamed (document_of s) n id json (keeps-in_rings (ring_under s) s.frame h.keeps)) h
+      (keeps-renamed (stored_document s) n id json (keeps-in_rings (ring_under s) s.frame h.keeps)) h

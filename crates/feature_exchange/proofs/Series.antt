@@ -11,7 +11,7 @@ use Rattle.segment_index.specs.Common.{SegmentSet}
 use Rattle.arc_tables.specs.Common.{Edge, Rings, edges, begins}
 use Rattle.ring_store.proofs.Common.{distinct_more, ring_here, ring_other, begins_edges, place_is, kept_place, IsKept}
 use Rattle.feature_exchange.specs.Common.{numbers_of, AreThere, AreAdded, AreGone, KeepsPlaces, LaidRing}
-use Rattle.ring_store.specs.Common.{ring_at, Stands}
+use Rattle.ring_store.specs.Common.{keyed_ring, Stands}
 use Rattle.feature_exchange.proofs.Exchanged.{same_places, same_segments}
 use Rattle.feature_exchange.proofs.Numbered.{contained_or, came_and_went}
 use Rattle.feature_exchange.proofs.Visited.{visited_at, none_some, ring_kept}
@@ -131,11 +131,11 @@ module _ {A : Type 0} where
 
   -- the rings under their numbers
   pub rings_at : (p : Placement) (m : Rings) (laid : List (LaidRing A)) → AreThere m laid
-      → map (ring_at p m) (numbers_of laid) ≡ map (positions p) laid
+      → map (keyed_ring p m) (numbers_of laid) ≡ map (positions p) laid
   rings_at p m laid t = by laid (λ y i. agree_in (under m) along laid t.along y i)
     where
       by : (ls : List (LaidRing A)) → ((y : LaidRing A) → In y ls → under m y ≡ along y)
-          → map (ring_at p m) (numbers_of ls) ≡ map (positions p) ls
+          → map (keyed_ring p m) (numbers_of ls) ≡ map (positions p) ls
       by [] h = refl
       by (y ∷ ls) h =
           ap₂ (λ z w. z ∷ w)

@@ -8,7 +8,7 @@ use Rattle.segment_index.specs.Common.{SegmentSet}
 use Rattle.arc_tables.specs.Common.{Edge, Rings, begins}
 use Rattle.ring_store.proofs.Common.{place_is, kept_place}
 use Rattle.feature_exchange.specs.Common.{AreAdded, KeepsPlaces}
-use Rattle.ring_store.specs.Common.{ring_at, Stands}
+use Rattle.ring_store.specs.Common.{keyed_ring, Stands}
 use Rattle.feature_exchange.proofs.Numbered.{contained_or}
 use Rattle.feature_exchange.proofs.Visited.{visited_at}
 
@@ -43,7 +43,7 @@ module _ (p q p' : Placement) (m m' : Rings) (h h' : SegmentSet) (s : Stands p m
     (kept : KeepsPlaces p q) (left : KeepsPlaces p' q) where
   -- the vertices that are visited before and after are where they were
   pub ring_at-stays : (r : ℕ) → IsTrue (table.contains_key m r) → table.get m' r ≡ table.get m r
-      → ring_at p' m' r ≡ ring_at p m r
+      → keyed_ring p' m' r ≡ keyed_ring p m r
   ring_at-stays r c same =
       let o = there (table.get m r) c in
       let at : (k : ℕ) → In k (begins o.0) → place p' k ≡ place p k = λ k i.

@@ -7,13 +7,13 @@ use Rattle.ring_machine.proofs.Common.{In, distinct_parts, feature_in, feature_s
 use Rattle.ring_machine.proofs.Common.{in-flat_map}
 use Rattle.map_frame.specs.Common.{polygon_numbers}
 use Rattle.map_frame.proofs.Common.{one_owner}
-use Rattle.feature_exchange.specs.Common.{polygons_of, rings_under}
+use Rattle.feature_exchange.specs.Common.{feature_polygons, rings_under}
 
 module _ {R : Type 0} (d : DocumentOf R) (n : ℕ) where
-  pub polygons_found : (f : FeatureOf R) → feature d n ≡ Some f → polygons_of d n ≡ f.polygons
+  pub polygons_found : (f : FeatureOf R) → feature d n ≡ Some f → feature_polygons d n ≡ f.polygons
   polygons_found f e = ap (λ o. unwrap_or (option_map (λ (x : FeatureOf R). x.polygons) o) []) e
 
-  pub polygons_none : feature d n ≡ None → polygons_of d n ≡ []
+  pub polygons_none : feature d n ≡ None → feature_polygons d n ≡ []
   polygons_none e = ap (λ o. unwrap_or (option_map (λ (x : FeatureOf R). x.polygons) o) []) e
 
   pub under_found : (f : FeatureOf R) → feature d n ≡ Some f → rings_under d n ≡ rings_of f

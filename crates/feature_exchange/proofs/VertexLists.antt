@@ -11,7 +11,7 @@ use Rattle.vertex_index.specs.Common.{Placement, place}
 use Rattle.arc_tables.specs.Common.{begins}
 use Rattle.ring_store.proofs.Common.{of_canonical}
 use Rattle.feature_exchange.specs.Common.{AreAlong, IsWhole, Stored, edges_under, positions_along, ring_under}
-use Rattle.feature_exchange.specs.Common.{document_of}
+use Rattle.feature_exchange.specs.Common.{stored_document}
 use Rattle.feature_exchange.proofs.Base.{framed, begin_kept}
 
 -- ---- the vertices of a document
@@ -33,18 +33,18 @@ module _ (s : Stored) where
 
   -- the positions of the keys along all rings are those of the document
   along_positions : (p : Position)
-      → In p (map (place s.places) (flat_map keys_under (rings s.frame))) → In p (positions (document_of s))
+      → In p (map (place s.places) (flat_map keys_under (rings s.frame))) → In p (positions (stored_document s))
   along_positions p i =
       let k = in_mapped (place s.places) p (flat_map keys_under (rings s.frame)) i in
       let r = in_flat keys_under k.0 (rings s.frame) k.1 in
       let ring = ring_under s r.0 in
       let there : In p ring = in_canonical (positions_along s.places (edges_under s.rings r.0)) p (subst (λ z. In z (positions_along s.places (edges_under s.rings r.0))) k.2 (in-map (place s.places) k.0 (keys_under r.0) r.2)) in
-      in-flat_map (λ ring. ring) ring p (rings (document_of s)) (subst (In ring) (sym (rings-in_rings (ring_under s) s.frame)) (in-map (ring_under s) r.0 (rings s.frame) r.1)) there
+      in-flat_map (λ ring. ring) ring p (rings (stored_document s)) (subst (In ring) (sym (rings-in_rings (ring_under s) s.frame)) (in-map (ring_under s) r.0 (rings s.frame) r.1)) there
 
-  positions_along_all : (p : Position) → In p (positions (document_of s))
+  positions_along_all : (p : Position) → In p (positions (stored_document s))
       → In p (map (place s.places) (flat_map keys_under (rings s.frame)))
   positions_along_all p i =
-      let u = in_flat (λ ring. ring) p (rings (document_of s)) i in
+      let u = in_flat (λ ring. ring) p (rings (stored_document s)) i in
       let r = in_mapped (ring_under s) u.0 (rings s.frame) (subst (In u.0) (rings-in_rings (ring_under s) s.frame) u.1) in
       let j = of_canonical (positions_along s.places (edges_under s.rings r.0)) p (subst (In p) (sym r.2) u.2) in
       let k = in_mapped (place s.places) p (keys_under r.0) j in
@@ -53,10 +53,10 @@ module _ (s : Stored) where
 
   -- the positions along all rings, ascending and each once, are the vertices
   pub vertices_along :
-      fold add_position [] (map (place s.places) (flat_map keys_under (rings s.frame))) ≡ vertices (document_of s)
+      fold add_position [] (map (place s.places) (flat_map keys_under (rings s.frame))) ≡ vertices (stored_document s)
   vertices_along =
       let ps = map (place s.places) (flat_map keys_under (rings s.frame)) in
-      let qs = positions (document_of s) in
+      let qs = positions (stored_document s) in
       same_rising (fold add_position [] ps) (fold add_position [] qs) (vertices_rise ps) (vertices_rise qs)
       (λ p i. in_vertices qs p (along_positions p (of_vertices ps p i)))
       (λ p i. in_vertices ps p (positions_along_all p (of_vertices qs p i)))
@@ -98,7 +98,7 @@ module _ (s : Stored) (w : IsWhole s) (ks : List ℕ) (along : AreAlong s.rings 
 
   -- their positions, ascending and each once, are the vertices
   pub vertices_found : (found sorted : List Position) → found ≡ map (place s.places) ks
-      → sorted ≡ fold add_position [] found → sorted ≡ vertices (document_of s)
+      → sorted ≡ fold add_position [] found → sorted ≡ vertices (stored_document s)
   vertices_found found sorted g h =
       h ∙ ap (fold add_position []) g
       ∙ same_vertices (map (place s.places) ks) (map (place s.places) (flat_map (keys_under s) (rings s.frame)))

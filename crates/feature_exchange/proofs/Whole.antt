@@ -12,13 +12,13 @@ use Rattle.vertex_index.specs.Common.{place}
 use Rattle.segment_index.specs.Common.{SegmentSet, has}
 use Rattle.ring_store.proofs.Common.{times_edge, edge_times}
 use Rattle.ring_store.specs.Common.{IsSide, Stands}
-use Rattle.feature_exchange.specs.Common.{IsWhole, Holds, Stored, document_of}
+use Rattle.feature_exchange.specs.Common.{IsWhole, Holds, Stored, stored_document}
 use Rattle.feature_exchange.proofs.Base.{segment_between, segment_iff}
 
 -- ---- segments of the document are sides of the rings
 
 module _ (s : Stored) (whole : IsWhole s) (t : Segment) where
-  segment_side : is_segment (document_of s) t ≡ true → IsSide s.places s.rings t
+  segment_side : is_segment (stored_document s) t ≡ true → IsSide s.places s.rings t
   segment_side h =
       let b = segment_between s whole t h in
       let e = times_edge b.a b.b b.joined.edges b.joined.has in
@@ -36,7 +36,7 @@ module _ (s : Stored) (whole : IsWhole s) (t : Segment) where
         ];
       }
 
-  side_segment : IsSide s.places s.rings t → is_segment (document_of s) t ≡ true
+  side_segment : IsSide s.places s.rings t → is_segment (stored_document s) t ≡ true
   side_segment a =
       let i = contains_in a.edges a.edge a.among in
       (segment_iff s whole t).1 (record {
@@ -77,15 +77,15 @@ module _ (s : Stored) (held : SegmentSet) (stands : Stands s.places s.rings held
     distinct = stands.distinct;
   }
 
-  pub map_holds : WellFormed s.frame → KeepsTexts s.frame → Proper (document_of s)
-      → size (document_of s) ≤ 4000000 → Holds s held
+  pub map_holds : WellFormed s.frame → KeepsTexts s.frame → Proper (stored_document s)
+      → size (stored_document s) ≤ 4000000 → Holds s held
   map_holds formed keeps proper small = record {
     whole = whole_of;
     formed = formed;
     keeps = keeps;
     proper = proper;
     small = small;
-    indexed = λ t. same_answer (set.contains held t) (is_segment (document_of s) t)
+    indexed = λ t. same_answer (set.contains held t) (is_segment (stored_document s) t)
         (λ i. side_segment s whole_of t ((stands.indexed t).0 i))
         (λ i. (stands.indexed t).1 (segment_side s whole_of t i));
   }
@@ -94,7 +94,7 @@ module _ (s : Stored) (held : SegmentSet) (stands : Stands s.places s.rings held
 
 pub map_unchanged : (old new : Stored) (h j : SegmentSet) → Holds old h → new.frame ≡ old.frame
     → new.rings ≡ old.rings → new.places ≡ old.places → j ≡ h
-    → (document_of new ≡ document_of old) × Holds new j
+    → (stored_document new ≡ stored_document old) × Holds new j
 map_unchanged old new h j holds frame rings places held =
     let same : new ≡ old = λ i. record { frame = frame i; rings = rings i; places = places i } in
-    (ap document_of same, subst (λ z. Holds z j) (sym same) (subst (Holds old) (sym held) holds))
+    (ap stored_document same, subst (λ z. Holds z j) (sym same) (subst (Holds old) (sym held) holds))

@@ -9,9 +9,9 @@ pub use Rattle.feature_exchange.specs.Marked.{MarksAlong, is_meeting, meets}
 pub use Rattle.feature_exchange.specs.Ready.{FitsForm, IsReady, all_had, all_numbered, change_had, coming, had}
 pub use Rattle.feature_exchange.specs.Ready.{numbered, put_in, rings_in}
 pub use Rattle.feature_exchange.specs.RingPlaces.{IsAround, positions_left}
-pub use Rattle.feature_exchange.specs.Stored.{Stored, document_of, edges_under, positions_along, ring_under, stored}
+pub use Rattle.feature_exchange.specs.Stored.{Stored, stored_document, edges_under, positions_along, ring_under, stored}
 pub use Rattle.feature_exchange.specs.Stored.{stored_in}
-pub use Rattle.feature_exchange.specs.Under.{polygons_of, rings_under}
+pub use Rattle.feature_exchange.specs.Under.{feature_polygons, rings_under}
 pub use Rattle.feature_exchange.specs.declared.change.Change.{Change}
 pub use Rattle.feature_exchange.specs.declared.change.WholeFeature.{WholeFeature}
 pub use Rattle.feature_exchange.specs.declared.laid.LaidRing.{LaidRing}

@@ -9,7 +9,7 @@ use Rattle.vertex_index.specs.Common.{AreDistinct}
 use Rattle.segment_index.specs.Common.{SegmentSet}
 use Rattle.arc_tables.specs.Common.{Edge, begins}
 use Rattle.ring_store.specs.Common.{GoesRound}
-use Rattle.feature_exchange.specs.Stored.{Stored, document_of}
+use Rattle.feature_exchange.specs.Stored.{Stored, stored_document}
 
 -- an edge of ring r begins at the vertex with key k
 abbrev pub Visits : Stored → ℕ → ℕ → Type 0
@@ -36,6 +36,6 @@ pub record Holds (s : Stored) (held : SegmentSet) : Type 0 where
   pub whole : IsWhole s
   pub formed : WellFormed s.frame
   pub keeps : KeepsTexts s.frame
-  pub proper : Proper (document_of s)
-  pub small : size (document_of s) ≤ 4000000
-  pub indexed : IsIndexed (document_of s) held
+  pub proper : Proper (stored_document s)
+  pub small : size (stored_document s) ≤ 4000000
+  pub indexed : IsIndexed (stored_document s) held

@@ -7,7 +7,7 @@ use Rattle.vertex_index.specs.Common.{Placement}
 use Rattle.arc_tables.specs.Common.{Rings}
 use Rattle.ring_parts.specs.Common.{polygons_seen}
 use Rattle.feature_exchange.specs.Laid.{numbers_of, AreThere, AreAdded, KeepsPlaces}
-use Rattle.ring_store.specs.Common.{ring_at}
+use Rattle.ring_store.specs.Common.{keyed_ring}
 use Rattle.feature_exchange.specs.declared.laid.LaidRing.{LaidRing}
 use Rattle.ring_store.specs.declared.tables.RingTables.{RingTables}
 use Rattle.feature_exchange.specs.declared.change.Change.{Change}
@@ -22,7 +22,7 @@ pub record AreLaid {A : Type 0} (p : Placement) (m : Rings) (laid : List (LaidRi
   pub kept : KeepsPlaces p q
   -- a ring that stood goes along the same positions
   pub stands : (r : ℕ) → IsTrue (table.contains_key m r) → IsTrue (table.contains_key n r)
-  pub still : (r : ℕ) → IsTrue (table.contains_key m r) → ring_at q n r ≡ ring_at p m r
+  pub still : (r : ℕ) → IsTrue (table.contains_key m r) → keyed_ring q n r ≡ keyed_ring p m r
 
 -- the same of tables
 abbrev pub LaysMore : {I A : Type 0} → RingTables I A → List (LaidRing A) → RingTables I A

@@ -14,7 +14,7 @@ is_meeting None = true
 is_meeting (One a) = true
 is_meeting More = true
 
--- whether borders meet at the vertex of a key, by a list of where they do; behind its end they do
+-- whether borders meet at the vertex of a key, by a list of where they do; after its end they do
 abbrev pub meets : List Bool → ℕ → Bool
 meets meetings k = get_or meetings k true
 

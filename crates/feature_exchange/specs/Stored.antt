@@ -36,5 +36,5 @@ abbrev pub ring_under : Stored → ℕ → List Position
 ring_under s r = canonical (positions_along s.places (edges_under s.rings r))
 
 -- the document: the frame with each ring in its place
-abbrev pub document_of : Stored → Document
-document_of s = in_rings (ring_under s) s.frame
+abbrev pub stored_document : Stored → Document
+stored_document s = in_rings (ring_under s) s.frame

@@ -4,9 +4,9 @@ use Rattle.std.specs.List.{flat_map}
 use Rattle.ring_machine.specs.Common.{DocumentOf, feature}
 
 -- the polygons of feature n, and none where there is no such feature
-abbrev pub polygons_of : {R : Type 0} → DocumentOf R → ℕ → List (List R)
-polygons_of d n = unwrap_or (option_map (λ f. f.polygons) (feature d n)) []
+abbrev pub feature_polygons : {R : Type 0} → DocumentOf R → ℕ → List (List R)
+feature_polygons d n = unwrap_or (option_map (λ f. f.polygons) (feature d n)) []
 
 -- the rings of feature n, polygon after polygon, and none where no feature has the number
 abbrev pub rings_under : {R : Type 0} → DocumentOf R → ℕ → List R
-rings_under d n = flat_map (λ polygon. polygon) (polygons_of d n)
+rings_under d n = flat_map (λ polygon. polygon) (feature_polygons d n)

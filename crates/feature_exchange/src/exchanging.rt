@@ -4,10 +4,10 @@ ghost use Rattle.std.specs.Prelude.{IsTrue, IfOk, IfSome, OnOk, OnErr, Contains}
 ghost use Rattle.std.specs.List.{list_all, flat_map, AllByRecursion};
 ghost use Rattle.ring_machine.specs.Common.{feature, feature_at, is_ring, are_distinct};
 ghost use Rattle.edit_records.specs.Common.{exchanged, had_before, IsMap};
-ghost use Rattle.map_frame.specs.Common.{IsOf, feature_numbers};
+ghost use Rattle.map_frame.specs.Common.{IsNumberOf, feature_numbers};
 ghost use Rattle.ring_store.specs.Common.{AreStanding, ring_in};
 ghost use Rattle.topo_outline.specs.Common.{KeepsTexts};
-ghost use Rattle.feature_exchange.specs.Common.{Change, Holds, LaysMore, IsReady, MayGrow, stored_in, document_of, seen};
+ghost use Rattle.feature_exchange.specs.Common.{Change, Holds, LaysMore, IsReady, MayGrow, stored_in, stored_document, seen};
 ghost use Rattle.feature_exchange.specs.Common.{numbers_of, asked, asked_rings, numbered, all_numbered, change_had, all_had};
 ghost use Rattle.feature_exchange.specs.Common.{changed_as, frame_after, next_after, put_in};
 
@@ -116,7 +116,7 @@ fn make_room<'a, A: Allocator + Copy>(
     requires { IfSome after (MayGrow frame.old.doc frame.old.next) }
     ensures ok { OnOk result (frame.new
         ≡ record (frame_after after frame.old) { room = frame.new.room }) }
-    ensures room { OnOk result ((r : ℕ) → IsOf (numbers_of laid.now) r → r < frame.new.room) }
+    ensures room { OnOk result ((r : ℕ) → IsNumberOf (numbers_of laid.now) r → r < frame.new.room) }
     ensures err { OnErr result (frame.new ≡ record frame.old { room = frame.new.room }) }
 {
     let numbers = laid_numbers(alloc, laid)?;
@@ -127,7 +127,7 @@ fn make_room<'a, A: Allocator + Copy>(
 
 /// Gives these numbers these features, each in the place of its number, where `after` is a feature a
 /// new number comes directly after it first; afterwards `changes` holds what the numbers had before.
-/// Fails for want of memory alone, and then changes nothing.
+/// Fails only on allocation failure, and then changes nothing.
 pub fn exchange_features<'a, I: SegIndex, A: Allocator + Copy>(
     frame: &mut Frame<'a, A>,
     tables: &mut RingTables<I, A>,
@@ -138,20 +138,20 @@ pub fn exchange_features<'a, I: SegIndex, A: Allocator + Copy>(
     requires apart { IsTrue (are_distinct (map (λ c. c.number) changes.old)) }
     requires below { AllByRecursion (λ c. c.number < next_after after frame.old) changes.old }
     requires grows { IfSome after
-        (MayGrow (document_of (stored_in frame.old tables.old)) frame.old.next) }
+        (MayGrow (stored_document (stored_in frame.old tables.old)) frame.old.next) }
     requires map { IsMap (changed_as after frame.old changes.old
-        (document_of (stored_in frame.old tables.old))) }
+        (stored_document (stored_in frame.old tables.old))) }
     requires texts { KeepsTexts (changed_as after frame.old changes.old
-        (document_of (stored_in frame.old tables.old))) }
-    ensures exchanged { OnOk result (document_of (stored_in frame.new tables.new)
+        (stored_document (stored_in frame.old tables.old))) }
+    ensures exchanged { OnOk result (stored_document (stored_in frame.new tables.new)
         ≡ changed_as after frame.old changes.old
-        (document_of (stored_in frame.old tables.old))) }
+        (stored_document (stored_in frame.old tables.old))) }
     ensures had { OnOk result (seen changes.new
-        ≡ had_before (document_of (stored_in frame.old tables.old)) (seen changes.old)) }
+        ≡ had_before (stored_document (stored_in frame.old tables.old)) (seen changes.old)) }
     ensures next { OnOk result (frame.new.next ≡ next_after after frame.old) }
     ensures places { OnOk result (frame.new.places ≡ (frame_after after frame.old).places) }
-    ensures unchanged { OnErr result (document_of (stored_in frame.new tables.new)
-        ≡ document_of (stored_in frame.old tables.old)) }
+    ensures unchanged { OnErr result (stored_document (stored_in frame.new tables.new)
+        ≡ stored_document (stored_in frame.old tables.old)) }
     ensures next_still { OnErr result (frame.new.next ≡ frame.old.next) }
     ensures places_still { OnErr result (frame.new.places ≡ frame.old.places) }
     ensures changes_still { OnErr result (changes.new ≡ changes.old) }
@@ -179,8 +179,8 @@ pub fn exchange_features<'a, I: SegIndex, A: Allocator + Copy>(
     }
 }
 
-/// Lays the rings of the features that are to come, and makes room for them in the frame. Where that
-/// fails for want of memory, some of them are laid.
+/// Lays the rings of the features that are to come, and makes room for them in the frame. On allocation
+/// failure, some of them are laid.
 fn lay_ready<'a, I: SegIndex, A: Allocator + Copy>(
     frame: &mut Frame<'a, A>,
     tables: &mut RingTables<I, A>,
@@ -201,7 +201,7 @@ fn lay_ready<'a, I: SegIndex, A: Allocator + Copy>(
         ≡ map asked changes.now) }
     ensures ok { OnOk result (frame.new
         ≡ record (frame_after after frame.old) { room = frame.new.room }) }
-    ensures room { OnOk result ((r : ℕ) → IsOf (numbers_of laid.new.items) r
+    ensures room { OnOk result ((r : ℕ) → IsNumberOf (numbers_of laid.new.items) r
         → r < frame.new.room) }
     ensures err { OnErr result (frame.new ≡ record frame.old { room = frame.new.room }) }
     ensures cells { tables.new.index.cells ≡ tables.old.index.cells }

@@ -37,7 +37,7 @@ fn gather_ring<A: Allocator + Copy>(
 }
 
 /// The rings with these numbers, with their keys, so that they can be taken out later in no memory.
-/// Fails for want of memory alone.
+/// Fails only on allocation failure.
 pub fn gather_rings<A: Allocator + Copy>(
     alloc: A,
     borders: &Borders<A>,

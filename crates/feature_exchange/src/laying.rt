@@ -17,8 +17,8 @@ use ring_store::RingTables;
 use segment_index::SegIndex;
 use std::alloc::{AllocError, Allocator};
 
-/// Lays the rings of a polygon, and appends them to those that are laid. Where that fails for want
-/// of memory, they are not laid.
+/// Lays the rings of a polygon, and appends them to those that are laid. On allocation failure, they
+/// are not laid.
 fn lay_polygon<I: SegIndex, A: Allocator + Copy>(
     tables: &mut RingTables<I, A>,
     rings: &[Vec<Pos, A>],
@@ -45,8 +45,8 @@ fn lay_polygon<I: SegIndex, A: Allocator + Copy>(
     }
 }
 
-/// Appends laid rings to others, and answers their numbers. Fails for want of memory alone, and
-/// then changes nothing.
+/// Appends laid rings to others, and answers their numbers. Fails only on allocation failure, and then
+/// changes nothing.
 fn append_laid<A: Allocator + Copy>(
     alloc: A,
     came: &mut Vec<LaidRing<A>, A>,
@@ -62,8 +62,8 @@ fn append_laid<A: Allocator + Copy>(
     Ok(numbers)
 }
 
-/// Lays the rings of these polygons, and appends them to those that are laid. Where that fails for
-/// want of memory, some of them are laid.
+/// Lays the rings of these polygons, and appends them to those that are laid. On allocation failure,
+/// some of them are laid.
 fn lay_polygons<I: SegIndex, A: Allocator + Copy>(
     tables: &mut RingTables<I, A>,
     polygons: &[Vec<Vec<Pos, A>, A>],
@@ -111,8 +111,7 @@ fn lay_feature<'a, I: SegIndex, A: Allocator + Copy>(
     }
 }
 
-/// Lays the rings of all features that are to come. Where that fails for want of memory, some of
-/// them are laid.
+/// Lays the rings of all features that are to come. On allocation failure, some of them are laid.
 pub(crate) fn lay_features<'a, I: SegIndex, A: Allocator + Copy>(
     tables: &mut RingTables<I, A>,
     changes: &[Change<'a, A>],

@@ -2,7 +2,7 @@
 //! those of a feature, a feature goes, and the tables still belong together.
 //!
 //! A call costs what its rings are long, and what a look into arcs and cells costs; it never goes
-//! through the whole map. It fails for want of memory alone, and then the map is as it was.
+//! through the whole map. It fails only on allocation failure, and then the map is as it was.
 #![tactic(auto)]
 
 mod change;

@@ -25,7 +25,7 @@ fn is_meeting(around: Neighbours) -> bool
 }
 
 /// For each vertex, by the index of its key, whether borders meet there, by what stands around each.
-/// Fails for want of memory alone.
+/// Fails only on allocation failure.
 pub fn meetings<A: Allocator + Copy>(
     alloc: A,
     around: &[Neighbours],
@@ -60,8 +60,8 @@ fn least_start<A: Allocator + Copy>(vertices: &Vertices<A>, mut keys: RingKeys<'
     }
 }
 
-/// Appends the positions under these keys, and for each whether borders meet there. Fails for want
-/// of memory alone.
+/// Appends the positions under these keys, and for each whether borders meet there. Fails only on
+/// allocation failure.
 fn push_marked<A: Allocator + Copy>(
     vertices: &Vertices<A>,
     meetings: &[bool],
@@ -83,7 +83,7 @@ fn push_marked<A: Allocator + Copy>(
 }
 
 /// Appends the positions under the keys from a place on and then under those before it, and for each
-/// whether borders meet there. Fails for want of memory alone.
+/// whether borders meet there. Fails only on allocation failure.
 fn push_turned<A: Allocator + Copy>(
     vertices: &Vertices<A>,
     meetings: &[bool],
@@ -104,8 +104,8 @@ fn push_turned<A: Allocator + Copy>(
     Ok(())
 }
 
-/// Appends the positions of the ring with this number, from its least position on, and for each
-/// whether borders meet there, by the list of where they do. Fails for want of memory alone.
+/// Appends the positions of the ring with this number, from its least position on, and for each whether
+/// borders meet there, by the list of where they do. Fails only on allocation failure.
 pub fn push_marked_ring<I: SegIndex, A: Allocator + Copy>(
     tables: &RingTables<I, A>,
     meetings: &[bool],

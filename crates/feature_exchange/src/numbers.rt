@@ -24,7 +24,7 @@ fn push_polygons<A: Allocator + Copy>(
 }
 
 /// Appends the numbers of the rings of feature `n`, polygon after polygon; none where no feature has
-/// the number. Fails for want of memory alone.
+/// the number. Fails only on allocation failure.
 fn push_feature<'a, A: Allocator + Copy>(
     frame: &Frame<'a, A>,
     n: u32,
@@ -38,8 +38,8 @@ fn push_feature<'a, A: Allocator + Copy>(
     }
 }
 
-/// Appends the numbers of the rings that these numbers have, feature after feature. Fails for want
-/// of memory alone.
+/// Appends the numbers of the rings that these numbers have, feature after feature. Fails only on
+/// allocation failure.
 pub(crate) fn push_features<'a, A: Allocator + Copy>(
     frame: &Frame<'a, A>,
     changes: &[Change<'a, A>],
@@ -54,7 +54,7 @@ pub(crate) fn push_features<'a, A: Allocator + Copy>(
     Ok(())
 }
 
-/// The numbers of these rings. Fails for want of memory alone.
+/// The numbers of these rings. Fails only on allocation failure.
 pub(crate) fn laid_numbers<A: Allocator + Copy>(
     alloc: A,
     laid: &[LaidRing<A>],

@@ -6,7 +6,7 @@ ghost use Rattle.ring_machine.specs.Common.{canonical, feature_at};
 ghost use Rattle.map_frame.specs.Common.{polygon_numbers};
 ghost use Rattle.ring_parts.specs.Common.{rings_seen, polygons_seen};
 ghost use Rattle.vertex_index.specs.Common.{place};
-ghost use Rattle.feature_exchange.specs.Common.{AlongVertices, IsWhole, document_of, ring_in, stored_in};
+ghost use Rattle.feature_exchange.specs.Common.{AlongVertices, IsWhole, stored_document, ring_in, stored_in};
 
 use crate::change::Change;
 use grid_geometry::Pos;
@@ -20,7 +20,7 @@ use vertex_index::{VertexKey, Vertices};
 /// Room for the keys of most rings.
 pub(crate) const ROOM: usize = 128;
 
-/// The positions under these keys. Fails for want of memory alone.
+/// The positions under these keys. Fails only on allocation failure.
 pub(crate) fn positions_under<A: Allocator + Copy>(
     alloc: A,
     vertices: &Vertices<A>,
@@ -44,7 +44,7 @@ fn begun<A: Allocator + Copy>(mut ring: Vec<Pos, A>) -> Vec<Pos, A>
     ring
 }
 
-/// The ring with a number, from its least position on. Fails for want of memory alone.
+/// The ring with a number, from its least position on. Fails only on allocation failure.
 fn ring_positions<I: SegIndex, A: Allocator + Copy>(
     tables: &RingTables<I, A>,
     r: usize,
@@ -59,7 +59,7 @@ fn ring_positions<I: SegIndex, A: Allocator + Copy>(
     Ok(begun(found))
 }
 
-/// The rings with these numbers, in order. Fails for want of memory alone.
+/// The rings with these numbers, in order. Fails only on allocation failure.
 fn polygon_positions<I: SegIndex, A: Allocator + Copy>(
     tables: &RingTables<I, A>,
     rings: &[usize],
@@ -77,7 +77,7 @@ fn polygon_positions<I: SegIndex, A: Allocator + Copy>(
     Ok(polygon)
 }
 
-/// The rings of these polygons, in order. Fails for want of memory alone.
+/// The rings of these polygons, in order. Fails only on allocation failure.
 pub(crate) fn feature_positions<I: SegIndex, A: Allocator + Copy>(
     tables: &RingTables<I, A>,
     polygons: &[Vec<usize, A>],
@@ -97,7 +97,7 @@ pub(crate) fn feature_positions<I: SegIndex, A: Allocator + Copy>(
 }
 
 /// The polygons of feature `n` of these tables, each ring as its positions from the least one on, the
-/// outer ring first; none where no feature has the number. Fails for want of memory alone.
+/// outer ring first; none where no feature has the number. Fails only on allocation failure.
 pub fn read_polygons<'a, I: SegIndex, A: Allocator + Copy>(
     frame: &Frame<'a, A>,
     tables: &RingTables<I, A>,
@@ -105,7 +105,7 @@ pub fn read_polygons<'a, I: SegIndex, A: Allocator + Copy>(
 ) -> Result<Vec<Vec<Vec<Pos, A>, A>, A>, AllocError>
     requires { IsWhole (stored_in frame.now tables.now) }
     ensures { IfOk result (λ found. polygons_seen found.items
-        ≡ (feature_at (document_of (stored_in frame.now tables.now)) n).polygons) }
+        ≡ (feature_at (stored_document (stored_in frame.now tables.now)) n).polygons) }
 {
     match frame.polygons(n) {
         Some(polygons) => feature_positions(tables, polygons),
@@ -113,7 +113,7 @@ pub fn read_polygons<'a, I: SegIndex, A: Allocator + Copy>(
     }
 }
 
-/// The polygons that these numbers have. Fails for want of memory alone.
+/// The polygons that these numbers have. Fails only on allocation failure.
 pub(crate) fn read_features<'a, I: SegIndex, A: Allocator + Copy>(
     frame: &Frame<'a, A>,
     tables: &RingTables<I, A>,
@@ -121,7 +121,7 @@ pub(crate) fn read_features<'a, I: SegIndex, A: Allocator + Copy>(
 ) -> Result<Vec<Vec<Vec<Vec<Pos, A>, A>, A>, A>, AllocError>
     requires { IsWhole (stored_in frame.now tables.now) }
     ensures { IfOk result (λ found. map (λ p. polygons_seen p.items) found.items
-        ≡ map (λ c. (feature_at (document_of (stored_in frame.now tables.now))
+        ≡ map (λ c. (feature_at (stored_document (stored_in frame.now tables.now))
         c.number).polygons) changes.now) }
 {
     let mut found = Vec::new(tables.alloc);

@@ -19,8 +19,8 @@ use segment_index::SegIndex;
 use std::alloc::{AllocError, Allocator};
 use vertex_index::{VertexKey, Vertices};
 
-/// Lays a ring along keys of vertices. Where that fails for want of memory, the borders are as they
-/// were, and the index holds what it held.
+/// Lays a ring along keys of vertices. On allocation failure, the borders are as they were, and the
+/// index holds what it held.
 fn lay_along<I: SegIndex, A: Allocator + Copy>(
     vertices: &Vertices<A>,
     borders: &mut Borders<A>,
@@ -46,9 +46,8 @@ fn lay_along<I: SegIndex, A: Allocator + Copy>(
     }
 }
 
-/// Lays a ring, and gathers its keys. Where that fails for want of memory, some of them have been
-/// gathered, and their vertices are there; the borders are as they were, and the index holds what
-/// it held.
+/// Lays a ring, and gathers its keys. On allocation failure, some of them have been gathered, and their
+/// vertices are there; the borders are as they were, and the index holds what it held.
 fn lay_new<I: SegIndex, A: Allocator + Copy>(
     vertices: &mut Vertices<A>,
     borders: &mut Borders<A>,
@@ -76,7 +75,7 @@ fn lay_new<I: SegIndex, A: Allocator + Copy>(
     Ok(r)
 }
 
-/// Lays a ring. Where that fails for want of memory, nothing has changed.
+/// Lays a ring. On allocation failure, nothing has changed.
 fn lay_ring<I: SegIndex, A: Allocator + Copy>(
     alloc: A,
     vertices: &mut Vertices<A>,
@@ -105,7 +104,7 @@ fn lay_ring<I: SegIndex, A: Allocator + Copy>(
     }
 }
 
-/// Lays these rings, and gathers them. Where that fails for want of memory, some of them are laid.
+/// Lays these rings, and gathers them. On allocation failure, some of them are laid.
 fn lay_each<I: SegIndex, A: Allocator + Copy>(
     alloc: A,
     vertices: &mut Vertices<A>,
@@ -133,8 +132,8 @@ fn lay_each<I: SegIndex, A: Allocator + Copy>(
     Ok(())
 }
 
-/// Lays these rings, and answers them in order, so that they can be taken out again in no memory.
-/// Fails for want of memory alone, and then nothing has changed.
+/// Lays these rings, and answers them in order, so that they can be taken out again in no memory. Fails
+/// only on allocation failure, and then nothing has changed.
 pub fn lay_rings<I: SegIndex, A: Allocator + Copy>(
     tables: &mut RingTables<I, A>,
     rings: &[Vec<Pos, A>],

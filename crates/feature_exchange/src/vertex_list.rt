@@ -6,7 +6,7 @@ ghost use Rattle.ring_machine.specs.Common.{features, rings, are_distinct};
 ghost use Rattle.ring_machine.specs.Query as query;
 ghost use Rattle.arc_tables.specs.Common.{begins};
 ghost use Rattle.map_frame.specs.Common.{polygon_numbers};
-ghost use Rattle.feature_exchange.specs.Common.{AreAlong, IsWhole, document_of, edges_under, stored_in};
+ghost use Rattle.feature_exchange.specs.Common.{AreAlong, IsWhole, stored_document, edges_under, stored_in};
 
 use crate::reading::positions_under;
 use grid_geometry::Pos;
@@ -16,7 +16,7 @@ use segment_index::SegIndex;
 use std::alloc::{AllocError, Allocator};
 use vertex_index::VertexKey;
 
-/// Appends the keys of these rings. Fails for want of memory alone.
+/// Appends the keys of these rings. Fails only on allocation failure.
 fn push_polygon_keys<A: Allocator + Copy>(
     borders: &Borders<A>,
     rings: &[usize],
@@ -32,7 +32,7 @@ fn push_polygon_keys<A: Allocator + Copy>(
     Ok(())
 }
 
-/// Appends the keys of a feature's rings. Fails for want of memory alone.
+/// Appends the keys of a feature's rings. Fails only on allocation failure.
 fn push_feature_keys<A: Allocator + Copy>(
     borders: &Borders<A>,
     polygons: &[Vec<usize, A>],
@@ -50,7 +50,7 @@ fn push_feature_keys<A: Allocator + Copy>(
     Ok(())
 }
 
-/// The keys of all rings. Fails for want of memory alone.
+/// The keys of all rings. Fails only on allocation failure.
 fn all_keys<'a, A: Allocator + Copy>(
     alloc: A,
     borders: &Borders<A>,
@@ -70,8 +70,8 @@ fn all_keys<'a, A: Allocator + Copy>(
     Ok(keys)
 }
 
-/// The positions of all vertices of these tables, ascending, each once. Walks the map. Fails for want
-/// of memory alone.
+/// The positions of all vertices of these tables, ascending, each once. Walks the map. Fails only on
+/// allocation failure.
 pub fn read_vertices<'a, I: SegIndex, A: Allocator + Copy>(
     frame: &Frame<'a, A>,
     tables: &RingTables<I, A>,
@@ -79,7 +79,7 @@ pub fn read_vertices<'a, I: SegIndex, A: Allocator + Copy>(
     requires whole { IsWhole (stored_in frame.now tables.now) }
     requires distinct { IsTrue (are_distinct (map (λ f. f.number) (features frame.now.doc))) }
     ensures { IfOk result (λ found. found.items
-        ≡ query.vertices (document_of (stored_in frame.now tables.now))) }
+        ≡ query.vertices (stored_document (stored_in frame.now tables.now))) }
 {
     let keys = all_keys(tables.alloc, &tables.borders, frame)?;
     let mut found = positions_under(tables.alloc, &tables.vertices, keys.as_slice())?;

@@ -15,7 +15,7 @@ use Rattle.topo_reader.specs.Reads as reads
 use Rattle.topo_reader.proofs.MeaningOfArcs.{are_arcs}
 use Rattle.topo_reader.proofs.Common.{made, bind_ok, demand_ok, ok_same}
 use Rattle.grid_reader.specs.declared.told.Told.{Told}
-use Rattle.grid_reader.specs.Common.{Wants, FinePosition, origin, fine_position, before_next, fine_positions, fine_arc}
+use Rattle.grid_reader.specs.Common.{Wants, FinePosition, fine_origin, fine_position, before_next_fine, fine_positions, fine_arc}
 use Rattle.grid_reader.specs.Common.{fine_arcs, arcs_on, finer_by, has_further, opened_on, grid_opening, IsTold}
 use Rattle.grid_reader.specs.Common.{transform_on, has_wholes}
 use Rattle.grid_reader.proofs.Opened.{put, goes_well, opened_parts}
@@ -103,7 +103,7 @@ module _ (wants : Wants) (e : wants.finer ≡ 0) where
       rw (position_in_units wants e before p n (steps_of before p n low s), sums_in_units s.in_range t) refl
 
   pairs_in_units : (ns : List Node) (ps : List Position) → AllZip (IsSum editor.origin) ns ps →
-      fine_positions wants false origin ns ≡ Ok (map scaled ps)
+      fine_positions wants false fine_origin ns ≡ Ok (map scaled ps)
   unfolding fine_positions
   pairs_in_units [] [] h = refl
   pairs_in_units [] (p ∷ ps) h = absurd h
@@ -112,7 +112,7 @@ module _ (wants : Wants) (e : wants.finer ≡ 0) where
       rw (position_in_units wants e editor.origin p n (steps_of editor.origin p n origin_in_range h.0), pairs_in_units ns ps h.1) refl
 
   positions_in_units : (delta : Bool) (ns : List Node) (ps : List Position) → ArePositions delta ns ps →
-      fine_positions wants delta origin ns ≡ Ok (map scaled ps)
+      fine_positions wants delta fine_origin ns ≡ Ok (map scaled ps)
   positions_in_units true ns ps h = sums_in_units origin_in_range h
   positions_in_units false ns ps h = pairs_in_units ns ps h
 
@@ -147,7 +147,7 @@ module _ (wants : Wants) (e : wants.finer ≡ 0) where
 
   -- ---- whole arcs that are read in units are read by the editor
 
-  next_scaled : (delta : Bool) (p : Position) → before_next delta (scaled p) ≡ scaled (editor.before_next delta p)
+  next_scaled : (delta : Bool) (p : Position) → before_next_fine delta (scaled p) ≡ scaled (editor.before_next delta p)
   next_scaled true p = refl
   next_scaled false p = refl
 
@@ -162,11 +162,11 @@ module _ (wants : Wants) (e : wants.finer ≡ 0) where
   unfolding fine_positions editor.positions
   positions_back delta before [] qs all h = ([], sym (ok_same [] qs h), refl)
   positions_back delta before (n ∷ ns) qs all h =
-      let after = λ (p : FinePosition). fine_positions wants delta (before_next delta p) ns in
+      let after = λ (p : FinePosition). fine_positions wants delta (before_next_fine delta p) ns in
       let first = bind_ok (fine_position wants (scaled before) n) (λ (p : FinePosition). after p >>= λ rs. Ok (p ∷ rs)) qs h in
       let rest = bind_ok (after first.0) (λ (rs : List FinePosition). Ok (first.0 ∷ rs)) qs first.2 in
       let p = position_back wants e before n first.0 all.0 first.1 in
-      let next : before_next delta first.0 ≡ scaled (editor.before_next delta p.0) = ap (before_next delta) p.1 ∙ next_scaled delta p.0 in
+      let next : before_next_fine delta first.0 ≡ scaled (editor.before_next delta p.0) = ap (before_next_fine delta) p.1 ∙ next_scaled delta p.0 in
       let there = subst (λ (b : FinePosition). fine_positions wants delta b ns ≡ Ok rest.0) next rest.1 in
       let ps = positions_back delta (editor.before_next delta p.0) ns rest.0 all.1 there in
       let same = front_and_rest scaled first.0 rest.0 qs p.0 ps.0 (ok_same (first.0 ∷ rest.0) qs rest.2) p.1 ps.1 in
@@ -181,7 +181,7 @@ module _ (wants : Wants) (e : wants.finer ≡ 0) where
       (ps : Arc) × (qs ≡ map scaled ps) × (editor.arc delta n ≡ Ok ps)
   unfolding fine_arc
   arc_back delta n qs all h =
-      let found = fine_positions wants delta origin (items n) in
+      let found = fine_positions wants delta fine_origin (items n) in
       let is = demand_ok (is_list n && editor.has_two (items n)) (bad_position n.at_byte) found qs h in
       let back = positions_back delta editor.origin (items n) qs all is.1 in
       (back.0, back.1, arc_read delta n back.0 is.0 back.2)
@@ -256,7 +256,7 @@ whole_on_grid wants bytes o e h =
     let made_same = opened_whole wants e w.shape w.found w.polygons w.along in
     record { short = h.short; json = h.json; opens = rw (w.outlined, fine) (made_same ∙ ap opened w.is) }
 
--- whether it has whole numbers alone, and no heights that are left out, is told
+-- whether it has whole numbers alone, and no heights that are left out, is reported
 pub whole_told : (wants : Wants) (bytes : List ℕ) (o : Opened) (told : Told) → OpensWalks bytes o → IsTold wants bytes told →
     (told.whole ≡ true) × (told.heights ≡ 0)
 whole_told wants bytes o told h t =
@@ -269,7 +269,7 @@ whole_told wants bytes o told h t =
       t.is.heights ∙ none_dropped wants.drop_heights (nodes_of t.shape) plain,
     )
 
--- and where that is told, the editor reads it
+-- and where that is reported, the editor reads it
 pub grid_is_whole : (wants : Wants) (bytes : List ℕ) (o : Opened) (told : Told) → wants.finer ≡ 0 → OpensIn (grid_opening wants) bytes o →
     IsTold wants bytes told → told.whole ≡ true → told.heights ≡ 0 → OpensWalks bytes o
 grid_is_whole wants bytes o told e h t whole low =

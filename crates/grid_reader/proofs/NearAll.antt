@@ -7,10 +7,10 @@ use Rattle.json_spans.specs.Common.{Node, items, kind_of}
 use Rattle.topo_outline.specs.Common.{is_list, is_number, not_whole, out_of_range, bad_position, ◌>>=◌, each}
 use Rattle.topo_reader.specs.Common.{has_two}
 use Rattle.topo_reader.proofs.Common.{bind_ok, demand_ok, ok_same}
-use Rattle.exact_decimals.specs.Common.{Parts, parts_of, fine}
-use Rattle.grid_reader.specs.Common.{Wants, FinePosition, origin, is_within, summed, coordinate, two_of, pair_of, pair}
-use Rattle.grid_reader.specs.Common.{fine_position, before_next, fine_positions, fine_arc, fine_arcs, xy, coordinates}
-use Rattle.grid_reader.specs.Common.{greater, greatest_from, furthest, most_decimals, lesser, fitting, digits_of}
+use Rattle.decimal_texts.specs.Common.{Parts, parts_of, fine}
+use Rattle.grid_reader.specs.Common.{Wants, FinePosition, fine_origin, fits_finer_grid, fine_sum, fine_coordinate, first_two_of, fine_pair_of, fine_pair}
+use Rattle.grid_reader.specs.Common.{fine_position, before_next_fine, fine_positions, fine_arc, fine_arcs, xy, coordinates}
+use Rattle.grid_reader.specs.Common.{greater, greatest_from, furthest, most_decimals, smaller, fitting, decimals_kept}
 use Rattle.grid_reader.specs.Common.{IsNear}
 
 -- both coordinates are at most so far from 0
@@ -20,52 +20,52 @@ pub record IsUpTo (far : ℕ) (p : FinePosition) : Type 0 where
 
 -- ---- what is read is within the range
 
-summed_within : (finer : ℕ) (before : ℤ) (place : ℕ) (o : Option Parts) (z : ℤ) → summed finer before place o ≡ Ok z → unsigned_abs z ≤ 10 ^ (36 - finer)
+summed_within : (finer : ℕ) (before : ℤ) (place : ℕ) (o : Option Parts) (z : ℤ) → fine_sum finer before place o ≡ Ok z → unsigned_abs z ≤ 10 ^ (36 - finer)
 summed_within finer before place None z h = absurd cc
 summed_within finer before place (Some p) z h =
-    let is = demand_ok (is_within finer (before +ℤ fine p)) (out_of_range place) (Ok (before +ℤ fine p)) z h in
+    let is = demand_ok (fits_finer_grid finer (before +ℤ fine p)) (out_of_range place) (Ok (before +ℤ fine p)) z h in
     subst (λ (y : ℤ). unsigned_abs y ≤ 10 ^ (36 - finer)) (ok_same (before +ℤ fine p) z is.1) (leb-true (unsigned_abs (before +ℤ fine p)) (10 ^ (36 - finer)) is.0)
 
-coordinate_within : (finer : ℕ) (before : ℤ) (n : Node) (z : ℤ) → coordinate finer before n ≡ Ok z → unsigned_abs z ≤ 10 ^ (36 - finer)
+coordinate_within : (finer : ℕ) (before : ℤ) (n : Node) (z : ℤ) → fine_coordinate finer before n ≡ Ok z → unsigned_abs z ≤ 10 ^ (36 - finer)
 coordinate_within finer before n z h =
     summed_within finer before n.at_byte (parts_of n.bytes) z
-    (demand_ok (is_number (kind_of n.bytes)) (not_whole n.at_byte) (summed finer before n.at_byte (parts_of n.bytes)) z h).1
+    (demand_ok (is_number (kind_of n.bytes)) (not_whole n.at_byte) (fine_sum finer before n.at_byte (parts_of n.bytes)) z h).1
 
 at : ℤ → ℤ → FinePosition
 at x y = record { x = x; y = y }
 
-pair_of_within : (finer : ℕ) (before : FinePosition) (a b : Node) (p : FinePosition) → pair_of finer before a b ≡ Ok p → IsUpTo (10 ^ (36 - finer)) p
+pair_of_within : (finer : ℕ) (before : FinePosition) (a b : Node) (p : FinePosition) → fine_pair_of finer before a b ≡ Ok p → IsUpTo (10 ^ (36 - finer)) p
 unfolding at
 pair_of_within finer before a b p h =
-    let first = bind_ok (coordinate finer before.x a) (λ (x : ℤ). coordinate finer before.y b >>= λ y. Ok (at x y)) p h in
-    let second = bind_ok (coordinate finer before.y b) (λ (y : ℤ). Ok (at first.0 y)) p first.2 in
+    let first = bind_ok (fine_coordinate finer before.x a) (λ (x : ℤ). fine_coordinate finer before.y b >>= λ y. Ok (at x y)) p h in
+    let second = bind_ok (fine_coordinate finer before.y b) (λ (y : ℤ). Ok (at first.0 y)) p first.2 in
     subst (IsUpTo (10 ^ (36 - finer))) (ok_same (at first.0 second.0) p second.2)
     (record { across = coordinate_within finer before.x a first.0 first.1; upward = coordinate_within finer before.y b second.0 second.1 })
 
-pair_within : (finer : ℕ) (before : FinePosition) (place : ℕ) (o : Option (Node × Node)) (p : FinePosition) → pair finer before place o ≡ Ok p → IsUpTo (10 ^ (36 - finer)) p
+pair_within : (finer : ℕ) (before : FinePosition) (place : ℕ) (o : Option (Node × Node)) (p : FinePosition) → fine_pair finer before place o ≡ Ok p → IsUpTo (10 ^ (36 - finer)) p
 pair_within finer before place None p h = absurd cc
 pair_within finer before place (Some q) p h = pair_of_within finer before q.0 q.1 p h
 
 position_within : (wants : Wants) (before : FinePosition) (n : Node) (p : FinePosition) → fine_position wants before n ≡ Ok p → IsUpTo (10 ^ (36 - wants.finer)) p
 unfolding fine_position
 position_within wants before n p h =
-    pair_within wants.finer before n.at_byte (two_of wants.drop_heights (items n)) p
-    (demand_ok (is_list n) (bad_position n.at_byte) (pair wants.finer before n.at_byte (two_of wants.drop_heights (items n))) p h).1
+    pair_within wants.finer before n.at_byte (first_two_of wants.drop_heights (items n)) p
+    (demand_ok (is_list n) (bad_position n.at_byte) (fine_pair wants.finer before n.at_byte (first_two_of wants.drop_heights (items n))) p h).1
 
 positions_within : (wants : Wants) (delta : Bool) (before : FinePosition) (ns : List Node) (ps : List FinePosition) → fine_positions wants delta before ns ≡ Ok ps → AllByRecursion (IsUpTo (10 ^ (36 - wants.finer))) ps
 unfolding fine_positions
 positions_within wants delta before [] ps h = subst (λ qs. AllByRecursion (IsUpTo (10 ^ (36 - wants.finer))) qs) (ok_same [] ps h) tt
 positions_within wants delta before (n ∷ ns) ps h =
-    let first = bind_ok (fine_position wants before n) (λ (p : FinePosition). fine_positions wants delta (before_next delta p) ns >>= λ qs. Ok (p ∷ qs)) ps h in
-    let rest = bind_ok (fine_positions wants delta (before_next delta first.0) ns) (λ (qs : List FinePosition). Ok (first.0 ∷ qs)) ps first.2 in
+    let first = bind_ok (fine_position wants before n) (λ (p : FinePosition). fine_positions wants delta (before_next_fine delta p) ns >>= λ qs. Ok (p ∷ qs)) ps h in
+    let rest = bind_ok (fine_positions wants delta (before_next_fine delta first.0) ns) (λ (qs : List FinePosition). Ok (first.0 ∷ qs)) ps first.2 in
     subst (λ qs. AllByRecursion (IsUpTo (10 ^ (36 - wants.finer))) qs) (ok_same (first.0 ∷ rest.0) ps rest.2)
-    (position_within wants before n first.0 first.1, positions_within wants delta (before_next delta first.0) ns rest.0 rest.1)
+    (position_within wants before n first.0 first.1, positions_within wants delta (before_next_fine delta first.0) ns rest.0 rest.1)
 
 arc_within : (wants : Wants) (delta : Bool) (n : Node) (ps : List FinePosition) → fine_arc wants delta n ≡ Ok ps → AllByRecursion (IsUpTo (10 ^ (36 - wants.finer))) ps
 unfolding fine_arc
 arc_within wants delta n ps h =
-    positions_within wants delta origin (items n) ps
-    (demand_ok (is_list n && has_two (items n)) (bad_position n.at_byte) (fine_positions wants delta origin (items n)) ps h).1
+    positions_within wants delta fine_origin (items n) ps
+    (demand_ok (is_list n && has_two (items n)) (bad_position n.at_byte) (fine_positions wants delta fine_origin (items n)) ps h).1
 
 each_within : (wants : Wants) (delta : Bool) (ns : List Node) (arcs : List (List FinePosition)) → each (fine_arc wants delta) ns ≡ Ok arcs → AllByRecursion (AllByRecursion (IsUpTo (10 ^ (36 - wants.finer)))) arcs
 each_within wants delta [] arcs h = subst (λ bs. AllByRecursion (AllByRecursion (IsUpTo (10 ^ (36 - wants.finer)))) bs) (ok_same [] arcs h) tt
@@ -139,8 +139,8 @@ arcs_near finer far d f [] low le = tt
 arcs_near finer far d f (a ∷ arcs) low le = (arc_near finer far d f a low.0 le.0, arcs_near finer far d f arcs low.1 le.1)
 
 -- the positions that were read are near on their grid
-pub all_near : (wants : Wants) (delta : Bool) (n : Node) (arcs : List (List FinePosition)) → fine_arcs wants delta n ≡ Ok arcs → AllByRecursion (AllByRecursion (IsNear (digits_of wants arcs) wants.finer)) arcs
+pub all_near : (wants : Wants) (delta : Bool) (n : Node) (arcs : List (List FinePosition)) → fine_arcs wants delta n ≡ Ok arcs → AllByRecursion (AllByRecursion (IsNear (decimals_kept wants arcs) wants.finer)) arcs
 all_near wants delta n arcs h =
-    arcs_near wants.finer (furthest arcs) (digits_of wants arcs) (fitting_fits wants.finer (furthest arcs) (lesser wants.digits (most_decimals arcs))) arcs
+    arcs_near wants.finer (furthest arcs) (decimals_kept wants arcs) (fitting_fits wants.finer (furthest arcs) (smaller wants.digits (most_decimals arcs))) arcs
     (each_within wants delta (items n) arcs h)
     (all_up_to (furthest arcs) 0 arcs (omega arith)).1

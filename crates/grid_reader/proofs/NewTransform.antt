@@ -22,13 +22,14 @@ use Rattle.map_text.proofs.GrammarObjects.{IsMember, object_is_json}
 use Rattle.map_text.proofs.MembersKnown.{plain_name}
 use Rattle.map_text.proofs.MembersSeen.{seen_value, value_seen, all_seen, object_seen}
 use Rattle.map_text.proofs.ReadingPlaces.{node_there}
-use Rattle.grid_reader.specs.Common.{two_of, says, value_named, both_numbers, two_numbers, two_in, there, number}
+use Rattle.grid_reader.specs.Common.{first_two_of, member_value, both_numbers, two_number_nodes, two_in, or_bad_transform, number}
 use Rattle.topo_reader.proofs.Common.{bind_ok, ok_same}
-use Rattle.exact_decimals.specs.Common.{Parts, parts_of, unsigned, behind_integer, with_exponent, exponent_of}
-use Rattle.exact_decimals.specs.Common.{digits_of, behind_digits, shifted_text}
-use Rattle.exact_decimals.proofs.Values.{front_passes}
-use Rattle.exact_decimals.proofs.Written.{shifted_number}
-use Rattle.grid_reader.specs.Common.{transform_text, one_shifted, divided, transform_on}
+use Rattle.decimal_texts.specs.Common.{Parts, parts_of, unsigned, behind_integer, with_exponent, exponent_of}
+use Rattle.decimal_texts.specs.Common.{digits_of, behind_digits, shifted_text}
+use Rattle.decimal_texts.proofs.Values.{front_passes}
+use Rattle.decimal_texts.proofs.Written.{shifted_number}
+use Rattle.grid_reader.specs.Common.{new_transform_text, one_shifted, divided, transform_on}
+use Rattle.decimal_texts.specs.Geometries.{is_string_of}
 
 -- ---- the text, of four numbers
 
@@ -50,7 +51,7 @@ members_made scale translate = member (codes "\"scale\"") scale ∷ member (code
 abbrev with_end : Text → Text → Text → Text → Text
 with_end a b c end = codes "{\"scale\":[" ++ (a ++ (codes "," ++ (b ++ (codes "],\"translate\":[" ++ (c ++ (codes "," ++ end))))))
 
-text_is : (a b c d : Text) → transform_text a b c d ≡ object_text (members_made (pair_of a b) (pair_of c d))
+text_is : (a b c d : Text) → new_transform_text a b c d ≡ object_text (members_made (pair_of a b) (pair_of c d))
 text_is a b c d = simp (append_assoc, append-nil {A = ℕ}) (ap (with_end a b c) (sym (append_assoc d (codes "]") (codes "}"))))
 
 number_is_json : {a : Text} → IsNumber a → IsJson a
@@ -89,10 +90,10 @@ translate_seen : (s t : Text) → seen_value 9 (all_seen names (members_made s t
 unfolding word_of
 translate_seen s t = refl
 
-pub made_kept : (a b c d : Text) → IsNumber a → IsNumber b → IsNumber c → IsNumber d → IsKeptTransform (transform_text a b c d)
+pub made_kept : (a b c d : Text) → IsNumber a → IsNumber b → IsNumber c → IsNumber d → IsKeptTransform (new_transform_text a b c d)
 made_kept a b c d w x y z =
     let ms = members_made (pair_of a b) (pair_of c d) in
-    let node : Node = record { at_byte = 0; bytes = transform_text a b c d } in
+    let node : Node = record { at_byte = 0; bytes = new_transform_text a b c d } in
     let are : AllByRecursion IsMember ms = (record { string = scale_named.string; json = pair_is_json a b w x }, (record { string = translate_named.string; json = pair_is_json c d y z }, tt)) in
     let seen = object_seen node ms names (text_is a b c d) are (scale_named.says, (translate_named.says, tt)) names_differ in
     let scale = node_there (value_at word.Scale seen.entries) (pair_of a b) (value_seen word.Scale seen.entries ∙ ap (seen_value 8) seen.are ∙ scale_seen (pair_of a b) (pair_of c d)) in
@@ -143,7 +144,7 @@ parts_digits (x ∷ xs) p h = by (x == 45) h
     by true k = unsigned_digits true xs p k
     by false k = unsigned_digits false (x ∷ xs) p k
 
-is_there : {A : Type 0} (o : Option A) (a : A) → there o ≡ Ok a → o ≡ Some a
+is_there : {A : Type 0} (o : Option A) (a : A) → or_bad_transform o ≡ Ok a → o ≡ Some a
 is_there None a h = absurd cc
 is_there (Some b) a h = cc
 
@@ -154,12 +155,12 @@ shifted_is_number k t p h =
 
 -- ---- the translation, as it stands
 
-value_is : (n : ℕ) (name : List ℕ) (ms : List (Node × Node)) (v : Node) → AllByRecursion (λ m. IsText m.0.bytes × IsValue n m.1.bytes) ms → value_named name ms ≡ Some v → NestsAtMost n v
-unfolding value_named
+value_is : (n : ℕ) (name : List ℕ) (ms : List (Node × Node)) (v : Node) → AllByRecursion (λ m. IsText m.0.bytes × IsValue n m.1.bytes) ms → member_value name ms ≡ Some v → NestsAtMost n v
+unfolding member_value
 value_is n name [] v all h = absurd cc
-value_is n name (m ∷ ms) v all h = by (says name (decoded m.0.bytes)) h (value_is n name ms v all.1)
+value_is n name (m ∷ ms) v all h = by (is_string_of name (decoded m.0.bytes)) h (value_is n name ms v all.1)
   where
-    by : (b : Bool) → cond b (Some m.1) (value_named name ms) ≡ Some v → (value_named name ms ≡ Some v → NestsAtMost n v) → NestsAtMost n v
+    by : (b : Bool) → cond b (Some m.1) (member_value name ms) ≡ Some v → (member_value name ms ≡ Some v → NestsAtMost n v) → NestsAtMost n v
     by true k rest = let same : m.1 ≡ v = cc in subst (NestsAtMost n) same all.0.1
     by false k rest = rest k
 
@@ -181,28 +182,28 @@ pair_numbers n (Some q) p nests h = by (is_number (kind_of q.0.bytes)) refl (is_
     by true e false f k = absurd cc
     by false e b f k = absurd cc
 
-two_nest : (n : ℕ) (ns : List Node) (p : Node × Node) → AllByRecursion (NestsAtMost n) ns → two_of false ns ≡ Some p → NestsAtMost n p.0 × NestsAtMost n p.1
+two_nest : (n : ℕ) (ns : List Node) (p : Node × Node) → AllByRecursion (NestsAtMost n) ns → first_two_of false ns ≡ Some p → NestsAtMost n p.0 × NestsAtMost n p.1
 two_nest n [] p all h = absurd cc
 two_nest n (a ∷ []) p all h = absurd cc
 two_nest n (a ∷ b ∷ []) p all h = let same : (a, b) ≡ p = cc in subst (λ (r : Node × Node). NestsAtMost n r.0 × NestsAtMost n r.1) same (all.0, all.1.0)
 two_nest n (a ∷ b ∷ c ∷ ns) p all h = absurd cc
 
-numbers_in : (n : ℕ) (v : Node) (p : Node × Node) → NestsAtMost n v → two_numbers v ≡ Some p → AreNumbers p
-unfolding two_numbers
+numbers_in : (n : ℕ) (v : Node) (p : Node × Node) → NestsAtMost n v → two_number_nodes v ≡ Some p → AreNumbers p
+unfolding two_number_nodes
 numbers_in n v p nests h = by (is_list v) refl h
   where
-    by : (b : Bool) → is_list v ≡ b → cond b (both_numbers (two_of false (items v))) None ≡ Some p → AreNumbers p
+    by : (b : Bool) → is_list v ≡ b → cond b (both_numbers (first_two_of false (items v))) None ≡ Some p → AreNumbers p
     by true e k =
         let (j, less, all) = list_nests n v nests (list_here n v nests e) in
-        pair_numbers j (two_of false (items v)) p (two_nest j (items v) p all) k
+        pair_numbers j (first_two_of false (items v)) p (two_nest j (items v) p all) k
     by false e k = absurd cc
 
-two_in_numbers : (n : ℕ) (name : List ℕ) (ms : List (Node × Node)) (p : Node × Node) → AllByRecursion (λ m. IsText m.0.bytes × IsValue n m.1.bytes) ms → two_in (value_named name ms) ≡ Ok p → AreNumbers p
-two_in_numbers n name ms p all h = by (value_named name ms) refl h
+two_in_numbers : (n : ℕ) (name : List ℕ) (ms : List (Node × Node)) (p : Node × Node) → AllByRecursion (λ m. IsText m.0.bytes × IsValue n m.1.bytes) ms → two_in (member_value name ms) ≡ Ok p → AreNumbers p
+two_in_numbers n name ms p all h = by (member_value name ms) refl h
   where
-    by : (o : Option Node) → value_named name ms ≡ o → two_in o ≡ Ok p → AreNumbers p
+    by : (o : Option Node) → member_value name ms ≡ o → two_in o ≡ Ok p → AreNumbers p
     by None e k = absurd cc
-    by (Some v) e k = numbers_in n v p (value_is n name ms v all e) (is_there (two_numbers v) p k)
+    by (Some v) e k = numbers_in n v p (value_is n name ms v all e) (is_there (two_number_nodes v) p k)
 
 -- ---- what was kept is an object
 
@@ -226,18 +227,18 @@ zero_number : IsNumber (codes "0")
 zero_number = plain_number (zero_first (no_fraction no_exponent))
 
 divided_kept : (k : ℕ) (t : Option Text) (s : Text) → IfThere IsKeptTransform t → divided k t ≡ Ok s → IsKeptTransform s
-divided_kept k None s kept h = subst IsKeptTransform (ok_same (transform_text (one_shifted k) (one_shifted k) (codes "0") (codes "0")) s h) (made_kept (one_shifted k) (one_shifted k) (codes "0") (codes "0") (digit_number k) (digit_number k) zero_number zero_number)
+divided_kept k None s kept h = subst IsKeptTransform (ok_same (new_transform_text (one_shifted k) (one_shifted k) (codes "0") (codes "0")) s h) (made_kept (one_shifted k) (one_shifted k) (codes "0") (codes "0") (digit_number k) (digit_number k) zero_number zero_number)
 divided_kept k (Some t) s kept h =
     let all = kept_members t kept in
     let ms = members (object_at t) in
-    let last = λ (a b : Parts) (p : Node × Node). let r : Result Text Fault = Ok (transform_text (shifted_text k a) (shifted_text k b) p.0.bytes p.1.bytes) in r in
-    let translated = λ (a b : Parts). two_in (value_named (codes "translate") ms) >>= last a b in
-    let scale = bind_ok (two_in (value_named (codes "scale") ms)) (λ (q : Node × Node). number q.0.bytes >>= λ a. number q.1.bytes >>= λ b. translated a b) s h in
+    let last = λ (a b : Parts) (p : Node × Node). let r : Result Text Fault = Ok (new_transform_text (shifted_text k a) (shifted_text k b) p.0.bytes p.1.bytes) in r in
+    let translated = λ (a b : Parts). two_in (member_value (codes "translate") ms) >>= last a b in
+    let scale = bind_ok (two_in (member_value (codes "scale") ms)) (λ (q : Node × Node). number q.0.bytes >>= λ a. number q.1.bytes >>= λ b. translated a b) s h in
     let a = bind_ok (number scale.0.0.bytes) (λ (a : Parts). number scale.0.1.bytes >>= λ b. translated a b) s scale.2 in
     let b = bind_ok (number scale.0.1.bytes) (λ (b : Parts). translated a.0 b) s a.2 in
-    let p = bind_ok (two_in (value_named (codes "translate") ms)) (last a.0 b.0) s b.2 in
+    let p = bind_ok (two_in (member_value (codes "translate") ms)) (last a.0 b.0) s b.2 in
     let numbers = two_in_numbers all.0 (codes "translate") ms p.0 all.1 p.1 in
-    subst IsKeptTransform (ok_same (transform_text (shifted_text k a.0) (shifted_text k b.0) p.0.0.bytes p.0.1.bytes) s p.2)
+    subst IsKeptTransform (ok_same (new_transform_text (shifted_text k a.0) (shifted_text k b.0) p.0.0.bytes p.0.1.bytes) s p.2)
     (made_kept (shifted_text k a.0) (shifted_text k b.0) p.0.0.bytes p.0.1.bytes (shifted_is_number k scale.0.0.bytes a.0 a.1) (shifted_is_number k scale.0.1.bytes b.0 b.1) numbers.first numbers.second)
 
 pub transform_kept : (k : ℕ) (t u : Option Text) → IfThere IsKeptTransform t → transform_on k t ≡ Ok u → IfThere IsKeptTransform u

@@ -8,7 +8,7 @@ use Rattle.topo_outline.specs.Common.{Fault, unsupported, ◌>>=◌, Fails, Give
 use Rattle.topo_outline.proofs.Common.{carry}
 use Rattle.topo_reader.specs.Common.{Polygons, Opened, document_of, IsOfWalks, walks_read, root_of}
 use Rattle.topo_reader.proofs.Common.{made, along_of_walks, walks_along_meant, bind_ok, demand_ok, ok_same}
-use Rattle.grid_reader.specs.Common.{Wants, FinePosition, fine_arcs, arcs_on, finer_by, digits_of, on_grid, has_points}
+use Rattle.grid_reader.specs.Common.{Wants, FinePosition, fine_arcs, arcs_on, finer_by, decimals_kept, position_on_grid, has_points}
 use Rattle.grid_reader.specs.Common.{demand_points_lie, opened_on, grid_opening, AreOnGrid, ReadsOnGrid, transform_on}
 use Rattle.grid_reader.proofs.NewTransform.{transform_kept}
 
@@ -17,9 +17,9 @@ put shape t ps = record { transform = t; layers = shape.layers; members = shape.
 
 -- ---- step after step
 
-module _ (wants : Wants) (shape : OutlineText) (fine : List (List FinePosition)) (digits : ℕ) (e : digits ≡ digits_of wants fine) (t : Option Text) (divides : transform_on (digits + wants.finer) shape.transform ≡ Ok t) where
+module _ (wants : Wants) (shape : OutlineText) (fine : List (List FinePosition)) (digits : ℕ) (e : digits ≡ decimals_kept wants fine) (t : Option Text) (divides : transform_on (digits + wants.finer) shape.transform ≡ Ok t) where
   abbrev along : ℕ → Result (List Polygons) Fault
-  along d = demand_points_lie wants.points_lie (d + wants.finer) shape.layers (walks_read (map (map (on_grid d wants.finer)) fine) shape.layers)
+  along d = demand_points_lie wants.points_lie (d + wants.finer) shape.layers (walks_read (map (map (position_on_grid d wants.finer)) fine) shape.layers)
 
   pub goes_well : (ps : List Polygons) → along digits ≡ Ok ps → opened_on wants shape fine ≡ Ok (put shape t ps)
   goes_well ps h = rw (rw e at divides, rw e at h) refl
@@ -65,14 +65,14 @@ reads_on_grid wants bytes o short text h =
     subst (λ (p : Opened). ReadsOnGrid wants bytes (document_of p)) h.is (record {
       fine = h.fine;
       before = document_of (made h.shape h.polygons);
-      reads = walks_along_meant (AreOnGrid wants h.fine) bytes h.shape (arcs_on wants h.fine) h.polygons short text h.outlined (record { are = h.are; on_grid = refl }) h.along;
+      reads = walks_along_meant (AreOnGrid wants h.fine) bytes h.shape (arcs_on wants h.fine) h.polygons short text h.outlined (record { are = h.are; position_on_grid = refl }) h.along;
       transform = h.divides;
       same = refl;
     })
 
 pub on_grid_of_walks : (wants : Wants) (bytes : List ℕ) (o : Opened) → length bytes ≤ 67108864 → Json 100 bytes → IsOpenedOn wants (root_of bytes) o → IsOfWalks o
 on_grid_of_walks wants bytes o short text h =
-    let reads = walks_along_meant (AreOnGrid wants h.fine) bytes h.shape (arcs_on wants h.fine) h.polygons short text h.outlined (record { are = h.are; on_grid = refl }) h.along in
+    let reads = walks_along_meant (AreOnGrid wants h.fine) bytes h.shape (arcs_on wants h.fine) h.polygons short text h.outlined (record { are = h.are; position_on_grid = refl }) h.along in
     let before = along_of_walks (AreOnGrid wants h.fine) bytes h.shape (arcs_on wants h.fine) h.polygons reads h.outlined h.along in
     subst IsOfWalks h.is (record {
       counted = before.counted;

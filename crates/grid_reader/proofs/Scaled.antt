@@ -4,9 +4,9 @@ use mir.Val.{of_z, to_z}
 use Rattle.kit_words.proofs.Common.{◌≡◌, ℕ, zero, suc, ◌+◌, ◌-◌, ◌*◌, ◌<◌, ◌≤◌, ◌^◌, refl, ap, ap₂, sym, ◌∙◌, arith, ℤ}
 use Rattle.kit_words.proofs.Common.{pos, negsuc, ◌+ℤ◌, ◌*ℤ◌, unsigned_abs, ints, to_z-of_z, pow-add}
 use Rattle.kit_words.proofs.Common.{le_of_mul-le-mul_right, mul-le-mul_right, mul_assoc, le-leb, lt-leb}
-use Rattle.exact_decimals.specs.Common.{rounded}
-use Rattle.exact_decimals.proofs.Common.{power_pos, small_fits}
-use Rattle.exact_decimals.proofs.Rounding.{in_range, quotient_within}
+use Rattle.decimal_texts.specs.Common.{rounded}
+use Rattle.decimal_texts.proofs.Common.{power_pos, small_fits}
+use Rattle.decimal_texts.proofs.RoundedUnits.{in_range, quotient_within}
 use Rattle.grid_reader.specs.Common.{fitting}
 
 -- two powers of ten together are one

@@ -5,15 +5,15 @@ use Rattle.json_spans.specs.Common.{Node}
 use Rattle.topo_outline.specs.Common.{Fails, Fault}
 use Rattle.topo_outline.specs.declared.fault.OpenFault.{OpenFault}
 use Rattle.topo_outline.proofs.Common.{with_front, carry, regroup}
-use Rattle.grid_reader.specs.Common.{FinePos, Wants, FinePosition, coordinate, pair_of, fine_position, fine_positions}
-use Rattle.grid_reader.specs.Common.{before_next, fine_seen}
+use Rattle.grid_reader.specs.Common.{FinePos, Wants, FinePosition, fine_coordinate, fine_pair_of, fine_position, fine_positions}
+use Rattle.grid_reader.specs.Common.{before_next_fine, fine_seen}
 
 pub turn : (wants : Wants) (delta : Bool) (before : FinePosition) (front : List FinePos) (p : FinePos) (n : Node) (ns left : List Node) (whole : Result (List FinePosition) Fault) → left ≡ n ∷ ns → fine_position wants before n ≡ Ok (fine_seen p) → with_front (map fine_seen front) (fine_positions wants delta before left) ≡ whole →
-    with_front (map fine_seen (front ++ p ∷ [])) (fine_positions wants delta (before_next delta (fine_seen p)) ns) ≡ whole
+    with_front (map fine_seen (front ++ p ∷ [])) (fine_positions wants delta (before_next_fine delta (fine_seen p)) ns) ≡ whole
 unfolding fine_positions
 turn wants delta before front p n ns left whole e is h =
-    ap (λ (qs : List FinePosition). with_front qs (fine_positions wants delta (before_next delta (fine_seen p)) ns)) (map-append fine_seen front (p ∷ []))
-    ∙ (sym (regroup (map fine_seen front) (fine_seen p) (fine_positions wants delta (before_next delta (fine_seen p)) ns)) ∙ rw (e, is) at h)
+    ap (λ (qs : List FinePosition). with_front qs (fine_positions wants delta (before_next_fine delta (fine_seen p)) ns)) (map-append fine_seen front (p ∷ []))
+    ∙ (sym (regroup (map fine_seen front) (fine_seen p) (fine_positions wants delta (before_next_fine delta (fine_seen p)) ns)) ∙ rw (e, is) at h)
 
 pub end : (wants : Wants) (delta : Bool) (before : FinePosition) (front : List FinePosition) (left : List Node) (whole : Result (List FinePosition) Fault) → left ≡ [] → with_front front (fine_positions wants delta before left) ≡ whole → whole ≡ Ok front
 unfolding fine_positions
@@ -25,5 +25,5 @@ fails_stop o wants delta before front n ns left whole e is h = carry o (fine_pos
 
 -- where y has a fault, and x none, the position has that of y
 pub pair_fails : (o : OpenFault) (finer : ℕ) (before : FinePosition) (sum : ℤ) (a b : Node) →
-    coordinate finer before.x a ≡ Ok sum → Fails o (coordinate finer before.y b) → Fails o (pair_of finer before a b)
-pair_fails o finer before sum a b ok h = carry o (coordinate finer before.y b) (pair_of finer before a b) (λ f fy. rw (ok, fy) refl) h
+    fine_coordinate finer before.x a ≡ Ok sum → Fails o (fine_coordinate finer before.y b) → Fails o (fine_pair_of finer before a b)
+pair_fails o finer before sum a b ok h = carry o (fine_coordinate finer before.y b) (fine_pair_of finer before a b) (λ f fy. rw (ok, fy) refl) h

@@ -16,12 +16,12 @@ use Rattle.topo_reader.specs.Common.{Arc, IsSum}
 use Rattle.topo_reader.specs.Positions as editor
 use Rattle.topo_reader.proofs.Common.{bind_ok, demand_ok, ok_same}
 use Rattle.topo_reader.proofs.MeaningOfArcs.{small_step}
-use Rattle.exact_decimals.specs.Common.{Parts, parts_of, fine, decimals, rounded}
-use Rattle.exact_decimals.proofs.Wholes.{whole_has_parts, whole_is_fine}
-use Rattle.exact_decimals.proofs.Zeros.{zeros_all}
-use Rattle.grid_reader.specs.Common.{Wants, FinePosition, is_within, summed, coordinate, two_of, pair_of, pair}
-use Rattle.grid_reader.specs.Common.{fine_position, xy, coordinates, greater, greatest_from, most_decimals, lesser}
-use Rattle.grid_reader.specs.Common.{fitting, furthest, digits_of, on_grid, arcs_on, finer_by, has_further, is_whole}
+use Rattle.decimal_texts.specs.Common.{Parts, parts_of, fine, decimals, rounded}
+use Rattle.decimal_texts.proofs.Wholes.{whole_has_parts, whole_is_fine}
+use Rattle.decimal_texts.proofs.Zeros.{zeros_all}
+use Rattle.grid_reader.specs.Common.{Wants, FinePosition, fits_finer_grid, fine_sum, fine_coordinate, first_two_of, fine_pair_of, fine_pair}
+use Rattle.grid_reader.specs.Common.{fine_position, xy, coordinates, greater, greatest_from, most_decimals, smaller}
+use Rattle.grid_reader.specs.Common.{fitting, furthest, decimals_kept, position_on_grid, arcs_on, finer_by, has_further, is_whole_number}
 use Rattle.grid_reader.specs.Common.{has_wholes}
 
 -- ---- whole numbers in units
@@ -51,7 +51,7 @@ same_bound n = by (nat_le n 1000000000000) refl
     by true e = le-leb (n * 10 ^ 24) (10 ^ 36) (omega (arith, leb-true n 1000000000000 e))
     by false e = lt-leb (n * 10 ^ 24) (10 ^ 36) (omega (arith, above e))
 
-units_within : (z : ℤ) → is_within 0 (in_units z) ≡ editor.is_within z
+units_within : (z : ℤ) → fits_finer_grid 0 (in_units z) ≡ editor.is_within z
 units_within z = ap (λ (n : ℕ). nat_le n (10 ^ 36)) (unsigned_abs-mul z (pos (10 ^ 24))) ∙ same_bound (unsigned_abs z)
 
 -- ---- what the editor reads
@@ -117,12 +117,12 @@ units_added : (before z : ℤ) (bytes : List ℕ) (p : Parts) → parts_of bytes
     in_units before +ℤ fine p ≡ in_units (before +ℤ z)
 units_added before z bytes p e w = ap (λ (y : ℤ). in_units before +ℤ y) (whole_is_fine bytes p z e w) ∙ units_sum before z
 
-step_in_units : (before sum : ℤ) (n : Node) → IsStep before n sum → coordinate 0 (in_units before) n ≡ Ok (in_units sum)
+step_in_units : (before sum : ℤ) (n : Node) → IsStep before n sum → fine_coordinate 0 (in_units before) n ≡ Ok (in_units sum)
 step_in_units before sum n s =
     let found = whole_has_parts n.bytes s.added s.number s.whole in
     let same : in_units before +ℤ fine found.0 ≡ in_units sum =
     units_added before s.added n.bytes found.0 found.1 s.whole ∙ ap in_units (sym s.is) in
-    let near : is_within 0 (in_units sum) ≡ true = units_within sum ∙ le-leb (unsigned_abs sum) 1000000000000 s.near in
+    let near : fits_finer_grid 0 (in_units sum) ≡ true = units_within sum ∙ le-leb (unsigned_abs sum) 1000000000000 s.near in
     rw (number_kind s.number, found.1, same, near) refl
 
 pub position_in_units : (wants : Wants) → wants.finer ≡ 0 → (before p : Position) (n : Node) → AreSteps before n p →
@@ -138,31 +138,31 @@ abbrev IsBack : ℤ → Node → ℤ → Type 0
 IsBack before n units = (z : ℤ) × (units ≡ in_units z) × (editor.coordinate before n ≡ Ok z)
 
 added_back : (before units : ℤ) (n : Node) (o : Option Parts) (r : Result ℤ NotWhole) → parts_of n.bytes ≡ o → whole_of n.bytes ≡ r →
-    is_ok r ≡ true → summed 0 (in_units before) n.at_byte o ≡ Ok units → IsBack before n units
+    is_ok r ≡ true → fine_sum 0 (in_units before) n.at_byte o ≡ Ok units → IsBack before n units
 added_back before units n None r e f w h = absurd cc
 added_back before units n (Some p) (Err fault) e f w h = absurd cc
 added_back before units n (Some p) (Ok z) e f w h =
     let sum = in_units before +ℤ fine p in
-    let is = demand_ok (is_within 0 sum) (out_of_range n.at_byte) (Ok sum) units h in
+    let is = demand_ok (fits_finer_grid 0 sum) (out_of_range n.at_byte) (Ok sum) units h in
     let same : sum ≡ in_units (before +ℤ z) = units_added before z n.bytes p e f in
-    let near : editor.is_within (before +ℤ z) ≡ true = sym (units_within (before +ℤ z)) ∙ ap (is_within 0) (sym same) ∙ is.0 in
+    let near : editor.is_within (before +ℤ z) ≡ true = sym (units_within (before +ℤ z)) ∙ ap (fits_finer_grid 0) (sym same) ∙ is.0 in
     (before +ℤ z, sym (ok_same sum units is.1) ∙ same, rw (f, near) refl)
 
-coordinate_back : (before units : ℤ) (n : Node) → is_whole n ≡ true → coordinate 0 (in_units before) n ≡ Ok units → IsBack before n units
+coordinate_back : (before units : ℤ) (n : Node) → is_whole_number n ≡ true → fine_coordinate 0 (in_units before) n ≡ Ok units → IsBack before n units
 coordinate_back before units n w h =
-    let sum = summed 0 (in_units before) n.at_byte (parts_of n.bytes) in
+    let sum = fine_sum 0 (in_units before) n.at_byte (parts_of n.bytes) in
     let number = demand_ok (is_number (kind_of n.bytes)) (not_whole n.at_byte) sum units h in
     added_back before units n (parts_of n.bytes) (whole_of n.bytes) refl refl w number.1
 
 at : ℤ → ℤ → FinePosition
 at x y = record { x = x; y = y }
 
-pair_of_back : (before : Position) (a b : Node) (q : FinePosition) → is_whole a ≡ true → is_whole b ≡ true →
-    pair_of 0 (scaled before) a b ≡ Ok q → (p : Position) × (q ≡ scaled p) × (editor.pair_of before a b ≡ Ok p)
+pair_of_back : (before : Position) (a b : Node) (q : FinePosition) → is_whole_number a ≡ true → is_whole_number b ≡ true →
+    fine_pair_of 0 (scaled before) a b ≡ Ok q → (p : Position) × (q ≡ scaled p) × (editor.pair_of before a b ≡ Ok p)
 unfolding at
 pair_of_back before a b q v w h =
-    let first = bind_ok (coordinate 0 (in_units before.x) a) (λ (x : ℤ). coordinate 0 (in_units before.y) b >>= λ y. Ok (at x y)) q h in
-    let second = bind_ok (coordinate 0 (in_units before.y) b) (λ (y : ℤ). Ok (at first.0 y)) q first.2 in
+    let first = bind_ok (fine_coordinate 0 (in_units before.x) a) (λ (x : ℤ). fine_coordinate 0 (in_units before.y) b >>= λ y. Ok (at x y)) q h in
+    let second = bind_ok (fine_coordinate 0 (in_units before.y) b) (λ (y : ℤ). Ok (at first.0 y)) q first.2 in
     let x = coordinate_back before.x first.0 a v first.1 in
     let y = coordinate_back before.y second.0 b w second.1 in
     (placed x.0 y.0, sym (ok_same (at first.0 second.0) q second.2) ∙ ap₂ at x.1 y.1, rw (x.2, y.2) refl)
@@ -170,16 +170,16 @@ pair_of_back before a b q v w h =
 no_third : (n : ℕ) → nat_le 3 (suc (suc (suc n))) ≡ false → ⊥
 no_third n f = grind arith
 
-pair_back : (drop : Bool) (before : Position) (place : ℕ) (ns : List Node) (q : FinePosition) → list_all is_whole (take 2 ns) ≡ true →
-    (drop && nat_le 3 (length ns)) ≡ false → pair 0 (scaled before) place (two_of drop ns) ≡ Ok q →
+pair_back : (drop : Bool) (before : Position) (place : ℕ) (ns : List Node) (q : FinePosition) → list_all is_whole_number (take 2 ns) ≡ true →
+    (drop && nat_le 3 (length ns)) ≡ false → fine_pair 0 (scaled before) place (first_two_of drop ns) ≡ Ok q →
     (p : Position) × (q ≡ scaled p) × (editor.pair before place (editor.two_of ns) ≡ Ok p)
 pair_back true before place [] q w l h = absurd cc
 pair_back false before place [] q w l h = absurd cc
 pair_back true before place (a ∷ []) q w l h = absurd cc
 pair_back false before place (a ∷ []) q w l h = absurd cc
 pair_back drop before place (a ∷ b ∷ []) q w l h =
-    let (first, rest) = and_parts (is_whole a) (is_whole b && true) w in
-    pair_of_back before a b q first (and_parts (is_whole b) true rest).0 h
+    let (first, rest) = and_parts (is_whole_number a) (is_whole_number b && true) w in
+    pair_of_back before a b q first (and_parts (is_whole_number b) true rest).0 h
 pair_back true before place (a ∷ b ∷ c ∷ ns) q w l h = absurd (no_third (length ns) l)
 pair_back false before place (a ∷ b ∷ c ∷ ns) q w l h = absurd cc
 
@@ -192,7 +192,7 @@ pub position_back : (wants : Wants) → wants.finer ≡ 0 → (before : Position
     fine_position wants (scaled before) n ≡ Ok q → (p : Position) × (q ≡ scaled p) × (editor.position before n ≡ Ok p)
 unfolding fine_position
 position_back wants e before n q right h =
-    let two = pair wants.finer (scaled before) n.at_byte (two_of wants.drop_heights (items n)) in
+    let two = fine_pair wants.finer (scaled before) n.at_byte (first_two_of wants.drop_heights (items n)) in
     let is = demand_ok (is_list n) (bad_position n.at_byte) two q h in
     let back = pair_back wants.drop_heights before n.at_byte (items n) q right.0 right.1 (rw e at is.1) in
     (back.0, back.1, position_read before back.0 n is.0 back.2)
@@ -217,11 +217,11 @@ none_in_arcs (a ∷ found) =
     ∙ (ap (λ (n : ℕ). fold greater n (map decimals rest)) (none_in_arc a)
     ∙ none_in_arcs found))
 
-none_fit : (finer far most : ℕ) → fitting finer far (lesser most 0) ≡ 0
+none_fit : (finer far most : ℕ) → fitting finer far (smaller most 0) ≡ 0
 unfolding fitting
-none_fit finer far most = let none : lesser most 0 ≡ 0 = grind arith in rw none refl
+none_fit finer far most = let none : smaller most 0 ≡ 0 = grind arith in rw none refl
 
-pub no_digits : (wants : Wants) (found : List Arc) → digits_of wants (arcs_scaled found) ≡ 0
+pub no_digits : (wants : Wants) (found : List Arc) → decimals_kept wants (arcs_scaled found) ≡ 0
 no_digits wants found = rw (none_in_arcs found) (none_fit wants.finer (furthest (arcs_scaled found)) wants.digits)
 
 unrounded : (z : ℤ) → rounded 0 (in_units z) ≡ z
@@ -237,11 +237,11 @@ unmoved z = once (rounded 0 (in_units z)) z (unrounded z)
     once : (y : ℤ) (z : ℤ) → y ≡ z → y *ℤ pos 1 ≡ z
     once y z e = omega (arith, ints, e)
 
-arc_unmoved : (a : Arc) → map (on_grid 0 0) (map scaled a) ≡ a
+arc_unmoved : (a : Arc) → map (position_on_grid 0 0) (map scaled a) ≡ a
 arc_unmoved [] = refl
 arc_unmoved (p ∷ ps) = rw (unmoved p.x, unmoved p.y, arc_unmoved ps) refl
 
-pub arcs_unmoved : (found : List Arc) → map (map (on_grid 0 0)) (arcs_scaled found) ≡ found
+pub arcs_unmoved : (found : List Arc) → map (map (position_on_grid 0 0)) (arcs_scaled found) ≡ found
 arcs_unmoved [] = refl
 arcs_unmoved (a ∷ found) = rw (arc_unmoved a, arcs_unmoved found) refl
 

@@ -1,19 +1,19 @@
 -- The words of this crate that others cite most, passed on from one place. Declares nothing.
-pub use Rattle.grid_reader.specs.Fine.{FinePosition, before_next, coordinate, fine_arcs, is_within, origin, pair}
-pub use Rattle.grid_reader.specs.Fine.{pair_of, summed, two_of}
+pub use Rattle.grid_reader.specs.Fine.{FinePosition, before_next_fine, fine_coordinate, fine_arcs, fits_finer_grid, fine_origin, fine_pair}
+pub use Rattle.grid_reader.specs.Fine.{fine_pair_of, fine_sum, first_two_of}
 unfoldable pub use Rattle.grid_reader.specs.Fine.{fine_arc, fine_position, fine_positions}
-pub use Rattle.grid_reader.specs.Grid.{arcs_on, coordinates, digits_of, finer_by, furthest, greater, greatest_from}
-pub use Rattle.grid_reader.specs.Grid.{has_further, heights, is_moved, lesser, most_decimals, moved, on_grid, xy}
+pub use Rattle.grid_reader.specs.Grid.{arcs_on, coordinates, decimals_kept, finer_by, furthest, greater, greatest_from}
+pub use Rattle.grid_reader.specs.Grid.{has_further, heights, is_moved, smaller, most_decimals, positions_moved, position_on_grid, xy}
 unfoldable pub use Rattle.grid_reader.specs.Grid.{fitting}
 pub use Rattle.grid_reader.specs.Near.{IsNear}
 pub use Rattle.grid_reader.specs.OnGridView.{view_on_grid}
 pub use Rattle.grid_reader.specs.Opening.{AreOnGrid, ReadsOnGrid, demand_points_lie, grid_opening, has_points}
-pub use Rattle.grid_reader.specs.Opening.{has_text_in, is_text, opened_on}
+pub use Rattle.grid_reader.specs.Opening.{has_text_in, is_kept_text, opened_on}
 pub use Rattle.grid_reader.specs.Seen.{arc_seen, arcs_seen, fine_seen}
 pub use Rattle.grid_reader.specs.Told.{IsTold}
-pub use Rattle.grid_reader.specs.Transform.{both_numbers, divided, number, one_shifted, says, there, transform_on}
-pub use Rattle.grid_reader.specs.Transform.{transform_text, two_in}
-unfoldable pub use Rattle.grid_reader.specs.Transform.{two_numbers, value_named}
-pub use Rattle.grid_reader.specs.Wholes.{all_whole, has_wholes, is_whole}
+pub use Rattle.grid_reader.specs.Transform.{both_numbers, divided, number, one_shifted, or_bad_transform, transform_on}
+pub use Rattle.grid_reader.specs.Transform.{new_transform_text, two_in}
+unfoldable pub use Rattle.grid_reader.specs.Transform.{two_number_nodes, member_value}
+pub use Rattle.grid_reader.specs.Wholes.{all_whole, has_wholes, is_whole_number}
 pub use Rattle.grid_reader.specs.declared.fine_pos.FinePos.{FinePos}
 pub use Rattle.grid_reader.specs.declared.wants.Wants.{Wants}

@@ -4,7 +4,7 @@ use Rattle.std.specs.List.{flat_map, fold, filter}
 use Rattle.json_spans.specs.Common.{Node, items}
 use Rattle.grid_geometry.specs.Common.{Position, position}
 use Rattle.topo_reader.specs.Common.{Arc}
-use Rattle.exact_decimals.specs.Common.{decimals, rounded, is_rounded}
+use Rattle.decimal_texts.specs.Common.{decimals, rounded, is_rounded}
 use Rattle.grid_reader.specs.declared.wants.Wants.{Wants}
 use Rattle.grid_reader.specs.Fine.{FinePosition}
 
@@ -42,28 +42,28 @@ fitting finer far zero = 0
 fitting finer far (suc k) =
     if nat_le (far * 10 ^ (suc k)) (10 ^ (36 - finer)) then suc k else fitting finer far k
 
-abbrev pub lesser : ℕ → ℕ → ℕ
-lesser a b = if nat_le a b then a else b
+abbrev pub smaller : ℕ → ℕ → ℕ
+smaller a b = if nat_le a b then a else b
 
 -- how many decimals are kept: as many as there are, as are asked for, and as fit
-abbrev pub digits_of : Wants → List (List FinePosition) → ℕ
-digits_of wants arcs =
-    fitting wants.finer (furthest arcs) (lesser wants.digits (most_decimals arcs))
+abbrev pub decimals_kept : Wants → List (List FinePosition) → ℕ
+decimals_kept wants arcs =
+    fitting wants.finer (furthest arcs) (smaller wants.digits (most_decimals arcs))
 
 -- ---- the positions
 
 -- rounded to so many decimals, on a grid 10^finer times as fine as these
-abbrev pub on_grid : ℕ → ℕ → FinePosition → Position
-on_grid digits finer p =
+abbrev pub position_on_grid : ℕ → ℕ → FinePosition → Position
+position_on_grid digits finer p =
     position (rounded digits p.x *ℤ pos (10 ^ finer)) (rounded digits p.y *ℤ pos (10 ^ finer))
 
 -- the arcs of a map on the grid that is asked for
 abbrev pub arcs_on : Wants → List (List FinePosition) → List Arc
-arcs_on wants arcs = map (map (on_grid (digits_of wants arcs) wants.finer)) arcs
+arcs_on wants arcs = map (map (position_on_grid (decimals_kept wants arcs) wants.finer)) arcs
 
 -- by which power of ten the grid is finer than the one of the text
 abbrev pub finer_by : Wants → List (List FinePosition) → ℕ
-finer_by wants arcs = digits_of wants arcs + wants.finer
+finer_by wants arcs = decimals_kept wants arcs + wants.finer
 
 -- ---- what is told of it
 
@@ -72,8 +72,8 @@ abbrev pub is_moved : ℕ → FinePosition → Bool
 is_moved digits p = is_rounded digits p.x || is_rounded digits p.y
 
 -- how many positions of the arcs rounding moves
-abbrev pub moved : ℕ → List (List FinePosition) → ℕ
-moved digits arcs = length (filter (is_moved digits) (flat_map (λ a. a) arcs))
+abbrev pub positions_moved : ℕ → List (List FinePosition) → ℕ
+positions_moved digits arcs = length (filter (is_moved digits) (flat_map (λ a. a) arcs))
 
 -- a third number, or further ones
 abbrev pub has_further : Node → Bool

@@ -12,13 +12,13 @@ use Rattle.grid_reader.specs.Transform.{transform_on}
 
 -- ---- the first fault, or what was read
 
-abbrev pub is_text : Piece → Bool
-is_text (text t) = true
-is_text _ = false
+abbrev pub is_kept_text : Piece → Bool
+is_kept_text (text t) = true
+is_kept_text _ = false
 
 -- a point, or several points (TopoJSON 1.0, 2.2.1 and 2.2.2)
 abbrev pub has_text_in : LayerText → Bool
-has_text_in l = list_any is_text l.pieces
+has_text_in l = list_any is_kept_text l.pieces
 
 abbrev pub has_points : List LayerText → Bool
 has_points layers = list_any has_text_in layers

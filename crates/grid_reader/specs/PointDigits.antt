@@ -4,7 +4,7 @@ use Rattle.topo_outline.specs.Common.{Fault, OutlineText, outline}
 use Rattle.topo_reader.specs.Common.{root_of}
 use Rattle.grid_reader.specs.declared.wants.Wants.{Wants}
 use Rattle.grid_reader.specs.Fine.{FinePosition, fine_arcs}
-use Rattle.grid_reader.specs.Grid.{digits_of, finer_by}
+use Rattle.grid_reader.specs.Grid.{decimals_kept, finer_by}
 use Rattle.grid_reader.specs.Opening.{has_points, opened_on}
 
 -- what is made of what was read; nothing where it was not
@@ -21,7 +21,7 @@ with_points_lying wants = record wants { points_lie = true }
 abbrev pub digits_kept : Wants → OutlineText → List (List FinePosition) → Option ℕ
 digits_kept wants shape fine =
     if finer_by wants fine == 0 then None
-    else where_read (λ o. Some (digits_of wants fine)) (opened_on (with_points_lying wants) shape fine)
+    else where_read (λ o. Some (decimals_kept wants fine)) (opened_on (with_points_lying wants) shape fine)
 
 -- the same of one with this outline, where it has points
 abbrev pub digits_at : Wants → OutlineText → Option ℕ

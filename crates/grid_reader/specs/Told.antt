@@ -1,4 +1,4 @@
--- What is told of the grid that a map was put on.
+-- What is reported of the grid that a map was put on.
 use Rattle.std.specs.Prelude.{◌≡◌, ℕ, List, is_some, if◌then◌else◌, Ok}
 use Rattle.json_spans.specs.Common.{Node}
 use Rattle.topo_outline.specs.Common.{OutlineText, outline}
@@ -6,7 +6,7 @@ use Rattle.topo_reader.specs.Common.{root_of}
 use Rattle.grid_reader.specs.declared.wants.Wants.{Wants}
 use Rattle.grid_reader.specs.declared.told.Told.{Told}
 use Rattle.grid_reader.specs.Fine.{FinePosition, fine_arcs}
-use Rattle.grid_reader.specs.Grid.{most_decimals, digits_of, moved, heights}
+use Rattle.grid_reader.specs.Grid.{most_decimals, decimals_kept, positions_moved, heights}
 use Rattle.grid_reader.specs.Wholes.{all_whole}
 
 -- how many decimals the coordinates have, how many are kept, how many positions were rounded, how
@@ -14,8 +14,8 @@ use Rattle.grid_reader.specs.Wholes.{all_whole}
 pub record IsToldOf (wants : Wants) (fine : List (List FinePosition)) (arcs : Node) (told : Told)
     : Type 0 where
   pub decimals : told.decimals ≡ most_decimals fine
-  pub digits : told.digits ≡ digits_of wants fine
-  pub rounded : told.rounded ≡ moved (digits_of wants fine) fine
+  pub digits : told.digits ≡ decimals_kept wants fine
+  pub rounded : told.rounded ≡ positions_moved (decimals_kept wants fine) fine
   pub heights : told.heights ≡ (if wants.drop_heights then heights arcs else 0)
   pub whole : told.whole ≡ all_whole arcs
 

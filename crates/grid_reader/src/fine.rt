@@ -2,14 +2,14 @@
 ghost use Rattle.std.specs.Prelude.{◌≡◌, ◌≤◌, ◌^◌, true, Some, option_map, IfOk, unsigned_abs};
 ghost use Rattle.json_spans.specs.Common.{node, items};
 ghost use Rattle.topo_outline.specs.Common.{Gives};
-ghost use Rattle.exact_decimals.specs.Common.{parts};
-ghost use Rattle.grid_reader.specs.Fine.{origin, is_within, summed, coordinate, two_of, pair_of, fine_position, before_next, fine_positions, fine_arc, fine_arcs};
+ghost use Rattle.decimal_texts.specs.Common.{parts};
+ghost use Rattle.grid_reader.specs.Fine.{fine_origin, fits_finer_grid, fine_sum, fine_coordinate, first_two_of, fine_pair_of, fine_position, before_next_fine, fine_positions, fine_arc, fine_arcs};
 ghost use Rattle.grid_reader.specs.Seen.{fine_seen, arc_seen, arcs_seen};
 ghost use Rattle.topo_reader.specs.Common.{has_two};
 
 use crate::fine_pos::FinePos;
 use crate::wants::Wants;
-use exact_decimals::{Decimal, decimal_of};
+use decimal_texts::{Decimal, decimal_of};
 use json_spans::{Kind, Span, at, bytes, items, kind};
 use std::alloc::Allocator;
 use topo_outline::OpenFault;
@@ -20,7 +20,7 @@ pub(crate) const DIGITS: usize = 36;
 /// Whether a coordinate stays within 10^12 on a grid 10^`finer` times as fine.
 fn is_within(finer: usize, units: i128) -> bool
     requires { finer ≤ 12 }
-    ensures value { result ≡ is_within finer units }
+    ensures value { result ≡ fits_finer_grid finer units }
     ensures reach { result ≡ true → unsigned_abs units ≤ 10 ^ 36 }
 {
     units.unsigned_abs() <= 10u128.pow((DIGITS - finer) as u32)
@@ -35,7 +35,7 @@ fn summed<'a>(
 ) -> Result<i128, OpenFault<'a>>
     requires finer { finer ≤ 12 }
     requires near { unsigned_abs before ≤ 10 ^ 36 }
-    ensures value { Gives (λ z. z) result (summed finer before place (Some (parts number.entry))) }
+    ensures value { Gives (λ z. z) result (fine_sum finer before place (Some (parts number.entry))) }
     ensures range { IfOk result (λ z. unsigned_abs z ≤ 10 ^ 36) }
 {
     match number.fine() {
@@ -55,7 +55,7 @@ fn summed<'a>(
 fn coordinate(finer: usize, before: i128, part: Span<'_>) -> Result<i128, OpenFault<'_>>
     requires finer { finer ≤ 12 }
     requires near { unsigned_abs before ≤ 10 ^ 36 }
-    ensures value { Gives (λ z. z) result (coordinate finer before (node part.entry)) }
+    ensures value { Gives (λ z. z) result (fine_coordinate finer before (node part.entry)) }
     ensures range { IfOk result (λ z. unsigned_abs z ≤ 10 ^ 36) }
 {
     if !(kind(part) == Kind::Number) {
@@ -70,7 +70,7 @@ fn coordinate(finer: usize, before: i128, part: Span<'_>) -> Result<i128, OpenFa
 /// The two parts of a list of exactly two, or its first two where further ones are left out.
 pub(crate) fn two<'a>(drop_heights: bool, part: Span<'a>) -> Option<(Span<'a>, Span<'a>)>
     ensures { option_map (λ p. (node p.0, node p.1)) result
-        ≡ two_of drop_heights (items (node part.entry)) }
+        ≡ first_two_of drop_heights (items (node part.entry)) }
 {
     let mut parts = items(part);
     let first = parts.next()?;
@@ -86,7 +86,7 @@ fn pair<'a>(
 ) -> Result<FinePos, OpenFault<'a>>
     requires { finer ≤ 12 }
     ensures { Gives fine_seen result
-        (pair_of finer (fine_seen before) (node first.entry) (node second.entry)) }
+        (fine_pair_of finer (fine_seen before) (node first.entry) (node second.entry)) }
 {
     let x = or_return!(coordinate(finer, before.x, first));
     let y = or_return!(coordinate(finer, before.y, second));
@@ -111,13 +111,13 @@ fn fine_position<'a>(
 }
 
 fn origin() -> FinePos
-    ensures { fine_seen result ≡ origin }
+    ensures { fine_seen result ≡ fine_origin }
 {
     FinePos { x: 0, y: 0 }
 }
 
 fn before_next(delta: bool, pos: FinePos) -> FinePos
-    ensures { fine_seen result ≡ before_next delta (fine_seen pos) }
+    ensures { fine_seen result ≡ before_next_fine delta (fine_seen pos) }
 {
     if delta { pos } else { origin() }
 }
@@ -129,7 +129,7 @@ fn fine_positions<'a, A: Allocator + Copy>(
     span: Span<'a>,
 ) -> Result<Vec<FinePos, A>, OpenFault<'a>>
     ensures { Gives arc_seen result
-        (fine_positions wants delta origin (items (node span.entry))) }
+        (fine_positions wants delta fine_origin (items (node span.entry))) }
 {
     let mut found = Vec::new(alloc);
     let mut before = origin();

@@ -2,17 +2,17 @@
 ghost use Rattle.std.specs.Prelude.{◌≡◌, ◌≤◌, ◌*◌, ◌+◌, ◌^◌, map, length, unsigned_abs, IfOk, IfSome, ◌-◌, ◌*ℤ◌, pos};
 ghost use Rattle.std.specs.List.{filter, list_all, AllByRecursion};
 ghost use Rattle.json_spans.specs.Common.{node, items};
-ghost use Rattle.exact_decimals.specs.Common.{decimals, rounded};
+ghost use Rattle.decimal_texts.specs.Common.{decimals, rounded};
 ghost use Rattle.topo_reader.specs.Common.{positions_of};
-ghost use Rattle.grid_reader.specs.Grid.{greater, lesser, greatest_from, most_decimals, furthest, fitting, digits_of, on_grid, is_moved, moved, has_further, heights};
+ghost use Rattle.grid_reader.specs.Grid.{greater, smaller, greatest_from, most_decimals, furthest, fitting, decimals_kept, position_on_grid, is_moved, positions_moved, has_further, heights};
 ghost use Rattle.grid_reader.specs.Near.{IsNear};
 ghost use Rattle.grid_reader.specs.Seen.{fine_seen, arcs_seen};
-ghost use Rattle.grid_reader.specs.Wholes.{is_whole, has_wholes, all_whole};
+ghost use Rattle.grid_reader.specs.Wholes.{is_whole_number, has_wholes, all_whole};
 
 use crate::fine::DIGITS;
 use crate::fine_pos::FinePos;
 use crate::wants::Wants;
-use exact_decimals::{decimals, is_rounded, rounded};
+use decimal_texts::{decimals, is_rounded, rounded};
 use grid_geometry::Pos;
 use json_spans::{Span, items, whole};
 use std::alloc::{AllocError, Allocator};
@@ -85,7 +85,7 @@ pub(crate) fn digits_of<A: Allocator + Copy>(
     arcs: &[Vec<FinePos, A>],
 ) -> usize
     requires { most ≡ most_decimals (arcs_seen arcs.now) }
-    ensures value { result ≡ digits_of wants (arcs_seen arcs.now) }
+    ensures value { result ≡ decimals_kept wants (arcs_seen arcs.now) }
     ensures bound { result ≤ 24 }
 {
     fitting(wants.finer, furthest(arcs), wants.digits.min(most))
@@ -109,7 +109,7 @@ fn on_grid(digits: usize, finer: usize, pos: FinePos) -> Pos
     requires digits { digits ≤ 24 }
     requires finer { finer ≤ 12 }
     requires near { IsNear digits finer (fine_seen pos) }
-    ensures { result ≡ on_grid digits finer (fine_seen pos) }
+    ensures { result ≡ position_on_grid digits finer (fine_seen pos) }
 {
     let x = on_axis(digits, finer, pos.x);
     let y = on_axis(digits, finer, pos.y);
@@ -126,7 +126,7 @@ fn arc_on<A: Allocator + Copy>(
     requires digits { digits ≤ 24 }
     requires finer { finer ≤ 12 }
     requires near { AllByRecursion (IsNear digits finer) (map fine_seen arc.now) }
-    ensures { IfOk result (λ v. v.items ≡ map (on_grid digits finer) (map fine_seen arc.now)) }
+    ensures { IfOk result (λ v. v.items ≡ map (position_on_grid digits finer) (map fine_seen arc.now)) }
 {
     let mut found = Vec::new(alloc);
     for pos in arc {
@@ -146,7 +146,7 @@ pub(crate) fn arcs_on<A: Allocator + Copy>(
     requires finer { finer ≤ 12 }
     requires near { AllByRecursion (AllByRecursion (IsNear digits finer)) (arcs_seen arcs.now) }
     ensures { IfOk result (λ v. map positions_of v.items
-        ≡ map (map (on_grid digits finer)) (arcs_seen arcs.now)) }
+        ≡ map (map (position_on_grid digits finer)) (arcs_seen arcs.now)) }
 {
     let mut found = Vec::new(alloc);
     for arc in arcs {
@@ -181,7 +181,7 @@ fn moved_in_arc(digits: usize, before: usize, arc: &[FinePos]) -> Option<usize>
 /// How many positions rounding moves.
 pub(crate) fn moved<A: Allocator + Copy>(digits: usize, arcs: &[Vec<FinePos, A>]) -> Option<usize>
     requires { digits ≤ 24 }
-    ensures { IfSome result (λ n. n ≡ moved digits (arcs_seen arcs.now)) }
+    ensures { IfSome result (λ n. n ≡ positions_moved digits (arcs_seen arcs.now)) }
 {
     let mut count = 0;
     for arc in arcs {
@@ -224,7 +224,7 @@ pub(crate) fn heights(arcs: Span<'_>) -> Option<usize>
 
 /// Whether this is a whole number as the editor takes it.
 fn is_whole(span: Span<'_>) -> bool
-    ensures { result ≡ is_whole (node span.entry) }
+    ensures { result ≡ is_whole_number (node span.entry) }
 {
     whole(span).is_ok()
 }

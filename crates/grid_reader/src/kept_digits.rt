@@ -3,7 +3,7 @@ ghost use Rattle.std.specs.Prelude.{◌≡◌, ◌≢◌, ◌≤◌, ◌<◌, le
 ghost use Rattle.std.specs.List.{AllByRecursion};
 ghost use Rattle.json_spans.specs.Common.{Json, node};
 ghost use Rattle.topo_outline.specs.Common.{outline, view_outline, IsPlaced};
-ghost use Rattle.grid_reader.specs.Grid.{digits_of};
+ghost use Rattle.grid_reader.specs.Grid.{decimals_kept};
 ghost use Rattle.grid_reader.specs.Near.{IsNear};
 ghost use Rattle.grid_reader.specs.PointDigits.{where_read, digits_kept, digits_at, point_digits};
 ghost use Rattle.grid_reader.specs.Seen.{arcs_seen};
@@ -17,7 +17,7 @@ use json_spans::{ScanFault, Span, scan};
 use std::alloc::{AllocError, Allocator, Global};
 use topo_outline::{OpenFault, Outline, read_outline};
 
-/// Nothing where something was not read, unless for want of memory.
+/// Nothing where something was not read, unless on allocation failure.
 fn none_after(fault: &OpenFault<'_>) -> Result<Option<usize>, AllocError>
     ensures none { IfOk result (λ d. d ≡ None) }
     ensures fault { OnOk result (fault.now ≢ OpenFault.OutOfMemory) }
@@ -37,7 +37,7 @@ fn digits_kept<A: Allocator + Copy>(
     fine: &[Vec<FinePos, A>],
 ) -> Result<Option<usize>, AllocError>
     requires near { AllByRecursion
-        (AllByRecursion (IsNear (digits_of wants (arcs_seen fine.now)) wants.finer))
+        (AllByRecursion (IsNear (decimals_kept wants (arcs_seen fine.now)) wants.finer))
         (arcs_seen fine.now) }
     requires placed { IsPlaced outline }
     ensures digits { IfOk result (λ d.
@@ -100,7 +100,7 @@ fn digits_in<A: Allocator + Copy>(
 ///
 /// `None` without points, where the grid stays, and where `read_on_grid` comes to a fault of its own
 /// beside these points: reading with `wants.points_lie` tells it, at its place in this text. Whether
-/// `wants.points_lie` plays no part here. Fails for want of memory alone.
+/// `wants.points_lie` plays no part here. Fails only on allocation failure.
 pub fn point_digits<A: Allocator + Copy>(
     alloc: A,
     heap: Global,

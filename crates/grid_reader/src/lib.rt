@@ -2,8 +2,9 @@
 //! numbers, or the first fault.
 #![tactic(auto)]
 
-// The value of a result, or a return of its fault: what `?` does where it converts nothing. The
-// checker has no rule for the conversion of a fault that holds a position.
+/// The value of a result, or a return of its fault: what `?` does where it converts nothing. The
+/// checker has no rule for the conversion of a fault that holds a position.
+#[macro_export]
 macro_rules! or_return {
     ($result:expr) => {
         match $result {

@@ -5,8 +5,8 @@ ghost use Rattle.json_spans.specs.Common.{node};
 ghost use Rattle.topo_outline.specs.Common.{Gives, view_item, view_layer, view_outline, IsPlaced};
 ghost use Rattle.topo_reader.specs.Common.{document_of, IsOfWalks, walks_read, OpensIn, IsFaultIn};
 ghost use Rattle.topo_reader.specs.Common.{feature_positions};
-ghost use Rattle.grid_reader.specs.Opening.{is_text, has_points, demand_points_lie, opened_on, grid_opening, ReadsOnGrid};
-ghost use Rattle.grid_reader.specs.Grid.{most_decimals, digits_of, on_grid};
+ghost use Rattle.grid_reader.specs.Opening.{is_kept_text, has_points, demand_points_lie, opened_on, grid_opening, ReadsOnGrid};
+ghost use Rattle.grid_reader.specs.Grid.{most_decimals, decimals_kept, position_on_grid};
 ghost use Rattle.grid_reader.specs.Near.{IsNear};
 ghost use Rattle.grid_reader.specs.OnGridView.{view_on_grid};
 ghost use Rattle.grid_reader.specs.Seen.{arcs_seen};
@@ -41,12 +41,12 @@ pub struct OnGrid<'a, A: Allocator + Copy = Global> {
     pub members: Vec<KeptMember<'a>, A>,
     /// By feature the polygons, each a list of walks, begun where their first arcs are.
     pub polygons: Vec<Vec<Vec<Vec<Pos, A>, A>, A>, A>,
-    /// What is told of the grid.
+    /// What is reported of the grid.
     pub told: Told,
 }
 
 fn is_text<A: Allocator + Copy>(item: &Item<'_, A>) -> bool
-    ensures { result ≡ is_text (view_item item.now) }
+    ensures { result ≡ is_kept_text (view_item item.now) }
 {
     match item {
         Item::Kept(_) => true,
@@ -55,7 +55,7 @@ fn is_text<A: Allocator + Copy>(item: &Item<'_, A>) -> bool
 }
 
 fn has_text<A: Allocator + Copy>(items: &[Item<'_, A>]) -> bool
-    ensures { result ≡ list_any is_text (map view_item items.now) }
+    ensures { result ≡ list_any is_kept_text (map view_item items.now) }
 {
     for item in items {
         if is_text(item) {
@@ -77,7 +77,8 @@ pub(crate) fn has_points<A: Allocator + Copy>(layers: &[RawLayer<'_, A>]) -> boo
     false
 }
 
-/// What is told of the grid, where the counts fit. There are no more positions than bytes, so they do.
+/// What is reported of the grid, where the counts fit. There are no more positions than bytes, so they
+/// do.
 fn told_of<A: Allocator + Copy>(
     wants: Wants,
     most: usize,
@@ -86,7 +87,7 @@ fn told_of<A: Allocator + Copy>(
     arcs: Span<'_>,
 ) -> Option<Told>
     requires most { most ≡ most_decimals (arcs_seen fine.now) }
-    requires digits { digits ≡ digits_of wants (arcs_seen fine.now) }
+    requires digits { digits ≡ decimals_kept wants (arcs_seen fine.now) }
     requires few { digits ≤ 24 }
     ensures { IfSome result (λ t. IsToldOf wants (arcs_seen fine.now) (node arcs.entry) t) }
 {
@@ -119,7 +120,7 @@ fn polygons<'a, A: Allocator + Copy>(
     requires placed { IsPlaced outline.now }
     ensures { Gives (λ v. map feature_positions v.items) result
         (demand_points_lie wants.points_lie (digits + wants.finer) (view_outline outline.now).layers
-        (walks_read (map (map (on_grid digits wants.finer)) (arcs_seen fine.now))
+        (walks_read (map (map (position_on_grid digits wants.finer)) (arcs_seen fine.now))
         (view_outline outline.now).layers)) }
 {
     if !wants.points_lie && digits + wants.finer > 0 && has_points(outline.layers.as_slice()) {
@@ -140,7 +141,7 @@ pub(crate) fn opened_on<'a, A: Allocator + Copy>(
     fine: &[Vec<FinePos, A>],
 ) -> Result<OnGrid<'a, A>, OpenFault<'a>>
     requires near { AllByRecursion
-        (AllByRecursion (IsNear (digits_of wants (arcs_seen fine.now)) wants.finer))
+        (AllByRecursion (IsNear (decimals_kept wants (arcs_seen fine.now)) wants.finer))
         (arcs_seen fine.now) }
     requires placed { IsPlaced outline }
     ensures value { Gives view_on_grid result
@@ -183,12 +184,12 @@ fn opened<'a, A: Allocator + Copy>(
 
 /// The topology that the bytes are, on the grid that is asked for, or its first fault.
 ///
-/// The coordinates are read as exact decimals; what stands behind the 24th is rounded down. All are
-/// put on one grid of whole numbers: of the decimals that are there, at most `wants.digits` are kept,
-/// and fewer where the furthest coordinate would pass 10^12; the rest is rounded to the nearest, and
-/// halves up. The transform becomes that of the grid. With `wants.drop_heights`, numbers behind the first two of a
-/// position are left out. The phases and the faults are those of `topo_reader::read_walks`, where
-/// `OutOfRange` is told of a coordinate beyond 10^12 on a grid 10^`wants.finer` times as fine, and
+/// The coordinates are read as exact decimals; what follows the 24th is rounded down. All are put on
+/// one grid of whole numbers: of the decimals that are there, at most `wants.digits` are kept, and
+/// fewer where the furthest coordinate would pass 10^12; the rest is rounded to the nearest, and halves
+/// up. The transform becomes that of the grid. With `wants.drop_heights`, numbers after the first two
+/// of a position are left out. The phases and the faults are those of `topo_reader::read_walks`, where
+/// `OutOfRange` is reported of a coordinate beyond 10^12 on a grid 10^`wants.finer` times as fine, and
 /// `Unsupported` of a point where the grid is finer than that of the text: points are kept as they
 /// stand. With `wants.points_lie` they are said to lie on the grid already, and there is no such fault.
 ///

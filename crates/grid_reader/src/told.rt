@@ -1,6 +1,6 @@
-// What is told of the grid.
+// What is reported of the grid.
 
-/// What is told of the grid that a map was put on.
+/// What is reported of the grid that a map was put on.
 #[derive(Clone, Copy, Debug, PartialEq, Eq)]
 pub struct Told {
     /// The most decimals that a coordinate has, of 24.
@@ -12,6 +12,6 @@ pub struct Told {
     /// How many positions of arcs had further numbers, which were left out.
     pub heights: usize,
     /// Whether all coordinates are written as whole numbers, as the editor takes them: without an
-    /// exponent, and with zeros alone behind the point (RFC 8259, 6).
+    /// exponent, and with zeros alone after the point (RFC 8259, 6).
     pub whole: bool,
 }

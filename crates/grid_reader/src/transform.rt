@@ -2,12 +2,13 @@
 ghost use Rattle.std.specs.Prelude.{◌≡◌, ◌≤◌, Ok, option_map, IfOk, None, Some, codes};
 ghost use Rattle.json_spans.specs.Common.{node, items, members, decoded};
 ghost use Rattle.topo_outline.specs.Common.{Gives};
-ghost use Rattle.exact_decimals.specs.Common.{parts, shifted_text};
-ghost use Rattle.grid_reader.specs.Transform.{says, value_named, two_numbers, two_in, transform_text, divided, transform_on, number};
+ghost use Rattle.decimal_texts.specs.Common.{parts, shifted_text};
+ghost use Rattle.grid_reader.specs.Transform.{member_value, two_number_nodes, two_in, new_transform_text, divided, transform_on, number};
 ghost use Rattle.grid_reader.specs.TransformView.{view_transform};
+ghost use Rattle.decimal_texts.specs.Geometries.{is_string_of};
 
 use crate::fine::two;
-use exact_decimals::{Decimal, decimal_of, push_shifted};
+use decimal_texts::{Decimal, decimal_of, push_shifted};
 use json_spans::{Kind, Span, TextFault, bytes, kind, members, text};
 use std::alloc::{AllocError, Allocator, Global};
 use topo_outline::{OpenFault, Token};
@@ -43,7 +44,7 @@ fn transform_name() -> Token<'static>
 
 /// Whether a name stands for this text (RFC 8259, 7).
 fn says<'a>(heap: Global, name: &[u8], span: Span<'a>) -> Result<bool, OpenFault<'a>>
-    ensures { Gives (λ b. b) result (Ok (says name.now (decoded (node span.entry).bytes))) }
+    ensures { Gives (λ b. b) result (Ok (is_string_of name.now (decoded (node span.entry).bytes))) }
 {
     match text(heap, span) {
         Ok(decoded) => Ok(decoded.as_str().as_bytes() == name),
@@ -59,7 +60,7 @@ fn value_named<'a>(
     object: Span<'a>,
 ) -> Result<Option<Span<'a>>, OpenFault<'a>>
     ensures { Gives (option_map node) result
-        (Ok (value_named name.now (members (node object.entry)))) }
+        (Ok (member_value name.now (members (node object.entry)))) }
 {
     for member in members(object) {
         if or_return!(says(heap, name, member.0)) {
@@ -70,9 +71,9 @@ fn value_named<'a>(
 }
 
 /// The parts of a list of two numbers.
-#[tactic(auto, unfolding(crate::specs::Transform::two_numbers))]
+#[tactic(auto, unfolding(crate::specs::Transform::two_number_nodes))]
 fn two_numbers<'a>(part: Span<'a>) -> Option<(Span<'a>, Span<'a>)>
-    ensures { option_map (λ p. (node p.0, node p.1)) result ≡ two_numbers (node part.entry) }
+    ensures { option_map (λ p. (node p.0, node p.1)) result ≡ two_number_nodes (node part.entry) }
 {
     if kind(part) != Kind::List {
         return None;
@@ -88,7 +89,7 @@ fn two_named<'a>(
     object: Span<'a>,
 ) -> Result<(Span<'a>, Span<'a>), OpenFault<'a>>
     ensures { Gives (λ p. (node p.0, node p.1)) result
-        (two_in (value_named name.now (members (node object.entry)))) }
+        (two_in (member_value name.now (members (node object.entry)))) }
 {
     match value_named(heap, name, object) {
         Ok(Some(value)) => match two_numbers(value) {
@@ -124,7 +125,7 @@ fn made<A: Allocator + Copy>(
     translate: (&[u8], &[u8]),
 ) -> Result<Vec<u8, A>, AllocError>
     requires { digits ≤ 36 }
-    ensures { IfOk result (λ v. v.items ≡ transform_text
+    ensures { IfOk result (λ v. v.items ≡ new_transform_text
         (shifted_text digits (parts scale.entry.0)) (shifted_text digits (parts scale.entry.1))
         translate.entry.0.now translate.entry.1.now) }
 {

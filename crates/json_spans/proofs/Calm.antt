@@ -70,7 +70,7 @@ calm_in k sep s t odd level v rest xs whole is o u lt e = rw (whole, u, o) (calm
 pub from_place : (i : ℕ) (xs : List ℕ) → take (length xs - i) (drop i xs) ≡ drop i xs
 from_place i xs = take_all (length xs - i) (drop i xs) (omega (arith, length-drop i xs))
 
--- behind bytes that are passed over, the whole is the same
+-- after bytes that are passed over, the whole is the same
 pub moved_on : (sep : ℕ) (s t : Skip) (level level' i k : ℕ) (xs : List ℕ) (whole : ℕ) → i + part_len sep s level (drop i xs) ≡ whole → part_len sep s level (take (length xs - i) (drop i xs)) ≡ k + part_len sep t level' (drop k (take (length xs - i) (drop i xs))) → (i + k) + part_len sep t level' (drop (i + k) xs) ≡ whole
 moved_on sep s t level level' i k xs whole e h =
     let h' : part_len sep s level (drop i xs) ≡ k + part_len sep t level' (drop k (drop i xs)) = rw (from_place i xs) at h in

@@ -1,4 +1,4 @@
--- What stands at the front of a text stands before every other rest too.
+-- What stands at the start of a text stands before every other rest too.
 use Rattle.kit_words.proofs.Common.{◌≡◌, ℕ, List, [], ◌∷◌, ◌++◌, Bool, true, false, refl, sym, ap, subst, ◌∙◌, arith}
 use Rattle.kit_words.proofs.Common.{reverse, take_while, nat_tests, append-nil, reverse-append, take_while-cons}
 use Rattle.std.proofs.lemmas.List.{append_assoc}
@@ -160,7 +160,7 @@ chars_framed (code {a = a} {b = b} {c = c} {d = d} e f g i k) = bytes_then (92 �
 data Colon (A : Part) : List ℕ → List ℕ → Type 0 where
   colon : {xs r : List ℕ} → A xs r → Colon A (58 ∷ xs) r
 
--- behind a member's colon
+-- after a member's colon
 abbrev MemberRest : ℕ → Part
 MemberRest n xs r = Then Space (Then (Value n) (Then Space (MoreMembers n))) xs r
 

@@ -14,7 +14,7 @@ counted p v k m le is =
     let small : 1 * 2 ^ k % 2 ^ 64 ≡ 2 ^ k = omega (arith, low) in
     ap count_ones (ap₂ ◌%◌ is small ∙ mask_take p k v) ∙ ones-mask_l p (take k v)
 
--- the level behind a byte
+-- the level after a byte
 abbrev behind : ℕ → ℕ → ℕ
 behind level x = (level + cond (opens x) 1 0) - cond (closes x) 1 0
 

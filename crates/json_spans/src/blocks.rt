@@ -79,8 +79,8 @@ fn are_odd(v: u8x32, len: u32) -> bool
     (quotes(v) % (1 << len)).count_ones() % 2 == 1
 }
 
-/// The bytes in front that are neither brackets nor backslashes, at most a block of them, where
-/// these are passed over alike: inside brackets, and not behind a backslash.
+/// The bytes in front that are neither brackets nor backslashes, at most a block of them, where these
+/// are passed over alike: inside brackets, and not after a backslash.
 #[inline(always)]
 fn calm_front(skip: Skip, level: usize, bytes: &[u8]) -> Front
     ensures same { (sep : ℕ) → part_len sep skip level bytes.now

@@ -16,7 +16,7 @@ pub enum Frame {
 #[derive(Clone, Copy, Debug, PartialEq, Eq)]
 pub enum Within {
     Plain,
-    /// Behind a backslash.
+    /// After a backslash.
     Escape,
     /// So many hexadecimal digits are left of a code.
     Hex4,
@@ -27,7 +27,7 @@ pub enum Within {
     Tail1,
     Tail2,
     Tail3,
-    /// Behind a first byte that narrows the second.
+    /// After a first byte that narrows the second.
     AfterE0,
     AfterEd,
     AfterF0,
@@ -53,15 +53,15 @@ pub enum Word {
 pub enum Mode {
     /// Before a value.
     Value,
-    /// Behind the bracket that opens a list.
+    /// After the bracket that opens a list.
     FirstItem,
-    /// Behind the bracket that opens an object.
+    /// After the bracket that opens an object.
     FirstName,
-    /// Behind a comma in an object.
+    /// After a comma in an object.
     Name,
-    /// Behind a name.
+    /// After a name.
     Colon,
-    /// Behind a value.
+    /// After a value.
     After,
     /// In a member's name.
     NameText(Within),
@@ -69,19 +69,19 @@ pub enum Mode {
     Text(Within),
     /// In `true`, `false` or `null`.
     Word(Word),
-    /// In a number (section 6): behind its minus.
+    /// In a number (section 6): after its minus.
     Minus,
-    /// Behind its leading 0.
+    /// After its leading 0.
     Zero,
     /// Among the digits of its whole part.
     Whole,
-    /// Behind its point.
+    /// After its point.
     Point,
     /// Among the digits of its fraction.
     Fraction,
-    /// Behind its `e`.
+    /// After its `e`.
     Exponent,
-    /// Behind the exponent's sign.
+    /// After the exponent's sign.
     Sign,
     /// Among the exponent's digits.
     Power,
@@ -180,7 +180,7 @@ fn begins(x: u8) -> Move
     }
 }
 
-// Behind a value.
+// After a value.
 fn follows(top: Option<Frame>, x: u8) -> Move
     ensures { result ≡ follows top x }
 {

@@ -27,7 +27,7 @@ pub(crate) fn member_of(part: Span<'_>) -> (Span<'_>, Span<'_>)
     (trim(name), trim(value))
 }
 
-// What stands between the commas behind the bracket.
+// What stands between the commas after the bracket.
 fn parts(span: Span<'_>) -> Parts<'_>
     ensures { left result ≡ raw_parts span.entry.at span.entry.text.now }
 {

@@ -81,7 +81,7 @@ fn stays<A: Allocator + Copy>(mode: Mode, frames: &Vec<Frame, A>, x: u8) -> bool
     }
 }
 
-/// Whether the bytes are a JSON text, and if not, where they stop being the front of one.
+/// Whether the bytes are a JSON text, and if not, where they stop being a prefix of one.
 fn check<A: Allocator + Copy>(alloc: A, bytes: &[u8]) -> Result<(), ScanFault>
     ensures { Judges result (verdict bytes.now) }
 {

@@ -4,7 +4,7 @@
 #![tactic(auto)]
 
 ghost use Rattle.std.specs.Prelude.{IfSome};
-ghost use Rattle.undo_ring.specs.Commands.{IsSound};
+ghost use Rattle.edit_records.specs.Commands.{IsSound};
 
 use arc_store::{EditFault, Map};
 use device_io::ToWriter;

@@ -4,7 +4,7 @@ use Rattle.kit_words.proofs.Common.{◌∷◌, length, ◌||◌, ◌&&◌, arith
 use Rattle.grid_geometry.specs.Common.{Segment, Box}
 use Rattle.segment_index.specs.Common.{AreSingle, has, segment_is}
 use Rattle.segment_index.proofs.Common.{same_segment, is-itself, times-some}
-use Rattle.local_planarity.specs.Common.{most_given, most_tests, pairs}
+use Rattle.local_planarity.specs.Common.{most_given, most_tests, pair_count}
 use Rattle.local_planarity.proofs.Nearby.{has-filter, pairs-mono, ones}
 
 -- a segment and those that are another
@@ -66,10 +66,10 @@ sum_among f (x ∷ xs) ys single into =
         has-filter (λ y. not (segment_is x y)) ys t
         ∙ (λ i. into t (or_right (segment_is t x) h) i && other t h (segment_is x t) refl i)
 
-pairs-most : (k n : ℕ) → k ≤ n → pairs k ≤ pairs n
+pairs-most : (k n : ℕ) → k ≤ n → pair_count k ≤ pair_count n
 pairs-most k n l =
     let e : n ≡ (n - k) + k = omega (arith, l) in
-    omega (arith, pairs-mono k (n - k), ap pairs e)
+    omega (arith, pairs-mono k (n - k), ap pair_count e)
 
 -- fewer added segments take no more tests
 pub tests_among : (times : Segment → Box → ℕ) (ss xs ys : List Segment) → AreSingle xs

@@ -4,7 +4,7 @@ use Rattle.kit_words.proofs.Common.{[], ◌∷◌, ◌++◌, length, take, drop,
 use Rattle.kit_words.proofs.Common.{list_any, sum_by, length-take-le, take-append-drop, take_all, filter-append}
 use Rattle.kit_words.proofs.Common.{list_any-append, sum_by_more, or_parts}
 use Rattle.grid_geometry.specs.Common.{Segment, conflict}
-use Rattle.local_planarity.specs.Common.{first_against, tests_to_conflict, count_near, fewest_tests, pairs}
+use Rattle.local_planarity.specs.Common.{first_against, tests_to_conflict, count_near, fewest_tests, pair_count}
 use Rattle.local_planarity.proofs.Nearby.{pairs-one}
 
 -- the greatest count
@@ -59,7 +59,7 @@ module _ (q : Segment → Bool) (s : Segment) (ts : List Segment) (k : ℕ) (t :
 
 -- as many as the first k of the added segments take at least
 abbrev pub fewest_so_far : List Segment → List Segment → ℕ → ℕ
-fewest_so_far ts added k = sum_by (count_near ts) (take k added) + pairs k
+fewest_so_far ts added k = sum_by (count_near ts) (take k added) + pair_count k
 
 pub one_more_counted : (ts added : List Segment) (k : ℕ) (s : Segment) (a b c d n : ℕ) → k < length added → s ≡ get_or added k s
     → min (n + fewest_so_far ts added k) greatest ≤ a → count_near ts s ≤ b → min (a + b) greatest ≤ c → min (c + length (take k added)) greatest ≤ d
@@ -69,4 +69,4 @@ one_more_counted ts added k s a b c d n l here h i j m =
     omega (arith, sum_by_more (count_near ts) added k s l, g, pairs-one k, length-take-le k added (omega (arith, l)))
 
 pub all_counted : (ts added : List Segment) (k a n : ℕ) → k ≡ length added → min (n + fewest_so_far ts added k) greatest ≤ a → min (n + fewest_tests ts added) greatest ≤ a
-all_counted ts added k a n e h = omega (arith, h, ap (sum_by (count_near ts)) (take_all k added (omega (arith, e))), ap pairs e)
+all_counted ts added k a n e h = omega (arith, h, ap (sum_by (count_near ts)) (take_all k added (omega (arith, e))), ap pair_count e)

@@ -6,8 +6,8 @@ use Rattle.ring_machine.specs.Common.{put, del}
 use Rattle.ring_machine.proofs.Common.{at, M}
 use Rattle.segment_index.specs.Covers.{line}
 use Rattle.segment_index.specs.Common.{Frame, times_by}
-use Rattle.local_planarity.specs.Common.{Nothing, EndingAt, One, leaves, ordered, lesser, tests_to_conflict}
-use Rattle.local_planarity.specs.Common.{box_of_three, pairs, most_tests, fewest_tests, added, most_for, most_for_move}
+use Rattle.local_planarity.specs.Common.{Nothing, EndingAt, One, goes_away, ordered, lesser, tests_to_conflict}
+use Rattle.local_planarity.specs.Common.{box_of_three, pair_count, most_tests, fewest_tests, added, most_for, most_for_move}
 
 -- 0 0 to 10 0, and 10 0 to 10 10
 abbrev lower : Segment
@@ -20,23 +20,23 @@ right = segment (position (pos 10) (pos 0)) (position (pos 10) (pos 10))
 abbrev across : Segment
 across = segment (position (pos 5) (negsuc 0)) (position (pos 5) (pos 1))
 
-nothing_leaves : leaves Nothing lower ≡ false
+nothing_leaves : goes_away Nothing lower ≡ false
 nothing_leaves = refl
 
 -- one that begins at the position goes, and so does one that ends there
-at_its_greater_end : leaves (EndingAt (position (pos 10) (pos 0))) lower ≡ true
+at_its_greater_end : goes_away (EndingAt (position (pos 10) (pos 0))) lower ≡ true
 at_its_greater_end = refl
 
-at_its_lesser_end : leaves (EndingAt (position (pos 10) (pos 0))) right ≡ true
+at_its_lesser_end : goes_away (EndingAt (position (pos 10) (pos 0))) right ≡ true
 at_its_lesser_end = refl
 
-elsewhere : leaves (EndingAt (position (pos 5) (pos 0))) lower ≡ false
+elsewhere : goes_away (EndingAt (position (pos 5) (pos 0))) lower ≡ false
 elsewhere = refl
 
-that_one : leaves (One lower) lower ≡ true
+that_one : goes_away (One lower) lower ≡ true
 that_one = refl
 
-not_another : leaves (One lower) right ≡ false
+not_another : goes_away (One lower) right ≡ false
 not_another = refl
 
 lesser_first : ordered right lower ≡ (lower, right)
@@ -67,10 +67,10 @@ box : box_of_three (position (pos 3) (pos 9)) (position (pos 7) (pos 2)) (positi
 box = refl
 
 -- three added segments make three pairs, and one makes none
-three : pairs 3 ≡ 3
+three : pair_count 3 ≡ 3
 three = refl
 
-one : pairs 1 ≡ 0
+one : pair_count 1 ≡ 0
 one = refl
 
 -- two added ones, each with two candidates given twice at most: eight, and one against each other

@@ -8,7 +8,7 @@ use Rattle.ring_machine.specs.Common.{least_conflict}
 use Rattle.ring_machine.proofs.Common.{same_answer}
 use Rattle.segment_index.specs.Common.{SegmentSet, has, segment_is}
 use Rattle.segment_index.proofs.Common.{same_segment, segment_total, segment_eq-is, contains_none}
-use Rattle.local_planarity.specs.Common.{Nothing, IsFilled, IsHeld, AreApart, IsNear}
+use Rattle.local_planarity.specs.Common.{Nothing, IsFilled, IsHeld, NoneConflict, IsNear}
 use Rattle.local_planarity.proofs.Least.{same_least_conflict, apart_if_none}
 use Rattle.local_planarity.proofs.Nearby.{stays_all}
 
@@ -75,5 +75,5 @@ filled_more held held' first pair s ss put is f = record {
 
 -- where there is no pair, no two held segments conflict
 pub filled_apart : (held : SegmentSet) (first : Option (Segment × Segment)) (ss : List Segment) → IsFilled held first ss
-    → first ≡ None → AreApart held
+    → first ≡ None → NoneConflict held
 filled_apart held first ss f none = apart_if_none held ss f.are_held (f.first ∙ none)

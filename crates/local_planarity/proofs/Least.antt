@@ -10,7 +10,7 @@ use Rattle.ring_machine.proofs.Common.{segment_ordered, pair_ordered, Bad, IsLea
 use Rattle.ring_machine.proofs.Common.{same_least, In, least_conflict_is, least_conflict_unique}
 use Rattle.segment_index.specs.Common.{SegmentSet, has, segment_is}
 use Rattle.segment_index.proofs.Common.{same_segment, is-itself}
-use Rattle.local_planarity.specs.Common.{Leaving, stays, IsHeld, IsAfter, AreApart, IsNear, ordered, lesser, after_test}
+use Rattle.local_planarity.specs.Common.{Leaving, stays_held, IsHeld, IsAfter, NoneConflict, IsNear, ordered, lesser, after_test}
 use Rattle.local_planarity.specs.Common.{first_against}
 use Rattle.local_planarity.proofs.Lists.{in-has, has-in}
 
@@ -254,7 +254,7 @@ none_first : (D : Segment → Bool) → ((s t : Segment) → D s ≡ true → D 
 none_first D apart = λ u b. false≢true (sym (apart u.0 u.1 b.left b.right) ∙ b.meet)
 
 -- where there is no least pair, the segments are apart
-pub apart_if_none : (held : SegmentSet) (ss : List Segment) → IsHeld held ss → least_conflict ss ≡ None → AreApart held
+pub apart_if_none : (held : SegmentSet) (ss : List Segment) → IsHeld held ss → least_conflict ss ≡ None → NoneConflict held
 apart_if_none held ss e none s t i j = by_bool (conflict s t) (λ m. absurd (clash m)) (λ m. m)
   where
     clash : conflict s t ≡ true → ⊥
@@ -265,19 +265,19 @@ apart_if_none held ss e none s t i j = by_bool (conflict s t) (λ m. absurd (cla
 -- ---- the search of an edit
 
 -- before the first added segment
-pub stay_apart : (held : SegmentSet) (leaving : Leaving) (added : List Segment) → AreApart held → IsFirst (BadIn (λ t. stays held leaving t || has (take 0 added) t)) None
+pub stay_apart : (held : SegmentSet) (leaving : Leaving) (added : List Segment) → NoneConflict held → IsFirst (BadIn (λ t. stays_held held leaving t || has (take 0 added) t)) None
 stay_apart held leaving added apart = none_first _ (λ s t h k. apart s t (is_held s h) (is_held t k))
   where
-    is_held : (t : Segment) → (stays held leaving t || has (take 0 added) t) ≡ true → set.contains held t ≡ true
-    is_held t h = elim (or_cases (stays held leaving t) (has (take 0 added) t) h) [
+    is_held : (t : Segment) → (stays_held held leaving t || has (take 0 added) t) ≡ true → set.contains held t ≡ true
+    is_held t h = elim (or_cases (stays_held held leaving t) (has (take 0 added) t) h) [
       | inl k ↦ (and_parts (set.contains held t) _ k).0
       | inr k ↦ absurd (false≢true k)
     ]
 
 -- those near s stand for all that stay
 near_stays : (held : SegmentSet) (times : Segment → Box → ℕ) (leaving : Leaving) (s : Segment) (near : List Segment) (f : Option Pair) → IsNear held times leaving s near
-    → IsFirst (λ u. (f ≡ Some u) ⊎ PairWith s (stays held leaving) u) (first_against s near f)
-near_stays held times leaving s near f n = same_others s (has near) (stays held leaving) f (first_against s near f)
+    → IsFirst (λ u. (f ≡ Some u) ⊎ PairWith s (stays_held held leaving) u) (first_against s near f)
+near_stays held times leaving s near f n = same_others s (has near) (stays_held held leaving) f (first_against s near f)
     n.among
     (λ t h m. n.covers t h (conflict-boxes_meet t s (conflict-comm t s ∙ m)))
     (first_against_is s near f)
@@ -286,15 +286,15 @@ near_stays held times leaving s near f n = same_others s (has near) (stays held 
 pub next_first : (held : SegmentSet) (times : Segment → Box → ℕ) (leaving : Leaving) (added : List Segment) (k : ℕ) (s : Segment) (near : List Segment) (f g r : Option Pair)
     → IsNear held times leaving s near → k < length added → s ≡ get_or added k s
     → g ≡ first_against s near f → r ≡ first_against s (take k added) g
-    → IsFirst (BadIn (λ t. stays held leaving t || has (take k added) t)) f
-    → IsFirst (BadIn (λ t. stays held leaving t || has (take (k + 1) added) t)) r
+    → IsFirst (BadIn (λ t. stays_held held leaving t || has (take k added) t)) f
+    → IsFirst (BadIn (λ t. stays_held held leaving t || has (take (k + 1) added) t)) r
 next_first held times leaving added k s near f g r n l here first then h =
-    one_more (λ t. stays held leaving t || has (take k added) t) (λ t. stays held leaving t || has (take (k + 1) added) t) s f r
-    (λ t. ap (λ b. stays held leaving t || b) (list_any_more (segment_is t) added k s l ∙ ap (λ z. has (take k added) t || segment_is t z) (sym here))
-    ∙ or_assoc (stays held leaving t) (has (take k added) t) (segment_is t s))
+    one_more (λ t. stays_held held leaving t || has (take k added) t) (λ t. stays_held held leaving t || has (take (k + 1) added) t) s f r
+    (λ t. ap (λ b. stays_held held leaving t || b) (list_any_more (segment_is t) added k s l ∙ ap (λ z. has (take k added) t || segment_is t z) (sym here))
+    ∙ or_assoc (stays_held held leaving t) (has (take k added) t) (segment_is t s))
     h
-    (both_others s (stays held leaving) (has (take k added)) f g r
-    (subst (IsFirst (λ u. (f ≡ Some u) ⊎ PairWith s (stays held leaving) u)) (sym first) (near_stays held times leaving s near f n))
+    (both_others s (stays_held held leaving) (has (take k added)) f g r
+    (subst (IsFirst (λ u. (f ≡ Some u) ⊎ PairWith s (stays_held held leaving) u)) (sym first) (near_stays held times leaving s near f n))
     (subst (IsFirst (λ u. (g ≡ Some u) ⊎ PairWith s (has (take k added)) u)) (sym then) (first_against_is s (take k added) g)))
   where
     or_assoc : (a b c : Bool) → (a || (b || c)) ≡ ((a || b) || c)
@@ -303,16 +303,16 @@ next_first held times leaving added k s near f g r n l here first then h =
 
 -- a segment and those that are held
 pub first_with_is : (held : SegmentSet) (times : Segment → Box → ℕ) (s : Segment) (near ss : List Segment) (f r : Option Pair) (leaving : Leaving)
-    → ((t : Segment) → stays held leaving t ≡ set.contains held t)
+    → ((t : Segment) → stays_held held leaving t ≡ set.contains held t)
     → IsNear held times leaving s near → r ≡ first_against s near f → IsHeld held ss → least_conflict ss ≡ f → least_conflict (s ∷ ss) ≡ r
 first_with_is held times s near ss f r leaving all n is e known =
     first_of_list (λ t. has ss t || segment_is t s) (s ∷ ss) r (λ t. or_comm (segment_is t s) (has ss t))
     (one_more (has ss) (λ t. has ss t || segment_is t s) s f r (λ t. refl)
     (subst (IsFirst (BadIn (has ss))) known (list_first (has ss) ss (λ t. refl)))
-    (same_others s (stays held leaving) (has ss) f r
+    (same_others s (stays_held held leaving) (has ss) f r
     (λ t h. e t ∙ sym (all t) ∙ h)
     (λ t h m. all t ∙ sym (e t) ∙ h)
-    (subst (IsFirst (λ u. (f ≡ Some u) ⊎ PairWith s (stays held leaving) u)) (sym is) (near_stays held times leaving s near f n))))
+    (subst (IsFirst (λ u. (f ≡ Some u) ⊎ PairWith s (stays_held held leaving) u)) (sym is) (near_stays held times leaving s near f n))))
   where
     or_comm : (a b : Bool) → (a || b) ≡ (b || a)
     or_comm true true = refl
@@ -322,6 +322,6 @@ first_with_is held times s near ss f r leaving all n is e known =
 
 -- once all are added
 pub all_added : (held : SegmentSet) (leaving : Leaving) (added : List Segment) (k : ℕ) (ss : List Segment) (r : Option Pair) → length added ≤ k → IsAfter held leaving added ss
-    → IsFirst (BadIn (λ t. stays held leaving t || has (take k added) t)) r → least_conflict ss ≡ r
-all_added held leaving added k ss r l e h = first_of_list (λ t. stays held leaving t || has (take k added) t) ss r
-    (λ t. e t ∙ ap (λ z. stays held leaving t || has z t) (sym (take_all k added l))) h
+    → IsFirst (BadIn (λ t. stays_held held leaving t || has (take k added) t)) r → least_conflict ss ≡ r
+all_added held leaving added k ss r l e h = first_of_list (λ t. stays_held held leaving t || has (take k added) t) ss r
+    (λ t. e t ∙ ap (λ z. stays_held held leaving t || has z t) (sym (take_all k added l))) h

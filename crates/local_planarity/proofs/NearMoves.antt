@@ -14,7 +14,7 @@ use Rattle.ring_machine.proofs.Common.{In, same_least, in-map, in_at}
 use Rattle.segment_index.specs.Common.{box_around, is_within, SegmentSet, has, segment_is, set_of, times_in, times_by}
 use Rattle.segment_index.specs.Common.{LieIn}
 use Rattle.segment_index.proofs.Common.{gains-right, lie-more, contains-set_of, is-itself, times-push, times-some}
-use Rattle.local_planarity.specs.Common.{EndingAt, AreApart, IsAfter, IsEnds, IsHeld, leaves, stays, HasNearMove}
+use Rattle.local_planarity.specs.Common.{EndingAt, NoneConflict, IsAfter, IsEnds, IsHeld, goes_away, stays_held, HasNearMove}
 use Rattle.local_planarity.specs.Common.{box_of_three, least_of, most_of, most_given, most_tests}
 use Rattle.local_planarity.proofs.Least.{Pair, BadIn, first_of_list, list_first}
 use Rattle.local_planarity.proofs.Lists.{has-in, same_any}
@@ -101,7 +101,7 @@ part_sum f g less p ss = omega (arith, sum_by-filter_both p (λ s. not (p s)) (�
 -- ---- what is near a move
 
 module _ (held near : SegmentSet) (p q : Position) (after : List Segment) (m : HasNearMove held p q after near) where
-  pub near_apart : AreApart held → AreApart near
+  pub near_apart : NoneConflict held → NoneConflict near
   near_apart apart s t i j = apart s t (m.has_near.among s i) (m.has_near.among t j)
 
   moved_within : (s : Segment) → has (segment p q ∷ after) s ≡ true → is_within (box_of s) m.rect ≡ true
@@ -114,38 +114,38 @@ module _ (held near : SegmentSet) (p q : Position) (after : List Segment) (m : H
       m.has_near.covers t here (meets_wider (box_of t) (box_of s) m.rect (moved_within s w) (conflict-boxes_meet t s (conflict-comm t s ∙ k)))
 
   abbrev all_after : Segment → Bool
-  all_after t = stays held (EndingAt p) t || has after t
+  all_after t = stays_held held (EndingAt p) t || has after t
 
   abbrev near_after : Segment → Bool
-  near_after t = stays near (EndingAt p) t || has after t
+  near_after t = stays_held near (EndingAt p) t || has after t
 
   after_held : (t : Segment) → near_after t ≡ true → all_after t ≡ true
-  after_held t e = elim (or_cases (stays near (EndingAt p) t) (has after t) e) [
+  after_held t e = elim (or_cases (stays_held near (EndingAt p) t) (has after t) e) [
     | inl k ↦
-        let both = and_parts (set.contains near t) (not (leaves (EndingAt p) t)) k in
+        let both = and_parts (set.contains near t) (not (goes_away (EndingAt p) t)) k in
         ap (λ b. b || has after t) (λ i. m.has_near.among t both.0 i && both.1 i)
-    | inr k ↦ or_right (stays held (EndingAt p) t) (has after t) k
+    | inr k ↦ or_right (stays_held held (EndingAt p) t) (has after t) k
   ]
 
   -- of two that conflict after the move, each is near or comes
-  near_side : AreApart held → (s t : Segment) → all_after s ≡ true → all_after t ≡ true → conflict s t ≡ true
+  near_side : NoneConflict held → (s t : Segment) → all_after s ≡ true → all_after t ≡ true → conflict s t ≡ true
       → near_after t ≡ true
-  near_side apart s t i j k = elim (or_cases (stays held (EndingAt p) t) (has after t) j) [
+  near_side apart s t i j k = elim (or_cases (stays_held held (EndingAt p) t) (has after t) j) [
     | inl h ↦
-        let there = and_parts (set.contains held t) (not (leaves (EndingAt p) t)) h in
-        elim (or_cases (stays held (EndingAt p) s) (has after s) i) [
+        let there = and_parts (set.contains held t) (not (goes_away (EndingAt p) t)) h in
+        elim (or_cases (stays_held held (EndingAt p) s) (has after s) i) [
           | inl l ↦
-              let here = and_parts (set.contains held s) (not (leaves (EndingAt p) s)) l in
+              let here = and_parts (set.contains held s) (not (goes_away (EndingAt p) s)) l in
               absurd (false≢true (sym (apart s t here.0 there.0) ∙ k))
           | inr l ↦
               let close = near_conflict s t (or_right (segment_is s (segment p q)) (has after s) l) k there.0 in
               ap (λ b. b || has after t) (λ x. close x && there.1 x)
         ]
-    | inr h ↦ or_right (stays near (EndingAt p) t) (has after t) h
+    | inr h ↦ or_right (stays_held near (EndingAt p) t) (has after t) h
   ]
 
   -- what is said of the first pair near by is said of the first pair of all
-  pub near_first : AreApart held → (P : Option Pair → Type 0)
+  pub near_first : NoneConflict held → (P : Option Pair → Type 0)
       → ((ss : List Segment) → IsAfter near (EndingAt p) after ss → P (least_conflict ss))
       → (ss : List Segment) → IsAfter held (EndingAt p) after ss → P (least_conflict ss)
   near_first apart P f ss e =

@@ -8,8 +8,8 @@ use Rattle.grid_geometry.specs.Common.{Segment, Box, box_of, boxes_meet}
 use Rattle.segment_index.specs.Common.{SegmentSet, AreAmong, AreSingle, AtMostTimes, Covers, Gives, has, segment_is}
 use Rattle.segment_index.specs.Common.{set_of, times_in, times_by}
 use Rattle.segment_index.proofs.Common.{same_segment, contains-set_of, is-itself, times-filter, times-none}
-use Rattle.local_planarity.specs.Common.{Leaving, Nothing, leaves, stays, AreStaying, IsAfter, IsHeld, IsNear, is_tried}
-use Rattle.local_planarity.specs.Common.{tried, count_near, most_given, most_tests, pairs}
+use Rattle.local_planarity.specs.Common.{Leaving, Nothing, goes_away, stays_held, AreStaying, IsAfter, IsHeld, IsNear, is_tried}
+use Rattle.local_planarity.specs.Common.{tried, count_near, most_given, most_tests, pair_count}
 
 -- ---- near a segment
 
@@ -36,11 +36,11 @@ module _ (held : SegmentSet) (times : Segment → Box → ℕ) (leaving : Leavin
   near_tried items among few covers = record {
     among = λ t h.
         let both = and_parts (has items t) (is_tried leaving s t) (sym (has-filter (is_tried leaving s) items t) ∙ h) in
-        let kept = and_parts (boxes_meet (box_of t) (box_of s)) (not (leaves leaving t)) both.1 in
+        let kept = and_parts (boxes_meet (box_of t) (box_of s)) (not (goes_away leaving t)) both.1 in
         (λ i. among t both.0 i && kept.1 i);
     few = few;
     covers = λ t h m.
-        let both = and_parts (set.contains held t) (not (leaves leaving t)) h in
+        let both = and_parts (set.contains held t) (not (goes_away leaving t)) h in
         has-filter (is_tried leaving s) items t ∙ (λ i. covers t both.0 m i && (m i && both.1 i));
   }
 
@@ -67,10 +67,10 @@ near_listed held leaving s items all single =
     at_most : (t : Segment) (b : Bool) → boxes_meet (box_of t) (box_of s) ≡ b → times_in (tried leaving s items) t ≤ times_by None t (box_of s)
     at_most t true e = omega (arith, times-filter (is_tried leaving s) items t, single t, ap (λ b. cond {A = ℕ} b 1 0) e)
     at_most t false e =
-        omega (arith, times-none (tried leaving s items) t (has-filter (is_tried leaving s) items t ∙ ap (λ b. has items t && (b && not (leaves leaving t))) e ∙ never (has items t)))
+        omega (arith, times-none (tried leaving s items) t (has-filter (is_tried leaving s) items t ∙ ap (λ b. has items t && (b && not (goes_away leaving t))) e ∙ never (has items t)))
 
 -- where nothing leaves, all that is held stays
-pub stays_all : (held : SegmentSet) (t : Segment) → stays held Nothing t ≡ set.contains held t
+pub stays_all : (held : SegmentSet) (t : Segment) → stays_held held Nothing t ≡ set.contains held t
 stays_all held t = alone (set.contains held t)
   where
     alone : (b : Bool) → (b && true) ≡ b
@@ -117,7 +117,7 @@ length_at_most f (s ∷ ss) xs few into =
     omega (arith, parts s xs, few s, rest, sum_by-cons f s ss)
 
 pub near_few : (held : SegmentSet) (times : Segment → Box → ℕ) (leaving : Leaving) (s : Segment) (near ss : List Segment) → IsNear held times leaving s near
-    → ((t : Segment) → stays held leaving t ≡ true → has ss t ≡ true) → length near ≤ most_given times ss s
+    → ((t : Segment) → stays_held held leaving t ≡ true → has ss t ≡ true) → length near ≤ most_given times ss s
 near_few held times leaving s near ss n into = length_at_most (λ t. times t (box_of s)) ss near n.few (λ t h. into t (n.among t h))
 
 pub ones : (ss : List Segment) → sum_by (λ s. 1) ss ≡ length ss
@@ -137,36 +137,36 @@ near_many held times leaving s near ts n staying =
     omega (arith, found, length-filter meets ts, ones near)
 
 -- all that stays is there after the edit
-pub after_has : (held : SegmentSet) (leaving : Leaving) (added ss : List Segment) → IsAfter held leaving added ss → (t : Segment) → stays held leaving t ≡ true → has ss t ≡ true
+pub after_has : (held : SegmentSet) (leaving : Leaving) (added ss : List Segment) → IsAfter held leaving added ss → (t : Segment) → stays_held held leaving t ≡ true → has ss t ≡ true
 after_has held leaving added ss e t h = e t ∙ ap (λ b. b || has added t) h
 
 -- what stays is held
-pub held_has : (held : SegmentSet) (leaving : Leaving) (ss : List Segment) → IsHeld held ss → (t : Segment) → stays held leaving t ≡ true → has ss t ≡ true
-held_has held leaving ss e t h = e t ∙ (and_parts (set.contains held t) (not (leaves leaving t)) h).0
+pub held_has : (held : SegmentSet) (leaving : Leaving) (ss : List Segment) → IsHeld held ss → (t : Segment) → stays_held held leaving t ≡ true → has ss t ≡ true
+held_has held leaving ss e t h = e t ∙ (and_parts (set.contains held t) (not (goes_away leaving t)) h).0
 
 -- ---- the tests of an edit
 
 -- as many as the first k of the added segments take at most
 abbrev pub most_so_far : (Segment → Box → ℕ) → List Segment → List Segment → ℕ → ℕ
-most_so_far times ss added k = sum_by (most_given times ss) (take k added) + pairs k
+most_so_far times ss added k = sum_by (most_given times ss) (take k added) + pair_count k
 
-pub pairs-one : (k : ℕ) → pairs (k + 1) ≡ k + pairs k
-pairs-one k = let e : k + 1 ≡ suc k = omega arith in ap pairs e
+pub pairs-one : (k : ℕ) → pair_count (k + 1) ≡ k + pair_count k
+pairs-one k = let e : k + 1 ≡ suc k = omega arith in ap pair_count e
 
-pub pairs-mono : (k n : ℕ) → pairs k ≤ pairs (n + k)
-pairs-mono k zero = omega (arith, ap pairs (plus k))
+pub pairs-mono : (k n : ℕ) → pair_count k ≤ pair_count (n + k)
+pairs-mono k zero = omega (arith, ap pair_count (plus k))
   where
     plus : (k : ℕ) → 0 + k ≡ k
     plus k = omega arith
 pairs-mono k (suc n) =
     let e : suc n + k ≡ suc (n + k) = omega arith in
-    omega (arith, pairs-mono k n, ap pairs e)
+    omega (arith, pairs-mono k n, ap pair_count e)
 
 pub no_more : (times : Segment → Box → ℕ) (ss added : List Segment) (k : ℕ) → k ≤ length added → most_so_far times ss added k ≤ most_tests times ss added
 no_more times ss added k l = by (length added - k) (omega arith)
   where
     by : (n : ℕ) → length added ≡ n + k → most_so_far times ss added k ≤ most_tests times ss added
-    by n e = omega (arith, sum_by-take-le (most_given times ss) added k, pairs-mono k n, ap pairs e)
+    by n e = omega (arith, sum_by-take-le (most_given times ss) added k, pairs-mono k n, ap pair_count e)
 
 pub one_more_tests : (times : Segment → Box → ℕ) (ss added : List Segment) (k : ℕ) (s : Segment) (a b c d n : ℕ) → k < length added → s ≡ get_or added k s
     → a ≤ n + most_so_far times ss added k → b ≤ most_given times ss s → c ≤ a + b → d ≤ c + length (take k added)

@@ -3,7 +3,7 @@ use Rattle.kit_words.proofs.Common.{◌≡◌, ◌<◌, ◌≤◌, ◌+◌, ℕ,
 use Rattle.grid_geometry.specs.Common.{Segment, Box}
 use Rattle.ring_machine.specs.Common.{least_conflict}
 use Rattle.segment_index.specs.Common.{SegmentSet, has}
-use Rattle.local_planarity.specs.Common.{Leaving, stays, AreApart, AreStaying, IsAfter, IsNear, fewest_tests}
+use Rattle.local_planarity.specs.Common.{Leaving, stays_held, NoneConflict, AreStaying, IsAfter, IsNear, fewest_tests}
 use Rattle.local_planarity.specs.Common.{most_tests}
 use Rattle.local_planarity.proofs.Counts.{greatest, fewest_so_far, one_more_counted, all_counted}
 use Rattle.local_planarity.proofs.Least.{Pair, BadIn, IsFirst, stay_apart, next_first, all_added}
@@ -13,13 +13,13 @@ use Rattle.local_planarity.proofs.Counts.{IsFound}
 -- the first pair of what stays and the first k added segments, and how many tests that took
 pub record IsSearched (held : SegmentSet) (times : Segment → Box → ℕ) (leaving : Leaving)
     (added : List Segment) (l k : ℕ) (first : Option Pair) (n : ℕ) : Type 0 where
-  pub least : IsFirst (BadIn (λ t. stays held leaving t || has (take k added) t)) first
+  pub least : IsFirst (BadIn (λ t. stays_held held leaving t || has (take k added) t)) first
   pub few : (ss : List Segment) → IsAfter held leaving added ss → n ≤ l + most_so_far times ss added k
   pub counted : (ts : List Segment) → AreStaying held leaving ts
       → min (l + fewest_so_far ts added k) greatest ≤ n
 
 module _ (held : SegmentSet) (times : Segment → Box → ℕ) (leaving : Leaving) (added : List Segment) (l : ℕ) where
-  pub searched_none : AreApart held → IsSearched held times leaving added l 0 None l
+  pub searched_none : NoneConflict held → IsSearched held times leaving added l 0 None l
   searched_none apart = record {
     least = stay_apart held leaving added apart;
     few = λ ss e. omega arith;

@@ -9,18 +9,18 @@ use Rattle.local_planarity.specs.declared.leaving.Leaving.{Leaving}
 use Rattle.local_planarity.specs.declared.leaving.Leaving.TheVariants.{Nothing, EndingAt, One}
 
 -- a segment goes away in the edit
-abbrev pub leaves : Leaving → Segment → Bool
-leaves Nothing t = false
-leaves (EndingAt p) t = is_end p t
-leaves (One s) t = segment_eq s t
+abbrev pub goes_away : Leaving → Segment → Bool
+goes_away Nothing t = false
+goes_away (EndingAt p) t = is_end p t
+goes_away (One s) t = segment_eq s t
 
 -- a segment is held and does not go away
-abbrev pub stays : SegmentSet → Leaving → Segment → Bool
-stays held leaving t = set.contains held t && not (leaves leaving t)
+abbrev pub stays_held : SegmentSet → Leaving → Segment → Bool
+stays_held held leaving t = set.contains held t && not (goes_away leaving t)
 
 -- no two held segments conflict
-abbrev pub AreApart : SegmentSet → Type 0
-AreApart held =
+abbrev pub NoneConflict : SegmentSet → Type 0
+NoneConflict held =
     (s t : Segment) → set.contains held s ≡ true → set.contains held t ≡ true → conflict s t ≡ false
 
 -- the list has exactly the held segments
@@ -34,11 +34,11 @@ pub record IsFilled (held : SegmentSet) (pair : Option (Segment × Segment)) (ss
 
 -- the list has exactly the held segments that do not leave, and the added ones
 abbrev pub IsAfter : SegmentSet → Leaving → List Segment → List Segment → Type 0
-IsAfter held leaving added ss = (s : Segment) → has ss s ≡ (stays held leaving s || has added s)
+IsAfter held leaving added ss = (s : Segment) → has ss s ≡ (stays_held held leaving s || has added s)
 
 -- each segment of the list is held and does not go away, and none stands twice
 pub record AreStaying (held : SegmentSet) (leaving : Leaving) (ts : List Segment) : Type 0 where
-  pub each : (t : Segment) → has ts t ≡ true → stays held leaving t ≡ true
+  pub each : (t : Segment) → has ts t ≡ true → stays_held held leaving t ≡ true
   pub once : AreSingle ts
 
 -- the list has exactly the ends of the held segments

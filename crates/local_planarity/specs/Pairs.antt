@@ -4,11 +4,11 @@ use Rattle.std.specs.List.{filter, fold}
 use Rattle.grid_geometry.specs.Common.{Segment, box_of, boxes_meet, segment_lt, conflict}
 use Rattle.ring_machine.specs.Common.{pair_lt}
 use Rattle.local_planarity.specs.declared.leaving.Leaving.{Leaving}
-use Rattle.local_planarity.specs.Edits.{leaves}
+use Rattle.local_planarity.specs.Edits.{goes_away}
 
 -- s is tested against t in an edit: t does not leave, and its box meets that of s
 abbrev pub is_tried : Leaving → Segment → Segment → Bool
-is_tried leaving s t = boxes_meet (box_of t) (box_of s) && not (leaves leaving t)
+is_tried leaving s t = boxes_meet (box_of t) (box_of s) && not (goes_away leaving t)
 
 -- those of the others that s is tested against
 abbrev pub tried : Leaving → Segment → List Segment → List Segment

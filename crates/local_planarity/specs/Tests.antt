@@ -10,13 +10,13 @@ abbrev pub most_given : (Segment → Box → ℕ) → List Segment → Segment �
 most_given times ss s = sum_by (λ t. times t (box_of s)) ss
 
 -- how many pairs of two places a list of this length has
-abbrev pub pairs : ℕ → ℕ
-pairs zero = 0
-pairs (suc n) = n + pairs n
+abbrev pub pair_count : ℕ → ℕ
+pair_count zero = 0
+pair_count (suc n) = n + pair_count n
 
 -- each added segment against its candidates, and the added ones against each other
 abbrev pub most_tests : (Segment → Box → ℕ) → List Segment → List Segment → ℕ
-most_tests times ss added = sum_by (most_given times ss) added + pairs (length added)
+most_tests times ss added = sum_by (most_given times ss) added + pair_count (length added)
 
 -- how many of the segments have a box that meets that of s
 abbrev pub count_near : List Segment → Segment → ℕ
@@ -25,7 +25,7 @@ count_near ts s = count_by (λ t. boxes_meet (box_of t) (box_of s)) ts
 -- each added segment against those of the others that are near it, and the added ones against each
 -- other
 abbrev pub fewest_tests : List Segment → List Segment → ℕ
-fewest_tests ts added = sum_by (count_near ts) added + pairs (length added)
+fewest_tests ts added = sum_by (count_near ts) added + pair_count (length added)
 
 -- ---- over documents
 

@@ -3,7 +3,7 @@ ghost use Rattle.std.specs.Prelude.{◌≡◌, ◌+◌, ◌≤◌, List, None, I
 ghost use Rattle.grid_geometry.specs.Common.{Segment};
 ghost use Rattle.ring_machine.specs.Common.{least_conflict};
 ghost use Rattle.segment_index.specs.Common.{times_by};
-ghost use Rattle.local_planarity.specs.Edits.{AreApart, AreStaying, IsAfter};
+ghost use Rattle.local_planarity.specs.Edits.{NoneConflict, AreStaying, IsAfter};
 ghost use Rattle.local_planarity.specs.Tests.{fewest_tests, most_tests};
 
 use crate::count::TestCount;
@@ -17,8 +17,8 @@ use std::alloc::{AllocError, Allocator};
 pub(crate) const ROOM: usize = 16;
 
 /// The least pair of segments in conflict once the added segments come and the leaving ones go, the
-/// lesser one first. Each added segment is tested against its candidates that do not leave, and
-/// against the added ones before it. Fails only for want of memory; the count may then have grown.
+/// lesser one first. Each added segment is tested against its candidates that do not leave, and against
+/// the added ones before it. Fails only on allocation failure; the count may then have grown.
 pub fn first_conflict<I: SegIndex, A: Allocator + Copy>(
     alloc: A,
     index: &I,
@@ -26,7 +26,7 @@ pub fn first_conflict<I: SegIndex, A: Allocator + Copy>(
     added: &[Seg],
     tests: &mut TestCount,
 ) -> Result<Option<(Seg, Seg)>, AllocError>
-    requires { AreApart (I.held index.now) }
+    requires { NoneConflict (I.held index.now) }
     ensures first { IfOk result (λ pair. (ss : List Segment)
         → IsAfter (I.held index.now) leaving added.now ss → least_conflict ss ≡ pair) }
     ensures few { (ss : List Segment) → IsAfter (I.held index.now) leaving added.now ss
@@ -54,7 +54,7 @@ pub fn first_conflict_near<A: Allocator + Copy>(
     added: &[Seg],
     tests: &mut TestCount,
 ) -> Option<(Seg, Seg)>
-    requires { AreApart near.now }
+    requires { NoneConflict near.now }
     ensures first { (ss : List Segment) → IsAfter near.now leaving added.now ss
         → least_conflict ss ≡ result }
     ensures few { (ss : List Segment) → IsAfter near.now leaving added.now ss

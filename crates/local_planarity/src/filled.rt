@@ -10,10 +10,9 @@ use grid_geometry::Seg;
 use segment_index::SegIndex;
 use std::alloc::{AllocError, Allocator};
 
-/// Puts a segment into the index, unless it is there, and makes `first` the least pair in conflict:
-/// for opening a map, segment by segment. The index is asked once, and `near` has its answer
-/// afterwards: one list serves for all segments. Fails only for want of memory; the count may then
-/// have grown.
+/// Puts a segment into the index, unless it is there, and makes `first` the least pair in conflict: for
+/// opening a map, segment by segment. The index is asked once, and `near` has its answer afterwards:
+/// one list serves for all segments. Fails only on allocation failure; the count may then have grown.
 pub fn fill<I: SegIndex, A: Allocator>(
     index: &mut I,
     s: Seg,

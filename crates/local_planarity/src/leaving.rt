@@ -1,5 +1,5 @@
 ghost use Rattle.std.specs.Prelude.{◌≡◌};
-ghost use Rattle.local_planarity.specs.Edits.{leaves};
+ghost use Rattle.local_planarity.specs.Edits.{goes_away};
 
 use grid_geometry::{Pos, Seg};
 
@@ -16,7 +16,7 @@ pub enum Leaving {
 
 /// Whether a segment goes away.
 pub(crate) fn leaves(leaving: Leaving, t: Seg) -> bool
-    ensures { result ≡ leaves leaving t }
+    ensures { result ≡ goes_away leaving t }
 {
     match leaving {
         Leaving::Nothing => false,

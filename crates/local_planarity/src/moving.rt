@@ -26,8 +26,8 @@ fn reach(way: Seg, segments: &[Seg]) -> Rect
     rect
 }
 
-/// The segments near a move from p to q after which these come, so that the index is asked once.
-/// Fails for want of memory alone.
+/// The segments near a move from p to q after which these come, so that the index is asked once. Fails
+/// only on allocation failure.
 pub fn near_move<I: SegIndex, A: Allocator + Copy>(
     alloc: A,
     index: &I,

@@ -3,7 +3,7 @@ ghost use Rattle.std.specs.List.{list_any};
 ghost use Rattle.grid_geometry.specs.Conflict as geometry;
 ghost use Rattle.grid_geometry.specs.Common.{box_of, boxes_meet};
 ghost use Rattle.ring_machine.specs.Common.{pair_lt};
-ghost use Rattle.local_planarity.specs.Edits.{leaves};
+ghost use Rattle.local_planarity.specs.Edits.{goes_away};
 ghost use Rattle.local_planarity.specs.Pairs as spec;
 
 use crate::count::TestCount;
@@ -58,7 +58,7 @@ pub(crate) fn first_against(
 
 /// Whether t does not leave, and its box meets this one.
 fn is_tried(leaving: &Leaving, t: Seg, rect: Rect) -> bool
-    ensures { result ≡ (boxes_meet (box_of t) rect && not (leaves leaving.now t)) }
+    ensures { result ≡ (boxes_meet (box_of t) rect && not (goes_away leaving.now t)) }
 {
     reaches(t, rect) && !leaves(*leaving, t)
 }

@@ -48,8 +48,8 @@ pub fn holds_end(segments: &[Seg], these: &[Pos], a: Pos, b: Pos, c: Pos) -> boo
     false
 }
 
-/// Whether the triangle a, b, c, be it a line or one position, holds an end of a held segment that
-/// is not among these. Fails only for want of memory.
+/// Whether the triangle a, b, c, be it a line or one position, holds an end of a held segment that is
+/// not among these. Fails only on allocation failure.
 pub fn holds_other<I: SegIndex, A: Allocator + Copy>(
     alloc: A,
     index: &I,

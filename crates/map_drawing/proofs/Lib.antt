@@ -1,5 +1,2 @@
-pub mod LeastLemmas
-pub mod WithinLemmas
 pub mod MappedLists
-pub mod QuotientLemmas
-pub mod WindowLemmas
+pub mod ProductLemmas

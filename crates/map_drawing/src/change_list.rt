@@ -1,20 +1,18 @@
 // The list of what an edit changed.
 ghost use Rattle.std.specs.Prelude.{◌≤◌, ◌≤ℤ◌, pos};
 
-use crate::amounts::{half, percent, signed_half};
-use crate::areas::area;
-use crate::changes::Change;
 use crate::layout::ROW;
 use crate::map_picture::Picture;
-use crate::names::{name, number};
-use crate::shapes::Shape;
+use map_features::{
+    FeatureChange, Shape, area, feature_name, feature_number, half, percent, signed_half,
+};
 use std::alloc::{AllocError, Allocator};
 use svg_text::push_words;
 
 /// The most changes that are listed.
 const MOST_CHANGES: usize = 100;
 
-/// How far from the left each column stands; those of numbers end there.
+/// How far from the left each column begins; those of numbers end there.
 const DONE: i64 = 20;
 
 const NUMBER: i64 = 130;
@@ -90,7 +88,7 @@ impl<A: Allocator + Copy> Picture<A> {
     }
 
     /// Appends the areas of a feature before and after.
-    fn push_areas(&mut self, y: i64, change: &Change<'_, A>) -> Result<(), AllocError> {
+    fn push_areas(&mut self, y: i64, change: &FeatureChange<'_, A>) -> Result<(), AllocError> {
         let before = change.before.and_then(|shape| area(shape.polygons));
         let after = change.after.and_then(|shape| area(shape.polygons));
         self.push_area(BEFORE, y, before)?;
@@ -103,14 +101,14 @@ impl<A: Allocator + Copy> Picture<A> {
 
     /// Appends the number of a feature and what it is called.
     fn push_called(&mut self, y: i64, shape: &Shape<'_, A>) -> Result<(), AllocError> {
-        let number = number(self.alloc, shape)?;
+        let number = feature_number(self.alloc, shape)?;
         push_words(&mut self.text, "number", NUMBER, y, number.as_slice())?;
-        let name = name(self.alloc, self.heap, shape)?;
+        let name = feature_name(self.alloc, self.heap, shape)?;
         push_words(&mut self.text, "plain", FEATURE, y, name.as_slice())
     }
 
     /// Appends the line of a change.
-    fn push_change(&mut self, y: i64, change: &Change<'_, A>) -> Result<(), AllocError> {
+    fn push_change(&mut self, y: i64, change: &FeatureChange<'_, A>) -> Result<(), AllocError> {
         let (class, done, shape) = match (&change.before, &change.after) {
             (Some(before), None) => ("gone", "gone", before),
             (None, Some(after)) => ("new", "new", after),
@@ -139,7 +137,7 @@ impl<A: Allocator + Copy> Picture<A> {
     }
 
     /// Appends the list of changes, from the second line below the map down.
-    pub(crate) fn push_list(&mut self, changes: &[Change<'_, A>]) -> Result<(), AllocError> {
+    pub(crate) fn push_list(&mut self, changes: &[FeatureChange<'_, A>]) -> Result<(), AllocError> {
         let top = self.layout.first_line() + ROW;
         self.push_legend(top)?;
         self.push_head(top + ROW)?;

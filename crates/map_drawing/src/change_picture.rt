@@ -1,15 +1,14 @@
 // The picture of what an edit did.
 use crate::change_list::rows_of;
-use crate::changes::{Change, changes};
 use crate::cutting::cut_line;
 use crate::map_picture::{Look, Picture};
 use crate::paths::push_line;
-use crate::runs::{Run, runs, uncovered};
 use crate::seen::is_change_seen;
-use crate::segments::segments;
-use crate::shapes::{Shape, View, bounds_of, shapes};
-use crate::straight::straight_features;
-use crate::units::Units;
+use crate::view::View;
+use map_features::{
+    FeatureChange, Run, Shape, Units, borders_beyond, bounds_of, changes_between, shapes_of,
+    straight_features,
+};
 use std::alloc::{AllocError, Allocator, Global};
 use topo_reader::RawDoc;
 
@@ -29,7 +28,7 @@ impl<'r, A: Allocator + Copy> Seen<'r, A> {
 
 impl<A: Allocator + Copy> Picture<A> {
     /// Whether a change is seen in the picture. A name that changed leaves the region as it was.
-    fn sees(&self, change: &Change<'_, A>) -> Result<bool, AllocError> {
+    fn sees(&self, change: &FeatureChange<'_, A>) -> Result<bool, AllocError> {
         match (&change.before, &change.after) {
             (Some(before), Some(after)) => is_change_seen(self.alloc, &self.layout, before, after),
             _ => Ok(true),
@@ -37,7 +36,7 @@ impl<A: Allocator + Copy> Picture<A> {
     }
 
     /// The features of the changes that are seen.
-    fn seen<'r>(&self, changes: &[Change<'r, A>]) -> Result<Seen<'r, A>, AllocError> {
+    fn seen<'r>(&self, changes: &[FeatureChange<'r, A>]) -> Result<Seen<'r, A>, AllocError> {
         let mut before = Vec::new(self.alloc);
         let mut after = Vec::new(self.alloc);
         for change in changes {
@@ -54,7 +53,7 @@ impl<A: Allocator + Copy> Picture<A> {
     }
 
     /// Whether the part that is drawn shows some of a feature that changed.
-    fn shows(&self, change: &Change<'_, A>) -> bool {
+    fn shows(&self, change: &FeatureChange<'_, A>) -> bool {
         self.meets(change.before.as_ref()) || self.meets(change.after.as_ref())
     }
 
@@ -67,7 +66,10 @@ impl<A: Allocator + Copy> Picture<A> {
     }
 
     /// The changes of which the part that is drawn shows some.
-    fn in_sight<'r>(&self, changes: &[Change<'r, A>]) -> Result<Vec<Change<'r, A>, A>, AllocError> {
+    fn in_sight<'r>(
+        &self,
+        changes: &[FeatureChange<'r, A>],
+    ) -> Result<Vec<FeatureChange<'r, A>, A>, AllocError> {
         let mut shown = Vec::new(self.alloc);
         for change in changes {
             if self.shows(change) {
@@ -97,12 +99,8 @@ impl<A: Allocator + Copy> Picture<A> {
         these: &[Shape<'_, A>],
         others: &[Shape<'_, A>],
     ) -> Result<(), AllocError> {
-        let these = segments(self.alloc, these)?;
-        let others = segments(self.alloc, others)?;
-        let these = runs(self.alloc, these.as_slice())?;
-        let others = runs(self.alloc, others.as_slice())?;
-        let left = uncovered(self.alloc, these.as_slice(), others.as_slice())?;
-        self.push_runs(look, left.as_slice())
+        let runs = borders_beyond(self.alloc, these, others)?;
+        self.push_runs(look, runs.as_slice())
     }
 
     /// Appends the map after the edit, with the features filled whose change is seen, and over it the borders
@@ -111,7 +109,7 @@ impl<A: Allocator + Copy> Picture<A> {
         &mut self,
         old: &[Shape<'_, A>],
         new: &[Shape<'_, A>],
-        changes: &[Change<'_, A>],
+        changes: &[FeatureChange<'_, A>],
     ) -> Result<(), AllocError> {
         let seen = self.seen(changes)?;
         for shape in new {
@@ -127,13 +125,31 @@ impl<A: Allocator + Copy> Picture<A> {
     }
 }
 
+/// The picture of what an edit did to features whose regions have corners alone.
+fn draw_features<A: Allocator + Copy>(
+    picture: Picture<A>,
+    units: &Units,
+    title: &str,
+    old: &[Shape<'_, A>],
+    new: &[Shape<'_, A>],
+) -> Result<Vec<u8, A>, AllocError> {
+    let mut picture = picture;
+    let changes = changes_between(picture.alloc, old, new)?;
+    let list = picture.in_sight(changes.as_slice())?;
+    picture.open(units, title, rows_of(list.len()) + 1)?;
+    picture.push_edit(old, new, changes.as_slice())?;
+    picture.close_map(new)?;
+    picture.push_list(list.as_slice())?;
+    picture.close()
+}
+
 /// The picture of what an edit did: the map after it, the borders that are gone and those that are
 /// new, the changed features filled, and a list of them. The two segments in conflict that the view
 /// names are marked.
 ///
 /// A feature is changed where the other map has none with the same `id` and the same region, wherever
 /// their vertices are. One whose change is less than a pixel is listed and not filled. `heap` holds
-/// decoded ids; `alloc` all else. An error says that a growth was refused.
+/// decoded ids; `alloc` all else. An error says that an allocation failed.
 pub fn draw_change<'m, 'a, A: Allocator + Copy>(
     alloc: A,
     heap: Global,
@@ -144,16 +160,10 @@ pub fn draw_change<'m, 'a, A: Allocator + Copy>(
 ) -> Result<Vec<u8, A>, AllocError> {
     let old_regions = straight_features(alloc, before.polygons.as_slice())?;
     let new_regions = straight_features(alloc, after.polygons.as_slice())?;
-    let old = shapes(alloc, before, old_regions.as_slice())?;
-    let new = shapes(alloc, after, new_regions.as_slice())?;
-    let changes = changes(alloc, old.as_slice(), new.as_slice())?;
+    let old = shapes_of(alloc, before, old_regions.as_slice())?;
+    let new = shapes_of(alloc, after, new_regions.as_slice())?;
     let bounds = bounds_of(bounds_of(None, old.as_slice()), new.as_slice());
     let units = Units::of(after.transform, bounds, view.part);
-    let mut picture = Picture::of_part(alloc, heap, view, bounds, &units);
-    let list = picture.in_sight(changes.as_slice())?;
-    picture.open(&units, title, rows_of(list.len()) + 1)?;
-    picture.push_edit(old.as_slice(), new.as_slice(), changes.as_slice())?;
-    picture.close_map(new.as_slice())?;
-    picture.push_list(list.as_slice())?;
-    picture.close()
+    let picture = Picture::of_part(alloc, heap, view, bounds, &units);
+    draw_features(picture, &units, title, old.as_slice(), new.as_slice())
 }

@@ -1,4 +1,4 @@
-// Where the names of features stand.
+// The places of labels.
 use crate::points::Point;
 use crate::rows::{Row, Stretch};
 use crate::seen::rows_of;

@@ -3,10 +3,9 @@ ghost use Rattle.std.specs.Prelude.{◌≡◌, ◌≤◌, ◌≤ℤ◌, pos, uns
 
 use crate::cutting::{Side, sides};
 use crate::points::Point;
-use crate::quotients::quotient;
-use crate::window::Window;
 use grid_geometry::Pos;
-use svg_text::Place;
+use map_features::{Window, quotient};
+use svg_text::ElementBox;
 
 /// How wide a picture is.
 pub(crate) const WIDTH: i64 = 1000;
@@ -38,7 +37,7 @@ pub(crate) struct Layout {
     /// The part of the grid that is drawn.
     pub(crate) window: Window,
     /// Its place in the picture.
-    pub(crate) place: Place,
+    pub(crate) place: ElementBox,
     ghost left: { (pos 0 ≤ℤ place.x) × (place.x ≤ℤ pos 1000) },
     ghost top: { (pos 0 ≤ℤ place.y) × (place.y ≤ℤ pos 1000) },
     ghost across: { (pos 1 ≤ℤ place.width) × (place.width ≤ℤ pos 960) },
@@ -95,7 +94,7 @@ impl Layout {
         let width = width(window, across, high);
         Layout {
             window,
-            place: Place {
+            place: ElementBox {
                 x: MARGIN + quotient(MOST_ACROSS - width, 2),
                 y: MARGIN + ROW,
                 width,

@@ -1,18 +1,17 @@
 // The picture of a map.
 ghost use Rattle.std.specs.Prelude.{◌≤ℤ◌, pos};
 
-use crate::bounds::Bounds;
 use crate::labels::{Label, widest_row};
 use crate::layout::{Layout, MARGIN, PIXEL, ROW, WIDTH};
-use crate::names::{number, number_and_id};
 use crate::outlines::push_outline;
 use crate::paths::push_rings;
 use crate::points::Point;
 use crate::rows::{Row, Stretch};
-use crate::shapes::{Shape, View, bounds_of, by_size, shapes};
 use crate::styles::prelude;
-use crate::units::Units;
-use crate::window::Window;
+use crate::view::View;
+use map_features::{
+    Bounds, Shape, Units, Window, bounds_of, by_size, feature_number, number_and_id, shapes_of,
+};
 use std::alloc::{AllocError, Allocator, Global};
 use svg_text::{
     close_group, close_picture, open_picture, open_view, push_attribute, push_escaped, push_words,
@@ -35,6 +34,8 @@ pub(crate) enum Look {
     Gone,
     /// Borders that an edit made.
     New,
+    /// The outline of the feature that the view names.
+    Named,
     /// Segments in conflict.
     Conflict,
 }
@@ -48,6 +49,7 @@ impl Look {
             Look::Changed => "changed",
             Look::Gone => "gone",
             Look::New => "new",
+            Look::Named => "named",
             Look::Conflict => "conflict",
         }
     }
@@ -139,13 +141,16 @@ impl<A: Allocator + Copy> Picture<A> {
     }
 
     /// The rings of a feature as they are drawn.
-    fn outline(&self, shape: &Shape<'_, A>) -> Result<Vec<Vec<Point, A>, A>, AllocError> {
+    pub(crate) fn outline(
+        &self,
+        shape: &Shape<'_, A>,
+    ) -> Result<Vec<Vec<Point, A>, A>, AllocError> {
         let mut rings = Vec::new(self.alloc);
         push_outline(&mut rings, self.alloc, &self.layout, shape.polygons)?;
         Ok(rings)
     }
 
-    /// Appends words at the place of a label, if it covers none of those that stand already.
+    /// Appends words at the place of a label, if it covers none of the labels so far.
     fn push_at(
         &mut self,
         label: Label,
@@ -172,7 +177,7 @@ impl<A: Allocator + Copy> Picture<A> {
         if let Some(label) = Label::within(row, stretch, whole.as_slice()) {
             return self.push_at(label, whole.as_slice(), labels);
         }
-        let short = number(self.alloc, shape)?;
+        let short = feature_number(self.alloc, shape)?;
         match Label::within(row, stretch, short.as_slice()) {
             Some(label) => self.push_at(label, short.as_slice(), labels),
             None => Ok(()),
@@ -208,8 +213,11 @@ impl<A: Allocator + Copy> Picture<A> {
     }
 
     /// Ends the map, and appends what is written over it: the names of features where the view has
-    /// them. What is in conflict is marked, and told in the first line below the map.
+    /// them. What is in conflict is marked, and named in the first line below the map.
     pub(crate) fn close_map(&mut self, shapes: &[Shape<'_, A>]) -> Result<(), AllocError> {
+        if let Some(number) = self.view.feature {
+            self.push_named(shapes.get(number))?;
+        }
         if let Some(conflict) = self.view.conflict {
             self.push_conflict(conflict)?;
         }
@@ -234,7 +242,7 @@ impl<A: Allocator + Copy> Picture<A> {
 
 /// The picture of a map under this title. The two segments in conflict that the view names are marked.
 ///
-/// `heap` holds decoded ids; `alloc` all else. An error says that a growth was refused.
+/// `heap` holds decoded ids; `alloc` all else. An error says that an allocation failed.
 pub fn draw_map<A: Allocator + Copy>(
     alloc: A,
     heap: Global,
@@ -242,7 +250,7 @@ pub fn draw_map<A: Allocator + Copy>(
     view: View,
     title: &str,
 ) -> Result<Vec<u8, A>, AllocError> {
-    let shapes = shapes(alloc, map, map.polygons.as_slice())?;
+    let shapes = shapes_of(alloc, map, map.polygons.as_slice())?;
     let bounds = bounds_of(None, shapes.as_slice());
     let units = Units::of(map.transform, bounds, view.part);
     let mut picture = Picture::of_part(alloc, heap, view, bounds, &units);

@@ -1,30 +1,12 @@
 // What is drawn over the borders.
-use crate::bounds::Bounds;
 use crate::cutting::{Side, cut_line};
 use crate::layout::PIXEL;
 use crate::map_picture::{Look, Picture};
-use crate::paths::push_line;
-use grid_geometry::{Pos, Seg};
+use crate::paths::{push_line, push_rings};
+use grid_geometry::Seg;
+use map_features::{Conflict, Shape};
 use std::alloc::{AllocError, Allocator};
 use svg_text::{push_attribute, push_words};
-
-/// Two segments that meet elsewhere than at their common ends.
-#[derive(Clone, Copy, Debug, PartialEq, Eq)]
-pub struct Conflict {
-    /// The lesser of them.
-    pub first: Seg,
-    /// The greater.
-    pub second: Seg,
-}
-
-impl Conflict {
-    /// The position in the middle of what the boxes of both have in common.
-    fn middle(&self) -> Option<Pos> {
-        let first = Bounds::of(self.first.lo).with(self.first.hi);
-        let second = Bounds::of(self.second.lo).with(self.second.hi);
-        first.middle_with(&second)
-    }
-}
 
 /// How large the ring round a conflict is.
 const RADIUS: i64 = 14;
@@ -38,6 +20,17 @@ impl<A: Allocator + Copy> Picture<A> {
             push_attribute(&mut self.text, "stroke-dasharray", 7 * PIXEL)?;
         }
         self.text.extend_from_slice(b" d=\"")
+    }
+
+    /// Appends the outline of a feature.
+    pub(crate) fn push_named(&mut self, shape: Option<&Shape<'_, A>>) -> Result<(), AllocError> {
+        let Some(shape) = shape else {
+            return Ok(());
+        };
+        let rings = self.outline(shape)?;
+        self.open_lines(Look::Named)?;
+        push_rings(&mut self.text, rings.as_slice())?;
+        self.text.extend_from_slice(b"\"/>\n")
     }
 
     /// Appends a segment as far as it is not far beyond what is shown.

@@ -23,7 +23,8 @@ fn points<A: Allocator + Copy>(
     Ok(points)
 }
 
-/// Appends the rings of polygons, without what is far beyond what is shown.
+/// Appends the rings of polygons, without what is far beyond what is shown. A ring that is all beyond it is
+/// left out: a path has no ring without a point (SVG 1.1, 8.3.2).
 pub(crate) fn push_outline<A: Allocator + Copy>(
     rings: &mut Vec<Vec<Point, A>, A>,
     alloc: A,
@@ -33,7 +34,10 @@ pub(crate) fn push_outline<A: Allocator + Copy>(
     let sides: [Side; 4] = layout.sides();
     for ring in polygons.iter().flatten() {
         let points = points(alloc, layout, ring.as_slice())?;
-        rings.push(cut_ring(alloc, &sides, points)?)?;
+        let ring = cut_ring(alloc, &sides, points)?;
+        if !ring.is_empty() {
+            rings.push(ring)?;
+        }
     }
     Ok(())
 }

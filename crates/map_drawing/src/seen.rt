@@ -3,7 +3,7 @@ use crate::layout::{Layout, PIXEL};
 use crate::outlines::push_outline;
 use crate::points::Point;
 use crate::rows::{Row, Stretch};
-use crate::shapes::Shape;
+use map_features::Shape;
 use std::alloc::{AllocError, Allocator};
 
 /// The rows that all points of rings lie in, as far as they are shown.

@@ -1,4 +1,4 @@
-// How things look. The two colours of an edit are told apart by the colour-blind too, and what is gone
+// How things look. The two colours of an edit can be told apart by the colour-blind too, and what is gone
 // is dashed besides.
 
 /// What both kinds of picture have, before anything is drawn.
@@ -8,6 +8,7 @@ path.kept{stroke:#999}
 path.changed{fill:#f2b800;stroke:#999}
 path.gone,path.conflict{fill:none;stroke:#d55e00}
 path.new{fill:none;stroke:#0072b2}
+path.named{fill:none;stroke:#222}
 path.bar{fill:none;stroke:#222}
 rect.gap{fill:#dcecf5}
 circle{fill:none;stroke:#d55e00;stroke-width:2}
@@ -21,7 +22,7 @@ text.new{fill:#005a8c}
 <rect width=\"100%\" height=\"100%\" fill=\"#fff\"/>
 ";
 
-/// What stands before all that is drawn.
+/// The style sheet and the background.
 pub(crate) fn prelude() -> &'static str {
     COMMON
 }

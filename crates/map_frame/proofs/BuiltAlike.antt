@@ -1,16 +1,15 @@
 -- What was read can stand as a frame: the document is well formed whatever its rings are.
 use Rattle.kit_words.proofs.Common.{◌≡◌, ◌∙◌, ℕ, zero, suc, ◌+◌, refl, sym, ap, ap₂, arith, List, [], ◌∷◌}
-use Rattle.kit_words.proofs.Common.{length, map, option_map, get_or, drop, ◌&&◌, ◌==◌, Vec, flat_map, filter_map}
+use Rattle.kit_words.proofs.Common.{length, map, Option, ◌≤◌, get_or, drop, ◌&&◌, ◌==◌, Vec, flat_map, filter_map}
 use Rattle.kit_words.proofs.Common.{list_all, length-map, list_all-append}
 use Rattle.ring_machine.specs.Common.{Polygon, MultiPolygon, Null, feature_of, features, is_inner, is_geometry}
-use Rattle.ring_machine.specs.Common.{fits_form}
+use Rattle.ring_machine.specs.Common.{fits_form, Text, Member, WellFormed}
 use Rattle.map_frame.specs.Common.{polygon_numbers, feature_numbers, opened, CanStand}
 use Rattle.topo_outline.specs.Outline.{leaves_in}
 use Rattle.topo_outline.specs.Shape.{LayerText, Piece, starts, ends, leaf, text}
-use Rattle.topo_outline.specs.Common.{view_kept, view_layer}
-use Rattle.topo_reader.specs.declared.document.RawDoc.{RawDoc}
-use Rattle.topo_reader.specs.Common.{polygons_at, items_from, layers_from, IsOfRings, view_raw, polygon_positions}
-use Rattle.topo_reader.specs.Common.{feature_positions}
+use Rattle.topo_outline.specs.declared.document.RawLayer.{RawLayer}
+use Rattle.topo_outline.specs.Common.{leaves, view_layer}
+use Rattle.topo_outline.specs.Common.{polygons_at, items_from, layers_from}
 use Rattle.ring_machine.proofs.Common.{numbered_distinct}
 use Rattle.map_frame.proofs.BuiltNumbers.{layers_numbered}
 
@@ -67,27 +66,26 @@ pub lengths_of : {X Y : Type 0} (h : X → List Y) (g : X → ℕ) → ((x : X) 
 lengths_of h g same [] = refl
 lengths_of h g same (x ∷ xs) = ap₂ (λ (y : ℕ) (ys : List ℕ). y ∷ ys) (same x) (lengths_of h g same xs)
 
-module _ {A : Type 0} where
+module _ {A R : Type 0} where
   -- what was read can stand with as many polygons of ring numbers for each feature
-  pub can_stand : (raw : RawDoc A) (ns : List (Vec (Vec ℕ A) A)) → IsOfRings (view_raw raw)
-      → map (λ n. length n.items) ns ≡ map (λ f. length f.items) raw.polygons.items
-      → CanStand (option_map (λ t. t.now) raw.transform) raw.layers.items (map view_kept raw.members.items) ns
-  can_stand raw ns h e =
-      let all = map feature_positions raw.polygons.items in
+  pub alike_stand : (transform : Option Text) (layers : List (RawLayer A)) (members : List Member) (all : List (List (List R))) (ns : List (Vec (Vec ℕ A) A))
+      → length all ≡ length (leaves (map view_layer layers)) → length (leaves (map view_layer layers)) ≤ 200000
+      → WellFormed (record { transform = transform; layers = layers_from 0 all (map view_layer layers); members = members })
+      → map (λ n. length n.items) ns ≡ map length all
+      → CanStand transform layers members ns
+  alike_stand transform layers members all ns counted few formed e =
       let numbers = map feature_numbers ns in
-      let ls = map view_layer raw.layers.items in
+      let ls = map view_layer layers in
       let alike : map length numbers ≡ map length all =
-      lengths_of feature_numbers (λ n. length n.items) (λ n. length-map n.items polygon_numbers) ns ∙ e
-      ∙ sym (lengths_of feature_positions (λ f. length f.items) (λ f. length-map f.items polygon_positions) raw.polygons.items) in
+      lengths_of feature_numbers (λ n. length n.items) (λ n. length-map n.items polygon_numbers) ns ∙ e in
       let long : length ns ≡ length all =
-      sym (length-map ns (λ n. length n.items)) ∙ ap length e ∙ length-map raw.polygons.items (λ f. length f.items)
-      ∙ sym (length-map raw.polygons.items feature_positions) in
+      sym (length-map ns (λ n. length n.items)) ∙ ap length e ∙ length-map all length in
       record {
-        counted = long ∙ h.counted;
-        few = omega (arith, long, h.counted, h.few);
+        counted = long ∙ counted;
+        few = omega (arith, long, counted, few);
         formed = record {
-          geometries = layers_geometries numbers all alike 0 ls ∙ h.formed.geometries;
-          forms = layers_forms numbers all alike 0 ls ∙ h.formed.forms;
-          numbers = numbered_distinct 0 (features (opened (option_map (λ t. t.now) raw.transform) raw.layers.items (map view_kept raw.members.items) ns)) (layers_numbered 0 numbers ls);
+          geometries = layers_geometries numbers all alike 0 ls ∙ formed.geometries;
+          forms = layers_forms numbers all alike 0 ls ∙ formed.forms;
+          numbers = numbered_distinct 0 (features (opened transform layers members ns)) (layers_numbered 0 numbers ls);
         };
       }

@@ -15,7 +15,7 @@ use Rattle.topo_outline.specs.declared.document.Item.{Item}
 use Rattle.topo_outline.specs.declared.document.Item.TheVariants as item
 use Rattle.topo_outline.specs.declared.document.RawFeature.{RawFeature}
 use Rattle.topo_outline.specs.declared.document.RawLayer.{RawLayer}
-use Rattle.topo_reader.specs.Common.{numbered, polygons_at, items_from, layers_from}
+use Rattle.topo_outline.specs.Common.{numbered, polygons_at, items_from, layers_from}
 use Rattle.map_frame.specs.declared.tables.Geometry.TheVariants as geometry
 use Rattle.edit_records.specs.Common.{or_empty}
 use Rattle.map_frame.proofs.Built.{Whole, Waits, leaves_of, next_whole, next_stands, came_next, came_slot, came_slots, came_geometry, came_layers}

@@ -7,7 +7,7 @@ use Rattle.ring_machine.specs.Common.{FeatureOf, ItemOf, LayerOf, feature_of, ar
 use Rattle.ring_machine.proofs.Common.{AreNumbered, numbered-append}
 use Rattle.topo_outline.specs.Outline.{leaves_in, leaves}
 use Rattle.topo_outline.specs.Shape.{Piece, leaf, LayerText}
-use Rattle.topo_reader.specs.Common.{polygons_at, items_from, layers_from}
+use Rattle.topo_outline.specs.Common.{polygons_at, items_from, layers_from}
 use Rattle.map_frame.proofs.Built.{AreFrom}
 
 -- ---- numbers in order

@@ -4,7 +4,7 @@ use Rattle.kit_words.proofs.Common.{get_or, slice_set, Option, Some, None, slice
 use Rattle.ring_machine.specs.Common.{has_feature, is_layer}
 use Rattle.ring_machine.proofs.Common.{there as there_is}
 use Rattle.edit_records.specs.Common.{grown}
-use Rattle.map_frame.specs.Common.{Feature, Stand, Layer, Tables, with_new, with_slot, IsFramed, numbers_under, live}
+use Rattle.map_frame.specs.Common.{Feature, Stand, Layer, Tables, with_number, with_slot, IsFramed, numbers_under, live}
 use Rattle.map_frame.specs.Common.{doc_of, framed, places_of}
 use Rattle.map_frame.specs.declared.tables.Slot.TheVariants as slot
 use Rattle.map_frame.specs.declared.tables.Geometry.TheVariants as geometry
@@ -41,7 +41,7 @@ module _ {A : Type 0} (t : Tables A) (k : IsFramed t) (n : ℕ) (there : has_fea
     layer_got l e = got t.layers.items t.layers.items s.layer refl l layer_within e
 
     module _ (old new : Layer A) (at_layer : slice_get t.layers.items s.layer ≡ Some old) (ns : Vec ℕ A)
-        (numbers : ns.items ≡ with_new n (length t.features.items) (numbers_under (slice_get t.layers.items s.layer) s.slot))
+        (numbers : ns.items ≡ with_number n (length t.features.items) (numbers_under (slice_get t.layers.items s.layer) s.slot))
         (written : new ≡ record old { geometry = with_slot old.geometry s.slot (slot.Leaves ns) })
         (fs' : Vec (Option (Feature A)) A) (features : fs'.items ≡ t.features.items ++ None ∷ [])
         (stands' : Vec Stand A) (stood : stands'.items ≡ t.stands.items ++ s ∷ [])
@@ -55,8 +55,8 @@ module _ {A : Type 0} (t : Tables A) (k : IsFramed t) (n : ℕ) (there : has_fea
           written ∙ ap (λ (z : Layer A). record z { geometry = with_slot z.geometry s.slot (slot.Leaves ns) }) own
           ∙ ap (λ y. record p.layer { geometry = with_slot y s.slot (slot.Leaves ns) }) p.in_items
 
-      numbers_are : ns.items ≡ with_new n (length t.features.items) p.numbers.items
-      numbers_are = numbers ∙ ap (with_new n (length t.features.items)) under_place
+      numbers_are : ns.items ≡ with_number n (length t.features.items) p.numbers.items
+      numbers_are = numbers ∙ ap (with_number n (length t.features.items)) under_place
 
       layers_are : ls'.items ≡ slice_set t.layers.items s.layer
           (record p.layer { geometry = geometry.Items (with_item p.slots s.slot (slot.Leaves ns)) })

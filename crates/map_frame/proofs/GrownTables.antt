@@ -11,7 +11,7 @@ use Rattle.ring_machine.proofs.Common.{In, contains_in, in_contains, all_in, in_
 use Rattle.edit_records.specs.Common.{Place, Number, LayerTree, number_of, filled, grown, tree_with}
 use Rattle.edit_records.specs.Places as tree
 use Rattle.edit_records.proofs.Common.{filled-agree, filled-grown}
-use Rattle.map_frame.specs.Common.{Feature, Stand, Slot, Geometry, Layer, Tables, Framed, with_new, new_after, IsFramed}
+use Rattle.map_frame.specs.Common.{Feature, Stand, Slot, Geometry, Layer, Tables, Framed, with_number, new_after, IsFramed}
 use Rattle.map_frame.specs.Common.{StandsAt, is_closing, is_whole, is_enclosed, numbers_at, numbers_in, numbers_under}
 use Rattle.map_frame.specs.Common.{all_numbers, live, AreNamed, doc_of, framed, view_feature, places_at, tree_of}
 use Rattle.map_frame.specs.Common.{layer_tree, places_of}
@@ -88,10 +88,10 @@ module _ (n new : ℕ) where
       by false = refl
 
   -- the numbers of a slot with the new one
-  numbers_after_places : (ns : List ℕ) → map Number (with_new n new ns) ≡ flat_map (tree.with_new n new) (map Number ns)
+  numbers_after_places : (ns : List ℕ) → map Number (with_number n new ns) ≡ flat_map (tree.with_new n new) (map Number ns)
   numbers_after_places [] = refl
   numbers_after_places (m ∷ ns) =
-      map-append Number (new_after n new m) (with_new n new ns)
+      map-append Number (new_after n new m) (with_number n new ns)
       ∙ ap₂ (λ y z. y ++ z) (sym (number_after m)) (numbers_after_places ns)
 
   -- places without n stay
@@ -112,7 +112,7 @@ module _ {A : Type 0} (t : Tables A) (k : IsFramed t) (n : ℕ) (s : Stand) (l :
     (ns ns' : Vec ℕ A) (within : n < length t.features.items) (stand_at : slice_get t.stands.items n ≡ Some s)
     (layer : slice_get t.layers.items s.layer ≡ Some l) (in_items : l.geometry ≡ geometry.Items ss)
     (place : slice_get ss.items s.slot ≡ Some (slot.Leaves ns))
-    (numbers : ns'.items ≡ with_new n (length t.features.items) ns.items)
+    (numbers : ns'.items ≡ with_number n (length t.features.items) ns.items)
     (slots : ss'.items ≡ slice_set ss.items s.slot (slot.Leaves ns'))
     (fs' : Vec (Option (Feature A)) A) (features : fs'.items ≡ t.features.items ++ None ∷ [])
     (stands' : Vec Stand A) (stood : stands'.items ≡ t.stands.items ++ s ∷ [])
@@ -153,21 +153,21 @@ module _ {A : Type 0} (t : Tables A) (k : IsFramed t) (n : ℕ) (s : Stand) (l :
       ∙ part_distinct (λ z. numbers_in z.geometry) t.layers.items s.layer l k.once layer in
       off (one_part numbers_at ss.items d j s.slot x (slot.Leaves ns) n e place i among)
 
-  slots_numbers : flat_map numbers_at ss'.items ≡ with_new n (length t.features.items) (flat_map numbers_at ss.items)
+  slots_numbers : flat_map numbers_at ss'.items ≡ with_number n (length t.features.items) (flat_map numbers_at ss.items)
   slots_numbers =
       ap (flat_map numbers_at) slots
-      ∙ part_set numbers_at (with_new n (length t.features.items)) refl
+      ∙ part_set numbers_at (with_number n (length t.features.items)) refl
       (flat_map-append (new_after n (length t.features.items))) ss.items s.slot (slot.Leaves ns) (slot.Leaves ns') place numbers
       (λ j x off e. sym (grown_off n (length t.features.items) (numbers_at x) (slot_off j x off e)))
 
   -- the new number stands directly after n
-  numbers_after : all_numbers ls'.items ≡ with_new n (length t.features.items) (all_numbers t.layers.items)
+  numbers_after : all_numbers ls'.items ≡ with_number n (length t.features.items) (all_numbers t.layers.items)
   numbers_after =
       ap (flat_map (λ z. numbers_in z.geometry)) layers
-      ∙ part_set (λ z. numbers_in z.geometry) (with_new n (length t.features.items)) refl
+      ∙ part_set (λ z. numbers_in z.geometry) (with_number n (length t.features.items)) refl
       (flat_map-append (new_after n (length t.features.items))) t.layers.items s.layer l
       (record l { geometry = geometry.Items ss' }) layer
-      (slots_numbers ∙ ap (λ z. with_new n (length t.features.items) (numbers_in z)) (sym in_items))
+      (slots_numbers ∙ ap (λ z. with_number n (length t.features.items) (numbers_in z)) (sym in_items))
       (λ j z off e. sym (grown_off n (length t.features.items) (numbers_in z.geometry) (layer_off j z off e)))
 
   once_after : are_distinct (all_numbers ls'.items) ≡ true

@@ -1,7 +1,7 @@
 -- Names that are taken out, polygon by polygon.
 use Rattle.kit_words.proofs.Common.{◌≡◌, ℕ, ◌+◌, ◌<◌, ◌≤◌, refl, sym, ap, ◌∙◌, List, length, arith, Option, Some, None}
 use Rattle.kit_words.proofs.Common.{slice_get, slice_get_within, ℕ_discrete}
-use Rattle.map_frame.specs.Common.{RingName, Loss, IsOf, element}
+use Rattle.map_frame.specs.Common.{RingName, Loss, IsNumberOf, element}
 
 -- a list that is there
 pub element_is : {X : Type 0} (o : Option (List X)) (n : ℕ) (x : X) → element o n ≡ Some x
@@ -14,7 +14,7 @@ module _ (polygons : List (List ℕ)) where
   Forgotten n k = (p i : ℕ) × (element (slice_get polygons p) i ≡ Some k) × (p < n)
 
   pub polygon_forgotten : (n : ℕ) (a b c : List (Option RingName)) (rings : List ℕ)
-      → slice_get polygons n ≡ Some rings → Loss a b (Forgotten n) → Loss b c (IsOf rings) → Loss a c (Forgotten (n + 1))
+      → slice_get polygons n ≡ Some rings → Loss a b (Forgotten n) → Loss b c (IsNumberOf rings) → Loss a c (Forgotten (n + 1))
   polygon_forgotten n a b c rings here g h = record {
     right = λ r o e. let m = h.right r o e in let k = g.right r o m.0 in
         (k.0, λ i. split r i.0 i.1 (ℕ_discrete i.0 n) i.2 i.3 m.1 k.1);
@@ -24,7 +24,7 @@ module _ (polygons : List (List ℕ)) where
   }
     where
       split : (r p i : ℕ) → Dec (p ≡ n) → element (slice_get polygons p) i ≡ Some r → p < n + 1
-          → (IsOf rings r → ⊥) → (Forgotten n r → ⊥) → ⊥
+          → (IsNumberOf rings r → ⊥) → (Forgotten n r → ⊥) → ⊥
       split r p i (yes e) at l here' before =
           here' (i, sym (ap (λ z. element z i) (ap (slice_get polygons) e ∙ here)) ∙ at)
       split r p i (no f) at l here' before = before (p, i, at, let m : p < n + 1 = l in grind (arith))

@@ -13,7 +13,7 @@ module _ {X : Type 0} (xs s : List X) (i : ℕ) (same : s ≡ xs) where
   pub got_none : length s ≤ i → slice_get xs i ≡ None
   got_none l = ap (λ z. slice_get z i) (sym same) ∙ slice_get_past s i l
 
--- the element behind a list
+-- the element after a list
 pub got_behind : {X : Type 0} (xs : List X) (x : X) (ys : List X) → slice_get (xs ++ x ∷ ys) (length xs) ≡ Some x
 got_behind [] x ys = refl
 got_behind (z ∷ xs) x ys = got_behind xs x ys

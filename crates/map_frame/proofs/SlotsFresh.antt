@@ -4,7 +4,7 @@ use Rattle.kit_words.proofs.Common.{inl, inr, arith, AllByRecursion, ℕ_discret
 use Rattle.ring_machine.specs.Common.{are_distinct}
 use Rattle.ring_machine.proofs.Common.{In, in_left, in_right, in-append}
 use Rattle.edit_records.proofs.Common.{head_apart}
-use Rattle.map_frame.specs.Common.{with_new, new_after}
+use Rattle.map_frame.specs.Common.{with_number, new_after}
 use Rattle.map_frame.proofs.EditedFeatures.{tail_distinct, cons_distinct}
 use Rattle.map_frame.proofs.SlotsGrown.{new_after_here, new_after_other, grown_off}
 
@@ -33,32 +33,32 @@ module _ (n new : ℕ) where
       by (no f) = subst (In m) (sym (new_after_other n new m f)) (inl refl)
 
   -- what stands in the longer list
-  pub in_grown : (k : ℕ) (ns : List ℕ) → In k (with_new n new ns) → In k ns ⊎ (new ≡ k)
+  pub in_grown : (k : ℕ) (ns : List ℕ) → In k (with_number n new ns) → In k ns ⊎ (new ≡ k)
   in_grown k [] i = absurd i
-  in_grown k (m ∷ ns) i = elim (in-append k (new_after n new m) (with_new n new ns) i) [
+  in_grown k (m ∷ ns) i = elim (in-append k (new_after n new m) (with_number n new ns) i) [
     | inl j ↦ elim (in_with k m j) [ inl e ↦ inl (inl e) | inr e ↦ inr e ]
     | inr j ↦ elim (in_grown k ns j) [ inl h ↦ inl (inr h) | inr e ↦ inr e ]
   ]
 
-  pub grown_keeps : (k : ℕ) (ns : List ℕ) → In k ns → In k (with_new n new ns)
+  pub grown_keeps : (k : ℕ) (ns : List ℕ) → In k ns → In k (with_number n new ns)
   grown_keeps k [] i = absurd i
   grown_keeps k (m ∷ ns) (inl e) =
-      in_left k (new_after n new m) (with_new n new ns) (subst (λ z. In z (new_after n new m)) e (with_itself m))
-  grown_keeps k (m ∷ ns) (inr i) = in_right k (new_after n new m) (with_new n new ns) (grown_keeps k ns i)
+      in_left k (new_after n new m) (with_number n new ns) (subst (λ z. In z (new_after n new m)) e (with_itself m))
+  grown_keeps k (m ∷ ns) (inr i) = in_right k (new_after n new m) (with_number n new ns) (grown_keeps k ns i)
 
-  pub grown_has : (ns : List ℕ) → In n ns → In new (with_new n new ns)
+  pub grown_has : (ns : List ℕ) → In n ns → In new (with_number n new ns)
   grown_has [] i = absurd i
   grown_has (m ∷ ns) (inl e) =
-      in_left new (new_after n new m) (with_new n new ns)
+      in_left new (new_after n new m) (with_number n new ns)
       (subst (In new) (sym (ap (new_after n new) e ∙ new_after_here n new)) (inr (inl refl)))
-  grown_has (m ∷ ns) (inr i) = in_right new (new_after n new m) (with_new n new ns) (grown_has ns i)
+  grown_has (m ∷ ns) (inr i) = in_right new (new_after n new m) (with_number n new ns) (grown_has ns i)
 
-  pub grown_distinct : (ns : List ℕ) → are_distinct ns ≡ true → (In new ns → ⊥) → are_distinct (with_new n new ns) ≡ true
+  pub grown_distinct : (ns : List ℕ) → are_distinct ns ≡ true → (In new ns → ⊥) → are_distinct (with_number n new ns) ≡ true
   grown_distinct [] d off = refl
   grown_distinct (m ∷ ns) d off =
       by (ℕ_discrete m n) (grown_distinct ns (tail_distinct m ns d) (λ i. off (inr i)))
     where
-      by : Dec (m ≡ n) → are_distinct (with_new n new ns) ≡ true → are_distinct (new_after n new m ++ with_new n new ns) ≡ true
+      by : Dec (m ≡ n) → are_distinct (with_number n new ns) ≡ true → are_distinct (new_after n new m ++ with_number n new ns) ≡ true
       by (yes s) rest =
           ap₂ (λ a b. are_distinct (a ++ b)) (ap (new_after n new) s ∙ new_after_here n new)
           (grown_off n new ns (λ i. head_apart m ns d (subst (λ z. In z ns) (sym s) i)))
@@ -68,8 +68,8 @@ module _ (n new : ℕ) where
           apart s (inl e) = off (inl (s ∙ sym e))
           apart s (inr i) = head_apart m ns d (subst (λ z. In z ns) (sym s) i)
       by (no f) rest =
-          ap (λ a. are_distinct (a ++ with_new n new ns)) (new_after_other n new m f)
-          ∙ cons_distinct m (with_new n new ns) (λ i. apart (in_grown m ns i)) rest
+          ap (λ a. are_distinct (a ++ with_number n new ns)) (new_after_other n new m f)
+          ∙ cons_distinct m (with_number n new ns) (λ i. apart (in_grown m ns i)) rest
         where
           apart : In m ns ⊎ (new ≡ m) → ⊥
           apart (inl i) = head_apart m ns d i
@@ -77,16 +77,16 @@ module _ (n new : ℕ) where
 
 -- each number of the longer list is below the next bound
 pub grown_below : (n bound : ℕ) (ns : List ℕ) → n < bound → AllByRecursion (λ m. m < bound) ns
-    → AllByRecursion (λ m. m < bound + 1) (with_new n bound ns)
+    → AllByRecursion (λ m. m < bound + 1) (with_number n bound ns)
 grown_below n bound [] l h = h
 grown_below n bound (m ∷ ns) l h = by (ℕ_discrete m n) (grown_below n bound ns l h.1)
   where
-    by : Dec (m ≡ n) → AllByRecursion (λ m. m < bound + 1) (with_new n bound ns)
-        → AllByRecursion (λ m. m < bound + 1) (new_after n bound m ++ with_new n bound ns)
+    by : Dec (m ≡ n) → AllByRecursion (λ m. m < bound + 1) (with_number n bound ns)
+        → AllByRecursion (λ m. m < bound + 1) (new_after n bound m ++ with_number n bound ns)
     by (yes s) rest =
-        subst (λ z. AllByRecursion (λ m. m < bound + 1) (z ++ with_new n bound ns))
+        subst (λ z. AllByRecursion (λ m. m < bound + 1) (z ++ with_number n bound ns))
         (sym (ap (new_after n bound) s ∙ new_after_here n bound))
         (omega (arith, l), (omega arith, rest))
     by (no f) rest =
-        subst (λ z. AllByRecursion (λ m. m < bound + 1) (z ++ with_new n bound ns)) (sym (new_after_other n bound m f))
+        subst (λ z. AllByRecursion (λ m. m < bound + 1) (z ++ with_number n bound ns)) (sym (new_after_other n bound m f))
         (let below : m < bound = h.0 in (let next : m < bound + 1 = omega (arith, below) in next, rest))

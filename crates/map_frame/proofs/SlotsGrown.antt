@@ -3,7 +3,7 @@ use Rattle.kit_words.proofs.Common.{eq-eqb, ◌≡◌, ◌≢◌, ℕ, zero, suc
 use Rattle.kit_words.proofs.Common.{slice_set, inl, inr, Some, arith, if◌then◌else◌, slice_get, flat_map}
 use Rattle.std.proofs.Common.{ne_eqb}
 use Rattle.ring_machine.proofs.Common.{In}
-use Rattle.map_frame.specs.Common.{with_new, new_after}
+use Rattle.map_frame.specs.Common.{with_number, new_after}
 use Rattle.map_frame.proofs.NamedOnce.{same_some}
 
 -- ---- one part of a list of parts is changed
@@ -40,7 +40,7 @@ module _ (n new : ℕ) where
   new_after_other m f = ap (λ b. if b then n ∷ new ∷ [] else (m ∷ [])) (ne_eqb m n f)
 
   -- numbers without n stay
-  pub grown_off : (ns : List ℕ) → (In n ns → ⊥) → with_new n new ns ≡ ns
+  pub grown_off : (ns : List ℕ) → (In n ns → ⊥) → with_number n new ns ≡ ns
   grown_off [] off = refl
   grown_off (m ∷ ns) off =
       ap₂ (λ a b. a ++ b) (new_after_other m (λ e. off (inl e))) (grown_off ns (λ i. off (inr i)))

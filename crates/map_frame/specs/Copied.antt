@@ -24,7 +24,7 @@ pub data GeometryText : Type 0 where
   holds : List SlotText → GeometryText
 
 -- a layer with its texts and numbers
-pub record LayerText : Type 0 where
+pub record NumberedLayer : Type 0 where
   pub name : Text
   pub geometry : GeometryText
 
@@ -39,7 +39,7 @@ module _ {A : Type 0} where
   geometry_text (geometry.Alone n) = alone n
   geometry_text (geometry.Items slots) = holds (map slot_text slots.items)
 
-  abbrev pub layer_text : Layer A → LayerText
+  abbrev pub layer_text : Layer A → NumberedLayer
   layer_text l = record { name = l.name.now; geometry = geometry_text l.geometry }
 
   -- the feature with its texts and the numbers of its rings

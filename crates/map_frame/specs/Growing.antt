@@ -11,8 +11,8 @@ abbrev pub new_after : ℕ → ℕ → ℕ → List ℕ
 new_after n new m = if m == n then n ∷ new ∷ [] else (m ∷ [])
 
 -- the numbers, in which the new one stands directly after n
-abbrev pub with_new : ℕ → ℕ → List ℕ → List ℕ
-with_new n new ns = flat_map (new_after n new) ns
+abbrev pub with_number : ℕ → ℕ → List ℕ → List ℕ
+with_number n new ns = flat_map (new_after n new) ns
 
 module _ {A : Type 0} where
   -- the geometry with this slot in the place of another

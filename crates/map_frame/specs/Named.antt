@@ -2,11 +2,11 @@
 use Rattle.std.specs.Prelude.{ℕ, ◌≡◌, List, Option, Some, slice_get}
 use Rattle.ring_machine.specs.Common.{DocumentOf}
 use Rattle.map_frame.specs.declared.names.RingName.{RingName}
-use Rattle.map_frame.specs.Readers.{ring_at}
+use Rattle.map_frame.specs.Readers.{frame_ring}
 
 -- the number of the ring with this name
 abbrev pub number_at : DocumentOf ℕ → RingName → Option ℕ
-number_at d name = ring_at d name.feature name.polygon name.ring
+number_at d name = frame_ring d name.feature name.polygon name.ring
 
 -- a name is kept for the ring with this number
 abbrev pub IsNamed : List (Option RingName) → ℕ → RingName → Type 0

@@ -21,12 +21,12 @@ pub record SameNames (old new : List (Option RingName)) : Type 0 where
   pub to : (r : ℕ) (name : RingName) → IsNamed old r name → IsNamed new r name
 
 -- the number is one of the list
-abbrev pub IsOf : List ℕ → ℕ → Type 0
-IsOf rings r = (i : ℕ) × (slice_get rings i ≡ Some r)
+abbrev pub IsNumberOf : List ℕ → ℕ → Type 0
+IsNumberOf rings r = (i : ℕ) × (slice_get rings i ≡ Some r)
 
 -- there is room for the names of these rings
 abbrev pub HasRoom : List ℕ → List (Option RingName) → Type 0
-HasRoom rings names = (r : ℕ) → IsOf rings r → r < length names
+HasRoom rings names = (r : ℕ) → IsNumberOf rings r → r < length names
 
 -- the number of the ring with this name, among the rings of all features
 abbrev pub number_among : List (List (List ℕ)) → RingName → Option ℕ

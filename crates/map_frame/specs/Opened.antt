@@ -4,7 +4,7 @@ use Rattle.ring_machine.specs.Common.{DocumentOf, WellFormed, Text, Member}
 use Rattle.topo_outline.specs.Outline.{leaves}
 use Rattle.topo_outline.specs.Common.{view_layer}
 use Rattle.topo_outline.specs.declared.document.RawLayer.{RawLayer}
-use Rattle.topo_reader.specs.Common.{layers_from}
+use Rattle.topo_outline.specs.Common.{layers_from}
 use Rattle.map_frame.specs.Numbers.{feature_numbers}
 
 module _ {A : Type 0} where

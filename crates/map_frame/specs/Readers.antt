@@ -70,5 +70,5 @@ element None n = None
 element (Some xs) n = slice_get xs n
 
 -- the ring with this number of the polygon with this number of a feature, the outer ring first
-abbrev pub ring_at : {R : Type 0} → DocumentOf R → ℕ → ℕ → ℕ → Option R
-ring_at d n polygon ring = element (element (option_map (λ f. f.polygons) (feature d n)) polygon) ring
+abbrev pub frame_ring : {R : Type 0} → DocumentOf R → ℕ → ℕ → ℕ → Option R
+frame_ring d n polygon ring = element (element (option_map (λ f. f.polygons) (feature d n)) polygon) ring

@@ -112,8 +112,8 @@ fn geometry_of<'a, A: Allocator + Copy>(slots: Vec<Slot<'a, A>, A>) -> Geometry<
     }
 }
 
-/// The layers that were read, with the features numbered in the order of the text. Fails for want
-/// of memory alone.
+/// The layers that were read, with the features numbered in the order of the text. Fails only on
+/// allocation failure.
 fn build_layers<'a, A: Allocator + Copy>(
     raws: Vec<RawLayer<'a, A>, A>,
     gathered: &mut Gathered<'a, A>,
@@ -150,7 +150,7 @@ fn empty_items<'a, A: Allocator + Copy>(alloc: A) -> Result<Vec<Slot<'a, A>, A>,
 
 impl<'a, A: Allocator + Copy> Frame<'a, A> {
     /// The frame of what was read, where each feature has its polygons, each by the numbers of its
-    /// rings: features are numbered from 0 in the order of the text. Fails for want of memory alone.
+    /// rings: features are numbered from 0 in the order of the text. Fails only on allocation failure.
     pub fn build(
         alloc: A,
         transform: Option<&'a [u8]>,

@@ -4,8 +4,8 @@ ghost use Rattle.std.specs.Prelude.{IfOk, IsTrue, None, OnErr, OnOk, Some};
 ghost use Rattle.std.specs.List.{flat_map};
 ghost use Rattle.edit_records.specs.Common.{exchanged, grown, with_id};
 ghost use Rattle.ring_machine.specs.Common.{FeatureOf, are_distinct, feature, fits_form, has_feature, is_layer, rings};
-ghost use Rattle.map_frame.specs.Common.{Feature, IsOf, Layer, Slot, id_or, numbers_under};
-ghost use Rattle.map_frame.specs.Common.{polygon_numbers, texts_of, with_new, with_own_id, with_slot, with_texts};
+ghost use Rattle.map_frame.specs.Common.{Feature, IsNumberOf, Layer, Slot, id_or, numbers_under};
+ghost use Rattle.map_frame.specs.Common.{polygon_numbers, texts_of, with_number, with_own_id, with_slot, with_texts};
 ghost use Rattle.map_frame.specs.declared.tables.Slot.TheVariants.{Leaves};
 ghost use Rattle.map_frame.specs.declared.tables.Geometry.TheVariants.{Items};
 
@@ -27,14 +27,14 @@ fn give_id<'a, A: Allocator + Copy>(place: &mut Option<Feature<'a, A>>, id: Id<'
     }
 }
 
-/// These numbers, in which a new one stands directly after `n`. Fails for want of memory alone.
+/// These numbers, in which a new one stands directly after `n`. Fails only on allocation failure.
 fn with_number<A: Allocator + Copy>(
     alloc: A,
     numbers: &[u32],
     n: u32,
     number: u32,
 ) -> Result<Vec<u32, A>, AllocError>
-    ensures { IfOk result (λ longer. longer.items ≡ with_new n number numbers.now) }
+    ensures { IfOk result (λ longer. longer.items ≡ with_number n number numbers.now) }
 {
     let mut longer = Vec::new(alloc);
     for m in numbers {
@@ -80,11 +80,11 @@ fn put_numbers<'a, A: Allocator + Copy>(layer: &mut Layer<'a, A>, slot: usize, n
 
 impl<'a, A: Allocator + Copy> Frame<'a, A> {
     /// Makes room for the rings with these numbers, so that features of them can be put into their
-    /// places without memory. Fails for want of memory alone.
+    /// places without memory. Fails only on allocation failure.
     pub fn reserve_names(&mut self, rings: &[usize]) -> Result<(), AllocError>
         ensures same { self.new ≡ record self.old { room = self.new.room } }
         ensures longer { self.old.room ≤ self.new.room }
-        ensures room { OnOk result ((r : ℕ) → IsOf rings.now r → r < self.new.room) }
+        ensures room { OnOk result ((r : ℕ) → IsNumberOf rings.now r → r < self.new.room) }
     {
         make_room(&mut self.tables.names, rings)
     }
@@ -130,7 +130,7 @@ impl<'a, A: Allocator + Copy> Frame<'a, A> {
         requires below { n < self.old.next }
         requires free { feature self.old.doc n ≡ None }
         requires fits { fits_form (with_texts n texts (map polygon_numbers polygons.items)) ≡ true }
-        requires room { (r : ℕ) → IsOf (flat_map polygon_numbers polygons.items) r → r < self.old.room }
+        requires room { (r : ℕ) → IsNumberOf (flat_map polygon_numbers polygons.items) r → r < self.old.room }
         ensures { self.new ≡ record self.old {
           doc = exchanged self.old.places
               ((n, Some (with_texts n texts.entry (map polygon_numbers polygons.items))) ∷ []) self.old.doc;
@@ -142,7 +142,7 @@ impl<'a, A: Allocator + Copy> Frame<'a, A> {
     }
 
     /// The number of the next new feature, which has its place directly after feature `n` from now on;
-    /// no feature has it yet. Fails for want of memory alone, and then changes nothing.
+    /// no feature has it yet. Fails only on allocation failure, and then changes nothing.
     pub fn grow(&mut self, n: u32) -> Result<u32, AllocError>
         requires there { has_feature self.old.doc n ≡ true }
         requires inside { is_layer self.old.doc n ≡ false }

@@ -65,7 +65,7 @@ impl<'a, A: Allocator + Copy> Clone for Layer<'a, A> {
 }
 
 impl<'a, A: Allocator + Copy> Frame<'a, A> {
-    /// The same document with the same next number. Fails for want of memory alone.
+    /// The same document with the same next number. Fails only on allocation failure.
     pub fn copy(&self) -> Result<Frame<'a, A>, AllocError>
         ensures { IfOk result (λ copy. copy ≡ self.now) }
     {

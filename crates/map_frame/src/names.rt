@@ -1,7 +1,7 @@
 // By a ring's number where it stands.
 ghost use Rattle.std.specs.Prelude.{◌≡◌, ◌<◌, ◌≤◌, ℕ, length, map, Some, OnOk, IfOk, slice_get};
 ghost use Rattle.std.specs.List.{flat_map};
-ghost use Rattle.map_frame.specs.Common.{AllNamed, Gain, HasRoom, IsOf, Loss, SameNames, element, feature_numbers};
+ghost use Rattle.map_frame.specs.Common.{AllNamed, Gain, HasRoom, IsNumberOf, Loss, SameNames, element, feature_numbers};
 ghost use Rattle.map_frame.specs.Common.{polygon_numbers};
 
 use std::alloc::{AllocError, Allocator};
@@ -30,7 +30,7 @@ fn reach<A: Allocator + Copy>(
     Ok(())
 }
 
-/// Makes room for the names of these rings. Fails for want of memory alone.
+/// Makes room for the names of these rings. Fails only on allocation failure.
 pub(crate) fn make_room<A: Allocator + Copy>(
     names: &mut Vec<Option<RingName>, A>,
     rings: &[usize],
@@ -83,7 +83,7 @@ pub(crate) fn name_polygons<A: Allocator + Copy>(
     }
 }
 
-/// Keeps a name for each ring of a feature. Fails for want of memory alone.
+/// Keeps a name for each ring of a feature. Fails only on allocation failure.
 fn name_feature<A: Allocator + Copy>(
     names: &mut Vec<Option<RingName>, A>,
     feature: u32,
@@ -100,8 +100,8 @@ fn name_feature<A: Allocator + Copy>(
     Ok(())
 }
 
-/// The name of each ring by its number, where these are the numbers of the rings of all features.
-/// Fails for want of memory alone.
+/// The name of each ring by its number, where these are the numbers of the rings of all features. Fails
+/// only on allocation failure.
 pub(crate) fn name_all<A: Allocator + Copy>(
     alloc: A,
     features: &[Vec<Vec<usize, A>, A>],
@@ -121,7 +121,7 @@ pub(crate) fn forget_polygon<A: Allocator + Copy>(
     names: &mut Vec<Option<RingName>, A>,
     rings: &[usize],
 )
-    ensures lost { Loss names.old.items names.new.items (IsOf rings.now) }
+    ensures lost { Loss names.old.items names.new.items (IsNumberOf rings.now) }
     ensures len { length names.new.items ≡ length names.old.items }
 {
     for r in rings {

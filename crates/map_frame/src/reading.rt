@@ -2,7 +2,7 @@
 ghost use Rattle.std.specs.Prelude.{◌≡◌, ◌≢◌, ◌≤◌, ℕ, map, length, option_map, unwrap_or, slice_get, Some, None, IfOk, IfSome};
 ghost use Rattle.ring_machine.specs.Common.{feature, features, has_feature, is_layer};
 ghost use Rattle.topo_outline.specs.Common.{form_of, view_kept};
-ghost use Rattle.map_frame.specs.Common.{ArePlaced, live, number_at, polygon_numbers, ring_at, shown, texts_of};
+ghost use Rattle.map_frame.specs.Common.{ArePlaced, live, number_at, polygon_numbers, frame_ring, shown, texts_of};
 
 use crate::feature::{Feature, FeatureTexts};
 use crate::names::RingName;
@@ -101,7 +101,7 @@ impl<'a, A: Allocator + Copy> Frame<'a, A> {
     }
 
     /// A copy of what feature `n` has beside its number and its rings; `None` where no feature has the
-    /// number. Fails for want of memory alone.
+    /// number. Fails only on allocation failure.
     pub fn texts(&self, n: u32) -> Result<Option<FeatureTexts<'a, A>>, AllocError>
         ensures { IfOk result (λ texts. texts ≡ option_map texts_of (feature self.now.doc n)) }
     {
@@ -124,7 +124,7 @@ impl<'a, A: Allocator + Copy> Frame<'a, A> {
     /// The number of a ring: of the feature with this number the polygon, and of that the ring, where
     /// the outer ring is the first one, each counted from 0. `None` where there is no such ring.
     pub fn ring(&self, n: u32, polygon: usize, ring: usize) -> Option<usize>
-        ensures { result ≡ ring_at self.now.doc n polygon ring }
+        ensures { result ≡ frame_ring self.now.doc n polygon ring }
     {
         let rings = self.polygons(n)?.get(polygon)?;
         match rings.get(ring) {

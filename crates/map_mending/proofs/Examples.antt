@@ -1,9 +1,9 @@
--- Worked examples: forms, and which polygons are told.
+-- Worked examples: forms, and which polygons are reported.
 use Rattle.kit_words.proofs.Common.{◌≡◌, ℕ, true, false, refl, pos, List, [], ◌∷◌, None}
 use Rattle.grid_geometry.specs.Common.{Position, position, segment}
 use Rattle.ring_machine.specs.Common.{Form, Polygon, MultiPolygon, Null, Feature, Leaf, Document}
 use Rattle.topo_reader.specs.Common.{Polygons}
-use Rattle.map_mending.specs.Common.{form_after, with_polygons, joined, bounds_in, told_in, polygons_of}
+use Rattle.map_mending.specs.Common.{form_after, with_mended_polygons, polygons_of_parts, bounds_in, told_in, polygons_by_feature}
 
 abbrev at : ℕ → ℕ → Position
 at x y = position (pos x) (pos y)
@@ -50,16 +50,16 @@ map_of_two = record {
 }
 
 -- the second polygon of the second feature was taken apart, into none
-told_whole : told_in [] 0 (polygons_of map_of_two) ((((square ∷ []) ∷ []) ∷ []) ∷ (((triangle ∷ []) ∷ []) ∷ [] ∷ []) ∷ [])
+told_whole : told_in [] 0 (polygons_by_feature map_of_two) ((((square ∷ []) ∷ []) ∷ []) ∷ (((triangle ∷ []) ∷ []) ∷ [] ∷ []) ∷ [])
     ≡ record { feature = 1; polygon = 1; parts = 0 } ∷ []
 told_whole = refl
 
 -- what is left of its polygons
-left_of_two : joined (((triangle ∷ []) ∷ []) ∷ [] ∷ []) ≡ (triangle ∷ []) ∷ []
+left_of_two : polygons_of_parts (((triangle ∷ []) ∷ []) ∷ [] ∷ []) ≡ (triangle ∷ []) ∷ []
 left_of_two = refl
 
 -- a Polygon of which nothing is left is a MultiPolygon of nothing
-none_left : with_polygons (feature 0 Polygon ((there_and_back ∷ []) ∷ [])) [] ≡ feature 0 MultiPolygon []
+none_left : with_mended_polygons (feature 0 Polygon ((there_and_back ∷ []) ∷ [])) [] ≡ feature 0 MultiPolygon []
 none_left = refl
 
 -- ---- a side of the square bounds, and so does one of the triangle; the walk there and back does not

@@ -7,7 +7,7 @@ use Rattle.topo_outline.specs.Common.{leaves}
 use Rattle.topo_reader.specs.Common.{Polygons, Opened, document_of}
 use Rattle.walk_faults.specs.Common.{ListsAll}
 use Rattle.segment_paths.specs.Faults as paths
-use Rattle.segment_paths.specs.Common.{Path, ArePaths, paths_seen}
+use Rattle.segment_paths.specs.Common.{PathOfSegment, ArePaths, paths_seen}
 use Rattle.segment_paths.specs.declared.path.SegmentPath.{SegmentPath}
 use Rattle.segment_paths.specs.declared.fault.PathFault.{PathFault}
 use Rattle.segment_paths.specs.declared.fault.PathFault.TheVariants as search
@@ -15,7 +15,7 @@ use Rattle.ring_machine.specs.Common.{Document, least_conflict}
 use Rattle.grid_geometry.specs.Common.{Segment, segment_cmp}
 use Rattle.walk_mending.specs.Common.{is_bounding_in}
 use Rattle.map_mending.specs.Common.{AreBounding, MendedBy, IsAt, AreUnpartedIn, AreUnparted, IsMendFault, OnlyUnparted}
-use Rattle.map_mending.specs.Common.{IsTooLarge, without_paths, by_paths, mended, with_mended, polygons_of, TellsParted}
+use Rattle.map_mending.specs.Common.{IsTooLarge, without_paths, by_paths, mended, with_mended, polygons_by_feature, TellsParted}
 use Rattle.map_mending.specs.Common.{Parted}
 use Rattle.map_mending.proofs.Pieces.{document_mended}
 use Rattle.map_mending.proofs.Whole.{are_bounding, mended_size}
@@ -45,7 +45,7 @@ no_paths d ss h (search.Unmended s t) k = record { segments = ss; bounding = h; 
 no_paths d ss h search.OutOfMemory k = tt
 
 -- a polygon of a feature that is not taken apart
-pub in_feature : (paths : List Path) (features : List Polygons) (polygons : Polygons) (n : ℕ) → IsAt features n polygons → (fault : MendFault)
+pub in_feature : (paths : List PathOfSegment) (features : List Polygons) (polygons : Polygons) (n : ℕ) → IsAt features n polygons → (fault : MendFault)
     → OnlyUnparted (λ m k. (m ≡ n) × AreUnpartedIn paths polygons k) fault → OnlyUnparted (AreUnparted paths features) fault
 in_feature paths features polygons n at TooLarge h = h
 in_feature paths features polygons n at (Unmended s t) h = h
@@ -54,7 +54,7 @@ in_feature paths features polygons n at (Unparted m k) h =
 in_feature paths features polygons n at OutOfMemory h = tt
 
 -- the same of the document
-pub in_document : (d : Document) (paths : List Path) (features : List Polygons) → MendedBy d paths → polygons_of d ≡ features → (fault : MendFault)
+pub in_document : (d : Document) (paths : List PathOfSegment) (features : List Polygons) → MendedBy d paths → polygons_by_feature d ≡ features → (fault : MendFault)
     → OnlyUnparted (AreUnparted paths features) fault → IsMendFault d fault
 in_document d paths features by e TooLarge h = absurd h
 in_document d paths features by e (Unmended s t) h = absurd h
@@ -73,7 +73,7 @@ mended_by o given found paths counted lists same are needed = record {
   needed = λ e. ap (λ ps. paths_seen ps) (needed (ap (λ (ss : List Segment). least_conflict ss) same ∙ e));
 }
 
-pub does_not_fit : (paths : List Path) (o : Opened) (made : List Polygons) (told : List Parted) → MendedBy (document_of o) paths → TellsParted paths o.polygons made told
+pub does_not_fit : (paths : List PathOfSegment) (o : Opened) (made : List Polygons) (told : List Parted) → MendedBy (document_of o) paths → TellsParted paths o.polygons made told
     → length o.polygons ≡ length (leaves o.layers) → nat_le (sum_by (sum_by (sum_by length)) made) 4000000 ≡ false → IsTooLarge (document_of o)
 does_not_fit paths o made told by tells counted over =
     mended {e = document_of (with_mended o made)} by (document_mended paths o made told tells)

@@ -12,9 +12,9 @@ use Rattle.topo_outline.specs.declared.members.Owner.TheVariants as owner
 use Rattle.topo_outline.specs.Common.{IsName, IfThere, IsKeptTransform, AreKeptMembers, IsKeptHead, owner_of, head_of}
 use Rattle.topo_outline.specs.Common.{KeepsItem, KeepsTexts}
 use Rattle.topo_reader.specs.Common.{Polygons, is_simple}
-use Rattle.segment_paths.specs.Common.{Path}
+use Rattle.segment_paths.specs.Common.{PathOfSegment}
 use Rattle.walk_mending.specs.Common.{IsMended, stays, parted}
-use Rattle.map_mending.specs.Common.{MendsPolygon, MendsPolygons, MendsFeature, MendsItem, MendsLayer, Mended, joined}
+use Rattle.map_mending.specs.Common.{MendsPolygon, MendsPolygons, MendsFeature, MendsItem, MendsLayer, Mended, polygons_of_parts}
 use Rattle.map_mending.specs.Common.{form_after}
 
 some_left : (n : ℕ) → (suc n == 0) ≡ true → ⊥
@@ -22,7 +22,7 @@ some_left n e = grind (arith, nat_tests)
 
 -- ---- the features
 
-module _ (paths : List Path) where
+module _ (paths : List PathOfSegment) where
   items_features : (is js : List Item) → AllZip (MendsItem paths) is js
       → AllZip (MendsFeature paths) (filter_map feature_of is) (filter_map feature_of js)
   items_features [] [] h = tt
@@ -79,7 +79,7 @@ module _ (paths : List Path) where
   none_joined : (ps qs : Polygons) → MendsPolygons paths ps qs → (length ps == 0) ≡ true → (length qs == 0) ≡ true
   none_joined [] qs h e = by h.parts h.mended h.joins
     where
-      by : (parts : List Polygons) → AllZip (MendsPolygon paths) [] parts → qs ≡ joined parts → (length qs == 0) ≡ true
+      by : (parts : List Polygons) → AllZip (MendsPolygon paths) [] parts → qs ≡ polygons_of_parts parts → (length qs == 0) ≡ true
       by [] k j = ap (λ (z : Polygons). length z == 0) j
       by (p ∷ parts) k j = absurd k
   none_joined (p ∷ ps) qs h e = absurd (some_left (length ps) e)
@@ -194,13 +194,13 @@ module _ (paths : List Path) where
   polygon_rings (parted h k) = k.rings
 
   parts_rings : (ps : Polygons) (parts : List Polygons) → AllZip (MendsPolygon paths) ps parts
-      → list_all is_ring (flat_map (λ p. p) (joined parts)) ≡ true
+      → list_all is_ring (flat_map (λ p. p) (polygons_of_parts parts)) ≡ true
   parts_rings [] [] h = refl
   parts_rings [] (q ∷ parts) h = absurd h
   parts_rings (p ∷ ps) [] h = absurd h
   parts_rings (p ∷ ps) (q ∷ parts) h =
-      ap (list_all is_ring) (flat_map-append (λ z. z) q (joined parts))
-      ∙ list_all-append is_ring (flat_map (λ z. z) q) (flat_map (λ z. z) (joined parts))
+      ap (list_all is_ring) (flat_map-append (λ z. z) q (polygons_of_parts parts))
+      ∙ list_all-append is_ring (flat_map (λ z. z) q) (flat_map (λ z. z) (polygons_of_parts parts))
       ∙ ap₂ (λ a b. a && b) (polygon_rings h.0) (parts_rings ps parts h.1)
 
   features_rings : (fs gs : List Feature) → AllZip (MendsFeature paths) fs gs → list_all is_ring (flat_map rings_of gs) ≡ true

@@ -8,17 +8,17 @@ use Rattle.ring_machine.specs.Common.{begins_least, segment_of}
 use Rattle.ring_machine.proofs.Common.{canonical_parts, In, any_in, in_any, in_contains, contains_in, in_flat}
 use Rattle.ring_machine.proofs.Common.{in_mapped, in_swap, all_in, has-in, in-flat_map, segment_eq-true, in_permuted}
 use Rattle.ring_machine.proofs.JoinedRing.{start_in}
-use Rattle.snap_geometry.specs.Common.{is_near}
+use Rattle.segment_paths.specs.Common.{is_near}
 use Rattle.topo_reader.specs.Common.{Polygons, is_simple}
 use Rattle.walk_faults.specs.Common.{walk_segments, is_closed_ring}
 use Rattle.walk_faults.proofs.Common.{vertex_side}
-use Rattle.segment_paths.specs.Common.{Path, IsWay, segments_of, inner_of}
-use Rattle.walk_mending.specs.Common.{laid, edge_along, stays, parted, ArePartsOf, all_rings, is_position_of, times_in}
+use Rattle.segment_paths.specs.Common.{PathOfSegment, IsWay, segments_with_path, inner_of}
+use Rattle.walk_mending.specs.Common.{laid, edge_along, stays, parted, ArePartsOf, rings_of_parts, is_position_of, times_in_walks}
 use Rattle.walk_mending.specs.Common.{is_odd_in}
 use Rattle.walk_mending.proofs.Bounds.{any_counted, in-among}
 use Rattle.walk_mending.proofs.Laws.{keeps_round, odd_ends, ends_there, odd_some}
 use Rattle.map_mending.specs.Common.{MendedBy, GoesAround, KeepsVertices, VerticesStay, ComesFrom, stood, put}
-use Rattle.map_mending.specs.Common.{StaysNear, AllStayNear, MendsPolygon, MendsFeature, Mended, joined}
+use Rattle.map_mending.specs.Common.{StaysNear, AllStayNear, MendsPolygon, MendsFeature, Mended, polygons_of_parts}
 use Rattle.map_mending.proofs.Features.{features_mended}
 
 -- ---- pairs of lists
@@ -44,22 +44,22 @@ zip_weaker R S f (x ∷ xs) (y ∷ ys) h = (f x y h.0, zip_weaker R S f xs ys h.
 -- ---- positions of polygons
 
 whose : (parts : Polygons) (p : Position) → is_position_of parts p ≡ true
-    → (ring : List Position) × In ring (all_rings parts) × In p ring
+    → (ring : List Position) × In ring (rings_of_parts parts) × In p ring
 whose parts p h =
-    let k = any_in (λ ring. has ring p) (all_rings parts) h in
+    let k = any_in (λ ring. has ring p) (rings_of_parts parts) h in
     (k.0, k.1, has-in p k.0 k.2)
 
 -- a position of one part is one of all
-of_all : (parts : List Polygons) (part : Polygons) (p : Position) → In part parts → is_position_of part p ≡ true → is_position_of (joined parts) p ≡ true
+of_all : (parts : List Polygons) (part : Polygons) (p : Position) → In part parts → is_position_of part p ≡ true → is_position_of (polygons_of_parts parts) p ≡ true
 of_all parts part p i h =
-    let k = any_in (λ ring. has ring p) (all_rings part) h in
+    let k = any_in (λ ring. has ring p) (rings_of_parts part) h in
     let of_it = in_flat (λ rings. rings) k.0 part k.1 in
-    let there : In of_it.0 (joined parts) = in-flat_map (λ z. z) part of_it.0 parts i of_it.1 in
-    in_any (λ ring. has ring p) k.0 (all_rings (joined parts)) (in-flat_map (λ rings. rings) of_it.0 k.0 (joined parts) there of_it.2) k.2
+    let there : In of_it.0 (polygons_of_parts parts) = in-flat_map (λ z. z) part of_it.0 parts i of_it.1 in
+    in_any (λ ring. has ring p) k.0 (rings_of_parts (polygons_of_parts parts)) (in-flat_map (λ rings. rings) of_it.0 k.0 (polygons_of_parts parts) there of_it.2) k.2
 
 -- ---- what stays
 
-module _ (paths : List Path) where
+module _ (paths : List PathOfSegment) where
   around : (walks : List (List Position)) → AllZip GoesAround walks (map canonical (map (laid paths) walks))
   around [] = tt
   around (walk ∷ walks) =
@@ -74,7 +74,7 @@ module _ (paths : List Path) where
   keeps_feature : (f g : Feature) → MendsFeature paths f g → KeepsVertices paths f g
   keeps_feature f g h =
       let parts = h.mended.parts in
-      let same : g.polygons ≡ joined parts = ap (λ (z : Feature). z.polygons) h.result ∙ h.mended.joins in
+      let same : g.polygons ≡ polygons_of_parts parts = ap (λ (z : Feature). z.polygons) h.result ∙ h.mended.joins in
       record {
         rings = λ walks i simple.
             let k = zip_in (MendsPolygon paths) f.polygons parts walks h.mended.mended (contains_in f.polygons walks i) in
@@ -97,20 +97,20 @@ module _ (paths : List Path) where
 -- ---- what is near
 
 -- a position on the path of a segment
-inner_in : (paths : List Path) (s : Segment) (p : Position) → All (λ q. IsWay q.0 q.1) paths → In p (inner_of paths s)
-    → In s (segments_of paths) × (is_near p s ≡ true)
+inner_in : (paths : List PathOfSegment) (s : Segment) (p : Position) → All (λ q. IsWay q.0 q.1) paths → In p (inner_of paths s)
+    → In s (segments_with_path paths) × (is_near p s ≡ true)
 inner_in [] s p ways i = absurd i
-inner_in (q ∷ qs) s p ways i = by (segment_eq s q.0) refl i (inner_in qs s p (All-tail (λ (r : Path). IsWay r.0 r.1) q qs ways))
+inner_in (q ∷ qs) s p ways i = by (segment_eq s q.0) refl i (inner_in qs s p (All-tail (λ (r : PathOfSegment). IsWay r.0 r.1) q qs ways))
   where
-    by : (b : Bool) → segment_eq s q.0 ≡ b → In p (cond b q.1 (inner_of qs s)) → (In p (inner_of qs s) → In s (segments_of qs) × (is_near p s ≡ true))
-        → In s (q.0 ∷ segments_of qs) × (is_near p s ≡ true)
+    by : (b : Bool) → segment_eq s q.0 ≡ b → In p (cond b q.1 (inner_of qs s)) → (In p (inner_of qs s) → In s (segments_with_path qs) × (is_near p s ≡ true))
+        → In s (q.0 ∷ segments_with_path qs) × (is_near p s ≡ true)
     by true e j later =
         let same = segment_eq-true s q.0 e in
         let way = ways 0 q (omega arith) in
         (inl (sym same), subst (λ t. is_near p t ≡ true) (sym same) (all_in (λ r. is_near r q.0) q.1 p way.near j))
     by false e j later = let k = later j in (inr k.0, k.1)
 
-module _ (paths : List Path) (ways : All (λ q. IsWay q.0 q.1) paths) where
+module _ (paths : List PathOfSegment) (ways : All (λ q. IsWay q.0 q.1) paths) where
   on_edge : (e : Edge) (p : Position) → In p (edge_along paths e) → (e.0 ≡ p) ⊎ In p (inner_of paths (segment_of e))
   on_edge e p (inl f) = inl f
   on_edge e p (inr i) = inr (by (position_lt e.0 e.1) i)
@@ -127,19 +127,19 @@ module _ (paths : List Path) (ways : All (λ q. IsWay q.0 q.1) paths) where
         | inl e ↦ stood (in_contains walks walk i) (in_contains walk p (subst (λ z. In z walk) e (start_in walk k.0 k.1)))
         | inr m ↦
             let n = inner_in paths (segment_of k.0) p ways m in
-            put (in_contains walks walk i) (in_contains (edges walk) k.0 k.1) (in_contains (segments_of paths) (segment_of k.0) n.0) n.1
+            put (in_contains walks walk i) (in_contains (edges walk) k.0 k.1) (in_contains (segments_with_path paths) (segment_of k.0) n.0) n.1
       ]
 
   -- each position of a ring of odd segments is one of the walks
   odd_from : (walks : List (List Position)) (parts : Polygons) → ArePartsOf walks parts → (ring : List Position) (p : Position)
-      → In ring (all_rings parts) → In p ring → (walk : List Position) × In walk walks × In p walk
+      → In ring (rings_of_parts parts) → In p ring → (walk : List Position) × In walk walks × In p walk
   odd_from walks parts are ring p i j =
-      let side = vertex_side ring (closed ring (all_in is_ring (all_rings parts) ring are.rings i)) p j in
+      let side = vertex_side ring (closed ring (all_in is_ring (rings_of_parts parts) ring are.rings i)) p j in
       let s = side.0 in
-      let some : nat_lt 0 (times_in (all_rings parts) s) ≡ true =
-      sym (any_counted (segment_eq s) (flat_map walk_segments (all_rings parts)))
-      ∙ in-among (flat_map walk_segments (all_rings parts)) s (in-flat_map walk_segments ring s (all_rings parts) i side.1) in
-      let k = ends_there walks s (odd_some (times_in walks s) (is_odd (is_odd_in walks s) (ap (nat_lt 0) (sym (are.odd s)) ∙ some))) in
+      let some : nat_lt 0 (times_in_walks (rings_of_parts parts) s) ≡ true =
+      sym (any_counted (segment_eq s) (flat_map walk_segments (rings_of_parts parts)))
+      ∙ in-among (flat_map walk_segments (rings_of_parts parts)) s (in-flat_map walk_segments ring s (rings_of_parts parts) i side.1) in
+      let k = ends_there walks s (odd_some (times_in_walks walks s) (is_odd (is_odd_in walks s) (ap (nat_lt 0) (sym (are.odd s)) ∙ some))) in
       (k.0, k.1, elim side.2 [ inl e ↦ subst (λ z. In z k.0) e k.2 | inr e ↦ subst (λ z. In z k.0) e k.3 ])
     where
       closed : (r : List Position) → is_ring r ≡ true → is_closed_ring r ≡ true
@@ -153,7 +153,7 @@ module _ (paths : List Path) (ways : All (λ q. IsWay q.0 q.1) paths) where
       is_odd false h = cc
 
   part_from : (walks : List (List Position)) (part : Polygons) → MendsPolygon paths walks part → (ring : List Position) (p : Position)
-      → In ring (all_rings part) → In p ring → (walk : List Position) × In walk walks × In p (laid paths walk)
+      → In ring (rings_of_parts part) → In p ring → (walk : List Position) × In walk walks × In p (laid paths walk)
   part_from walks _ (stays h) ring p i j =
       let of_it = in_flat (λ rings. rings) ring (map canonical (map (laid paths) walks) ∷ []) i in
       elim of_it.1 [
@@ -173,14 +173,14 @@ module _ (paths : List Path) (ways : All (λ q. IsWay q.0 q.1) paths) where
   near_feature : (f g : Feature) → MendsFeature paths f g → StaysNear paths f g
   near_feature f g h p at =
       let parts = h.mended.parts in
-      let same : g.polygons ≡ joined parts = ap (λ (z : Feature). z.polygons) h.result ∙ h.mended.joins in
-      let ring = whose (joined parts) p (subst (λ z. is_position_of z p ≡ true) same at) in
-      let polygon = in_flat (λ rings. rings) ring.0 (joined parts) ring.1 in
+      let same : g.polygons ≡ polygons_of_parts parts = ap (λ (z : Feature). z.polygons) h.result ∙ h.mended.joins in
+      let ring = whose (polygons_of_parts parts) p (subst (λ z. is_position_of z p ≡ true) same at) in
+      let polygon = in_flat (λ rings. rings) ring.0 (polygons_of_parts parts) ring.1 in
       let part = in_flat (λ (z : Polygons). z) polygon.0 parts polygon.1 in
       let walks = zip_from (MendsPolygon paths) f.polygons parts part.0 h.mended.mended part.1 in
       let k = part_from walks.0 part.0 walks.2 ring.0 p (in-flat_map (λ rings. rings) polygon.0 ring.0 part.0 part.2 polygon.2) ring.2 in
       laid_from (rings_of f) k.0 p (in-flat_map (λ polygon. polygon) walks.0 k.0 f.polygons walks.1 k.1) k.2
 
-pub all_stay_near : (paths : List Path) (d e : Document) → MendedBy d paths → Mended paths d e → AllStayNear paths d e
+pub all_stay_near : (paths : List PathOfSegment) (d e : Document) → MendedBy d paths → Mended paths d e → AllStayNear paths d e
 all_stay_near paths d e by h =
     zip_weaker (MendsFeature paths) (StaysNear paths) (near_feature paths by.are_paths.ways) (features d) (features e) (features_mended paths d e h)

@@ -1,3 +1,9 @@
+pub mod Triangles
+pub mod Beside
+pub mod Summing
+pub mod StepByStep
+pub mod AreasTold
+mod AreaExamples
 pub mod Stands
 pub mod Pieces
 pub mod Features

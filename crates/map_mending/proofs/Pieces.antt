@@ -4,10 +4,11 @@ use Rattle.kit_words.proofs.Common.{ap₂, ◌∙◌, arith, AllZip, drop-drop, 
 use Rattle.std.proofs.Common.{length-append}
 use Rattle.ring_machine.specs.Common.{Form, Head}
 use Rattle.topo_outline.specs.Common.{LayerText, Piece, starts, ends, leaf, text, leaves_in, leaves}
-use Rattle.topo_reader.specs.Common.{Polygons, Opened, polygons_at, numbered, items_from, layers_from, document_of}
-use Rattle.segment_paths.specs.Common.{Path}
+use Rattle.topo_reader.specs.Common.{Polygons, Opened, document_of}
+use Rattle.topo_outline.specs.Common.{polygons_at, numbered, items_from, layers_from}
+use Rattle.segment_paths.specs.Common.{PathOfSegment}
 use Rattle.map_mending.specs.Common.{Parted, MendsPolygon, MendsPolygons, MendsFeature, MendsItem, MendsLayer, Mended}
-use Rattle.map_mending.specs.Common.{joined, form_after, TellsParted, pieces_after, layers_after, with_mended}
+use Rattle.map_mending.specs.Common.{polygons_of_parts, form_after, TellsParted, pieces_after, layers_after, with_mended}
 
 -- ---- the features are as many
 
@@ -41,7 +42,7 @@ polygons_ahead all rest n e =
 ahead : (all rest : List Polygons) (n k : ℕ) → rest ≡ drop n all → drop k rest ≡ drop (n + k) all
 ahead all rest n k e = ap (λ (z : List Polygons). drop k z) e ∙ drop-drop k n all
 
-module _ (paths : List Path) (all mended : List Polygons) (each : (n : ℕ) → MendsPolygons paths (polygons_at all n) (polygons_at mended n)) where
+module _ (paths : List PathOfSegment) (all mended : List Polygons) (each : (n : ℕ) → MendsPolygons paths (polygons_at all n) (polygons_at mended n)) where
   one_feature : (n : ℕ) (rest : List Polygons) → rest ≡ drop n mended → (form : Form) (head : Head)
       → MendsFeature paths (numbered n form head (polygons_at all n))
       (numbered n (form_after form (length (polygons_at rest 0))) head (polygons_at mended n))
@@ -75,8 +76,8 @@ module _ (paths : List Path) (all mended : List Polygons) (each : (n : ℕ) → 
 -- ---- the polygons by place
 
 -- polygons that stand in the place of others, each of which is mended
-pub mends_each : (paths : List Path) (all mended : List Polygons) (parts : List (List Polygons))
-    → AllZip (AllZip (MendsPolygon paths)) all parts → mended ≡ map joined parts
+pub mends_each : (paths : List PathOfSegment) (all mended : List Polygons) (parts : List (List Polygons))
+    → AllZip (AllZip (MendsPolygon paths)) all parts → mended ≡ map polygons_of_parts parts
     → (n : ℕ) → MendsPolygons paths (polygons_at all n) (polygons_at mended n)
 mends_each paths all mended parts h e n = rw (unwrap_or-slice_get all n [], unwrap_or-slice_get mended n [], e) (by all parts h n)
   where
@@ -84,7 +85,7 @@ mends_each paths all mended parts h e n = rw (unwrap_or-slice_get all n [], unwr
     none = record { parts = []; mended = tt; joins = refl }
 
     by : (all : List Polygons) (parts : List (List Polygons)) → AllZip (AllZip (MendsPolygon paths)) all parts
-        → (n : ℕ) → MendsPolygons paths (get_or all n []) (get_or (map joined parts) n [])
+        → (n : ℕ) → MendsPolygons paths (get_or all n []) (get_or (map polygons_of_parts parts) n [])
     by [] [] h zero = none
     by [] [] h (suc n) = none
     by [] (p ∷ parts) h n = absurd h
@@ -93,7 +94,7 @@ mends_each paths all mended parts h e n = rw (unwrap_or-slice_get all n [], unwr
     by (a ∷ all) (p ∷ parts) h (suc n) = by all parts h.1 n
 
 -- the document with mended polygons is the document mended
-pub document_mended : (paths : List Path) (o : Opened) (mended : List Polygons) (told : List Parted)
+pub document_mended : (paths : List PathOfSegment) (o : Opened) (mended : List Polygons) (told : List Parted)
     → TellsParted paths o.polygons mended told → Mended paths (document_of o) (document_of (with_mended o mended))
 document_mended paths o mended told t = record {
   transform = refl;

@@ -4,15 +4,15 @@ use Rattle.kit_words.proofs.Common.{◌∙◌, subst, append_assoc, arith, AllZi
 use Rattle.kit_words.proofs.Common.{map-append, map_more, flat_map-append, all_zipped_more}
 use Rattle.grid_geometry.specs.Common.{Position}
 use Rattle.topo_reader.specs.Common.{Polygons}
-use Rattle.segment_paths.specs.Common.{Path}
-use Rattle.map_mending.specs.Common.{Parted, MendsPolygon, joined, told_of, told_from, told_in, TellsParted, StandsFor}
+use Rattle.segment_paths.specs.Common.{PathOfSegment}
+use Rattle.map_mending.specs.Common.{Parted, MendsPolygon, polygons_of_parts, told_of, told_from, told_in, TellsParted, StandsFor}
 
 -- ---- the polygons of a feature
 
 taken : {X Y : Type 0} (see : X → Y) (xs : List X) (k : ℕ) → k < length xs → k ≡ length (map see (take k xs))
 taken see xs k lt = omega (arith, lt, length-map (take k xs) see, length-take-le k xs (omega arith))
 
-module _ (paths : List Path) where
+module _ (paths : List PathOfSegment) where
   told_from-push : (n k m : ℕ) (ws : Polygons) (parts : List Polygons) (w : List (List Position)) (q : Polygons)
       → AllZip (MendsPolygon paths) ws parts → m ≡ k + length ws
       → told_from paths n k (ws ++ w ∷ []) (parts ++ q ∷ []) ≡ told_from paths n k ws parts ++ told_of paths n m w q
@@ -32,7 +32,7 @@ module _ (paths : List Path) where
     parts = s.parts ++ q ∷ [];
     each = all_zipped_more (MendsPolygon paths) ws s.parts w q s.each h;
     joins = ap (λ z. z ++ q) s.joins
-        ∙ ap (λ z. joined s.parts ++ z) (sym (append-nil q))
+        ∙ ap (λ z. polygons_of_parts s.parts ++ z) (sym (append-nil q))
         ∙ sym (flat_map-append (λ (p : Polygons). p) s.parts (q ∷ []));
     tells = t ∙ ap (λ z. z ++ told_of paths n k w q) s.tells
         ∙ append_assoc before (told_from paths n 0 ws s.parts) (told_of paths n k w q)
@@ -69,7 +69,7 @@ module _ (paths : List Path) where
     parts = t.parts ++ s.parts ∷ [];
     each = all_zipped_more (AllZip (MendsPolygon paths)) fs t.parts f s.parts t.each s.each;
     joins = ap₂ (λ (y : List Polygons) (z : Polygons). y ++ z ∷ []) t.joins s.joins
-        ∙ sym (map-append joined t.parts (s.parts ∷ []));
+        ∙ sym (map-append polygons_of_parts t.parts (s.parts ∷ []));
     tells = s.tells ∙ ap (λ z. z ++ told_from paths n 0 f s.parts) t.tells
         ∙ sym (told_in-push 0 n fs t.parts f s.parts t.each (omega (arith, e)));
   }

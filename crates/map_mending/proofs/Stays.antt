@@ -12,9 +12,9 @@ use Rattle.ring_machine.proofs.Common.{in_contains, any_in, in_flat, in-flat_map
 use Rattle.topo_reader.specs.Common.{Polygons, is_simple}
 use Rattle.walk_faults.specs.Common.{walk_segments}
 use Rattle.walk_faults.proofs.Common.{ring_segments}
-use Rattle.segment_paths.specs.Common.{Path}
-use Rattle.walk_mending.specs.Common.{edge_along, laid, times_in, is_odd_in, is_bounding, IsMended, stays, parted}
-use Rattle.map_mending.specs.Common.{MendsPolygon, MendsFeature, MendsItem, MendsLayer, Mended, joined, form_after}
+use Rattle.segment_paths.specs.Common.{PathOfSegment}
+use Rattle.walk_mending.specs.Common.{edge_along, laid, times_in_walks, is_odd_in, is_bounding, IsMended, stays, parted}
+use Rattle.map_mending.specs.Common.{MendsPolygon, MendsFeature, MendsItem, MendsLayer, Mended, polygons_of_parts, form_after}
 use Rattle.map_mending.specs.Common.{MendedBy, NeedsNoMending, bounds_in}
 
 -- ---- lists
@@ -45,15 +45,15 @@ module _ (d : Document) (n : NeedsNoMending d) where
       let f = any_in (λ g. list_any (λ walks. is_bounding walks s) g.polygons) (features d) b in
       let w = any_in (λ walks. is_bounding walks s) (f.0).polygons f.2 in
       let simple = polygon_simple f.0 f.1 w.0 w.1 in
-      let many : nat_lt 0 (times_in w.0 s) ≡ true =
-      sym (ap (λ c. cond c (nat_lt 0 (times_in w.0 s)) (is_odd_in w.0 s)) simple) ∙ w.2 in
+      let many : nat_lt 0 (times_in_walks w.0 s) ≡ true =
+      sym (ap (λ c. cond c (nat_lt 0 (times_in_walks w.0 s)) (is_odd_in w.0 s)) simple) ∙ w.2 in
       let t = counted_in (segment_eq s) (flat_map walk_segments w.0) many in
       let v = in_flat walk_segments t.0 w.0 t.1 in
       let there : In t.0 (segments v.0) = subst (In t.0) (ring_segments v.0 (all_in is_simple w.0 v.0 simple v.1)) v.2 in
       let ring : In v.0 (rings d) = in-flat_map rings_of f.0 v.0 (features d) f.1 (in-flat_map (λ p. p) w.0 v.0 (f.0).polygons w.1 v.1) in
       subst (λ z. In z (all_segments d)) (sym (segment_eq-true s t.0 t.2)) (in-flat_map segments v.0 t.0 (rings d) ring there)
 
-  pub no_paths : (paths : List Path) → MendedBy d paths → paths ≡ []
+  pub no_paths : (paths : List PathOfSegment) → MendedBy d paths → paths ≡ []
   no_paths paths m = m.needed (sym (least_conflict_unique m.segments None (λ u b. none u (record {
     order = b.order;
     left = among u.0 b.left;
@@ -100,7 +100,7 @@ one_stays e s (parted h k) = absurd (false≢true (sym h ∙ ap (list_all is_sim
 
 polygons_stay : (ps : Polygons) (parts : List Polygons) → AllZip (MendsPolygon []) ps parts
     → ((walks : List (List Position)) → In walks ps → list_all is_simple walks ≡ true)
-    → joined parts ≡ map (map canonical) ps
+    → polygons_of_parts parts ≡ map (map canonical) ps
 polygons_stay [] [] h s = refl
 polygons_stay [] (q ∷ parts) h s = absurd h
 polygons_stay (p ∷ ps) [] h s = absurd h
@@ -159,7 +159,7 @@ layers_stay (l ∷ ls) (m ∷ ms) h p =
     (layers_stay ls ms h.1 (λ f i. p f (in_right f (filter_map feature_of l.items) rest i)))
 
 -- where nothing is to be mended nothing is: only where the rings begin may change
-pub mended_stays : (d e : Document) (paths : List Path) → NeedsNoMending d → WellFormed d → MendedBy d paths → Mended paths d e
+pub mended_stays : (d e : Document) (paths : List PathOfSegment) → NeedsNoMending d → WellFormed d → MendedBy d paths → Mended paths d e
     → e ≡ in_rings canonical d
 mended_stays d e paths n w b m =
     let k : Mended [] d e = subst (λ z. Mended z d e) (no_paths d n paths b) m in

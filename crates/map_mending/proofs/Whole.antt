@@ -7,14 +7,15 @@ use Rattle.std.specs.Prelude.{sum_by}
 use Rattle.grid_geometry.specs.Common.{Position, Segment, segment_cmp}
 use Rattle.ring_machine.specs.Common.{Feature, feature_of, features, size}
 use Rattle.topo_outline.specs.Common.{LayerText, Piece, starts, ends, leaf, text, leaves_in, leaves}
-use Rattle.topo_reader.specs.Common.{Polygons, Opened, polygons_at, items_from, layers_from, document_of, IsOfRings}
+use Rattle.topo_reader.specs.Common.{Polygons, Opened, document_of, IsOfRings}
+use Rattle.topo_outline.specs.Common.{polygons_at, items_from, layers_from}
 use Rattle.topo_reader.specs.Common.{IsOfWalks}
 use Rattle.topo_reader.proofs.Common.{rings_within, rings_document, sum_within}
 use Rattle.walk_faults.specs.Common.{ListsAll}
-use Rattle.segment_paths.specs.Common.{Path}
+use Rattle.segment_paths.specs.Common.{PathOfSegment}
 use Rattle.walk_mending.specs.Common.{is_bounding, is_bounding_in}
-use Rattle.map_mending.specs.Common.{Parted, AreBounding, bounds_in, MendsPolygon, joined, TellsParted, polygons_of}
-use Rattle.map_mending.specs.Common.{Parts, layers_after, with_mended}
+use Rattle.map_mending.specs.Common.{Parted, AreBounding, bounds_in, MendsPolygon, polygons_of_parts, TellsParted, polygons_by_feature}
+use Rattle.map_mending.specs.Common.{TellsPartedIn, layers_after, with_mended}
 use Rattle.map_mending.proofs.Pieces.{layers_count, document_mended}
 use Rattle.map_mending.proofs.Features.{mended_formed, mended_keeps, mended_rings}
 
@@ -58,18 +59,18 @@ layers_polygons all n (l ∷ ls) le =
     ∙ parts_of_take all n j k (length (leaves_in l.pieces ++ leaves ls)) both
 
 -- each feature has its polygons
-pub polygons_read : (o : Opened) → length o.polygons ≡ length (leaves o.layers) → polygons_of (document_of o) ≡ o.polygons
+pub polygons_read : (o : Opened) → length o.polygons ≡ length (leaves o.layers) → polygons_by_feature (document_of o) ≡ o.polygons
 polygons_read o e =
     layers_polygons o.polygons 0 o.layers (omega (arith, e))
     ∙ take_all (length (leaves o.layers)) o.polygons (omega (arith, e))
 
 -- ---- the limits
 
-module _ (paths : List Path) (o : Opened) (mended : List Polygons) (told : List Parted) (t : TellsParted paths o.polygons mended told) where
+module _ (paths : List PathOfSegment) (o : Opened) (mended : List Polygons) (told : List Parted) (t : TellsParted paths o.polygons mended told) where
   -- there is one list of polygons for each feature
   pub mended_counted : length o.polygons ≡ length (leaves o.layers) → length mended ≡ length (leaves (layers_after mended o.layers))
   mended_counted e =
-      ap (λ (z : List Polygons). length z) t.joins ∙ length-map t.parts joined
+      ap (λ (z : List Polygons). length z) t.joins ∙ length-map t.parts polygons_of_parts
       ∙ AllZip-long (AllZip (MendsPolygon paths)) o.polygons t.parts t.each
       ∙ e ∙ sym (layers_count mended o.layers)
 
@@ -99,7 +100,7 @@ module _ (paths : List Path) (o : Opened) (mended : List Polygons) (told : List 
 
   -- the list tells what was taken apart in the document
   pub mended_parts : length o.polygons ≡ length (leaves o.layers)
-      → Parts paths (document_of o) (document_of (with_mended o mended)) told
+      → TellsPartedIn paths (document_of o) (document_of (with_mended o mended)) told
   mended_parts e =
       let before = polygons_read o e in
       let after = polygons_read (with_mended o mended) (mended_counted e) in

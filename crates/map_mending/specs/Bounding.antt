@@ -5,7 +5,7 @@ use Rattle.std.specs.List.Sorted.{IsStrictlySortedBy}
 use Rattle.grid_geometry.specs.Common.{Segment, segment_cmp}
 use Rattle.ring_machine.specs.Common.{Document, features, rings, all_segments, least_conflict}
 use Rattle.topo_reader.specs.Common.{is_simple}
-use Rattle.segment_paths.specs.Common.{Path, ArePaths}
+use Rattle.segment_paths.specs.Common.{PathOfSegment, ArePaths}
 use Rattle.walk_mending.specs.Common.{is_bounding}
 
 -- the segment bounds in some polygon of the document
@@ -24,7 +24,7 @@ pub record NeedsNoMending (d : Document) : Type 0 where
 
 -- the paths are ones of the segments that bound in the document; where no two of these conflict
 -- there is none
-pub record MendedBy (d : Document) (paths : List Path) : Type 0 where
+pub record MendedBy (d : Document) (paths : List PathOfSegment) : Type 0 where
   pub segments : List Segment
   pub bounding : AreBounding d segments
   pub are_paths : ArePaths segments paths

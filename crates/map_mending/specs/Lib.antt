@@ -1,3 +1,5 @@
+pub mod Swept
+pub mod Areas
 pub mod Mended
 pub mod Bounding
 pub mod Told

@@ -2,18 +2,19 @@
 use Rattle.std.specs.Prelude.{◌≡◌, ℕ, List, [], ◌∷◌, ◌++◌, length, drop}
 use Rattle.std.specs.List.{AllZip}
 use Rattle.topo_outline.specs.Common.{Piece, starts, ends, leaf, text, LayerText, at_most_one, leaf_of, leaves_in}
-use Rattle.topo_reader.specs.Common.{Polygons, Opened, polygons_at}
-use Rattle.segment_paths.specs.Common.{Path}
+use Rattle.topo_reader.specs.Common.{Polygons, Opened}
+use Rattle.topo_outline.specs.Common.{polygons_at}
+use Rattle.segment_paths.specs.Common.{PathOfSegment}
 use Rattle.map_mending.specs.declared.parted.Parted.{Parted}
-use Rattle.map_mending.specs.Mended.{MendsPolygon, joined, form_after}
+use Rattle.map_mending.specs.Mended.{MendsPolygon, polygons_of_parts, form_after}
 use Rattle.map_mending.specs.Told.{told_from}
 
--- polygons that stand in the place of those of feature n, and what is told of them behind the rest
-pub record StandsFor (paths : List Path) (n : ℕ) (walks mended : Polygons)
+-- polygons that stand in the place of those of feature n, and what is reported of them after the rest
+pub record StandsFor (paths : List PathOfSegment) (n : ℕ) (walks mended : Polygons)
     (before after : List Parted) : Type 0 where
   pub parts : List Polygons
   pub each : AllZip (MendsPolygon paths) walks parts
-  pub joins : mended ≡ joined parts
+  pub joins : mended ≡ polygons_of_parts parts
   pub tells : after ≡ before ++ told_from paths n 0 walks parts
 
 -- a feature has the form that its polygons ask for, the first of these

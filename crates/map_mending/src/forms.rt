@@ -24,7 +24,7 @@ fn form_after(form: Form, polygons: usize) -> Form
 }
 
 /// Gives a feature the form that its polygons ask for, the first of these, and answers those of the
-/// features behind it. No other item has polygons.
+/// features after it. No other item has polygons.
 fn settle_item<'p, A: Allocator + Copy>(
     item: &mut Item<'_, A>,
     features: &'p [Polygons<A>],
@@ -42,7 +42,7 @@ fn settle_item<'p, A: Allocator + Copy>(
 }
 
 /// Gives the features of a layer the forms that their polygons ask for, and answers those of the
-/// features behind them.
+/// features after them.
 fn settle_items<'p, A: Allocator + Copy>(
     items: &mut [Item<'_, A>],
     features: &'p [Polygons<A>],

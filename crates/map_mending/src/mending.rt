@@ -7,7 +7,7 @@ ghost use Rattle.map_mending.specs.Bounding.{MendedBy, NeedsNoMending};
 ghost use Rattle.map_mending.specs.Faults.{IsMendFault};
 ghost use Rattle.map_mending.specs.Laws.{VerticesStay, AllStayNear};
 ghost use Rattle.map_mending.specs.Mended.{Mended};
-ghost use Rattle.map_mending.specs.Told.{Parts};
+ghost use Rattle.map_mending.specs.Told.{TellsPartedIn};
 
 use crate::fault::MendFault;
 use crate::forms::with_polygons;
@@ -41,10 +41,10 @@ pub struct Mending<'a, A: Allocator + Copy = Global> {
 /// All else stays as it is, and a map of rings whose segments do not conflict is not changed, but for
 /// where its rings begin.
 ///
-/// Whether the segments of the mended map conflict is not tested here. Fails with `TooLarge` where
-/// its rings, or the paths, would have more than 4,000,000 positions, with `Unmended` where paths were
+/// Whether the segments of the mended map conflict is not tested here. Fails with `TooLarge` where its
+/// rings, or the paths, would have more than 4,000,000 positions, with `Unmended` where paths were
 /// found under which two segments still conflict, with `Unparted` where no rings were found for a
-/// polygon that bounds something, and for want of memory.
+/// polygon that bounds something, and on allocation failure.
 pub fn mend<'a, I: SegIndex, A: Allocator + Copy>(
     alloc: A,
     index: I,
@@ -56,7 +56,7 @@ pub fn mend<'a, I: SegIndex, A: Allocator + Copy>(
         (document_of (view_raw raw.entry)) (document_of (view_raw mending.map))) }
     ensures paths { IfOk result (λ mending.
         MendedBy (document_of (view_raw raw.entry)) (paths_seen mending.paths.items)) }
-    ensures parted { IfOk result (λ mending. Parts (paths_seen mending.paths.items)
+    ensures parted { IfOk result (λ mending. TellsPartedIn (paths_seen mending.paths.items)
         (document_of (view_raw raw.entry)) (document_of (view_raw mending.map))
         mending.parted.items) }
     ensures stays { IfOk result (λ mending. NeedsNoMending (document_of (view_raw raw.entry))

@@ -3,7 +3,7 @@ use Rattle.kit_words.proofs.Common.{◌≡◌, ◌≤◌, ◌+◌, ◌-◌, ℕ,
 use Rattle.kit_words.proofs.Common.{arith, append_assoc, slice_range, sum, length-append, length-take, length-drop}
 use Rattle.kit_words.proofs.Common.{drop_split, flat_map-append, sum_by-cons}
 use Rattle.std.proofs.Common.{append-nil}
-use Rattle.map_opening.specs.Common.{joined, all_rings, shape_of, ring_count}
+use Rattle.map_opening.specs.Common.{in_lists, rings_of_features, shape_of, ring_count}
 
 -- ---- moved out of lists
 
@@ -27,32 +27,32 @@ length-range numbers list next n e few =
 
 -- the next numbers are put into a list
 pub joined_next : (lists lists' : List (List ℕ)) (list numbers all : List ℕ) (next end : ℕ) → lists' ≡ lists ++ list ∷ []
-    → list ≡ slice_range numbers next end → next ≤ end → joined lists ++ drop next numbers ≡ all
-    → joined lists' ++ drop end numbers ≡ all
+    → list ≡ slice_range numbers next end → next ≤ end → in_lists lists ++ drop next numbers ≡ all
+    → in_lists lists' ++ drop end numbers ≡ all
 joined_next lists lists' list numbers all next end e f l h =
-    ap (λ z. joined z ++ drop end numbers) e
-    ∙ ap (λ z. z ++ drop end numbers) (flat_map-append (λ xs. xs) lists (list ∷ []) ∙ ap (λ z. joined lists ++ z) (append-nil list))
-    ∙ append_assoc (joined lists) list (drop end numbers)
-    ∙ ap (λ z. joined lists ++ z) (ap (λ z. z ++ drop end numbers) f ∙ sym (drop_split numbers next end l)) ∙ h
+    ap (λ z. in_lists z ++ drop end numbers) e
+    ∙ ap (λ z. z ++ drop end numbers) (flat_map-append (λ xs. xs) lists (list ∷ []) ∙ ap (λ z. in_lists lists ++ z) (append-nil list))
+    ∙ append_assoc (in_lists lists) list (drop end numbers)
+    ∙ ap (λ z. in_lists lists ++ z) (ap (λ z. z ++ drop end numbers) f ∙ sym (drop_split numbers next end l)) ∙ h
 
 -- and the next lists into a feature
 pub all_next : (features features' : List (List (List ℕ))) (lists : List (List ℕ)) (numbers : List ℕ) (next next' : ℕ)
-    → features' ≡ features ++ lists ∷ [] → joined lists ++ drop next' numbers ≡ drop next numbers
-    → all_rings features ++ drop next numbers ≡ numbers → all_rings features' ++ drop next' numbers ≡ numbers
+    → features' ≡ features ++ lists ∷ [] → in_lists lists ++ drop next' numbers ≡ drop next numbers
+    → rings_of_features features ++ drop next numbers ≡ numbers → rings_of_features features' ++ drop next' numbers ≡ numbers
 all_next features features' lists numbers next next' e f h =
-    ap (λ z. all_rings z ++ drop next' numbers) e
-    ∙ ap (λ z. z ++ drop next' numbers) (flat_map-append joined features (lists ∷ []) ∙ ap (λ z. all_rings features ++ z) (append-nil (joined lists)))
-    ∙ append_assoc (all_rings features) (joined lists) (drop next' numbers)
-    ∙ ap (λ z. all_rings features ++ z) f ∙ h
+    ap (λ z. rings_of_features z ++ drop next' numbers) e
+    ∙ ap (λ z. z ++ drop next' numbers) (flat_map-append in_lists features (lists ∷ []) ∙ ap (λ z. rings_of_features features ++ z) (append-nil (in_lists lists)))
+    ∙ append_assoc (rings_of_features features) (in_lists lists) (drop next' numbers)
+    ∙ ap (λ z. rings_of_features features ++ z) f ∙ h
 
 -- ---- how many rings there are
 
-length-joined : {R : Type 0} (polygons : List (List R)) → length (joined polygons) ≡ sum (map length polygons)
+length-joined : {R : Type 0} (polygons : List (List R)) → length (in_lists polygons) ≡ sum (map length polygons)
 length-joined [] = refl
 length-joined (rings ∷ polygons) =
-    omega (arith, length-append rings (joined polygons), length-joined polygons, sum_by-cons (λ n. n) (length rings) (map length polygons))
+    omega (arith, length-append rings (in_lists polygons), length-joined polygons, sum_by-cons (λ n. n) (length rings) (map length polygons))
 
-pub length-all_rings : {R : Type 0} (features : List (List (List R))) → length (all_rings features) ≡ ring_count (shape_of features)
+pub length-all_rings : {R : Type 0} (features : List (List (List R))) → length (rings_of_features features) ≡ ring_count (shape_of features)
 length-all_rings [] = refl
 length-all_rings (polygons ∷ features) =
-    omega (arith, length-append (joined polygons) (all_rings features), length-joined polygons, length-all_rings features, sum_by-cons sum (map length polygons) (shape_of features))
+    omega (arith, length-append (in_lists polygons) (rings_of_features features), length-joined polygons, length-all_rings features, sum_by-cons sum (map length polygons) (shape_of features))

@@ -9,7 +9,7 @@ use Rattle.vertex_index.specs.Common.{Placement, AreDistinct, place}
 use Rattle.segment_index.specs.Common.{SegmentSet}
 use Rattle.arc_tables.specs.Common.{Edge, Rings, begins, edges}
 use Rattle.local_planarity.specs.Common.{IsHeld}
-use Rattle.ring_store.specs.Common.{ring_at, GoesRound, IsRound, Stands}
+use Rattle.ring_store.specs.Common.{keyed_ring, GoesRound, IsRound, Stands}
 use Rattle.ring_store.proofs.Common.{begins_edges, goes_round}
 use Rattle.map_opening.specs.Common.{all_keys, IsKeyed, IsLaid, segments_along}
 use Rattle.map_opening.proofs.LaidSides.{along_laid, laid_along, held_side, side_held}
@@ -18,7 +18,7 @@ use Rattle.map_opening.proofs.KeyedRings.{round_keyed}
 module _ (places : Placement) (rings : List (List Position)) (keyed : List (List ℕ)) (k : IsKeyed places rings keyed)
     (m : Rings) (numbers : List ℕ) (l : IsLaid m numbers keyed) where
   -- the positions of the ring with each number
-  pub rings_at : map (ring_at places m) numbers ≡ rings
+  pub rings_at : map (keyed_ring places m) numbers ≡ rings
   rings_at =
       let shown = λ (o : Option (List Edge)). map (place places) (begins (unwrap_or o [])) in
       sym (map-map shown (table.get m) numbers) ∙ ap (map shown) l.along ∙ map-map shown (λ ks. Some (edges ks)) keyed

@@ -5,12 +5,12 @@ use Rattle.grid_geometry.specs.Common.{Position}
 use Rattle.ring_parts.specs.Common.{polygons_seen}
 
 -- all that stands in lists
-abbrev pub joined : {R : Type 0} → List (List R) → List R
-joined polygons = flat_map (λ polygon. polygon) polygons
+abbrev pub in_lists : {R : Type 0} → List (List R) → List R
+in_lists polygons = flat_map (λ polygon. polygon) polygons
 
 -- the rings of all features, one after the other
-abbrev pub all_rings : {R : Type 0} → List (List (List R)) → List R
-all_rings features = flat_map joined features
+abbrev pub rings_of_features : {R : Type 0} → List (List (List R)) → List R
+rings_of_features features = flat_map in_lists features
 
 -- how many rings each polygon of each feature has
 abbrev pub shape_of : {R : Type 0} → List (List (List R)) → List (List ℕ)
@@ -22,7 +22,7 @@ ring_count shape = sum_by sum shape
 
 -- these are the rings of the features in order, and this is their shape
 pub record IsFlat {R : Type 0} (features : List (List (List R))) (shape : List (List ℕ)) (rings : List R) : Type 0 where
-  pub all : all_rings features ≡ rings
+  pub all : rings_of_features features ≡ rings
   pub alike : shape_of features ≡ shape
 
 module _ {A : Type 0} where

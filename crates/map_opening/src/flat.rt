@@ -2,7 +2,7 @@
 ghost use Rattle.std.specs.Prelude.{◌≡◌, ◌≤◌, ◌+◌, ◌++◌, map, length, drop, IfOk, OnOk};
 ghost use Rattle.std.specs.List.{sum};
 ghost use Rattle.ring_parts.specs.Common.{rings_seen, polygons_seen};
-ghost use Rattle.map_opening.specs.Flat.{joined, all_rings, ring_count, IsFlat, lists_seen, numbers_seen, features_seen};
+ghost use Rattle.map_opening.specs.Flat.{in_lists, rings_of_features, ring_count, IsFlat, lists_seen, numbers_seen, features_seen};
 
 use grid_geometry::Pos;
 use std::alloc::{AllocError, Allocator, Global};
@@ -16,14 +16,14 @@ pub struct FlatRings<A: Allocator + Copy = Global> {
     pub shape: Vec<Vec<usize, A>, A>,
 }
 
-/// Moves the rings of polygons behind those that are there, and answers how many each polygon had.
+/// Moves the rings of polygons after those that are there, and answers how many each polygon had.
 fn move_rings<A: Allocator + Copy>(
     alloc: A,
     polygons: Vec<Vec<Vec<Pos, A>, A>, A>,
     rings: &mut Vec<Vec<Pos, A>, A>,
 ) -> Result<Vec<usize, A>, AllocError>
     ensures rings { OnOk result (rings_seen rings.new.items
-        ≡ rings_seen rings.old.items ++ joined (polygons_seen polygons.items)) }
+        ≡ rings_seen rings.old.items ++ in_lists (polygons_seen polygons.items)) }
     ensures counts { IfOk result
         (λ counts. counts.items ≡ map length (polygons_seen polygons.items)) }
 {
@@ -36,7 +36,7 @@ fn move_rings<A: Allocator + Copy>(
     Ok(counts)
 }
 
-/// Moves the rings of features into one list. Fails for want of memory alone.
+/// Moves the rings of features into one list. Fails only on allocation failure.
 pub fn flattened<A: Allocator + Copy>(
     alloc: A,
     features: Vec<Vec<Vec<Vec<Pos, A>, A>, A>, A>,
@@ -61,7 +61,7 @@ fn next_lists<A: Allocator + Copy>(
     counts: &[usize],
 ) -> Result<Vec<Vec<usize, A>, A>, AllocError>
     requires { next.old + sum counts.now ≤ length numbers.now }
-    ensures lists { IfOk result (λ lists. joined (lists_seen lists.items) ++ drop next.new numbers.now
+    ensures lists { IfOk result (λ lists. in_lists (lists_seen lists.items) ++ drop next.new numbers.now
         ≡ drop next.old numbers.now) }
     ensures counts { IfOk result (λ lists. map length (lists_seen lists.items) ≡ counts.now) }
     ensures next { OnOk result (next.new ≡ next.old + sum counts.now) }
@@ -75,7 +75,7 @@ fn next_lists<A: Allocator + Copy>(
     Ok(lists)
 }
 
-/// The numbers in features of this shape. Fails for want of memory alone.
+/// The numbers in features of this shape. Fails only on allocation failure.
 pub fn regrouped<A: Allocator + Copy>(
     alloc: A,
     numbers: &[usize],

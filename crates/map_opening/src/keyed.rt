@@ -13,8 +13,8 @@ use ring_store::key_ring;
 use std::alloc::{AllocError, Allocator};
 use vertex_index::{VertexKey, Vertices};
 
-/// The keys of the positions of all rings, in a table of vertices that was empty. Fails for want of
-/// memory alone.
+/// The keys of the positions of all rings, in a table of vertices that was empty. Fails only on
+/// allocation failure.
 pub(crate) fn key_all<A: Allocator + Copy>(
     alloc: A,
     vertices: &mut Vertices<A>,

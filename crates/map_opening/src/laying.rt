@@ -11,7 +11,7 @@ use segment_index::SegIndex;
 use std::alloc::{AllocError, Allocator};
 use vertex_index::VertexKey;
 
-/// Lays the ring along these keys. Fails for want of memory alone.
+/// Lays the ring along these keys. Fails only on allocation failure.
 fn lay_ring<I: SegIndex, A: Allocator + Copy>(
     opened: &mut OpenedRings<I, A>,
     keys: &[VertexKey],
@@ -30,7 +30,7 @@ fn lay_ring<I: SegIndex, A: Allocator + Copy>(
     Ok(())
 }
 
-/// Lays the rings along these lists of keys, where none is laid yet. Fails for want of memory alone.
+/// Lays the rings along these lists of keys, where none is laid yet. Fails only on allocation failure.
 pub(crate) fn lay_all<I: SegIndex, A: Allocator + Copy>(
     opened: &mut OpenedRings<I, A>,
     keyed: &[Vec<VertexKey, A>],

@@ -26,8 +26,8 @@ fn shared_by_two<A: Allocator + Copy>(rings: &[Vec<Pos, A>]) -> usize {
     count / 2
 }
 
-/// Lays these rings, in an index that is empty; positions are hashed by a seed. Fails for want of
-/// memory alone.
+/// Lays these rings, in an index that is empty; positions are hashed by a seed. Fails only on
+/// allocation failure.
 pub fn lay<I: SegIndex, A: Allocator + Copy>(
     alloc: A,
     seed: RandomState,

@@ -9,8 +9,9 @@ use Rattle.json_spans.specs.Common.{Node}
 use Rattle.topo_outline.specs.Common.{EntryNode, Piece, starts, ends, leaf, text, LayerText, leaves_in, leaves}
 use Rattle.topo_outline.specs.Common.{AreLayers, no_layer, IsJson, IsName, head_of}
 use Rattle.topo_outline.specs.IsOutline as shape
-use Rattle.topo_reader.specs.Common.{Arc, GeometryUses, AreRings, IsRing, Polygons, polygons_at, items_from}
-use Rattle.topo_reader.specs.Common.{layers_from}
+use Rattle.topo_reader.specs.Common.{Arc, GeometryUses, AreRings, IsRing, Polygons}
+use Rattle.topo_outline.specs.Common.{polygons_at, items_from}
+use Rattle.topo_outline.specs.Common.{layers_from}
 use Rattle.map_text.specs.Common.{items_text, layer_member}
 use Rattle.map_text.proofs.MembersSeen.{Seen, seen, seen_as, all_seen}
 use Rattle.map_text.proofs.ReadingLists.{first_same, rest_same}

@@ -14,7 +14,7 @@ use Rattle.json_spans.specs.Grammar.{Chars, quote, ascii, two, three, three_e0, 
 use Rattle.json_spans.specs.Grammar as grammar
 use Rattle.json_spans.specs.Inside as inside
 use Rattle.topo_outline.specs.Common.{IsJson}
-use Rattle.map_text.specs.Common.{string_text}
+use Rattle.edit_records.specs.Common.{string_text}
 
 -- before the characters of a string more of them stand
 abbrev Leads : List ℕ → Type 0

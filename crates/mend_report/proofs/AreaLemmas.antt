@@ -1,4 +1,4 @@
--- What is told of the areas of what was read is told of the documents.
+-- What is reported of the areas of what was read is reported of the documents.
 use Rattle.kit_words.proofs.Common.{◌≡◌, ◌≤◌, List, length, sym, ap, ◌∙◌, arith, AllZip, take_all, length-map}
 use Rattle.kit_words.proofs.Common.{AllZip-long}
 use Rattle.std.specs.Prelude.{sum_by, flat_map}
@@ -7,11 +7,11 @@ use Rattle.ring_machine.specs.Common.{size}
 use Rattle.topo_outline.specs.Common.{leaves}
 use Rattle.topo_reader.specs.Common.{Polygons, Opened, document_of}
 use Rattle.topo_reader.proofs.Common.{rings_within, rings_document, sum_within}
-use Rattle.segment_paths.specs.Common.{Path}
-use Rattle.area_changes.specs.declared.change.AreaChange.{AreaChange}
-use Rattle.area_changes.specs.Common.{changes_from}
+use Rattle.segment_paths.specs.Common.{PathOfSegment}
+use Rattle.map_mending.specs.declared.change.AreaChange.{AreaChange}
+use Rattle.map_mending.specs.Common.{changes_from}
 use Rattle.map_mending.specs.declared.parted.Parted.{Parted}
-use Rattle.map_mending.specs.Common.{MendsPolygon, joined, TellsParted, polygons_of}
+use Rattle.map_mending.specs.Common.{MendsPolygon, polygons_of_parts, TellsParted, polygons_by_feature}
 use Rattle.map_mending.proofs.Whole.{polygons_read}
 
 -- a document has as many positions as the polygons that were read
@@ -26,20 +26,20 @@ pub opened_small : (o : Opened) → length o.polygons ≡ length (leaves o.layer
 opened_small o e small = omega (arith, opened_size o e, small)
 
 -- after mending there are as many features
-pub as_many : (paths : List Path) (walks mended : List Polygons) (told : List Parted) → TellsParted paths walks mended told → length mended ≡ length walks
+pub as_many : (paths : List PathOfSegment) (walks mended : List Polygons) (told : List Parted) → TellsParted paths walks mended told → length mended ≡ length walks
 as_many paths walks mended told t =
-    ap (λ (z : List Polygons). length z) t.joins ∙ length-map t.parts joined ∙ AllZip-long (AllZip (MendsPolygon paths)) walks t.parts t.each
+    ap (λ (z : List Polygons). length z) t.joins ∙ length-map t.parts polygons_of_parts ∙ AllZip-long (AllZip (MendsPolygon paths)) walks t.parts t.each
 
 module _ (o p : Opened) (before : length o.polygons ≡ length (leaves o.layers)) (after : length p.polygons ≡ length (leaves p.layers)) where
-  pub read_as_many : (paths : List Path) (told : List Parted) → TellsParted paths (polygons_of (document_of o)) (polygons_of (document_of p)) told
+  pub read_as_many : (paths : List PathOfSegment) (told : List Parted) → TellsParted paths (polygons_by_feature (document_of o)) (polygons_by_feature (document_of p)) told
       → length p.polygons ≡ length o.polygons
   read_as_many paths told t =
       ap (λ (z : List Polygons). length z) (sym (polygons_read p after))
-      ∙ as_many paths (polygons_of (document_of o)) (polygons_of (document_of p)) told t
+      ∙ as_many paths (polygons_by_feature (document_of o)) (polygons_by_feature (document_of p)) told t
       ∙ ap (λ (z : List Polygons). length z) (polygons_read o before)
 
-  pub areas_read : (paths : List Path) (told : List AreaChange) → told ≡ changes_from paths 0 o.polygons p.polygons
-      → told ≡ changes_from paths 0 (polygons_of (document_of o)) (polygons_of (document_of p))
+  pub areas_read : (paths : List PathOfSegment) (told : List AreaChange) → told ≡ changes_from paths 0 o.polygons p.polygons
+      → told ≡ changes_from paths 0 (polygons_by_feature (document_of o)) (polygons_by_feature (document_of p))
   areas_read paths told e =
       e ∙ ap (λ (z : List Polygons). changes_from paths 0 z p.polygons) (sym (polygons_read o before))
-      ∙ ap (λ (z : List Polygons). changes_from paths 0 (polygons_of (document_of o)) z) (sym (polygons_read p after))
+      ∙ ap (λ (z : List Polygons). changes_from paths 0 (polygons_by_feature (document_of o)) z) (sym (polygons_read p after))

@@ -2,7 +2,7 @@
 use Rattle.kit_words.proofs.Common.{◌≡◌, ℕ, Bool, true, refl, pos, List, [], ◌∷◌, codes, if◌then◌else◌, fold, digits}
 use Rattle.grid_geometry.specs.Common.{cross, is_within, is_on, are_split, orientation, Position, position, position_lt}
 use Rattle.grid_geometry.specs.Common.{position_eq, Segment, segment_eq, segment_lt}
-use Rattle.walk_faults.specs.Common.{walks_of, short_walks, all_repeats, all_positions, all_segments, touches_among}
+use Rattle.walk_faults.specs.Common.{walks_of, short_walks, all_repeats, all_positions, segments_of_walks, touches_among}
 use Rattle.walk_faults.specs.Common.{crossings_among}
 use Rattle.grid_reader.specs.declared.told.Told.{Told}
 use Rattle.mend_report.specs.Common.{report_text}
@@ -27,7 +27,7 @@ abbrev vertices : Map → List Position
 vertices m = fold (add position_lt position_eq) [] (all_positions (walks_of m))
 
 abbrev sides : Map → List Segment
-sides m = fold (add segment_lt segment_eq) [] (all_segments (walks_of m))
+sides m = fold (add segment_lt segment_eq) [] (segments_of_walks (walks_of m))
 
 -- the grid of a map whose coordinates are whole numbers
 abbrev whole : Told

@@ -1,3 +1,4 @@
+pub mod Reopened
 pub mod Appending
 pub mod ReportLemmas
 pub mod OpeningLemmas
@@ -6,4 +7,5 @@ pub mod PlaceLemmas
 pub mod AreaLemmas
 pub mod CopiedWalks
 pub mod EditorOpens
+pub mod MendEnds
 mod Examples

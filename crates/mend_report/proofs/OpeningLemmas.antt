@@ -16,7 +16,7 @@ use Rattle.walk_faults.specs.declared.findings.Findings.{Findings}
 use Rattle.walk_faults.specs.declared.findings.Repeat.{Repeat}
 use Rattle.walk_faults.specs.declared.findings.Touch.{Touch}
 use Rattle.walk_faults.proofs.Opening.{nothing_opens}
-use Rattle.mend_report.specs.Common.{OpensOn, Looked, MapOpens, is_plain, is_clear, Asked, Report, LookFault, status_of}
+use Rattle.mend_report.specs.Common.{OpensOn, Looked, MapOpens, reads_unchanged, is_clear, Asked, Report, LookFault, report_status}
 
 -- ---- nothing is found
 
@@ -58,7 +58,7 @@ pub one : (wants : Wants) (bytes : List ℕ) (o p : Opened) → OpensOn wants by
 one wants bytes o p reads again = ok_same o p (sym reads.opens ∙ again.opens)
 
 -- and so is the grid
-plain_same : (wants : Wants) (bytes : List ℕ) (s t : Told) → IsTold wants bytes s → IsTold wants bytes t → is_plain s ≡ is_plain t
+plain_same : (wants : Wants) (bytes : List ℕ) (s t : Told) → IsTold wants bytes s → IsTold wants bytes t → reads_unchanged s ≡ reads_unchanged t
 plain_same wants bytes s t told again =
     let shape : told.shape ≡ again.shape = ok_same told.shape again.shape (sym told.outlined ∙ again.outlined) in
     let whole : s.whole ≡ t.whole = told.is.whole ∙ ap (λ (o : OutlineText). all_whole o.arcs) shape ∙ sym again.is.whole in
@@ -67,16 +67,16 @@ plain_same wants bytes s t told again =
     ap (λ (b : Bool). b && (s.heights == 0)) whole ∙ ap (λ (z : ℕ). t.whole && (z == 0)) same
 
 pub status_opens : {A : Type 0} (asked : Asked) (bytes : List ℕ) (r : Report A) → Looked asked.grid bytes r.findings → IsTold asked.grid bytes r.grid
-    → r.dropped ≡ asked.dropped → status_of (Ok r) ≡ 0 ↔ MapOpens asked bytes
+    → r.dropped ≡ asked.dropped → report_status (Ok r) ≡ 0 ↔ MapOpens asked bytes
 status_opens {A = A} asked bytes r looked told dropped = (
   λ e.
-      let both = and_parts (is_plain r.grid && (r.dropped == 0)) clear (zero_if ((is_plain r.grid && (r.dropped == 0)) && clear) e) in
-      let grid = and_parts (is_plain r.grid) (r.dropped == 0) both.0 in
+      let both = and_parts (reads_unchanged r.grid && (r.dropped == 0)) clear (zero_if ((reads_unchanged r.grid && (r.dropped == 0)) && clear) e) in
+      let grid = and_parts (reads_unchanged r.grid) (r.dropped == 0) both.0 in
       (o, r.grid, looked.1, told, grid.0, sym dropped ∙ eqb-true r.dropped 0 grid.1, law.0 (nothing_if f both.1)),
   λ opens.
       let opened = subst (λ p. Opens p.polygons) (one asked.grid bytes opens.0 o opens.2 looked.1) opens.6 in
       let none = law.1 opened in
-      let plain : is_plain r.grid ≡ true = plain_same asked.grid bytes r.grid opens.1 told opens.3 ∙ opens.4 in
+      let plain : reads_unchanged r.grid ≡ true = plain_same asked.grid bytes r.grid opens.1 told opens.3 ∙ opens.4 in
       let none_dropped : (r.dropped == 0) ≡ true = ap (λ (n : ℕ). n == 0) (dropped ∙ opens.5) in
       ap (λ b. if b then 0 else 1) (ap₂ (λ a b. a && b) (ap₂ (λ a b. a && b) plain none_dropped)
       (clear_if f.short.items f.repeats.items f.touches.items f.crossings.items none.short none.repeats none.touches none.crossings)),
@@ -97,7 +97,7 @@ status_opens {A = A} asked bytes r looked told dropped = (
 -- as it is answered: what is found is found in what the bytes are, and the grid is theirs
 pub answer_opens : {A : Type 0} (asked : Asked) (bytes : List ℕ) (o : Opened) (grid : Told) (r : Result (Report A) LookFault)
     → OpensOn asked.grid bytes o → IsTold asked.grid bytes grid → IfOk r (λ report. Found o.polygons report.findings) → IfOk r (λ report. report.grid ≡ grid)
-    → IfOk r (λ report. report.dropped ≡ asked.dropped) → IfOk r (λ report. status_of (Ok report) ≡ 0 ↔ MapOpens asked bytes)
+    → IfOk r (λ report. report.dropped ≡ asked.dropped) → IfOk r (λ report. report_status (Ok report) ≡ 0 ↔ MapOpens asked bytes)
 answer_opens asked bytes o grid (Ok report) opens told found same dropped =
     status_opens asked bytes report (o, opens, found) (subst (IsTold asked.grid bytes) (sym same) told) dropped
 answer_opens asked bytes o grid (Err fault) opens told found same dropped = tt

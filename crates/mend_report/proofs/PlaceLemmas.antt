@@ -1,7 +1,7 @@
 -- The places of a map that was looked at.
 use Rattle.kit_words.proofs.Common.{◌≡◌, ℕ, Bool, true, sym, ap, ◌∙◌, subst, List, Option, Some, None, IfSome, Vec}
 use Rattle.kit_words.proofs.Common.{is_some, not, false≢true}
-use Rattle.segment_paths.specs.Common.{Path, paths_seen}
+use Rattle.segment_paths.specs.Common.{PathOfSegment, paths_seen}
 use Rattle.topo_reader.specs.Common.{Opened, Polygons}
 use Rattle.walk_faults.specs.declared.findings.Findings.{Findings}
 use Rattle.place_text.specs.Common.{IsPlaceText}
@@ -22,8 +22,8 @@ pub remade_placed : {A : Type 0} (o : Opened) (found : Findings A) (remade : Rem
 remade_placed o found remade None is_found h = h
 remade_placed o found remade (Some text) is_found h = (found, is_found, h)
 
--- what is told of the transform and the walks of the map is told of the map
-pub placed_same : {A : Type 0} (o : Opened) (found : Findings A) (transform : Option Text) (walks : List Polygons) (given paths : Option (List Path)) (places : Option (Vec ℕ A))
+-- what is reported of the transform and the walks of the map is reported of the map
+pub placed_same : {A : Type 0} (o : Opened) (found : Findings A) (transform : Option Text) (walks : List Polygons) (given paths : Option (List PathOfSegment)) (places : Option (Vec ℕ A))
     → transform ≡ o.transform → walks ≡ o.polygons → given ≡ paths
     → IfSome places (λ text. IsPlaceText transform walks found given text.items) → IfSome places (λ text. IsPlaceText o.transform o.polygons found paths text.items)
 placed_same o found transform walks given paths places t p q h =
@@ -32,7 +32,7 @@ placed_same o found transform walks given paths places t p q h =
     (subst (λ z. IfSome places (λ text. IsPlaceText z walks found given text.items)) t h))
 
 -- and of the bytes that the map is opened from
-pub placed_at : {A : Type 0} (wants : Wants) (bytes : List ℕ) (o : Opened) (found : Findings A) (paths : Option (List Path)) (places : Option (Vec ℕ A))
+pub placed_at : {A : Type 0} (wants : Wants) (bytes : List ℕ) (o : Opened) (found : Findings A) (paths : Option (List PathOfSegment)) (places : Option (Vec ℕ A))
     → OpensOn wants bytes o → IfSome places (λ text. IsPlaceText o.transform o.polygons found paths text.items)
     → IfSome places (λ text. HasPlaces wants bytes found paths text.items)
 placed_at wants bytes o found paths None opens h = tt

@@ -4,7 +4,7 @@ use Rattle.std.specs.Prelude.{flat_map}
 use Rattle.grid_geometry.specs.Common.{Position, position_text}
 use Rattle.topo_reader.specs.Common.{Opened}
 use Rattle.grid_reader.specs.declared.told.Told.{Told}
-use Rattle.segment_paths.specs.Common.{path_seen, paths_seen}
+use Rattle.segment_paths.specs.Common.{path_of_segment, paths_seen}
 use Rattle.segment_paths.specs.declared.path.SegmentPath.{SegmentPath}
 use Rattle.mend_report.specs.Common.{opens_line, lines, path_line}
 use Rattle.mend_report.specs.Remaking.{TellsRemade}
@@ -28,24 +28,24 @@ pub goes_along : {A : Type 0} (line : Position → List ℕ) (inside path : Segm
 goes_along {A = A} line inside path whole old new same is_whole e =
     e ∙ ap (λ (z : List Position). old ++ flat_map line z) (is_whole ∙ ap (λ (p : SegmentPath A). p.inner.items) same)
 
--- what is appended for the front of a list
+-- what is appended for the prefix of a list
 pub told : {X : Type 0} (most : ℕ) (line : X → List ℕ) (xs whole : List X) (old new : List ℕ) → whole ≡ xs
     → new ≡ old ++ lines most line whole → new ≡ old ++ lines most line xs
 told {X = X} most line xs whole old new is_whole e = e ∙ ap (λ (z : List X). old ++ lines most line z) is_whole
 
--- what is appended for the front of a list of paths
+-- what is appended for the prefix of a list of paths
 pub led : {A : Type 0} (most : ℕ) (paths whole : List (SegmentPath A)) (old new : List ℕ) → whole ≡ paths
-    → new ≡ old ++ lines most (λ p. path_line (path_seen p)) whole → new ≡ old ++ lines most path_line (paths_seen paths)
+    → new ≡ old ++ lines most (λ p. path_line (path_of_segment p)) whole → new ≡ old ++ lines most path_line (paths_seen paths)
 led {A = A} most paths whole old new is_whole e =
-    e ∙ ap (λ (z : List (SegmentPath A)). old ++ lines most (λ p. path_line (path_seen p)) z) is_whole
-    ∙ ap (λ (z : List ℕ). old ++ z) (sym (flat_map-map path_line path_seen (take most paths)))
-    ∙ ap (λ z. old ++ flat_map path_line z) (sym (take-map path_seen most paths))
+    e ∙ ap (λ (z : List (SegmentPath A)). old ++ lines most (λ p. path_line (path_of_segment p)) z) is_whole
+    ∙ ap (λ (z : List ℕ). old ++ z) (sym (flat_map-map path_line path_of_segment (take most paths)))
+    ∙ ap (λ z. old ++ flat_map path_line z) (sym (take-map path_of_segment most paths))
 
 -- what is appended for a count, where it is known
 pub numbered : (n m : ℕ) (old new : List ℕ) → n ≡ m → new ≡ old ++ decimal n → new ≡ old ++ decimal m
 numbered n m old new same e = e ∙ ap (λ (k : ℕ). old ++ decimal k) same
 
--- the lines that were left out are told as many as were asked for
+-- the lines that were left out are reported as many as were asked for
 pub told_as_asked : {A : Type 0} (most dropped asked : ℕ) (o : Opened) (grid : Told) (remade : Remade A) (before after : List ℕ)
     → dropped ≡ asked → TellsRemade most dropped o grid remade before after → TellsRemade most asked o grid remade before after
 told_as_asked most dropped asked o grid remade before after same tells = subst (λ n. TellsRemade most n o grid remade before after) same tells

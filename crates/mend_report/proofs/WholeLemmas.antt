@@ -8,9 +8,9 @@ use Rattle.grid_reader.specs.Common.{IsTold}
 use Rattle.grid_reader.specs.declared.told.Told.{Told}
 use Rattle.grid_reader.specs.declared.wants.Wants.{Wants}
 use Rattle.grid_reader.proofs.AsWhole.{whole_on_grid, whole_told, grid_is_whole}
-use Rattle.mend_report.specs.Common.{OpensOn, MapOpens, EditorOpens, HasWalks, IsRemade, RemakesWhole, is_plain}
-use Rattle.mend_report.specs.Common.{status_of, Asked, Report, LookFault, Remade}
-use Rattle.mend_report.specs.declared.report.RepairFault.{RepairFault}
+use Rattle.mend_report.specs.Common.{OpensOn, MapOpens, EditorOpens, HasWalks, IsRemade, RemakesWhole, reads_unchanged}
+use Rattle.mend_report.specs.Common.{report_status, Asked, Report, LookFault, Remade}
+use Rattle.mend_report.specs.declared.repair_fault.RepairFault.{RepairFault}
 use Rattle.mend_report.proofs.EditorOpens.{walks_open, rings_open}
 use Rattle.mend_report.proofs.OpeningLemmas.{one}
 
@@ -29,13 +29,13 @@ on_grid : (asked : Asked) (bytes : List ℕ) (grid : Told) → asked.grid.finer 
 on_grid asked bytes grid same told opens =
     let walks = rings_open bytes opens.1 in
     let plain = whole_told asked.grid bytes walks.0 grid walks.1 told in
-    let is : is_plain grid ≡ true = ap (λ b. b && (grid.heights == 0)) plain.0 ∙ ap (λ (n : ℕ). n == 0) plain.1 in
+    let is : reads_unchanged grid ≡ true = ap (λ b. b && (grid.heights == 0)) plain.0 ∙ ap (λ (n : ℕ). n == 0) plain.1 in
     (walks.0, grid, whole_on_grid asked.grid bytes walks.0 same walks.1, told, is, opens.0, walks.2)
 
 -- the status is 0 exactly where the editor opens the map
 pub answer_editor : {A : Type 0} (asked : Asked) (bytes : List ℕ) (grid : Told) (r : Result (Report A) LookFault)
-    → IsTold asked.grid bytes grid → IfOk r (λ report. status_of (Ok report) ≡ 0 ↔ MapOpens asked bytes)
-    → IfOk r (λ report. asked.grid.finer ≡ 0 → status_of (Ok report) ≡ 0 ↔ OpensAsIs asked bytes)
+    → IsTold asked.grid bytes grid → IfOk r (λ report. report_status (Ok report) ≡ 0 ↔ MapOpens asked bytes)
+    → IfOk r (λ report. asked.grid.finer ≡ 0 → report_status (Ok report) ≡ 0 ↔ OpensAsIs asked bytes)
 answer_editor asked bytes grid (Err fault) told opens = tt
 answer_editor asked bytes grid (Ok report) told opens =
     λ same. (λ e. in_editor asked bytes same (opens.0 e), λ is. opens.1 (on_grid asked bytes grid same told is))

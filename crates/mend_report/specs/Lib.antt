@@ -1,3 +1,5 @@
+pub mod Opens
+pub mod Unsaved
 pub mod Report
 pub mod Looking
 pub mod Faults

@@ -6,12 +6,12 @@ use Rattle.grid_reader.specs.declared.told.Told.{Told}
 use Rattle.grid_reader.specs.declared.wants.Wants.{Wants}
 use Rattle.place_text.specs.Common.{IsPlaceText}
 use Rattle.ring_machine.specs.Common.{Text, first_pair}
-use Rattle.segment_paths.specs.Common.{Path}
+use Rattle.segment_paths.specs.Common.{PathOfSegment}
 use Rattle.topo_reader.specs.Common.{Opened, document_of, OpensIn, OpensWalks, IsFaultIn}
 use Rattle.topo_reader.specs.Opening as reader
 use Rattle.walk_faults.specs.Common.{Found, HasMore, Opens, walks_of}
 use Rattle.walk_faults.specs.declared.findings.Findings.{Findings}
-use Rattle.mend_report.specs.Report.{is_plain}
+use Rattle.mend_report.specs.Report.{reads_unchanged}
 use Rattle.mend_report.specs.declared.asked.Asked.{Asked}
 use Rattle.mend_report.specs.declared.looking.LookFault.{LookFault}
 use Rattle.mend_report.specs.declared.looking.LookFault.TheVariants.{Open, TooMany, OutOfMemory}
@@ -29,9 +29,9 @@ abbrev pub Looked : {A : Type 0} → Wants → List ℕ → Findings A → Type 
 Looked wants bytes findings = (o : Opened) × OpensOn wants bytes o × Found o.polygons findings
 
 -- the text has the places of these findings in the topology with walks that the bytes are, and these
--- paths, if they are told
+-- paths, if they are reported
 abbrev pub HasPlaces : {A : Type 0}
-    → Wants → List ℕ → Findings A → Option (List Path) → List ℕ → Type 0
+    → Wants → List ℕ → Findings A → Option (List PathOfSegment) → List ℕ → Type 0
 HasPlaces wants bytes findings paths text =
     (o : Opened) × OpensOn wants bytes o × IsPlaceText o.transform o.polygons findings paths text
 
@@ -40,7 +40,7 @@ HasPlaces wants bytes findings paths text =
 abbrev pub MapOpens : Asked → List ℕ → Type 0
 MapOpens asked bytes =
     (o : Opened) × (grid : Told) × OpensOn asked.grid bytes o × IsTold asked.grid bytes grid
-    × (is_plain grid ≡ true) × (asked.dropped ≡ 0) × Opens o.polygons
+    × (reads_unchanged grid ≡ true) × (asked.dropped ≡ 0) × Opens o.polygons
 
 -- the editor opens the map: its bytes are a topology of rings, no two of whose segments conflict
 abbrev pub EditorOpens : List ℕ → Type 0
@@ -55,7 +55,7 @@ abbrev pub AreTooMany : Wants → List ℕ → Type 0
 AreTooMany wants bytes =
     (o : Opened) × OpensOn wants bytes o × HasMore 4000000 (walks_of o.polygons)
 
--- the first fault of the bytes as a topology with walks, too many findings, or a refused growth
+-- the first fault of the bytes as a topology with walks, too many findings, or a failed allocation
 abbrev pub IsEnd : LookFault → Wants → List ℕ → Type 0
 IsEnd (Open fault) wants bytes = IsFaultIn (grid_opening wants) bytes fault
 IsEnd TooMany wants bytes = AreTooMany wants bytes

@@ -9,28 +9,28 @@ use Rattle.walk_faults.specs.Common.{Found}
 use Rattle.walk_faults.specs.declared.findings.Findings.{Findings}
 use Rattle.place_text.specs.Common.{IsPlaceText}
 use Rattle.map_text.specs.Common.{Saved, text_of}
-use Rattle.area_changes.specs.Common.{changes_from}
+use Rattle.map_mending.specs.Common.{changes_from}
 use Rattle.segment_paths.specs.Common.{paths_seen}
-use Rattle.map_mending.specs.Common.{MendedBy, NeedsNoMending, Mended, Parts, polygons_of, VerticesStay, AllStayNear}
-use Rattle.map_saving.specs.Common.{OpensAgain}
-use Rattle.mend_report.specs.Faults.{IsRemakeFault}
+use Rattle.map_mending.specs.Common.{MendedBy, IsMendFault, NeedsNoMending, Mended, TellsPartedIn, polygons_by_feature, VerticesStay, AllStayNear}
+use Rattle.mend_report.specs.Opens.{OpensAgain}
+use Rattle.mend_report.specs.Faults.{IsMendedUnsaved}
 use Rattle.mend_report.specs.Looking.{OpensOn, IsEnd, EndsLook}
 use Rattle.mend_report.specs.Report.{mended_report}
 use Rattle.mend_report.specs.declared.asked.Asked.{Asked}
 use Rattle.mend_report.specs.declared.remaking.Remade.{Remade}
-use Rattle.mend_report.specs.declared.report.RepairFault.{RepairFault}
-use Rattle.mend_report.specs.declared.report.RepairFault.TheVariants.{Look, Remake}
+use Rattle.mend_report.specs.declared.repair_fault.RepairFault.{RepairFault}
+use Rattle.mend_report.specs.declared.repair_fault.RepairFault.TheVariants.{Look, Mend, Save}
 
 -- a document of walks is mended by these paths to a proper one, which is the same where that needs no
--- mending, keeps its vertices and stays near it; what was taken apart is told, and how areas change,
--- and the text keeps the document and opens as it
+-- mending, keeps its vertices and stays near it; what was taken apart is reported, and how areas
+-- change, and the text keeps the document and opens as it
 pub record IsRemade {A : Type 0} (d : Document) (remade : Remade A) : Type 0 where
   pub document : Document
   pub mended : Mended (paths_seen remade.paths.items) d document
   pub by : MendedBy d (paths_seen remade.paths.items)
-  pub parts : Parts (paths_seen remade.paths.items) d document remade.parted.items
+  pub parts : TellsPartedIn (paths_seen remade.paths.items) d document remade.parted.items
   pub areas : remade.areas.items
-      ≡ changes_from (paths_seen remade.paths.items) 0 (polygons_of d) (polygons_of document)
+      ≡ changes_from (paths_seen remade.paths.items) 0 (polygons_by_feature d) (polygons_by_feature document)
   pub stays : NeedsNoMending d → document ≡ in_rings canonical d
   pub vertices : VerticesStay (paths_seen remade.paths.items) d document
   pub near : AllStayNear (paths_seen remade.paths.items) d document
@@ -74,14 +74,17 @@ abbrev pub PlacesMending : {A : Type 0}
 PlacesMending wants bytes remade places =
     (o : Opened) × OpensOn wants bytes o × PlacesRemade o remade places
 
--- why a map is not mended: where it was not looked through, as that ends; else as the document of
--- walks that the bytes mean
+-- why a map is not mended: where it was not looked through, as that ends; else as mending the document
+-- of walks that the bytes mean ends, or as saving ends what that is mended to
 abbrev pub IsMendEnd : RepairFault → Wants → List ℕ → Type 0
 IsMendEnd (Look fault) wants bytes = IsEnd fault wants bytes
-IsMendEnd (Remake fault) wants bytes =
-    (d : Document) × ReadsOnGrid wants bytes d × IsRemakeFault d fault
+IsMendEnd (Mend fault) wants bytes =
+    (d : Document) × ReadsOnGrid wants bytes d × IsMendFault d fault
+IsMendEnd (Save fault) wants bytes =
+    (d : Document) × ReadsOnGrid wants bytes d × IsMendedUnsaved d fault
 
 -- why a map that was read is not mended
 abbrev pub EndsMending : RepairFault → Opened → Type 0
 EndsMending (Look fault) o = EndsLook fault o.polygons
-EndsMending (Remake fault) o = IsRemakeFault (document_of o) fault
+EndsMending (Mend fault) o = IsMendFault (document_of o) fault
+EndsMending (Save fault) o = IsMendedUnsaved (document_of o) fault

@@ -1,11 +1,11 @@
 -- The report of what keeps a map from opening: a fact a line.
 use Rattle.std.specs.Prelude.{ℕ, Bool, ◌&&◌, ◌==◌, List, [], ◌++◌, length, take, codes, decimal, flat_map, if◌then◌else◌}
 use Rattle.std.specs.Fmt.{signed_decimal}
-use Rattle.area_changes.specs.declared.change.AreaChange.{AreaChange}
+use Rattle.map_mending.specs.declared.change.AreaChange.{AreaChange}
 use Rattle.grid_geometry.specs.Common.{position_text, segment_text}
 use Rattle.grid_reader.specs.declared.told.Told.{Told}
 use Rattle.map_mending.specs.declared.parted.Parted.{Parted}
-use Rattle.segment_paths.specs.Common.{Path}
+use Rattle.segment_paths.specs.Common.{PathOfSegment}
 use Rattle.topo_outline.specs.declared.fault.RingAt.{RingAt}
 use Rattle.walk_faults.specs.declared.findings.Crossing.{Crossing}
 use Rattle.walk_faults.specs.declared.findings.Findings.{Findings}
@@ -15,18 +15,18 @@ use Rattle.walk_faults.specs.declared.findings.Touch.{Touch}
 -- ---- the lines
 
 -- the numbers of the feature, of the polygon and of the ring: "F P R"
-abbrev pub ring_text : RingAt → List ℕ
-ring_text r =
+abbrev pub ring_numbers : RingAt → List ℕ
+ring_numbers r =
     decimal r.feature ++ (codes " " ++ (decimal r.polygon ++ (codes " " ++ decimal r.ring)))
 
 -- the ring has fewer than three positions: "short F P R"
 abbrev pub short_line : RingAt → List ℕ
-short_line r = codes "short " ++ (ring_text r ++ codes "\n")
+short_line r = codes "short " ++ (ring_numbers r ++ codes "\n")
 
 -- the ring passes more than once through the position: "repeats F P R X Y"
 abbrev pub repeat_line : Repeat → List ℕ
 repeat_line r =
-    codes "repeats " ++ (ring_text r.ring ++ (codes " " ++ (position_text r.pos ++ codes "\n")))
+    codes "repeats " ++ (ring_numbers r.ring ++ (codes " " ++ (position_text r.pos ++ codes "\n")))
 
 -- the vertex lies on the segment and is none of its ends: "on X Y / X Y X Y"
 abbrev pub touch_line : Touch → List ℕ
@@ -56,8 +56,8 @@ is_clear short repeats touches crossings =
     length short == 0 && length repeats == 0 && length touches == 0 && length crossings == 0
 
 -- every coordinate is written as a whole number, and nothing was left out
-abbrev pub is_plain : Told → Bool
-is_plain grid = grid.whole && grid.heights == 0
+abbrev pub reads_unchanged : Told → Bool
+reads_unchanged grid = grid.whole && grid.heights == 0
 
 -- the map opens as it is: "opens"
 abbrev pub opens_line : Bool → List ℕ
@@ -92,7 +92,7 @@ lines most line xs = flat_map line (take most xs)
 abbrev pub findings_text : ℕ → Told → ℕ
     → List RingAt → List Repeat → List Touch → List Crossing → List ℕ
 findings_text most grid dropped short repeats touches crossings =
-    opens_line (is_plain grid && dropped == 0 && is_clear short repeats touches crossings)
+    opens_line (reads_unchanged grid && dropped == 0 && is_clear short repeats touches crossings)
     ++ (grid_text grid dropped ++ (lines most short_line short ++ (lines most repeat_line repeats
     ++ (lines most touch_line touches ++ lines most crossing_line crossings))))
 
@@ -111,7 +111,7 @@ report_of most grid dropped found =
 -- ---- a map that was mended
 
 -- the segment goes along these positions now: "path X Y X Y .. X Y"
-abbrev pub path_line : Path → List ℕ
+abbrev pub path_line : PathOfSegment → List ℕ
 path_line p =
     codes "path " ++ (position_text p.0.lo
     ++ (flat_map (λ q. codes " " ++ position_text q) p.1
@@ -139,7 +139,7 @@ all_counts_line short repeats touches crossings paths parts areas =
 
 -- the report of what was found and of what was done about it, of each kind at most so many lines
 abbrev pub mended_report : {A : Type 0}
-    → ℕ → Told → ℕ → Findings A → List Path → List Parted → List AreaChange → List ℕ
+    → ℕ → Told → ℕ → Findings A → List PathOfSegment → List Parted → List AreaChange → List ℕ
 mended_report most grid dropped found paths parted areas =
     findings_text most grid dropped found.short.items found.repeats.items found.touches.items found.crossings.items
     ++ (lines most path_line paths ++ (lines most parts_line parted ++ (lines most area_line areas

@@ -1,4 +1,4 @@
-//! What is asked about a map, and what is told of it.
+//! What is asked about a map, and what is reported of it.
 ghost use Rattle.std.specs.Prelude.{◌≡◌};
 
 use grid_reader::{Told, Wants};
@@ -36,7 +36,7 @@ impl Asked {
     }
 }
 
-/// What is told of a map.
+/// What is reported of a map.
 #[derive(Drop)]
 pub struct Report<A: Allocator + Copy = Global> {
     /// The grid that its coordinates were put on.

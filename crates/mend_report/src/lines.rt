@@ -4,13 +4,13 @@ ghost use Rattle.grid_geometry.specs.Common.{position_text};
 ghost use Rattle.mend_report.specs.Report.{short_line, repeat_line, touch_line, crossing_line};
 ghost use Rattle.mend_report.specs.Report.{path_line, parts_line, area_line, lines, found_text};
 ghost use Rattle.mend_report.specs.Report.{opens_line, decimals_line, heights_line, lines_line};
-ghost use Rattle.segment_paths.specs.Common.{path_seen};
+ghost use Rattle.segment_paths.specs.Common.{path_of_segment};
 
-use crate::texts::{push_number, push_position, push_ring, push_segment};
-use area_changes::AreaChange;
+use crate::texts::{push_position, push_ring, push_segment};
 use grid_geometry::Pos;
 use grid_reader::Told;
-use map_mending::Parted;
+use map_mending::{AreaChange, Parted};
+use place_text::{append, push_number};
 use segment_paths::SegmentPath;
 use std::alloc::{AllocError, Allocator};
 use topo_outline::RingAt;
@@ -111,7 +111,7 @@ impl ReportLine for Crossing {
     }
 }
 
-/// Appends the positions, each behind a space.
+/// Appends the positions, each after a space.
 fn push_positions<A: Allocator>(text: &mut Vec<u8, A>, positions: &[Pos]) -> Result<(), AllocError>
     ensures { OnOk result (text.new.items ≡ text.old.items
         ++ flat_map (λ q. codes " " ++ position_text q) positions.now) }
@@ -124,7 +124,7 @@ fn push_positions<A: Allocator>(text: &mut Vec<u8, A>, positions: &[Pos]) -> Res
 }
 
 impl<B: Allocator + Copy> ReportLine for SegmentPath<B> {
-    ghost line = { λ path. path_line (path_seen path) };
+    ghost line = { λ path. path_line (path_of_segment path) };
 
     fn push_line<A: Allocator>(&self, text: &mut Vec<u8, A>) -> Result<(), AllocError> {
         append!(text; b"path " push_position(self.segment.lo) push_positions(self.inner.as_slice())

@@ -7,7 +7,7 @@ ghost use Rattle.mend_report.specs.Looking.{OpensOn, IsEnd, EndsLook};
 ghost use Rattle.mend_report.specs.SeenView.{opened_of};
 
 use crate::asked::{Asked, Report};
-use grid_reader::{OnGrid, Transform, read_on_grid};
+use grid_reader::{OnGrid, Transform, or_return, read_on_grid};
 use segment_index::TreeIndex;
 use std::alloc::{AllocError, Allocator, Global};
 use topo_outline::OpenFault;
@@ -21,7 +21,7 @@ pub enum LookFault<'a> {
     Open(OpenFault<'a>),
     /// More is found of one kind than can be listed.
     TooMany,
-    /// A growth was refused.
+    /// An allocation failed.
     OutOfMemory,
 }
 
@@ -58,7 +58,7 @@ fn look<A: Allocator + Copy>(
 }
 
 /// A map that was looked through: walks in the place of its rings, its transform beside it, and what is
-/// told of it.
+/// reported of it.
 #[derive(Drop)]
 pub(crate) struct Seen<'a, A: Allocator + Copy = Global> {
     pub(crate) transform: Transform<'a, A>,

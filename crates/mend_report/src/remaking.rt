@@ -2,18 +2,16 @@
 ghost use Rattle.std.specs.Prelude.{◌≡◌, IfOk, IfErr};
 ghost use Rattle.topo_reader.specs.Common.{document_of, IsOfWalks, view_raw};
 ghost use Rattle.walk_faults.specs.Common.{features_seen};
-ghost use Rattle.mend_report.specs.Remaking.{IsRemade};
-ghost use Rattle.mend_report.specs.Faults.{IsRemakeFault};
+ghost use Rattle.mend_report.specs.Remaking.{IsRemade, EndsMending};
 
-use area_changes::{AreaChange, area_changes};
-use grid_geometry::{Pos, Seg};
-use map_mending::{MendFault, Mending, Parted, mend};
-use map_saving::{SaveFault, saved_text};
+use crate::repair_fault::RepairFault;
+use crate::saving::saved_text;
+use grid_geometry::Pos;
+use map_mending::{AreaChange, Mending, Parted, area_changes, mend};
 use segment_index::TreeIndex;
 use segment_paths::SegmentPath;
-use std::alloc::{AllocError, Allocator, Global};
+use std::alloc::{Allocator, Global};
 use std::hash::RandomState;
-use topo_outline::Limit;
 use topo_reader::RawDoc;
 
 /// What was done to a map, and the text that it is saved as.
@@ -29,71 +27,6 @@ pub struct Remade<A: Allocator + Copy = Global> {
     pub text: Vec<u8, A>,
 }
 
-/// Why a map that was looked through is not mended.
-#[derive(Clone, Copy, Debug)]
-pub enum RemakeFault {
-    /// What it would be mended to is over a limit.
-    TooLarge(Limit),
-    /// Two segments still conflict.
-    Unmended {
-        /// One of the two.
-        s: Seg,
-        /// The other one.
-        t: Seg,
-    },
-    /// A polygon was not taken apart into rings.
-    Unparted {
-        /// The number of the feature.
-        feature: usize,
-        /// The number of the polygon in the feature.
-        polygon: usize,
-    },
-    /// A growth was refused.
-    OutOfMemory,
-}
-
-impl From<AllocError> for RemakeFault {
-    ghost use Rattle.std.specs.Prelude.{◌≡◌};
-    ghost use Rattle.mend_report.specs.declared.remaking.RemakeFault.TheVariants.{OutOfMemory};
-
-    ghost from_gives = { λ _ e. e ≡ OutOfMemory };
-
-    fn from(_error: AllocError) -> RemakeFault {
-        RemakeFault::OutOfMemory
-    }
-}
-
-impl From<MendFault> for RemakeFault {
-    ghost use Rattle.std.specs.Prelude.{◌≡◌};
-    ghost use Rattle.mend_report.specs.Faults.{of_mending};
-
-    ghost from_gives = { λ fault e. e ≡ of_mending fault };
-
-    fn from(fault: MendFault) -> RemakeFault {
-        match fault {
-            MendFault::TooLarge => RemakeFault::TooLarge(Limit::Positions),
-            MendFault::Unmended { s, t } => RemakeFault::Unmended { s, t },
-            MendFault::Unparted { feature, polygon } => RemakeFault::Unparted { feature, polygon },
-            MendFault::OutOfMemory => RemakeFault::OutOfMemory,
-        }
-    }
-}
-
-impl From<SaveFault> for RemakeFault {
-    ghost use Rattle.std.specs.Prelude.{◌≡◌};
-    ghost use Rattle.mend_report.specs.Faults.{of_saving};
-
-    ghost from_gives = { λ fault e. e ≡ of_saving fault };
-
-    fn from(fault: SaveFault) -> RemakeFault {
-        match fault {
-            SaveFault::Conflict { s, t } => RemakeFault::Unmended { s, t },
-            SaveFault::Unopened => RemakeFault::TooLarge(Limit::Bytes),
-            SaveFault::OutOfMemory => RemakeFault::OutOfMemory,
-        }
-    }
-}
-
 /// Mends a map that was read with walks, and saves it as a text that opens. Its polygons are given
 /// once more.
 pub(crate) fn remake<'a, A: Allocator + Copy>(
@@ -102,11 +35,11 @@ pub(crate) fn remake<'a, A: Allocator + Copy>(
     seed: RandomState,
     map: RawDoc<'a, A>,
     polygons: &[Vec<Vec<Vec<Pos, A>, A>, A>],
-) -> Result<Remade<A>, RemakeFault>
+) -> Result<Remade<A>, RepairFault<'static>>
     requires walks { IsOfWalks (view_raw map) }
     requires same { features_seen polygons.now ≡ (view_raw map).polygons }
     ensures remade { IfOk result (IsRemade (document_of (view_raw map.entry))) }
-    ensures fault { IfErr result (IsRemakeFault (document_of (view_raw map.entry))) }
+    ensures refused { IfErr result (λ fault. EndsMending fault (view_raw map.entry)) }
 {
     let index = TreeIndex::new(heap, map.extent());
     let Mending { map, paths, parted } = mend(alloc, index, map)?;

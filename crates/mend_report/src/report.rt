@@ -3,22 +3,22 @@ ghost use Rattle.std.specs.Prelude.{◌≡◌, ◌↔◌, ◌++◌, ◌&&◌, []
 ghost use Rattle.std.specs.Prelude.{option_map, IfErr, IfOk, IfSome, OnOk};
 ghost use Rattle.walk_faults.specs.Common.{features_seen, Found};
 ghost use Rattle.place_text.specs.Common.{IsPlaceText};
-ghost use Rattle.mend_report.specs.Report.{is_plain, is_clear, report_of, findings_text, grid_text, mended_report};
+ghost use Rattle.mend_report.specs.Report.{reads_unchanged, is_clear, report_of, findings_text, grid_text, mended_report};
 ghost use Rattle.mend_report.specs.Remaking.{Remakes, RemakesWhole, TellsMending, PlacesMending, IsMendEnd};
 ghost use Rattle.topo_reader.specs.Common.{view_raw};
 ghost use Rattle.segment_paths.specs.Common.{paths_seen};
 ghost use Rattle.mend_report.specs.Looking.{under, Looked, HasPlaces, MapOpens, EditorOpens, HasWalks, IsEnd};
-ghost use Rattle.mend_report.specs.Status.{is_open, status_of};
+ghost use Rattle.mend_report.specs.Status.{is_open, report_status};
 ghost use Rattle.grid_reader.specs.Common.{IsTold};
 
 use crate::asked::{Asked, Report};
 use crate::lines::{push_decimals, push_first, push_found, push_heights, push_lines, push_opens};
 use crate::looking::{LookFault, Seen, looked_through};
-use crate::remaking::{Remade, RemakeFault, remake};
-use crate::texts::push_number;
+use crate::remaking::{Remade, remake};
+use crate::repair_fault::RepairFault;
 use grid_geometry::Pos;
-use grid_reader::Told;
-use place_text::text_of_places;
+use grid_reader::{Told, or_return};
+use place_text::{append, push_number, text_of_places};
 use segment_paths::SegmentPath;
 use std::alloc::{AllocError, Allocator, Global};
 use std::hash::RandomState;
@@ -27,7 +27,7 @@ use walk_faults::Findings;
 
 /// Whether every coordinate is written as a whole number, and nothing was left out.
 fn is_plain(grid: Told) -> bool
-    ensures { result ≡ is_plain grid }
+    ensures { result ≡ reads_unchanged grid }
 {
     grid.whole && grid.heights == 0
 }
@@ -136,7 +136,7 @@ impl<A: Allocator + Copy> Texts<A> {
 }
 
 /// Puts the places of all findings among walks under a transform into `places`, where they are asked
-/// for, and with them the paths that mend the map, if these are told.
+/// for, and with them the paths that mend the map, if these are reported.
 fn put_places<'f, A: Allocator + Copy>(
     alloc: A,
     transform: Option<&[u8]>,
@@ -161,9 +161,9 @@ fn put_places<'f, A: Allocator + Copy>(
 
 /// Looks at a map on the grid that is asked for, appends the report of that grid and of all that keeps
 /// the map from opening to `texts.report`, of each kind at most `asked.most` lines, and puts the places
-/// of it all into `texts.places`, where they are asked for. What is told is answered: nothing, and so
-/// the status 0, exactly where the map opens as it is: in the editor, unless its grid is made finer. Fails
-/// as `map_of` and `look` do, and then `texts` may have a part of a report.
+/// of it all into `texts.places`, where they are asked for. What is reported is answered: nothing, and
+/// so the status 0, exactly where the map opens as it is: in the editor, unless its grid is made finer.
+/// Fails as `map_of` and `look` do, and then `texts` may have a part of a report.
 pub fn report_map<'a, A: Allocator + Copy>(
     alloc: A,
     heap: Global,
@@ -175,9 +175,9 @@ pub fn report_map<'a, A: Allocator + Copy>(
     ensures grid { IfOk result (λ report. IsTold asked.grid bytes.now report.grid) }
     ensures dropped { IfOk result (λ report. report.dropped ≡ asked.dropped) }
     ensures opens { IfOk result (λ report.
-        status_of (Ok report) ≡ 0 ↔ MapOpens asked bytes.now) }
+        report_status (Ok report) ≡ 0 ↔ MapOpens asked bytes.now) }
     ensures editor { IfOk result (λ report. asked.grid.finer ≡ 0
-        → status_of (Ok report) ≡ 0 ↔ (asked.dropped ≡ 0) × EditorOpens bytes.now) }
+        → report_status (Ok report) ≡ 0 ↔ (asked.dropped ≡ 0) × EditorOpens bytes.now) }
     ensures told { IfOk result (λ report. texts.new.report.items
         ≡ texts.old.report.items ++ report_of asked.most report.grid report.dropped report.findings) }
     ensures asked { OnOk result (is_some texts.new.places ≡ is_some texts.old.places) }
@@ -201,27 +201,6 @@ pub fn report_map<'a, A: Allocator + Copy>(
         &mut texts.places,
     )?;
     Ok(report)
-}
-
-/// Why a map is not mended.
-#[derive(Clone, Copy, Debug)]
-pub enum RepairFault<'a> {
-    /// It was not looked through.
-    Look(LookFault<'a>),
-    /// It was, and yet is not mended.
-    Remake(RemakeFault),
-}
-
-impl<'a> From<AllocError> for RepairFault<'a> {
-    ghost use Rattle.std.specs.Prelude.{◌≡◌};
-    ghost use Rattle.mend_report.specs.declared.looking.LookFault.TheVariants.{OutOfMemory};
-    ghost use Rattle.mend_report.specs.declared.report.RepairFault.TheVariants.{Look};
-
-    ghost from_gives = { λ _ fault. fault ≡ Look OutOfMemory };
-
-    fn from(_error: AllocError) -> RepairFault<'a> {
-        RepairFault::Look(LookFault::OutOfMemory)
-    }
 }
 
 /// The map with this transform.
@@ -275,10 +254,7 @@ pub fn mend_map<'a, A: Allocator + Copy>(
     let walks = map.polygons.clone()?;
     let transform = transform.text();
     let map = with_transform(transform, map);
-    let remade = match remake(alloc, heap, seed, map, walks.as_slice()) {
-        Ok(remade) => remade,
-        Err(fault) => return Err(RepairFault::Remake(fault)),
-    };
+    let remade = or_return!(remake(alloc, heap, seed, map, walks.as_slice()));
     let paths = Some(remade.paths.as_slice());
     let (walks, found) = (walks.as_slice(), &report.findings);
     put_places(alloc, transform, walks, found, paths, &mut texts.places)?;

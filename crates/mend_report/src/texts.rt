@@ -1,27 +1,16 @@
-//! Numbers, rings, positions and segments, appended to a text.
+//! Rings, positions and segments, appended to a text.
 ghost use Rattle.std.specs.Prelude.{◌≡◌, ◌++◌, OnOk};
 ghost use Rattle.grid_geometry.specs.Common.{position_text, segment_text};
-ghost use Rattle.mend_report.specs.Report.{ring_text};
+ghost use Rattle.mend_report.specs.Report.{ring_numbers};
 
 use grid_geometry::{Pos, Seg};
-use itoa::{Buffer, Integer};
+use place_text::{append, push_number};
 use std::alloc::{AllocError, Allocator};
 use topo_outline::RingAt;
 
-/// Appends a number in decimal.
-pub(crate) fn push_number<A: Allocator, I: Integer>(
-    text: &mut Vec<u8, A>,
-    number: I,
-) -> Result<(), AllocError>
-    ensures { OnOk result (text.new.items ≡ text.old.items ++ I.text number) }
-{
-    let mut buffer = Buffer::new();
-    text.extend_from_slice(buffer.format(number).as_bytes())
-}
-
 /// Appends the numbers of the feature, of the polygon and of the ring, with spaces between them.
 pub(crate) fn push_ring<A: Allocator>(text: &mut Vec<u8, A>, ring: RingAt) -> Result<(), AllocError>
-    ensures { OnOk result (text.new.items ≡ text.old.items ++ ring_text ring) }
+    ensures { OnOk result (text.new.items ≡ text.old.items ++ ring_numbers ring) }
 {
     append!(text; push_number(ring.feature) b" " push_number(ring.polygon) b" " push_number(ring.ring))
 }

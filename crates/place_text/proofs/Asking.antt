@@ -9,11 +9,11 @@ use Rattle.std.specs.Map.{lookup}
 use Rattle.grid_geometry.specs.Common.{Position, position_cmp, Segment, segment_cmp}
 use Rattle.ring_machine.proofs.Common.{position_total}
 use Rattle.segment_index.proofs.Common.{segment_total}
-use Rattle.segment_paths.specs.Common.{Path}
+use Rattle.segment_paths.specs.Common.{PathOfSegment}
 use Rattle.walk_faults.specs.declared.findings.Crossing.{Crossing}
 use Rattle.walk_faults.specs.declared.findings.Findings.{Findings}
 use Rattle.walk_faults.specs.declared.findings.Touch.{Touch}
-use Rattle.walk_faults.specs.Common.{each_at}
+use Rattle.walk_faults.specs.Common.{flat_map_at}
 use Rattle.place_text.specs.Common.{Cross, Side, Tables, vertex_features, segment_features, crossing_sides, sides_of}
 use Rattle.place_text.specs.Common.{touch_side, is_among, asked_with, numbers_in, touch_pos, side_segment, path_segment}
 use Rattle.place_text.specs.Common.{TellsAll, AreEmpty, Answers}
@@ -70,7 +70,7 @@ module _ {K : Type 0} (cmp : K → K → Ordering) where
   answer_is keys k told o asked new there e h =
       ap (λ z. unwrap_or z []) (h ∙ ap (option_map (λ ns. told)) (e ∙ ap (λ b. cond b (Some []) o) there))
 
-  -- the same, where others were asked for behind it
+  -- the same, where others were asked for after it
   pub answer_before : (keys others : List K) (k : K) (told : List ℕ) (o mid asked new : Option (List ℕ)) → is_among cmp keys k ≡ true → mid ≡ asked_with cmp keys k o
       → asked ≡ asked_with cmp others k mid → new ≡ option_map (λ ns. told) asked → unwrap_or new [] ≡ told
   answer_before keys others k told o mid asked new there e f h =
@@ -97,7 +97,7 @@ all_behind : {X : Type 0} (P : X → Type 0) (xs ys : List X) → All P (xs ++ y
 all_behind P [] ys h = h
 all_behind P (x ∷ xs) ys h = all_behind P xs ys (λ k d l. h (suc k) d (omega (arith, l)))
 
-of_pairs : (P : Segment → Type 0) (n : ℕ) (cs : List Crossing) → All (λ (s : Side). P s.segment) (each_at crossing_sides n cs) → All (λ (c : Crossing). P c.first × P c.second) cs
+of_pairs : (P : Segment → Type 0) (n : ℕ) (cs : List Crossing) → All (λ (s : Side). P s.segment) (flat_map_at crossing_sides n cs) → All (λ (c : Crossing). P c.first × P c.second) cs
 of_pairs P n [] h k d l = absurd (omega (arith, l))
 of_pairs P n (c ∷ cs) h zero d l =
     let any : Side = record { segment = c.first; kind = Cross; number = n } in
@@ -107,12 +107,12 @@ of_pairs P n (c ∷ cs) h (suc k) d l = of_pairs P (suc n) cs (λ j e m. h (suc 
 pub pairs_among : {A : Type 0} (P : Segment → Type 0) (found : Findings A) (sides : List Side) → sides ≡ sides_of found → All (λ (s : Side). P s.segment) sides
     → All (λ (c : Crossing). P c.first × P c.second) found.crossings.items
 pairs_among P found sides e h =
-    of_pairs P 0 found.crossings.items (all_behind (λ (s : Side). P s.segment) (each_at touch_side 0 found.touches.items) (each_at crossing_sides 0 found.crossings.items)
+    of_pairs P 0 found.crossings.items (all_behind (λ (s : Side). P s.segment) (flat_map_at touch_side 0 found.touches.items) (flat_map_at crossing_sides 0 found.crossings.items)
     (subst (All (λ (s : Side). P s.segment)) e h))
 
 -- ---- all that was asked for is answered
 
-pub answers : {A : Type 0} (features : List (List (List (List Position)))) (touches : List Touch) (sides : List Side) (paths : List Path)
+pub answers : {A : Type 0} (features : List (List (List (List Position)))) (touches : List Touch) (sides : List Side) (paths : List PathOfSegment)
     (v : BTreeMap Position (Vec ℕ A)) (s t : BTreeMap Segment (Vec ℕ A)) (mid new : Tables A)
     → ((p : Position) → numbers_in position_cmp mid.vertices p ≡ asked_with position_cmp (map touch_pos touches) p (numbers_in position_cmp v p))
     → ((q : Segment) → numbers_in segment_cmp t q ≡ asked_with segment_cmp (map side_segment sides) q (numbers_in segment_cmp s q))
@@ -131,8 +131,8 @@ answers features touches sides paths v s t mid new vs ss ps told = record {
       (numbers_in segment_cmp new.segments q) (among_mapped segment_cmp segment_total path_segment paths k d l) (ps q) (told.segments q);
 }
 
--- nothing is told of what is asked for
-pub empty_yet : {A : Type 0} (touches : List Touch) (sides : List Side) (paths : List Path) (v : BTreeMap Position (Vec ℕ A)) (s t : BTreeMap Segment (Vec ℕ A)) (mid : Tables A)
+-- nothing is reported of what is asked for
+pub empty_yet : {A : Type 0} (touches : List Touch) (sides : List Side) (paths : List PathOfSegment) (v : BTreeMap Position (Vec ℕ A)) (s t : BTreeMap Segment (Vec ℕ A)) (mid : Tables A)
     → IsEmpty v → IsEmpty s
     → ((p : Position) → numbers_in position_cmp mid.vertices p ≡ asked_with position_cmp (map touch_pos touches) p (numbers_in position_cmp v p))
     → ((q : Segment) → numbers_in segment_cmp t q ≡ asked_with segment_cmp (map side_segment sides) q (numbers_in segment_cmp s q))

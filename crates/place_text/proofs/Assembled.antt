@@ -6,7 +6,7 @@ use Rattle.std.proofs.Common.{append-nil}
 use Rattle.ring_machine.specs.Common.{Text}
 use Rattle.grid_geometry.specs.Common.{Position, position, Segment}
 use Rattle.map_text.specs.Common.{arc_text, list_text, pair_text}
-use Rattle.place_text.specs.Common.{ends, pair_behind}
+use Rattle.place_text.specs.Common.{segment_ends, pair_behind}
 
 list_two : (a b : Text) → codes "[" ++ (a ++ (codes "," ++ (b ++ codes "]"))) ≡ list_text (a ∷ b ∷ [])
 list_two a b =
@@ -22,7 +22,7 @@ from_nothing p =
 
 -- the pairs of an arc of two positions
 pub arc_is : (delta : Bool) (s : Segment)
-    → codes "[" ++ (pair_text s.lo ++ (codes "," ++ (pair_text (pair_behind delta s.lo s.hi) ++ codes "]"))) ≡ arc_text delta (ends s)
+    → codes "[" ++ (pair_text s.lo ++ (codes "," ++ (pair_text (pair_behind delta s.lo s.hi) ++ codes "]"))) ≡ arc_text delta (segment_ends s)
 arc_is true s =
     list_two (pair_text s.lo) (pair_text (pair_behind true s.lo s.hi))
     ∙ ap (λ p. list_text (pair_text p ∷ pair_text (pair_behind true s.lo s.hi) ∷ [])) (from_nothing s.lo)

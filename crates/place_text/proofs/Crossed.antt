@@ -3,7 +3,7 @@ use Rattle.kit_words.proofs.Common.{◌≡◌, ◌<◌, ◌+◌, ℕ, sym, ap, s
 use Rattle.kit_words.proofs.Common.{IsTrue, AllZip, take_more}
 use Rattle.std.specs.Prelude.{All}
 use Rattle.grid_geometry.specs.Common.{Position, cross}
-use Rattle.snap_geometry.specs.Common.{IsRoundedCrossing}
+use Rattle.segment_paths.specs.Common.{IsRoundedCrossing}
 use Rattle.walk_faults.specs.declared.findings.Crossing.{Crossing}
 use Rattle.place_text.specs.Common.{AreCrossings}
 

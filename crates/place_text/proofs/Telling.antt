@@ -1,4 +1,4 @@
--- What tables hold, while features are told one after another.
+-- What tables hold, while features are reported one after another.
 use Rattle.kit_words.proofs.Common.{◌≡◌, ◌<◌, ◌≤◌, ◌+◌, ℕ, zero, suc, Bool, true, false, cond, refl, sym, ap, ap₂, ◌∙◌}
 use Rattle.kit_words.proofs.Common.{subst, List, [], ◌∷◌, ◌++◌, length, map, take, drop, get_or, drop-cons, arith}
 use Rattle.kit_words.proofs.Common.{Option, Some, None, option_map, flat_map, list_any, is_eq, take-map, length-map}
@@ -8,7 +8,7 @@ use Rattle.grid_geometry.specs.Common.{links}
 use Rattle.ring_machine.proofs.Common.{position_eq-true, position_eq-sym, ties}
 use Rattle.segment_index.proofs.Common.{segment_eq-is}
 use Rattle.walk_faults.specs.Common.{segment_at}
-use Rattle.place_text.specs.Common.{Tables, feature_positions, feature_segments, has_vertex, has_segment, numbers_where}
+use Rattle.place_text.specs.Common.{Tables, vertices_of_feature, feature_segments, has_vertex, has_edge, numbers_where}
 use Rattle.place_text.specs.Common.{is_among, once, once_if, numbers_in, Tells, TellsAll}
 use Rattle.place_text.proofs.Numbered.{so_many}
 use Rattle.place_text.proofs.Told.{both_told, next_number}
@@ -24,12 +24,12 @@ segment_there a b s e apart = by (position_eq a b) refl
 
 -- ---- what each gives, one after another
 
-vertex_among : (p : Position) (feature : List (List (List Position))) → is_among position_cmp (feature_positions feature) p ≡ has_vertex p feature
+vertex_among : (p : Position) (feature : List (List (List Position))) → is_among position_cmp (vertices_of_feature feature) p ≡ has_vertex p feature
 vertex_among p feature =
     let e : (t : Position) → is_eq (position_cmp t p) ≡ position_eq p t = λ t. sym (ties t p) ∙ position_eq-sym t p in
-    λ i. list_any (λ t. e t i) (feature_positions feature)
+    λ i. list_any (λ t. e t i) (vertices_of_feature feature)
 
-segment_among : (s : Segment) (feature : List (List (List Position))) → is_among segment_cmp (feature_segments feature) s ≡ has_segment s feature
+segment_among : (s : Segment) (feature : List (List (List Position))) → is_among segment_cmp (feature_segments feature) s ≡ has_edge s feature
 segment_among s feature =
     let e : (t : Segment) → is_eq (segment_cmp t s) ≡ segment_eq s t = λ t. sym (segment_eq-is t s) in
     λ i. list_any (λ t. e t i) (feature_segments feature)
@@ -83,10 +83,10 @@ module _ {A : Type 0} where
   -- ---- features, one after another
 
   pub feature_step : {X : Type 0} (v : X → List (List (List Position))) (xs : List X) (i : ℕ) (x : X) (a b c : Tables A) → i < length xs → x ≡ get_or xs i x
-      → TellsAll (map v (take i xs)) a b → Tells i (feature_positions (v x)) (feature_segments (v x)) b c → TellsAll (map v (take (i + 1) xs)) a c
+      → TellsAll (map v (take i xs)) a b → Tells i (vertices_of_feature (v x)) (feature_segments (v x)) b c → TellsAll (map v (take (i + 1) xs)) a c
   feature_step v xs i x a b c l e h k = record {
-    vertices = λ p. k.vertices p ∙ ap (option_map (once_if position_cmp i (feature_positions (v x)) p)) (h.vertices p)
-        ∙ number_step (has_vertex p) v xs i x (is_among position_cmp (feature_positions (v x)) p) (numbers_in position_cmp a.vertices p) l e (vertex_among p (v x));
+    vertices = λ p. k.vertices p ∙ ap (option_map (once_if position_cmp i (vertices_of_feature (v x)) p)) (h.vertices p)
+        ∙ number_step (has_vertex p) v xs i x (is_among position_cmp (vertices_of_feature (v x)) p) (numbers_in position_cmp a.vertices p) l e (vertex_among p (v x));
     segments = λ s. k.segments s ∙ ap (option_map (once_if segment_cmp i (feature_segments (v x)) s)) (h.segments s)
-        ∙ number_step (has_segment s) v xs i x (is_among segment_cmp (feature_segments (v x)) s) (numbers_in segment_cmp a.segments s) l e (segment_among s (v x));
+        ∙ number_step (has_edge s) v xs i x (is_among segment_cmp (feature_segments (v x)) s) (numbers_in segment_cmp a.segments s) l e (segment_among s (v x));
   }

@@ -1,9 +1,9 @@
--- Numbers of features that are told at a key, each once.
+-- Numbers of features that are reported at a key, each once.
 use Rattle.kit_words.proofs.Common.{◌≡◌, ◌<◌, ◌≤◌, ◌+◌, ◌-◌, ◌==◌, ◌||◌, ℕ, zero, suc, Bool, true, false, cond, refl}
 use Rattle.kit_words.proofs.Common.{sym, ap, ◌∙◌, List, [], ◌∷◌, ◌++◌, length, take, get_or, arith, Option, Some, None}
 use Rattle.kit_words.proofs.Common.{slice_get, option_map, if◌then◌else◌, is_eq, Ordering, list_any-append}
 use Rattle.std.proofs.Common.{append-nil}
-use Rattle.walk_faults.specs.Common.{each_at}
+use Rattle.walk_faults.specs.Common.{flat_map_at}
 use Rattle.place_text.specs.Common.{number_if, numbers_where, is_last, once, is_among, once_if}
 use Rattle.place_text.proofs.Numbered.{each_next}
 
@@ -48,7 +48,7 @@ module _ {K : Type 0} (cmp : K → K → Ordering) where
   both_keys n xs ys k ns =
       ap (λ b. cond b (once n ns) ns) (list_any-append (λ t. is_eq (cmp t k)) xs ys) ∙ once_or n (is_among cmp xs k) (is_among cmp ys k) ns
 
-  -- what is told for some keys and then for others
+  -- what is reported for some keys and then for others
   pub both_told : (n : ℕ) (xs ys : List K) (k : K) (o : Option (List ℕ))
       → option_map (once_if cmp n ys k) (option_map (once_if cmp n xs k) o) ≡ option_map (once_if cmp n (xs ++ ys) k) o
   both_told n xs ys k None = refl
@@ -58,15 +58,15 @@ module _ {K : Type 0} (cmp : K → K → Ordering) where
 
 module _ {X : Type 0} (test : X → Bool) where
   -- all are below the number of the next one
-  not_last : (k i : ℕ) (xs : List X) (n : ℕ) → k + length xs ≤ n → is_last n (slice_get (each_at (number_if test) k xs) i) ≡ false
+  not_last : (k i : ℕ) (xs : List X) (n : ℕ) → k + length xs ≤ n → is_last n (slice_get (flat_map_at (number_if test) k xs) i) ≡ false
   not_last k i [] n l = refl
   not_last k i (x ∷ xs) n l = by (test x) i (λ j. not_last (suc k) j xs n (omega (arith, l)))
     where
       apart : (k == n) ≡ false
       apart = grind (arith, l)
 
-      by : (b : Bool) (j : ℕ) → ((m : ℕ) → is_last n (slice_get (each_at (number_if test) (suc k) xs) m) ≡ false)
-          → is_last n (slice_get ((if b then (k ∷ []) else []) ++ each_at (number_if test) (suc k) xs) j) ≡ false
+      by : (b : Bool) (j : ℕ) → ((m : ℕ) → is_last n (slice_get (flat_map_at (number_if test) (suc k) xs) m) ≡ false)
+          → is_last n (slice_get ((if b then (k ∷ []) else []) ++ flat_map_at (number_if test) (suc k) xs) j) ≡ false
       by true zero rest = apart
       by true (suc j) rest = rest j
       by false j rest = rest j

@@ -9,13 +9,13 @@ use Rattle.ring_machine.specs.Common.{Text}
 use Rattle.grid_geometry.specs.Common.{Position, position}
 use Rattle.map_text.specs.Common.{further, commas, comma_if, pair_text, pairs, differences, arc_text, list_text}
 use Rattle.map_text.proofs.Common.{further_push}
-use Rattle.segment_paths.specs.Common.{path_seen, paths_seen}
+use Rattle.segment_paths.specs.Common.{path_of_segment, paths_seen}
 use Rattle.segment_paths.specs.declared.path.SegmentPath.{SegmentPath}
-use Rattle.place_text.specs.Common.{pair_behind, way, ways, behind_if}
+use Rattle.place_text.specs.Common.{pair_behind, path_positions, ways, behind_if}
 use Rattle.place_text.proofs.Listed.{commas_next}
 use Rattle.place_text.proofs.Numbered.{so_many}
 
--- the pairs of an arc behind its first position
+-- the pairs of an arc after its first position
 abbrev pub behind : Bool → Position → List Position → List Position
 behind delta before [] = []
 behind delta before (p ∷ ps) = pair_behind delta before p ∷ behind delta p ps
@@ -39,7 +39,7 @@ pairs_are : (delta : Bool) (p : Position) (ps : List Position) → pairs delta (
 pairs_are true p ps = ap₂ (λ (q : Position) (qs : List Position). q ∷ qs) (from_nothing p) (behind_true p ps)
 pairs_are false p ps = ap (λ z. p ∷ z) (behind_false p ps)
 
--- what comes behind a position of an arc: the others, and the end of the list
+-- what comes after a position of an arc: the others, and the end of the list
 abbrev pub rest_text : Bool → Position → List Position → Text
 rest_text delta from ps = further (map pair_text (behind delta from ps)) ++ codes "]"
 
@@ -130,17 +130,17 @@ way_step more h f g xs i x l e old before mid end p q r =
 
 -- the arc of a path, as it is seen inside
 pub whole_way : {A : Type 0} (delta : Bool) (inside path : SegmentPath A) (inner : List Position) (old : Text) → inside ≡ path → inner ≡ inside.inner.items
-    → old ++ arc_text delta (inside.segment.lo ∷ inner ++ inside.segment.hi ∷ []) ≡ old ++ arc_text delta (way (path_seen path))
+    → old ++ arc_text delta (inside.segment.lo ∷ inner ++ inside.segment.hi ∷ []) ≡ old ++ arc_text delta (path_positions (path_of_segment path))
 whole_way {A = A} delta inside path inner old same is_inner =
     ap (λ (z : List Position). old ++ arc_text delta (inside.segment.lo ∷ z ++ inside.segment.hi ∷ [])) is_inner
-    ∙ ap (λ (p : SegmentPath A). old ++ arc_text delta (way (path_seen p))) same
+    ∙ ap (λ (p : SegmentPath A). old ++ arc_text delta (path_positions (path_of_segment p))) same
 
 -- ---- the list of all arcs
 
--- the paths that are told, and none where they are not
+-- the paths that are reported, and none where they are not
 pub told_is : {A : Type 0} (paths : Option (Bor (List (SegmentPath A)))) (none : Bor (List (SegmentPath A))) → none.now ≡ []
-    → map way (paths_seen (unwrap_or paths none).now) ≡ ways (option_map (λ ps. paths_seen ps.now) paths)
-told_is None none e = ap (λ ps. map way (paths_seen ps)) e
+    → map path_positions (paths_seen (unwrap_or paths none).now) ≡ ways (option_map (λ ps. paths_seen ps.now) paths)
+told_is None none e = ap (λ ps. map path_positions (paths_seen ps)) e
 told_is (Some paths) none e = refl
 
 -- the arcs of both kinds between brackets

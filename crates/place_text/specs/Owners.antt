@@ -4,14 +4,14 @@ use Rattle.std.specs.List.{flat_map, list_any}
 use Rattle.grid_geometry.specs.Common.{Position, position_eq, Segment, segment_eq}
 use Rattle.walk_faults.specs.declared.findings.Crossing.{Crossing}
 use Rattle.walk_faults.specs.declared.findings.Findings.{Findings}
-use Rattle.walk_faults.specs.Common.{walk_segments, each_at}
+use Rattle.walk_faults.specs.Common.{walk_segments, flat_map_at}
 use Rattle.place_text.specs.Places.{list_at}
 
 -- ---- what a feature has, which is given by its polygons and their rings, which are walks
 
 -- the positions of its walks, as often as they stand there
-abbrev pub feature_positions : List (List (List Position)) → List Position
-feature_positions polygons = flat_map (λ rings. flat_map (λ walk. walk) rings) polygons
+abbrev pub vertices_of_feature : List (List (List Position)) → List Position
+vertices_of_feature polygons = flat_map (λ rings. flat_map (λ walk. walk) rings) polygons
 
 -- the segments of the edges of its walks, as often as they stand there
 abbrev pub feature_segments : List (List (List Position)) → List Segment
@@ -19,11 +19,11 @@ feature_segments polygons = flat_map (λ rings. flat_map walk_segments rings) po
 
 -- a walk of the feature has the vertex
 abbrev pub has_vertex : Position → List (List (List Position)) → Bool
-has_vertex p feature = list_any (position_eq p) (feature_positions feature)
+has_vertex p feature = list_any (position_eq p) (vertices_of_feature feature)
 
 -- a walk of the feature has an edge with this segment
-abbrev pub has_segment : Segment → List (List (List Position)) → Bool
-has_segment s feature = list_any (segment_eq s) (feature_segments feature)
+abbrev pub has_edge : Segment → List (List (List Position)) → Bool
+has_edge s feature = list_any (segment_eq s) (feature_segments feature)
 
 -- ---- which features have it
 
@@ -33,7 +33,7 @@ number_if test n x = if test x then (n ∷ []) else []
 
 -- the numbers of the features that pass, from 0: ascending, each once
 abbrev pub numbers_where : {X : Type 0} → (X → Bool) → List X → List ℕ
-numbers_where test features = each_at (number_if test) 0 features
+numbers_where test features = flat_map_at (number_if test) 0 features
 
 -- those that have the vertex
 abbrev pub vertex_features : List (List (List (List Position))) → Position → List ℕ
@@ -41,12 +41,12 @@ vertex_features features p = numbers_where (has_vertex p) features
 
 -- those that have the segment
 abbrev pub segment_features : List (List (List (List Position))) → Segment → List ℕ
-segment_features features s = numbers_where (has_segment s) features
+segment_features features s = numbers_where (has_edge s) features
 
 -- those that have one of the two segments or both
 abbrev pub pair_features : List (List (List (List Position))) → Crossing → List ℕ
 pair_features features c =
-    numbers_where (λ feature. has_segment c.first feature || has_segment c.second feature) features
+    numbers_where (λ feature. has_edge c.first feature || has_edge c.second feature) features
 
 -- ---- what is told
 
@@ -56,7 +56,7 @@ pub record Telling : Type 0 where
   pub segment : Segment → List ℕ
   pub pair : ℕ → List ℕ
 
--- what is told of a map and of the pairs of segments that cross in it
+-- what is reported of a map and of the pairs of segments that cross in it
 abbrev pub telling : {A : Type 0} → List (List (List (List Position))) → Findings A → Telling
 telling features found = record {
   vertex = vertex_features features;

@@ -2,13 +2,13 @@
 use Rattle.std.specs.Prelude.{◌≡◌, ℕ, List, [], ◌∷◌, ◌++◌, map, take, Option, Some, None, unwrap_or, slice_get}
 use Rattle.std.specs.List.{AllZip}
 use Rattle.grid_geometry.specs.Common.{Position}
-use Rattle.snap_geometry.specs.Common.{IsRoundedCrossing}
+use Rattle.segment_paths.specs.Common.{IsRoundedCrossing}
 use Rattle.topo_outline.specs.declared.fault.RingAt.{RingAt}
 use Rattle.walk_faults.specs.declared.findings.Crossing.{Crossing}
 use Rattle.walk_faults.specs.declared.findings.Findings.{Findings}
 use Rattle.walk_faults.specs.declared.findings.Repeat.{Repeat}
 use Rattle.walk_faults.specs.declared.findings.Touch.{Touch}
-use Rattle.walk_faults.specs.Common.{each_at}
+use Rattle.walk_faults.specs.Common.{flat_map_at}
 use Rattle.place_text.specs.declared.places.Kind.{Kind}
 use Rattle.place_text.specs.declared.places.Kind.TheVariants.{Short, Repeats, On, Cross}
 use Rattle.place_text.specs.declared.places.Place.{Place}
@@ -55,9 +55,9 @@ AreCrossings pairs ps = AllZip (λ pair p. IsRoundedCrossing pair.first pair.sec
 abbrev pub places_of : {A : Type 0} → List (List (List (List Position))) → Findings A
     → List Position → List Place
 places_of features found crossings =
-    each_at (short_place features) 0 found.short.items
-    ++ (each_at repeat_place 0 found.repeats.items
-    ++ (each_at touch_place 0 found.touches.items ++ each_at crossing_place 0 crossings))
+    flat_map_at (short_place features) 0 found.short.items
+    ++ (flat_map_at repeat_place 0 found.repeats.items
+    ++ (flat_map_at touch_place 0 found.touches.items ++ flat_map_at crossing_place 0 crossings))
 
 -- these are the places of the findings in a map
 pub record ArePlaces {A : Type 0} (features : List (List (List (List Position))))

@@ -57,8 +57,8 @@ fn upward(a: Pos, b: Pos) -> i64
     b.y() - a.y()
 }
 
-/// Appends the position behind another in an arc: with a transform the difference to that one, and
-/// else the position itself (TopoJSON 1.0, 2.1.2 and 2.1.3).
+/// Appends the position after another in an arc: with a transform the difference to that one, and else
+/// the position itself (TopoJSON 1.0, 2.1.2 and 2.1.3).
 pub(crate) fn push_behind<A: Allocator>(
     text: &mut Vec<u8, A>,
     delta: bool,

@@ -1,13 +1,13 @@
 // The objects of a topology of places, appended to a text.
 ghost use Rattle.std.specs.Prelude.{◌≡◌, ℕ, ◌++◌, OnOk};
 ghost use Rattle.ring_machine.specs.Common.{Text};
-ghost use Rattle.segment_paths.specs.Common.{path_seen};
+ghost use Rattle.segment_paths.specs.Common.{path_of_segment};
 ghost use Rattle.map_text.specs.Common.{arc_text};
-ghost use Rattle.place_text.specs.Sides.{ends, way};
+ghost use Rattle.place_text.specs.Sides.{segment_ends, path_positions};
 ghost use Rattle.place_text.specs.Owners.{Telling};
 ghost use Rattle.place_text.specs.Tables.{told_by};
-ghost use Rattle.place_text.specs.Text.{kind_text, ring_text, features_text, whose_text};
-ghost use Rattle.place_text.specs.Text.{finding_text, place_text, side_text, path_text};
+ghost use Rattle.place_text.specs.Text.{kind_text, ring_members, features_text, whose_text};
+ghost use Rattle.place_text.specs.Text.{finding_text, point_of_place, side_text, path_text};
 
 use crate::numbers::{push_behind, push_comma, push_number, push_position};
 use crate::owners::Owners;
@@ -33,7 +33,7 @@ fn push_kind<A: Allocator>(text: &mut Vec<u8, A>, kind: Kind) -> Result<(), Allo
 
 /// Appends the numbers of the feature, of the polygon and of the ring, as further members.
 fn push_ring<A: Allocator>(text: &mut Vec<u8, A>, ring: Option<RingAt>) -> Result<(), AllocError>
-    ensures { OnOk result (text.new.items ≡ text.old.items ++ ring_text ring) }
+    ensures { OnOk result (text.new.items ≡ text.old.items ++ ring_members ring) }
 {
     let Some(ring) = ring else {
         return Ok(());
@@ -99,7 +99,7 @@ pub(crate) trait Geometry {
 
 // A place is a point (TopoJSON 1.0, 2.2.1).
 impl Geometry for Place {
-    ghost geometry = { λ told number index place. place_text told place };
+    ghost geometry = { λ told number index place. point_of_place told place };
 
     fn push<A: Allocator, B: Allocator + Copy>(
         &self,
@@ -134,7 +134,7 @@ impl Geometry for Side {
 
 // A path is a line too.
 impl<C: Allocator + Copy> Geometry for SegmentPath<C> {
-    ghost geometry = { λ told number index path. path_text told number index (path_seen path) };
+    ghost geometry = { λ told number index path. path_text told number index (path_of_segment path) };
 
     fn push<A: Allocator, B: Allocator + Copy>(
         &self,
@@ -155,7 +155,7 @@ pub(crate) fn push_arc<A: Allocator>(
     delta: bool,
     segment: Seg,
 ) -> Result<(), AllocError>
-    ensures { OnOk result (text.new.items ≡ text.old.items ++ arc_text delta (ends segment)) }
+    ensures { OnOk result (text.new.items ≡ text.old.items ++ arc_text delta (segment_ends segment)) }
 {
     append!(text; b"[" push_position(segment.lo) b"," push_behind(delta, segment.lo, segment.hi)
         b"]")
@@ -168,7 +168,7 @@ pub(crate) fn push_way<A: Allocator, B: Allocator + Copy>(
     path: &SegmentPath<B>,
 ) -> Result<(), AllocError>
     ensures { OnOk result
-        (text.new.items ≡ text.old.items ++ arc_text delta (way (path_seen path.now))) }
+        (text.new.items ≡ text.old.items ++ arc_text delta (path_positions (path_of_segment path.now))) }
 {
     let inner = path.inner.as_slice();
     let end = path.segment.hi;

@@ -9,7 +9,7 @@ ghost use Rattle.place_text.specs.Places.{list_at};
 ghost use Rattle.place_text.specs.Sides.{sides_of};
 ghost use Rattle.place_text.specs.Owners.{pair_features};
 ghost use Rattle.place_text.specs.Tables.{numbers_in, asked_with, touch_pos, side_segment};
-ghost use Rattle.place_text.specs.Tables.{numbers_of, path_segment, told_paths, Answers, AnswersBoth};
+ghost use Rattle.place_text.specs.Tables.{numbers_held, path_segment, told_paths, Answers, AnswersBoth};
 
 use crate::sides::Side;
 use crate::tables::{Table, Tables, ask, numbers_at, tell_all};
@@ -57,7 +57,7 @@ fn ask_sides<A: Allocator + Copy>(
     Ok(())
 }
 
-/// The segments of paths, if they are told, are asked for.
+/// The segments of paths, if they are reported, are asked for.
 fn ask_paths<A: Allocator + Copy>(
     alloc: A,
     table: &mut Table<Seg, A>,
@@ -100,7 +100,7 @@ fn pairs<A: Allocator + Copy>(
 ) -> Result<Vec<Vec<usize, A>, A>, AllocError>
     ensures { IfOk result (λ pairs. (features : List (List (List (List Position)))) →
         All (AnswersBoth features tables.now.segments) crossings.now →
-        map numbers_of pairs.items ≡ map (pair_features features) crossings.now) }
+        map numbers_held pairs.items ≡ map (pair_features features) crossings.now) }
 {
     let mut pairs = Vec::new(alloc);
     for pair in crossings {
@@ -111,8 +111,8 @@ fn pairs<A: Allocator + Copy>(
     Ok(pairs)
 }
 
-/// The features of the vertices and segments of findings, of which these are the segments, and of
-/// the segments of paths, if they are told.
+/// The features of the vertices and segments of findings, of which these are the segments, and of the
+/// segments of paths, if they are reported.
 pub(crate) fn owners_of<A: Allocator + Copy>(
     alloc: A,
     walks: &[Vec<Vec<Vec<Pos, A>, A>, A>],
@@ -124,7 +124,7 @@ pub(crate) fn owners_of<A: Allocator + Copy>(
     ensures tables { IfOk result (λ owners. Answers (features_seen walks.now)
         findings.now.touches.items sides.now
         (told_paths (option_map (λ ps. paths_seen ps.now) paths.entry)) owners.tables) }
-    ensures pairs { IfOk result (λ owners. map numbers_of owners.pairs.items
+    ensures pairs { IfOk result (λ owners. map numbers_held owners.pairs.items
         ≡ map (pair_features (features_seen walks.now)) findings.now.crossings.items) }
 {
     let mut tables = Tables {
@@ -142,7 +142,7 @@ pub(crate) fn owners_of<A: Allocator + Copy>(
 impl<A: Allocator + Copy> Owners<A> {
     /// The features that have a segment of the pair with this number.
     pub(crate) fn of_pair(&self, number: usize) -> &[usize]
-        ensures { result.now ≡ list_at (map numbers_of self.now.pairs.items) number }
+        ensures { result.now ≡ list_at (map numbers_held self.now.pairs.items) number }
     {
         match self.pairs.get(number) {
             Some(features) => features.as_slice(),

@@ -1,12 +1,12 @@
 // The places of findings.
 ghost use Rattle.std.specs.Prelude.{◌≡◌, ◌++◌, All, IsTrue, take, option_to_list, IfOk, OnOk};
 ghost use Rattle.grid_geometry.specs.Common.{cross};
-ghost use Rattle.walk_faults.specs.Common.{features_seen, each_at};
+ghost use Rattle.walk_faults.specs.Common.{features_seen, flat_map_at};
 ghost use Rattle.place_text.specs.Places.{walk_at, short_place, repeat_place, touch_place};
 ghost use Rattle.place_text.specs.Places.{crossing_place, AreCrossings, ArePlaces};
 
 use grid_geometry::Pos;
-use snap_geometry::rounded_crossing;
+use segment_paths::rounded_crossing;
 use std::alloc::{AllocError, Allocator};
 use topo_outline::RingAt;
 use walk_faults::{Crossing, Findings, Repeat, Touch};
@@ -52,7 +52,7 @@ fn push_short<A: Allocator + Copy>(
     short: &[RingAt],
 ) -> Result<(), AllocError>
     ensures { OnOk result (places.new.items
-        ≡ places.old.items ++ each_at (short_place (features_seen walks.now)) 0 short.now) }
+        ≡ places.old.items ++ flat_map_at (short_place (features_seen walks.now)) 0 short.now) }
 {
     for (number, ring) in short.iter().enumerate() {
         if let Some(pos) = first_of(walks, *ring) {
@@ -73,7 +73,7 @@ fn push_repeats<A: Allocator + Copy>(
     repeats: &[Repeat],
 ) -> Result<(), AllocError>
     ensures { OnOk result
-        (places.new.items ≡ places.old.items ++ each_at repeat_place 0 repeats.now) }
+        (places.new.items ≡ places.old.items ++ flat_map_at repeat_place 0 repeats.now) }
 {
     for (number, repeat) in repeats.iter().enumerate() {
         places.push(Place {
@@ -92,7 +92,7 @@ fn push_touches<A: Allocator + Copy>(
     touches: &[Touch],
 ) -> Result<(), AllocError>
     ensures { OnOk result
-        (places.new.items ≡ places.old.items ++ each_at touch_place 0 touches.now) }
+        (places.new.items ≡ places.old.items ++ flat_map_at touch_place 0 touches.now) }
 {
     for (number, touch) in touches.iter().enumerate() {
         places.push(Place {
@@ -126,7 +126,7 @@ fn push_crossings<A: Allocator + Copy>(
     crossings: &[Pos],
 ) -> Result<(), AllocError>
     ensures { OnOk result
-        (places.new.items ≡ places.old.items ++ each_at crossing_place 0 crossings.now) }
+        (places.new.items ≡ places.old.items ++ flat_map_at crossing_place 0 crossings.now) }
 {
     for (number, pos) in crossings.iter().enumerate() {
         places.push(Place {

@@ -1,6 +1,6 @@
 // The segments that findings speak of.
 ghost use Rattle.std.specs.Prelude.{◌≡◌, ◌++◌, IfOk, OnOk};
-ghost use Rattle.walk_faults.specs.Common.{each_at};
+ghost use Rattle.walk_faults.specs.Common.{flat_map_at};
 ghost use Rattle.place_text.specs.Sides.{touch_side, crossing_sides, sides_of};
 
 use crate::places::Kind;
@@ -23,7 +23,7 @@ fn push_touched<A: Allocator + Copy>(
     touches: &[Touch],
 ) -> Result<(), AllocError>
     ensures { OnOk result
-        (sides.new.items ≡ sides.old.items ++ each_at touch_side 0 touches.now) }
+        (sides.new.items ≡ sides.old.items ++ flat_map_at touch_side 0 touches.now) }
 {
     for (number, touch) in touches.iter().enumerate() {
         sides.push(Side {
@@ -41,7 +41,7 @@ fn push_crossed<A: Allocator + Copy>(
     pairs: &[Crossing],
 ) -> Result<(), AllocError>
     ensures { OnOk result
-        (sides.new.items ≡ sides.old.items ++ each_at crossing_sides 0 pairs.now) }
+        (sides.new.items ≡ sides.old.items ++ flat_map_at crossing_sides 0 pairs.now) }
 {
     for (number, pair) in pairs.iter().enumerate() {
         sides.push(Side {

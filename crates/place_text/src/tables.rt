@@ -1,12 +1,13 @@
 // By vertex and by segment the numbers of the features that have it.
 ghost use Rattle.std.specs.Prelude.{◌≡◌, ◌∷◌, [], option_map, OnOk};
 ghost use Rattle.std.specs.List.{flat_map};
-ghost use Rattle.walk_faults.specs.Common.{segment_at, walk_segments, rings_seen, polygons_seen};
+ghost use Rattle.walk_faults.specs.Common.{segment_at, walk_segments};
 ghost use Rattle.walk_faults.specs.Common.{features_seen};
-ghost use Rattle.place_text.specs.Owners.{feature_positions, feature_segments};
+ghost use Rattle.place_text.specs.Owners.{vertices_of_feature, feature_segments};
 ghost use Rattle.place_text.specs.Tables.{once, once_if, numbers_in, asked_with};
 ghost use Rattle.place_text.specs.Tables as spec;
 ghost use Rattle.place_text.specs.Tables.{Tells, TellsAll, AreEmpty};
+ghost use Rattle.ring_parts.specs.Common.{rings_seen, polygons_seen};
 
 use grid_geometry::{Pos, Seg};
 use std::alloc::{AllocError, Allocator};
@@ -121,7 +122,7 @@ fn tell_feature<A: Allocator + Copy>(
     feature: usize,
     polygons: &[Vec<Vec<Pos, A>, A>],
 ) -> Result<(), AllocError>
-    ensures { OnOk result (Tells feature (feature_positions (polygons_seen polygons.now))
+    ensures { OnOk result (Tells feature (vertices_of_feature (polygons_seen polygons.now))
         (feature_segments (polygons_seen polygons.now)) tables.old tables.new) }
 {
     for rings in polygons {

@@ -2,10 +2,10 @@
 ghost use Rattle.std.specs.Prelude.{◌≡◌, ◌≤◌, ◌+◌, [], ◌∷◌, ◌++◌, length, map, option_map, IfOk, OnOk};
 ghost use Rattle.map_text.specs.Common.{arc_text, arcs_text, commas};
 ghost use Rattle.segment_paths.specs.Common.{paths_seen};
-ghost use Rattle.walk_faults.specs.Common.{Found, each_at, features_seen};
-ghost use Rattle.place_text.specs.Sides.{side_ends, way};
+ghost use Rattle.walk_faults.specs.Common.{Found, flat_map_at, features_seen};
+ghost use Rattle.place_text.specs.Sides.{side_ends, path_positions};
 ghost use Rattle.place_text.specs.Tables.{told_by};
-ghost use Rattle.place_text.specs.Text.{transform_text, ways};
+ghost use Rattle.place_text.specs.Text.{transform_member, ways};
 ghost use Rattle.place_text.specs.Text.{behind_if, collection_text, path_layer, topology_text};
 ghost use Rattle.place_text.specs.Text.{IsPlaceText};
 
@@ -29,7 +29,7 @@ fn push_collection<A: Allocator, B: Allocator + Copy, G: Geometry>(
     requires before { others ≤ 9223372036854775807 }
     requires listed { length listed.now ≤ 9223372036854775807 }
     ensures { OnOk result (text.new.items ≡ text.old.items ++ collection_text
-        (each_at (λ n g. G.geometry (told_by owners.now) n (others + n) g ∷ []) 0 listed.now)) }
+        (flat_map_at (λ n g. G.geometry (told_by owners.now) n (others + n) g ∷ []) 0 listed.now)) }
 {
     text.extend_from_slice(b"{\"type\":\"GeometryCollection\",\"geometries\":[")?;
     for (number, geometry) in listed.iter().enumerate() {
@@ -63,7 +63,7 @@ fn push_way_arcs<A: Allocator, B: Allocator + Copy>(
     paths: &[SegmentPath<B>],
 ) -> Result<(), AllocError>
     ensures { OnOk result (text.new.items ≡ text.old.items
-        ++ behind_if more (map (arc_text delta) (map way (paths_seen paths.now)))) }
+        ++ behind_if more (map (arc_text delta) (map path_positions (paths_seen paths.now)))) }
 {
     for (index, path) in paths.iter().enumerate() {
         push_comma(text, more || index > 0)?;
@@ -72,7 +72,7 @@ fn push_way_arcs<A: Allocator, B: Allocator + Copy>(
     Ok(())
 }
 
-/// Appends the list of the arcs: one for each segment, and one for each path, if these are told.
+/// Appends the list of the arcs: one for each segment, and one for each path, if these are reported.
 fn push_arcs<A: Allocator, B: Allocator + Copy>(
     text: &mut Vec<u8, A>,
     delta: bool,
@@ -93,7 +93,7 @@ fn push_transform<A: Allocator>(
     transform: Option<&[u8]>,
 ) -> Result<(), AllocError>
     ensures { OnOk result (text.new.items
-        ≡ text.old.items ++ transform_text (option_map (λ t. t.now) transform.entry)) }
+        ≡ text.old.items ++ transform_member (option_map (λ t. t.now) transform.entry)) }
 {
     let Some(transform) = transform else {
         return Ok(());
@@ -103,7 +103,7 @@ fn push_transform<A: Allocator>(
     Ok(())
 }
 
-/// Appends the layer of the paths, if they are told; so many arcs come before theirs.
+/// Appends the layer of the paths, if they are reported; so many arcs come before theirs.
 fn push_path_layer<A: Allocator, B: Allocator + Copy>(
     text: &mut Vec<u8, A>,
     owners: &Owners<B>,
@@ -120,7 +120,7 @@ fn push_path_layer<A: Allocator, B: Allocator + Copy>(
     append!(text; b",\"paths\":" push_collection(owners, others, paths))
 }
 
-/// Appends a topology of these places, segments and, if they are told, paths (TopoJSON 1.0, 2.1).
+/// Appends a topology of these places, segments and, if they are reported, paths (TopoJSON 1.0, 2.1).
 fn push_topology<A: Allocator, B: Allocator + Copy>(
     text: &mut Vec<u8, A>,
     transform: Option<&[u8]>,

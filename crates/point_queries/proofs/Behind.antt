@@ -9,7 +9,7 @@ use Rattle.ring_machine.proofs.Common.{In, in-append, in_left, in_right, contain
 use Rattle.ring_machine.proofs.Common.{xor-none}
 use Rattle.map_frame.specs.declared.names.RingName.{RingName}
 use Rattle.arc_store.specs.Common.{ListsRings}
-use Rattle.point_queries.specs.Common.{is_behind, AreBehind, SeesMore, odd, ring_has}
+use Rattle.point_queries.specs.Common.{is_behind, AreBehind, ListsUnseen, odd, ring_has}
 use Rattle.point_queries.proofs.Holding.{passes_level, behind_edge, xor_through}
 use Rattle.point_queries.proofs.OddRings.{has_of, of_has}
 use Rattle.point_queries.proofs.Odds.{odd-some, odd-xor}
@@ -114,6 +114,6 @@ module _ (d : Document) (p : Position) (suspects : List RingName) (ss : List Seg
   behind_seen : ((name : RingName) → Contains suspects name → Contains old name) → AreBehind d p suspects (take (i + 1) ss) old
   behind_seen seen = record { among = before.among; covers = λ name t q c h k. seen name q }
 
-  pub behind_on : (new : List RingName) → is_behind p s ≡ true → SeesMore d s suspects old new → AreBehind d p suspects (take (i + 1) ss) new
+  pub behind_on : (new : List RingName) → is_behind p s ≡ true → ListsUnseen d s suspects old new → AreBehind d p suspects (take (i + 1) ss) new
   behind_on new it (inl listed) = behind_more new it listed
   behind_on new it (inr seen) = subst (AreBehind d p suspects (take (i + 1) ss)) (sym seen.0) (behind_seen seen.1)

@@ -10,11 +10,11 @@ use Rattle.ring_machine.specs.Common.{border_at, inside_at, are_distinct}
 use Rattle.ring_machine.proofs.Common.{In, filter-in, found, in_contains, any_in, in_any, there}
 use Rattle.ring_machine.proofs.Common.{mapped_there, xor-assoc, xor-none, in-filter, slice-in}
 use Rattle.map_frame.specs.declared.names.RingName.{RingName}
-use Rattle.map_frame.specs.Common.{element, ring_at}
+use Rattle.map_frame.specs.Common.{element, frame_ring}
 use Rattle.map_frame.proofs.Common.{element_is, of_in}
 use Rattle.point_queries.specs.declared.odd.PolygonName.{PolygonName}
-use Rattle.point_queries.specs.Common.{odd, AreOdd, TellsInside, is_name, is_polygon, is_held, polygon_of, polygon_cmp}
-use Rattle.point_queries.specs.Common.{ring_of, IsSorted}
+use Rattle.point_queries.specs.Common.{odd, AreOdd, TellsInside, is_name, is_polygon, is_of_holder, polygon_name, polygon_cmp}
+use Rattle.point_queries.specs.Common.{ring_named, IsSorted}
 use Rattle.point_queries.proofs.Ascending.{numbers_found, in_numbers, numbers_have}
 use Rattle.point_queries.proofs.Odds.{odd-alike, odd-exchange, odd-some}
 use Rattle.point_queries.proofs.SharedBorders.{found_in}
@@ -58,7 +58,7 @@ module _ (d : Document) (distinct : are_distinct (map (λ f. f.number) (features
     abbrev name_of : ℕ → RingName
     name_of r = record { feature = g.number; polygon = k; ring = r }
 
-    ring_here : (r : ℕ) → ring_of d (name_of r) ≡ slice_get polygon r
+    ring_here : (r : ℕ) → ring_named d (name_of r) ≡ slice_get polygon r
     ring_here r =
         ap (λ o. element (element (option_map (λ f. f.polygons) o) k) r) (found g (features d) distinct i)
         ∙ ap (λ o. element o r) e
@@ -71,25 +71,25 @@ module _ (d : Document) (distinct : are_distinct (map (λ f. f.number) (features
     here = record { feature = g.number; polygon = k }
 
     one_name : (name : RingName) → In name names
-        → is_polygon here (polygon_of name) ≡ odd (λ m. is_name m name) (names_at name_of polygon)
-    one_name name j = by (is_polygon here (polygon_of name)) refl
+        → is_polygon here (polygon_name name) ≡ odd (λ m. is_name m name) (names_at name_of polygon)
+    one_name name j = by (is_polygon here (polygon_name name)) refl
       where
-        by : (b : Bool) → is_polygon here (polygon_of name) ≡ b → b ≡ odd (λ m. is_name m name) (names_at name_of polygon)
+        by : (b : Bool) → is_polygon here (polygon_name name) ≡ b → b ≡ odd (λ m. is_name m name) (names_at name_of polygon)
         by false f = sym (none_at (λ m. is_name m name) name_of polygon (λ r. apart_and (g.number == name.feature) (k == name.polygon) (r == name.ring) f))
         by true f =
             let same = and_parts (g.number == name.feature) (k == name.polygon) f in
             let number : g.number ≡ name.feature = (Decides-eqb g.number name.feature).0 same.0 in
             let place : k ≡ name.polygon = (Decides-eqb k name.polygon).0 same.1 in
-            let ring = there (ring_of d name) (tells.rings name (in_contains names name j)) in
+            let ring = there (ring_named d name) (tells.rings name (in_contains names name j)) in
             sym (one_at (λ m. is_name m name) name_of polygon name.ring ring.0
-            (sym (ring_here name.ring) ∙ ap₂ (λ n q. ring_at d n q name.ring) number place ∙ ring.1)
+            (sym (ring_here name.ring) ∙ ap₂ (λ n q. frame_ring d n q name.ring) number place ∙ ring.1)
             (and_from (g.number == name.feature) (k == name.polygon && name.ring == name.ring) same.0 (and_from (k == name.polygon) (name.ring == name.ring) same.1 ((Decides-eqb name.ring name.ring).1 refl)))
             (λ r differ. false_from_ne_true (is_name (name_of r) name) (λ t. differ ((Decides-eqb r name.ring).0 (and_parts (k == name.polygon) (r == name.ring) (and_parts (g.number == name.feature) (k == name.polygon && r == name.ring) t).1).1))))
 
     -- an odd number of the rings are the polygon's where it holds the position
-    odd_polygon : odd (λ name. is_polygon here (polygon_of name)) names ≡ is_in_polygon p polygon
+    odd_polygon : odd (λ name. is_polygon here (polygon_name name)) names ≡ is_in_polygon p polygon
     odd_polygon =
-        odd-alike (λ name. is_polygon here (polygon_of name)) (λ name. odd (λ m. is_name m name) (names_at name_of polygon)) names one_name
+        odd-alike (λ name. is_polygon here (polygon_name name)) (λ name. odd (λ m. is_name m name) (names_at name_of polygon)) names one_name
         ∙ odd-exchange (λ name m. is_name m name) names (names_at name_of polygon)
         ∙ sym (fold_at p (λ m. odd (is_name m) names) name_of polygon false odd_here)
 
@@ -99,7 +99,7 @@ module _ (d : Document) (distinct : are_distinct (map (λ f. f.number) (features
   polygon_named : (name : RingName) → In name names
       → (g : Feature) × In g (features d) × (g.number ≡ name.feature) × ((polygon : List (List Position)) × (slice_get g.polygons name.polygon ≡ Some polygon))
   polygon_named name j =
-      let ring = there (ring_of d name) (tells.rings name (in_contains names name j)) in
+      let ring = there (ring_named d name) (tells.rings name (in_contains names name j)) in
       let b = element_is (element (option_map (λ f. f.polygons) (feature d name.feature)) name.polygon) name.ring ring.0 ring.1 in
       let c = element_is (option_map (λ f. f.polygons) (feature d name.feature)) name.polygon b.0 b.1 in
       let g = mapped_there (λ (f : Feature). f.polygons) (feature d name.feature) c.0 c.1 in
@@ -129,10 +129,10 @@ module _ (d : Document) (distinct : are_distinct (map (λ f. f.number) (features
         subst (λ z. is_on_border p z ≡ true) (same_feature f.0 g k.0 i (f.2 ∙ (Decides-eqb m.0 g.number).0 m.2)) k.1
 
     module _ (polygons : BTreeSet PolygonName) (o : AreOdd names polygons) where
-      held_in : (name : RingName) → In name names → is_held polygons border name ≡ true
+      held_in : (name : RingName) → In name names → is_of_holder polygons border name ≡ true
           → (g : Feature) × In g (features d) × (is_in_feature p g ≡ true) × (g.number ≡ name.feature)
       held_in name j h =
-          let k = and_parts (contains polygon_cmp polygons (polygon_of name)) (not (is_there name.feature)) h in
+          let k = and_parts (contains polygon_cmp polygons (polygon_name name)) (not (is_there name.feature)) h in
           let t = polygon_named name j in
           let g = t.0 in
           let polygon = t.3 in
@@ -149,32 +149,32 @@ module _ (d : Document) (distinct : are_distinct (map (λ f. f.number) (features
           )
 
       in_held : (g : Feature) → In g (features d) → is_in_feature p g ≡ true
-          → (name : RingName) × In name names × (is_held polygons border name ≡ true) × (name.feature ≡ g.number)
+          → (name : RingName) × In name names × (is_of_holder polygons border name ≡ true) × (name.feature ≡ g.number)
       in_held g i h =
           let k = and_parts (not (is_on_border p g)) (list_any (is_in_polygon p) g.polygons) h in
           let polygon = any_in (is_in_polygon p) g.polygons k.1 in
           let place = of_in g.polygons polygon.0 polygon.1 in
           let here : PolygonName = record { feature = g.number; polygon = place.0 } in
-          let many : odd (λ name. is_polygon here (polygon_of name)) names ≡ true = odd_polygon g i place.0 polygon.0 place.1 ∙ polygon.2 in
-          let name = odd-some (λ name. is_polygon here (polygon_of name)) names many in
+          let many : odd (λ name. is_polygon here (polygon_name name)) names ≡ true = odd_polygon g i place.0 polygon.0 place.1 ∙ polygon.2 in
+          let name = odd-some (λ name. is_polygon here (polygon_name name)) names many in
           let same = and_parts (g.number == (name.0).feature) (place.0 == (name.0).polygon) name.2 in
           let number : g.number ≡ (name.0).feature = (Decides-eqb g.number (name.0).feature).0 same.0 in
           let at : place.0 ≡ (name.0).polygon = (Decides-eqb place.0 (name.0).polygon).0 same.1 in (
             name.0,
             name.1,
-            and_from (contains polygon_cmp polygons (polygon_of name.0)) (not (is_there (name.0).feature))
+            and_from (contains polygon_cmp polygons (polygon_name name.0)) (not (is_there (name.0).feature))
                 (ap₂ (λ n q. contains polygon_cmp polygons (record { feature = n; polygon = q })) (sym number) (sym at) ∙ o here ∙ many)
                 (ap not (false_from_ne_true (is_there (name.0).feature) (λ u. false≢true (sym (not-true (is_on_border p g) k.0) ∙ of_border g i (ap is_there number ∙ u))))),
             sym number,
           )
 
       -- the numbers of the features of the rings held, ascending, are those that hold the position
-      pub inside_are : (within : List RingName) → within ≡ filter (is_held polygons border) names
+      pub inside_are : (within : List RingName) → within ≡ filter (is_of_holder polygons border) names
           → (found sorted : List ℕ) → found ≡ map (λ name. name.feature) within → IsSorted found sorted
           → sorted ≡ inside_at d p
       inside_are within w found sorted e s =
           numbers_found (λ name. name.feature) within (is_in_feature p) (features d) found sorted distinct e s
-          (λ name j. let k = in-filter (is_held polygons border) name names (subst (In name) w j) in held_in name k.0 k.1)
+          (λ name j. let k = in-filter (is_of_holder polygons border) name names (subst (In name) w j) in held_in name k.0 k.1)
           (λ g j h.
           let name = in_held g j h in
-          (name.0, subst (In name.0) (sym w) (filter-in (is_held polygons border) name.0 names name.1 name.2), name.3))
+          (name.0, subst (In name.0) (sym w) (filter-in (is_of_holder polygons border) name.0 names name.1 name.2), name.3))

@@ -10,12 +10,12 @@ use Rattle.ring_machine.specs.Common.{Document, rings, segment_of, segments, is_
 use Rattle.ring_machine.proofs.Common.{In, in_contains, contains_in, any_in, in_any, in_mapped, there, in-map}
 use Rattle.ring_machine.proofs.Common.{in-flat_map, segment_ordered, segment_eq-true, edge_ends, in-filter}
 use Rattle.segment_index.specs.Common.{is_within, SegmentSet}
-use Rattle.ring_boxes.specs.Common.{Covers, IsCovered, box_at, lies_in}
+use Rattle.ring_boxes.specs.Common.{CoversRings, IsCovered, box_at, is_within_diagonal}
 use Rattle.map_frame.specs.declared.names.RingName.{RingName}
 use Rattle.arc_store.specs.Common.{ListsNear}
 use Rattle.arc_store.proofs.Common.{segment_in}
 use Rattle.point_queries.specs.Common.{ray_to, ray_back, is_behind, AreBehind, HaveOdd, odd, holds, is_passed, is_name}
-use Rattle.point_queries.specs.Common.{ring_of, ring_has, HavePassed, TellsInside}
+use Rattle.point_queries.specs.Common.{ring_named, ring_has, HavePassed, TellsInside}
 use Rattle.point_queries.proofs.Behind.{behind_is, some_behind}
 use Rattle.point_queries.proofs.Holding.{behind_edge, behind_within, both_sides, box_has, counted_within, has_box, holds_in_diagonal}
 use Rattle.point_queries.proofs.Odds.{odd-some}
@@ -59,7 +59,7 @@ odd_kept test name (x ∷ names) = by (test x) (λ e. ap test (is_name-true name
 -- ---- within the least box around the boxes
 
 -- what lies in a box lies in each that has all of it
-lies_within : (b : Segment) (q : Position) (r : Box) → lies_in b q ≡ true → is_within (box_of b) r ≡ true
+lies_within : (b : Segment) (q : Position) (r : Box) → is_within_diagonal b q ≡ true → is_within (box_of b) r ≡ true
     → (int_le r.x0 q.x ≡ true) × (int_le q.x r.x1 ≡ true)
 lies_within b q r h l =
     let has = box_has (box_of b) q h in
@@ -78,11 +78,11 @@ edge_of s ring h =
     (e.0, e.1, e.2 ∙ sym (segment_eq-true (segment s.lo s.hi) t.0 t.2))
 
 module _ (d : Document) (are_rings : list_all is_ring (rings d) ≡ true) (p : Position) (boxes : SegmentSet)
-    (covers : Covers boxes (rings d)) (r : Box)
-    (around : (b : Segment) → set.contains boxes b ≡ true → lies_in b p ≡ true → is_within (box_of b) r ≡ true)
+    (covers : CoversRings boxes (rings d)) (r : Box)
+    (around : (b : Segment) → set.contains boxes b ≡ true → is_within_diagonal b p ≡ true → is_within (box_of b) r ≡ true)
     (names : List RingName) (h : HavePassed d p (ray_to p r.x1) names) where
   -- of a ring in a box that has the position
-  module _ (ring : List Position) (i : In ring (rings d)) (has : lies_in (covers ring (in_contains (rings d) ring i)).by p ≡ true) where
+  module _ (ring : List Position) (i : In ring (rings d)) (has : is_within_diagonal (covers ring (in_contains (rings d) ring i)).by p ≡ true) where
     abbrev c : IsCovered boxes ring
     c = covers ring (in_contains (rings d) ring i)
 
@@ -101,15 +101,15 @@ module _ (d : Document) (are_rings : list_all is_ring (rings d) ≡ true) (p : P
     meets_behind e j k = behind_within p e.0 e.1 r.x0 (starts e j).0 k
 
     -- an odd number of them count where it holds the position
-    suspect : (name : RingName) → ring_of d name ≡ Some ring → odd (is_name name) names ≡ is_inside p ring
+    suspect : (name : RingName) → ring_named d name ≡ Some ring → odd (is_name name) names ≡ is_inside p ring
     suspect name e = odd_within d are_rings p (ray_to p r.x1) names h name ring e meets
 
-  holding_has : (ring : List Position) (i : In ring (rings d)) → is_inside p ring ≡ true → lies_in (covers ring (in_contains (rings d) ring i)).by p ≡ true
+  holding_has : (ring : List Position) (i : In ring (rings d)) → is_inside p ring ≡ true → is_within_diagonal (covers ring (in_contains (rings d) ring i)).by p ≡ true
   holding_has ring i inside = let c = covers ring (in_contains (rings d) ring i) in holds_in_diagonal c.by ring p c.within inside
 
   module _ (ss : List Segment) (near : ListsNear d (ray_back p r.x0) [] ss) (suspects behind : List RingName) (are : AreBehind d p suspects ss behind) where
     -- a suspect that holds the position has an edge behind it
-    is_told : (name : RingName) (ring : List Position) → Contains suspects name → ring_of d name ≡ Some ring → is_inside p ring ≡ true → list_any (λ other. is_name other name) behind ≡ true
+    is_told : (name : RingName) (ring : List Position) → Contains suspects name → ring_named d name ≡ Some ring → is_inside p ring ≡ true → list_any (λ other. is_name other name) behind ≡ true
     is_told name ring q e inside =
         let i = ring_there d name ring e in
         let edge = some_behind p ring inside in
@@ -143,7 +143,7 @@ module _ (d : Document) (are_rings : list_all is_ring (rings d) ≡ true) (p : P
         let at = λ (q : Position) (j : In q ring.positions). box_has (box_of c.by) q (c.within q (in_contains ring.positions q j)) in
         let g = edge_ends ring.positions f.0 f.1 in
         let k = edge_ends ring.positions e.0 e.1 in
-        let has : lies_in c.by p ≡ true = has_box (box_of c.by) p
+        let has : is_within_diagonal c.by p ≡ true = has_box (box_of c.by) p
         (both_sides (box_of c.by) p (f.0).0 (f.0).1 (e.0).0 (e.0).1 (at (f.0).0 g.0) (at (f.0).1 g.1) (at (e.0).0 k.0) (at (e.0).1 k.1) counted back) in
         ap (λ (o : Option (List Position)). is_inside p (unwrap_or o [])) ring.there ∙ sym (suspect ring.positions i has name ring.there) ∙ odds
 
@@ -159,7 +159,7 @@ module _ (d : Document) (are_rings : list_all is_ring (rings d) ≡ true) (p : P
             are_there d are_rings p (ray_to p r.x1) names h name
             (among name (contains_in sorted name (odds.among name (in_contains suspects name k.0))));
         odds = λ name i.
-            let ring = there (ring_of d name) i in
+            let ring = there (ring_named d name) i in
             ap (odd (is_name name)) e ∙ odd_kept told name suspects
             ∙ ap (λ z. told name && z) (odds.odds name ∙ alike name)
             ∙ by name ring.0 ring.1 (is_inside p ring.0) refl
@@ -169,7 +169,7 @@ module _ (d : Document) (are_rings : list_all is_ring (rings d) ≡ true) (p : P
           neither : (u v b : Bool) → b ≡ false → (v ≡ true → u ≡ true → b ≡ true) → (u && v) ≡ false
           neither u v b e both = grind (arith, e, both)
 
-          by : (name : RingName) (ring : List Position) → ring_of d name ≡ Some ring → (b : Bool) → is_inside p ring ≡ b
+          by : (name : RingName) (ring : List Position) → ring_named d name ≡ Some ring → (b : Bool) → is_inside p ring ≡ b
               → (told name && odd (is_name name) names) ≡ is_inside p ring
           by name ring e true k =
               let i = ring_there d name ring e in

@@ -9,7 +9,7 @@ use Rattle.ring_machine.proofs.Common.{in-append, contains_in, in_contains, any_
 use Rattle.map_frame.specs.declared.names.RingName.{RingName}
 use Rattle.map_frame.proofs.Common.{of_in}
 use Rattle.arc_store.specs.Common.{RingHas, AreOnce, ListsRings}
-use Rattle.point_queries.specs.Common.{AreApart, ListsOdd, ring_of, ring_has, is_name}
+use Rattle.point_queries.specs.Common.{EachOnce, ListsOdd, ring_named, ring_has, is_name}
 use Rattle.point_queries.proofs.Odds.{odd-append, odd_apart}
 
 -- ---- names of rings
@@ -28,7 +28,7 @@ is_name-refl a =
     ap₂ (λ y z. y && z) ((Decides-eqb a.feature a.feature).1 refl)
     (ap₂ (λ y z. y && z) ((Decides-eqb a.polygon a.polygon).1 refl) ((Decides-eqb a.ring a.ring).1 refl))
 
-apart_once : (names : List RingName) → AreOnce names → AreApart is_name names
+apart_once : (names : List RingName) → AreOnce names → EachOnce is_name names
 apart_once [] h = tt
 apart_once (name ∷ names) h = (by (list_any (is_name name) names) refl, apart_once names (λ i j x e f. omega (arith, h (suc i) (suc j) x e f)))
   where
@@ -45,9 +45,9 @@ pub has_of : (d : Document) (s : Segment) (name : RingName) → RingHas d (segme
 has_of d s name h = ap (λ o. list_any (segment_eq (segment s.lo s.hi)) (segments (unwrap_or o []))) h.there ∙ h.has
 
 pub of_has : (d : Document) (s : Segment) (name : RingName) → ring_has d name s ≡ true → RingHas d (segment s.lo s.hi) name
-of_has d s name h = by (ring_of d name) refl h
+of_has d s name h = by (ring_named d name) refl h
   where
-    by : (o : Option (List Position)) → ring_of d name ≡ o
+    by : (o : Option (List Position)) → ring_named d name ≡ o
         → list_any (segment_eq (segment s.lo s.hi)) (segments (unwrap_or o [])) ≡ true → RingHas d (segment s.lo s.hi) name
     by None e k = absurd (false≢true k)
     by (Some positions) e k = record { positions = positions; there = e; has = k }

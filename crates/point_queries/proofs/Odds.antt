@@ -6,7 +6,7 @@ use Rattle.kit_words.proofs.Common.{sum_by-cons}
 use Rattle.std.specs.Prelude.{sum_by}
 use Rattle.grid_geometry.specs.Common.{xor}
 use Rattle.ring_machine.proofs.Common.{In, xor-assoc, xor-comm, xor-same, xor-none}
-use Rattle.point_queries.specs.Common.{odd, AreApart}
+use Rattle.point_queries.specs.Common.{odd, EachOnce}
 
 -- ---- of two truths
 
@@ -97,7 +97,7 @@ odd-permuted test xs ys p =
 
 -- one of the elements, or none
 module _ {X : Type 0} (eq : X → X → Bool) (same_by : (x y : X) → eq x y ≡ true → x ≡ y) where
-  pub odd_apart : (x : X) (xs : List X) → AreApart eq xs → odd (eq x) xs ≡ list_any (eq x) xs
+  pub odd_apart : (x : X) (xs : List X) → EachOnce eq xs → odd (eq x) xs ≡ list_any (eq x) xs
   odd_apart x [] h = refl
   odd_apart x (y ∷ ys) h = by (eq x y) refl (odd_apart x ys h.1)
     where

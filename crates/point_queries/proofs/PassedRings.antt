@@ -5,7 +5,7 @@ use Rattle.grid_geometry.specs.Common.{Position, Edge, edges, is_odd_count, is_i
 use Rattle.ring_machine.specs.Common.{segment_of, segments, is_ring}
 use Rattle.ring_machine.proofs.Common.{is_of, In, any_in, in_any, same_answer, segment_ordered, segment_eq-true}
 use Rattle.ring_machine.proofs.Common.{segment_eq-sym, ring_once, ring_long, ring_distinct, AtMostOne}
-use Rattle.point_queries.specs.Common.{odd, AreApart, is_passed}
+use Rattle.point_queries.specs.Common.{odd, EachOnce, is_passed}
 use Rattle.point_queries.proofs.Odds.{odd-alike, odd-exchange, odd_apart}
 use Rattle.point_queries.proofs.Passing.{passed_edge}
 
@@ -41,7 +41,7 @@ odd_edges p [] = refl
 odd_edges p (e ∷ es) = ap₂ xor (passed_edge p e.0 e.1) (odd_edges p es)
 
 -- segments that count, each once
-module _ (p : Position) (ss : List Segment) (passed : (s : Segment) → In s ss → is_passed p s ≡ true) (apart : AreApart segment_eq ss) where
+module _ (p : Position) (ss : List Segment) (passed : (s : Segment) → In s ss → is_passed p s ≡ true) (apart : EachOnce segment_eq ss) where
   one_of : (t : Segment) → (is_passed p t ≡ true → In t ss) → odd (λ s. segment_eq s t) ss ≡ is_passed p t
   one_of t h =
       odd-alike (λ s. segment_eq s t) (segment_eq t) ss (λ s i. segment_eq-sym s t)

@@ -9,7 +9,7 @@ use Rattle.ring_machine.proofs.Common.{In, filter-in, contains_in, in_contains, 
 use Rattle.ring_machine.proofs.Common.{segment_eq-true, in_permuted, none_new, none_lost, ties, in-filter}
 use Rattle.segment_index.proofs.Common.{segment_total}
 use Rattle.arc_store.specs.Common.{ListsNear}
-use Rattle.point_queries.specs.Common.{AreApart, ArePassed, is_passed}
+use Rattle.point_queries.specs.Common.{EachOnce, ArePassed, is_passed}
 
 -- ---- ascending segments, each once
 
@@ -24,7 +24,7 @@ lacks s (t ∷ ss) h = ap₂ (λ y z. y || z) (by (segment_eq s t) refl) (lacks 
     by false e = refl
     by true e = sym (ap is_lt h.0) ∙ ap (segment_lt s) (sym (segment_eq-true s t e)) ∙ segment_ordered.irrefl s
 
-are_apart : (ss : List Segment) → IsStrictlySortedBy segment_cmp ss → AreApart segment_eq ss
+are_apart : (ss : List Segment) → IsStrictlySortedBy segment_cmp ss → EachOnce segment_eq ss
 unfolding IsStrictlySortedBy
 are_apart [] h = tt
 are_apart (s ∷ ss) h = (lacks s ss h.0, are_apart ss h.1)

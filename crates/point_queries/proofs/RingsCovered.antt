@@ -9,7 +9,7 @@ use Rattle.ring_machine.proofs.Common.{In, in-append, feature_found, found_in, c
 use Rattle.ring_machine.proofs.Common.{in-map, in-flat_map, all_of, all_in, in_recursion}
 use Rattle.ring_parts.specs.Common.{rings_seen, polygons_seen}
 use Rattle.segment_index.specs.Common.{SegmentSet}
-use Rattle.ring_boxes.specs.Common.{Covers, IsCovered, Keeps}
+use Rattle.ring_boxes.specs.Common.{CoversRings, IsCovered, KeepsCovered}
 use Rattle.point_queries.specs.Common.{CoversFeature}
 
 -- ---- rings
@@ -41,14 +41,14 @@ rings_at {A} polygons i polygon lt here all =
 -- ---- rings that come one after another
 
 -- the boxes of some rings, and then those of others
-covers_more : (old new : SegmentSet) (xs ys zs : List (List Position)) → zs ≡ xs ++ ys → Keeps old new
-    → Covers old xs → Covers new ys → Covers new zs
+covers_more : (old new : SegmentSet) (xs ys zs : List (List Position)) → zs ≡ xs ++ ys → KeepsCovered old new
+    → CoversRings old xs → CoversRings new ys → CoversRings new zs
 covers_more old new xs ys zs e keeps below here r i = elim (in-append r xs ys (subst (In r) e (contains_in zs r i))) [
   | inl j ↦ keeps r (below r (in_contains xs r j))
   | inr j ↦ here r (in_contains ys r j)
 ]
 
-covers_one : (boxes : SegmentSet) (ring : List Position) → IsCovered boxes ring → Covers boxes (ring ∷ [])
+covers_one : (boxes : SegmentSet) (ring : List Position) → IsCovered boxes ring → CoversRings boxes (ring ∷ [])
 covers_one boxes ring h r i = by (contains_in (ring ∷ []) r i)
   where
     by : In r (ring ∷ []) → IsCovered boxes r
@@ -56,19 +56,19 @@ covers_one boxes ring h r i = by (contains_in (ring ∷ []) r i)
     by (inr none) = absurd none
 
 pub next_ring : {A : Type 0} (polygon : List (Vec Position A)) (i : ℕ) (ring : Vec Position A)
-    (old new : SegmentSet) → i < length polygon → ring ≡ get_or polygon i ring → Keeps old new
-    → IsCovered new ring.items → Covers old (rings_seen (take i polygon))
-    → Covers new (rings_seen (take (i + 1) polygon))
+    (old new : SegmentSet) → i < length polygon → ring ≡ get_or polygon i ring → KeepsCovered old new
+    → IsCovered new ring.items → CoversRings old (rings_seen (take i polygon))
+    → CoversRings new (rings_seen (take (i + 1) polygon))
 next_ring {A} polygon i ring old new lt here keeps h below =
     let more = map_more (λ (ring : Vec Position A). ring.items) polygon i ring lt in
     covers_more old new (rings_seen (take i polygon)) (ring.items ∷ []) (rings_seen (take (i + 1) polygon))
     (more ∙ ap (λ (z : Vec Position A). rings_seen (take i polygon) ++ z.items ∷ []) (sym here)) keeps below (covers_one new ring.items h)
 
 pub next_polygon : {A : Type 0} (polygons : List (Vec (Vec Position A) A)) (i : ℕ) (polygon : Vec (Vec Position A) A)
-    (old new : SegmentSet) → i < length polygons → polygon ≡ get_or polygons i polygon → Keeps old new
-    → Covers new (rings_seen polygon.items)
-    → Covers old (flat_map (λ polygon. polygon) (polygons_seen (take i polygons)))
-    → Covers new (flat_map (λ polygon. polygon) (polygons_seen (take (i + 1) polygons)))
+    (old new : SegmentSet) → i < length polygons → polygon ≡ get_or polygons i polygon → KeepsCovered old new
+    → CoversRings new (rings_seen polygon.items)
+    → CoversRings old (flat_map (λ polygon. polygon) (polygons_seen (take i polygons)))
+    → CoversRings new (flat_map (λ polygon. polygon) (polygons_seen (take (i + 1) polygons)))
 next_polygon {A} polygons i polygon old new lt here keeps h below r j =
     let more = map_more (λ (polygon : Vec (Vec Position A) A). rings_seen polygon.items) polygons i polygon lt in
     let e : polygons_seen (take (i + 1) polygons) ≡ polygons_seen (take i polygons) ++ rings_seen polygon.items ∷ [] =
@@ -87,14 +87,14 @@ next_polygon {A} polygons i polygon old new lt here keeps h below r j =
 
 -- at the end of a list, all of it came
 pub all_rings : {A : Type 0} (polygon : List (Vec Position A)) (i : ℕ) (boxes : SegmentSet) → length polygon ≤ i
-    → Covers boxes (rings_seen (take i polygon)) → Covers boxes (rings_seen polygon)
-all_rings polygon i boxes le h = subst (λ z. Covers boxes (rings_seen z)) (take_all i polygon le) h
+    → CoversRings boxes (rings_seen (take i polygon)) → CoversRings boxes (rings_seen polygon)
+all_rings polygon i boxes le h = subst (λ z. CoversRings boxes (rings_seen z)) (take_all i polygon le) h
 
 pub all_polygons : {A : Type 0} (polygons : List (Vec (Vec Position A) A)) (i : ℕ) (boxes : SegmentSet) → length polygons ≤ i
-    → Covers boxes (flat_map (λ polygon. polygon) (polygons_seen (take i polygons)))
-    → Covers boxes (flat_map (λ polygon. polygon) (polygons_seen polygons))
+    → CoversRings boxes (flat_map (λ polygon. polygon) (polygons_seen (take i polygons)))
+    → CoversRings boxes (flat_map (λ polygon. polygon) (polygons_seen polygons))
 all_polygons polygons i boxes le h =
-    subst (λ z. Covers boxes (flat_map (λ polygon. polygon) (polygons_seen z))) (take_all i polygons le) h
+    subst (λ z. CoversRings boxes (flat_map (λ polygon. polygon) (polygons_seen z))) (take_all i polygons le) h
 
 -- ---- a feature of a document
 
@@ -115,14 +115,14 @@ feature_rings d n polygons proper e =
 
 -- the polygons of the number are those of each feature with it
 pub feature_covered : (d : Document) (n : ℕ) (polygons : List (List (List Position))) (boxes : SegmentSet) → WellFormed d
-    → polygons ≡ (feature_at d n).polygons → Covers boxes (flat_map (λ polygon. polygon) polygons) → CoversFeature boxes d n
+    → polygons ≡ (feature_at d n).polygons → CoversRings boxes (flat_map (λ polygon. polygon) polygons) → CoversFeature boxes d n
 feature_covered d n polygons boxes formed e h f i number =
     let at : feature_at d n ≡ f = ap (or_else no_feature) (feature_found d formed f n (contains_in (features d) f i) number) in
-    subst (λ z. Covers boxes (flat_map (λ polygon. polygon) z)) (e ∙ ap (λ (f : Feature). f.polygons) at) h
+    subst (λ z. CoversRings boxes (flat_map (λ polygon. polygon) z)) (e ∙ ap (λ (f : Feature). f.polygons) at) h
 
 -- ---- all features
 
-pub next_number : (d : Document) (n : ℕ) (old new : SegmentSet) → Keeps old new → CoversFeature new d n
+pub next_number : (d : Document) (n : ℕ) (old new : SegmentSet) → KeepsCovered old new → CoversFeature new d n
     → ((k : ℕ) → k < n → CoversFeature old d k) → (k : ℕ) → k < n + 1 → CoversFeature new d k
 next_number d n old new keeps here below k lt f i number = elim (cases_lt k n) [
   | inl less ↦ λ r j. keeps r (below k less f i number r j)
@@ -131,7 +131,7 @@ next_number d n old new keeps here below k lt f i number = elim (cases_lt k n) [
 
 pub all_covered : (d : Document) (next n : ℕ) (boxes : SegmentSet) → WellFormed d → next ≤ n
     → ((m : ℕ) → next ≤ m → feature d m ≡ None) → ((k : ℕ) → k < n → CoversFeature boxes d k)
-    → Covers boxes (rings d)
+    → CoversRings boxes (rings d)
 all_covered d next n boxes formed le none below r i =
     let k = in_flat rings_of r (features d) (contains_in (rings d) r i) in
     let there = in_contains (features d) k.0 k.1 in

@@ -10,7 +10,7 @@ use Rattle.ring_machine.proofs.Common.{In, filter-in, in-map, in-flat_map, conta
 use Rattle.ring_machine.proofs.Common.{in_mapped, in_flat, any_in, in_any, mapped_there, in-filter, slice-in}
 use Rattle.ring_machine.proofs.Found as finding
 use Rattle.map_frame.specs.declared.names.RingName.{RingName}
-use Rattle.map_frame.specs.Common.{Shown, shown, element, ring_at}
+use Rattle.map_frame.specs.Common.{Shown, shown, element, frame_ring}
 use Rattle.map_frame.proofs.Common.{element_is}
 use Rattle.arc_store.proofs.Common.{ring_named}
 use Rattle.arc_store.specs.Common.{HasOne, ListsUsers}
@@ -29,7 +29,7 @@ found_in n fs g e =
 
 -- a ring with a name is a ring of the feature that the name has
 pub named_ring : (d : Document) (name : RingName) (ps : List Position)
-    → ring_at d name.feature name.polygon name.ring ≡ Some ps
+    → frame_ring d name.feature name.polygon name.ring ≡ Some ps
     → (g : Feature) × In g (features d) × (g.number ≡ name.feature) × In ps (rings_of g)
 named_ring d name ps e =
     let a = element_is (element (option_map (λ f. f.polygons) (feature d name.feature)) name.polygon) name.ring ps e in

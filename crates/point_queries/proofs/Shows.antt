@@ -6,12 +6,12 @@ use Rattle.std.specs.Prelude.{sum_by}
 use Rattle.grid_geometry.specs.Common.{Position}
 use Rattle.ring_machine.specs.Common.{Document, Feature, features, feature, has_feature, rings_of, size, feature_at}
 use Rattle.ring_machine.specs.Common.{or_else, no_feature}
-use Rattle.map_frame.specs.Common.{Shown, shown, element, ring_at}
+use Rattle.map_frame.specs.Common.{Shown, shown, element, frame_ring}
 use Rattle.ring_machine.proofs.Common.{is_some-mapped}
 use Rattle.feature_exchange.proofs.Placed.{sum_flat}
 
 -- the ring with these numbers, and none where there is no such ring
-pub ring_is : (d : Document) (n polygon ring : ℕ) → unwrap_or (ring_at d n polygon ring) [] ≡ get_or (get_or (feature_at d n).polygons polygon []) ring []
+pub ring_is : (d : Document) (n polygon ring : ℕ) → unwrap_or (frame_ring d n polygon ring) [] ≡ get_or (get_or (feature_at d n).polygons polygon []) ring []
 ring_is d n polygon ring = of_feature (feature d n)
   where
     of_polygon : (o : Option (List (List Position))) → unwrap_or (element o ring) [] ≡ get_or (unwrap_or o []) ring []
@@ -24,10 +24,10 @@ ring_is d n polygon ring = of_feature (feature d n)
         of_polygon (slice_get f.polygons polygon)
         ∙ ap (λ rings. get_or rings ring []) (unwrap_or-slice_get f.polygons polygon [])
 
-pub ring_read : (d : Document) (n polygon ring : ℕ) (positions : List Position) → Some positions ≡ ring_at d n polygon ring → positions ≡ get_or (get_or (feature_at d n).polygons polygon []) ring []
+pub ring_read : (d : Document) (n polygon ring : ℕ) (positions : List Position) → Some positions ≡ frame_ring d n polygon ring → positions ≡ get_or (get_or (feature_at d n).polygons polygon []) ring []
 ring_read d n polygon ring positions e = ap (λ o. unwrap_or o []) e ∙ ring_is d n polygon ring
 
-pub no_ring_read : (d : Document) (n polygon ring : ℕ) → None ≡ ring_at d n polygon ring → [] ≡ get_or (get_or (feature_at d n).polygons polygon []) ring []
+pub no_ring_read : (d : Document) (n polygon ring : ℕ) → None ≡ frame_ring d n polygon ring → [] ≡ get_or (get_or (feature_at d n).polygons polygon []) ring []
 no_ring_read d n polygon ring e = ap (λ o. unwrap_or o []) e ∙ ring_is d n polygon ring
 
 -- what is shown of a feature has its polygons' numbers of rings

@@ -9,7 +9,7 @@ use Rattle.ring_machine.proofs.Common.{position_eq-true, in_recursion}
 use Rattle.map_frame.specs.declared.names.RingName.{RingName}
 use Rattle.feature_exchange.proofs.Common.{end_is}
 use Rattle.arc_store.proofs.Common.{end_vertex, in_segments, segment_in}
-use Rattle.point_queries.specs.Common.{odd, ray, is_passed, is_name, ring_of, ring_has, HavePassed, TellsInside}
+use Rattle.point_queries.specs.Common.{odd, ray, is_passed, is_name, ring_named, ring_has, HavePassed, TellsInside}
 use Rattle.point_queries.proofs.Odds.{odd-alike}
 use Rattle.point_queries.proofs.OnBorders.{of_ends}
 use Rattle.point_queries.proofs.PassedRings.{odd_ring}
@@ -17,7 +17,7 @@ use Rattle.point_queries.proofs.Passing.{passed_meets}
 use Rattle.point_queries.proofs.SharedBorders.{named_ring}
 
 -- a ring with a name is one of the document's
-pub ring_there : (d : Document) (name : RingName) (ring : List Position) → ring_of d name ≡ Some ring → In ring (rings d)
+pub ring_there : (d : Document) (name : RingName) (ring : List Position) → ring_named d name ≡ Some ring → In ring (rings d)
 ring_there d name ring e = let g = named_ring d name ring e in in-flat_map rings_of g.0 ring (features d) g.1 g.3
 
 -- the ends of a segment are in range
@@ -31,7 +31,7 @@ low_in_range d h s i =
 module _ (d : Document) (are_rings : list_all is_ring (rings d) ≡ true) (p : Position) (rect : Box)
     (names : List RingName) (h : HavePassed d p rect names) where
   -- a ring whose segments that count all meet the box
-  pub odd_within : (name : RingName) (ring : List Position) → ring_of d name ≡ Some ring
+  pub odd_within : (name : RingName) (ring : List Position) → ring_named d name ≡ Some ring
       → ((t : Segment) → In t (segments ring) → is_passed p t ≡ true → boxes_meet (box_of t) rect ≡ true)
       → odd (is_name name) names ≡ is_inside p ring
   odd_within name ring e meet =
@@ -46,7 +46,7 @@ module _ (d : Document) (are_rings : list_all is_ring (rings d) ≡ true) (p : P
       in_rings : In ring (rings d)
       in_rings = ring_there d name ring e
 
-  pub are_there : (name : RingName) → In name names → is_some (ring_of d name) ≡ true
+  pub are_there : (name : RingName) → In name names → is_some (ring_named d name) ≡ true
   are_there name i = h.listed.rings name (in_contains h.listed.found name (subst (In name) h.listed.appended i))
 
 -- on the ray to the right, as far as positions are in range, are all that count
@@ -56,7 +56,7 @@ pub tells_far : (d : Document) (are_rings : list_all is_ring (rings d) ≡ true)
 tells_far d are_rings range p names h = record {
   rings = λ name c. are_there d are_rings p (ray p) names h name (contains_in names name c);
   odds = λ name i.
-      let ring = there (ring_of d name) i in
+      let ring = there (ring_named d name) i in
       odd_within d are_rings p (ray p) names h name ring.0 ring.1
       (λ t j k. passed_meets p t
       (low_in_range d range t (segment_in d t (in-flat_map segments ring.0 t (rings d) (ring_there d name ring.0 ring.1) j))) k)

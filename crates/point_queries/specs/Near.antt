@@ -28,8 +28,8 @@ pub record AreBehind (d : Document) (p : Position) (suspects : List RingName) (s
       → IsTrue (ring_has d name s) → IsTrue (is_behind p s) → Contains names name
 
 -- the rings that have the segment come to the names, where one of the suspects is not among these
-abbrev pub SeesMore : Document → Segment → List RingName → List RingName → List RingName → Type 0
-SeesMore d s suspects old new =
+abbrev pub ListsUnseen : Document → Segment → List RingName → List RingName → List RingName → Type 0
+ListsUnseen d s suspects old new =
     ListsRings d (segment s.lo s.hi) old new
     ⊎ ((new ≡ old) × ((name : RingName) → Contains suspects name → Contains old name))
 

@@ -9,7 +9,7 @@ use Rattle.grid_geometry.specs.Common.{Position, is_counted, is_inside, xor, Seg
 use Rattle.grid_geometry.specs.Common.{boxes_meet}
 use Rattle.ring_machine.specs.Common.{Document, is_segment, segments}
 use Rattle.map_frame.specs.declared.names.RingName.{RingName}
-use Rattle.map_frame.specs.Common.{ring_at}
+use Rattle.map_frame.specs.Common.{frame_ring}
 use Rattle.point_queries.specs.declared.odd.PolygonName.{PolygonName}
 
 -- an odd number of the elements pass the test
@@ -18,9 +18,9 @@ odd test [] = false
 odd test (x ∷ xs) = xor (test x) (odd test xs)
 
 -- no element is equal to one after it
-abbrev pub AreApart : {X : Type 0} → (X → X → Bool) → List X → Type 0
-AreApart eq [] = Unit {0}
-AreApart eq (x ∷ xs) = (list_any (eq x) xs ≡ false) × AreApart eq xs
+abbrev pub EachOnce : {X : Type 0} → (X → X → Bool) → List X → Type 0
+EachOnce eq [] = Unit {0}
+EachOnce eq (x ∷ xs) = (list_any (eq x) xs ≡ false) × EachOnce eq xs
 
 -- ---- segments
 
@@ -37,17 +37,17 @@ pub record ArePassed (d : Document) (p : Position) (rect : Box) (ss : List Segme
   pub among : (s : Segment) → Contains ss s → IsTrue (is_segment d s) × IsTrue (is_passed p s)
   pub covers : (s : Segment) → IsTrue (is_segment d s) → IsTrue (is_passed p s)
       → boxes_meet (box_of s) rect ≡ true → Contains ss s
-  pub apart : AreApart segment_eq ss
+  pub apart : EachOnce segment_eq ss
 
 -- ---- rings
 
 -- the ring with this name
-abbrev pub ring_of : Document → RingName → Option (List Position)
-ring_of d name = ring_at d name.feature name.polygon name.ring
+abbrev pub ring_named : Document → RingName → Option (List Position)
+ring_named d name = frame_ring d name.feature name.polygon name.ring
 
 -- the ring with this name has the segment
 abbrev pub ring_has : Document → RingName → Segment → Bool
-ring_has d name s = list_any (segment_eq (segment s.lo s.hi)) (segments (unwrap_or (ring_of d name) []))
+ring_has d name s = list_any (segment_eq (segment s.lo s.hi)) (segments (unwrap_or (ring_named d name) []))
 
 -- both are the name of one ring
 abbrev pub is_name : RingName → RingName → Bool
@@ -58,7 +58,7 @@ is_name a b = a.feature == b.feature && (a.polygon == b.polygon && a.ring == b.r
 pub record ListsOdd (d : Document) (ss : List Segment) (old new : List RingName) : Type 0 where
   pub found : List RingName
   pub appended : new ≡ old ++ found
-  pub rings : (name : RingName) → Contains found name → IsTrue (is_some (ring_of d name))
+  pub rings : (name : RingName) → Contains found name → IsTrue (is_some (ring_named d name))
   pub odds : (name : RingName) → odd (is_name name) found ≡ odd (ring_has d name) ss
 
 -- the rings of segments that count for p, a ring for each of its own
@@ -70,19 +70,19 @@ pub record HavePassed (d : Document) (p : Position) (rect : Box) (names : List R
 
 -- the ring with this name holds p
 abbrev pub holds : Document → Position → RingName → Bool
-holds d p name = is_inside p (unwrap_or (ring_of d name) [])
+holds d p name = is_inside p (unwrap_or (ring_named d name) [])
 
 -- rings, of which each ring of the document is one an odd number of times where it holds p
 pub record TellsInside (d : Document) (p : Position) (names : List RingName) : Type 0 where
-  pub rings : (name : RingName) → Contains names name → IsTrue (is_some (ring_of d name))
-  pub odds : (name : RingName) → IsTrue (is_some (ring_of d name))
+  pub rings : (name : RingName) → Contains names name → IsTrue (is_some (ring_named d name))
+  pub odds : (name : RingName) → IsTrue (is_some (ring_named d name))
       → odd (is_name name) names ≡ holds d p name
 
 -- ---- polygons
 
 -- the polygon of a ring
-abbrev pub polygon_of : RingName → PolygonName
-polygon_of name = record { feature = name.feature; polygon = name.polygon }
+abbrev pub polygon_name : RingName → PolygonName
+polygon_name name = record { feature = name.feature; polygon = name.polygon }
 
 -- both are the name of one polygon
 abbrev pub is_polygon : PolygonName → PolygonName → Bool
@@ -101,10 +101,10 @@ Toggles name old new =
 -- the polygons with an odd number of these rings
 abbrev pub AreOdd : List RingName → BTreeSet PolygonName → Type 0
 AreOdd names found =
-    (x : PolygonName) → contains polygon_cmp found x ≡ odd (λ name. is_polygon x (polygon_of name)) names
+    (x : PolygonName) → contains polygon_cmp found x ≡ odd (λ name. is_polygon x (polygon_name name)) names
 
 -- the ring is of one of these polygons, and its feature's number is not among these
-abbrev pub is_held : BTreeSet PolygonName → List ℕ → RingName → Bool
-is_held polygons border name =
-    contains polygon_cmp polygons (polygon_of name)
+abbrev pub is_of_holder : BTreeSet PolygonName → List ℕ → RingName → Bool
+is_of_holder polygons border name =
+    contains polygon_cmp polygons (polygon_name name)
     && not (list_any (λ m. m == name.feature) border)

@@ -4,7 +4,7 @@ use Rattle.ring_machine.specs.Common.{Document, has_feature}
 use Rattle.point_queries.specs.declared.sharing.QueryFault.{QueryFault}
 use Rattle.point_queries.specs.declared.sharing.QueryFault.TheVariants.{NoFeature, OutOfMemory}
 
--- no feature has the number; want of memory comes only where one has it
-abbrev pub Tells : Document → ℕ → QueryFault → Type 0
-Tells d n NoFeature = has_feature d n ≡ false
-Tells d n OutOfMemory = has_feature d n ≡ true
+-- no feature has the number; allocation failure comes only where one has it
+abbrev pub IsFaultOf : Document → ℕ → QueryFault → Type 0
+IsFaultOf d n NoFeature = has_feature d n ≡ false
+IsFaultOf d n OutOfMemory = has_feature d n ≡ true

@@ -23,7 +23,7 @@ pub(crate) fn box_at(p: Pos) -> Rect
     }
 }
 
-/// Appends the rings that have one of these segments on which p lies. Fails for want of memory alone.
+/// Appends the rings that have one of these segments on which p lies. Fails only on allocation failure.
 fn push_on<'a, I: SegIndex, A: Allocator + Copy>(
     map: &Map<'a, I, A>,
     p: Pos,

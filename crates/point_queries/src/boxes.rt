@@ -3,7 +3,7 @@ ghost use Rattle.std.specs.Prelude.{IfOk, IsTrue, OnOk};
 ghost use Rattle.std.specs.List.{AllByRecursion, flat_map};
 ghost use Rattle.ring_machine.specs.Common.{rings, is_ring};
 ghost use Rattle.ring_parts.specs.Common.{rings_seen, polygons_seen};
-ghost use Rattle.ring_boxes.specs.Common.{Covers, Keeps};
+ghost use Rattle.ring_boxes.specs.Common.{CoversRings, KeepsCovered};
 ghost use Rattle.point_queries.specs.Covered.{CoversFeature};
 
 use crate::border::box_at;
@@ -19,8 +19,8 @@ fn add_rings<A: Allocator + Copy>(
     polygon: &[Vec<Pos, A>],
 ) -> Result<(), AllocError>
     requires { AllByRecursion (λ ring. IsTrue (is_ring ring)) (rings_seen polygon.now) }
-    ensures covered { OnOk result (Covers boxes.new (rings_seen polygon.now)) }
-    ensures keeps { Keeps boxes.old boxes.new }
+    ensures covered { OnOk result (CoversRings boxes.new (rings_seen polygon.now)) }
+    ensures keeps { KeepsCovered boxes.old boxes.new }
 {
     for ring in polygon {
         boxes.add(ring.as_slice())?;
@@ -36,8 +36,8 @@ fn add_polygons<A: Allocator + Copy>(
     requires { AllByRecursion (λ ring. IsTrue (is_ring ring))
         (flat_map (λ polygon. polygon) (polygons_seen polygons.now)) }
     ensures covered { OnOk result
-        (Covers boxes.new (flat_map (λ polygon. polygon) (polygons_seen polygons.now))) }
-    ensures keeps { Keeps boxes.old boxes.new }
+        (CoversRings boxes.new (flat_map (λ polygon. polygon) (polygons_seen polygons.now))) }
+    ensures keeps { KeepsCovered boxes.old boxes.new }
 {
     for polygon in polygons {
         add_rings(boxes, polygon.as_slice())?;
@@ -47,7 +47,7 @@ fn add_polygons<A: Allocator + Copy>(
 
 /// Adds the boxes of the rings of feature `n`; none where no feature has the number. So boxes that
 /// cover the other features of a map cover this one too, after an edit that made other rings of it.
-/// Reads its rings alone. Fails for want of memory alone; each ring that lay in a box then still
+/// Reads its rings alone. Fails only on allocation failure; each ring that lay in a box then still
 /// does.
 pub fn add_boxes<'a, I: SegIndex, A: Allocator + Copy>(
     map: &Map<'a, I, A>,
@@ -55,7 +55,7 @@ pub fn add_boxes<'a, I: SegIndex, A: Allocator + Copy>(
     n: u32,
 ) -> Result<(), AllocError>
     ensures covered { OnOk result (CoversFeature boxes.new map.now.doc n) }
-    ensures keeps { Keeps boxes.old boxes.new }
+    ensures keeps { KeepsCovered boxes.old boxes.new }
 {
     let _ = map.frame(); // it tells that each ring is one
     let polygons = map.polygons(n)?;
@@ -88,13 +88,13 @@ fn extent_of<'a, I: SegIndex, A: Allocator + Copy>(map: &Map<'a, I, A>) -> Optio
     extent
 }
 
-/// The boxes of all rings of a map, as `at_near` needs them. Walks it. Fails for want of memory
-/// alone.
+/// The boxes of all rings of a map, as `at_near` needs them. Walks it. Fails only on allocation
+/// failure.
 pub fn boxes_of<'a, I: SegIndex, A: Allocator + Copy>(
     alloc: A,
     map: &Map<'a, I, A>,
 ) -> Result<RingBoxes<A>, AllocError>
-    ensures { IfOk result (λ boxes. Covers boxes (rings map.now.doc)) }
+    ensures { IfOk result (λ boxes. CoversRings boxes (rings map.now.doc)) }
 {
     let _ = map.frame(); // it tells that no two features have one number
     let mut boxes = RingBoxes::over(alloc, extent_of(map), map.feature_count())?;

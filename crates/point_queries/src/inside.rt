@@ -31,7 +31,7 @@ fn is_held<A: Allocator + Copy>(
     ring: RingName,
 ) -> bool
     requires { Rises border.now }
-    ensures { result ≡ odd.is_held polygons.now border.now ring }
+    ensures { result ≡ odd.is_of_holder polygons.now border.now ring }
 {
     let name = PolygonName {
         feature: ring.feature,
@@ -49,7 +49,7 @@ fn held<A: Allocator + Copy>(
 ) -> Result<Vec<RingName, A>, AllocError>
     requires { Rises border.now }
     ensures { IfOk result
-        (λ found. found.items ≡ filter (odd.is_held polygons.now border.now) rings.now) }
+        (λ found. found.items ≡ filter (odd.is_of_holder polygons.now border.now) rings.now) }
 {
     let mut found = Vec::new(alloc);
     for ring in rings {

@@ -5,10 +5,10 @@ ghost use Rattle.std.specs.List.{filter, list_any};
 ghost use Rattle.std.specs.List.Sorted.{IsPermutation};
 ghost use Rattle.ring_machine.specs.Common.{rings, is_segment};
 ghost use Rattle.ring_machine.specs.Query as query;
-ghost use Rattle.ring_boxes.specs.Common.{Covers};
+ghost use Rattle.ring_boxes.specs.Common.{CoversRings};
 ghost use Rattle.point_queries.specs.Odd as odd;
 ghost use Rattle.map_frame.specs.declared.names.RingName.{RingName};
-ghost use Rattle.point_queries.specs.Near.{ray_to, ray_back, is_behind, AreBehind, SeesMore, Cancels, HaveOdd};
+ghost use Rattle.point_queries.specs.Near.{ray_to, ray_back, is_behind, AreBehind, ListsUnseen, Cancels, HaveOdd};
 ghost use Rattle.point_queries.specs.Users.{AreSegments};
 
 use crate::border::border_at;
@@ -122,7 +122,7 @@ fn push_unseen<'a, I: SegIndex, A: Allocator + Copy>(
     names: &mut Vec<RingName, A>,
 ) -> Result<(), AllocError>
     requires { IsTrue (is_segment map.now.doc s) }
-    ensures { OnOk result (SeesMore map.now.doc s suspects.now names.old.items names.new.items) }
+    ensures { OnOk result (ListsUnseen map.now.doc s suspects.now names.old.items names.new.items) }
 {
     if has_each(names.as_slice(), suspects) {
         return Ok(());
@@ -180,7 +180,7 @@ fn near_rings<'a, I: SegIndex, A: Allocator + Copy>(
     boxes: &RingBoxes<A>,
     p: Pos,
 ) -> Result<Option<Vec<RingName, A>>, AllocError>
-    requires { Covers boxes.now (rings map.now.doc) }
+    requires { CoversRings boxes.now (rings map.now.doc) }
     ensures { IfOk result (λ found. IfSome found
         (λ found. odd.TellsInside map.now.doc p found.items)) }
 {
@@ -208,7 +208,7 @@ fn inside_near<'a, I: SegIndex, A: Allocator + Copy>(
     p: Pos,
     border: &[u32],
 ) -> Result<Numbers<A>, AllocError>
-    requires covers { Covers boxes.now (rings map.now.doc) }
+    requires covers { CoversRings boxes.now (rings map.now.doc) }
     requires border { border.now ≡ query.border_at map.now.doc p }
     ensures { IfOk result (λ found. found ≡ query.inside_at map.now.doc p) }
 {
@@ -219,19 +219,18 @@ fn inside_near<'a, I: SegIndex, A: Allocator + Copy>(
     }
 }
 
-/// The features at p, as `at` finds them: those that hold it by the even-odd rule, off their
-/// borders (RFC 7946, 3.1.6), and those on whose borders it lies. Each ring of the map has to lie
-/// in one of the boxes, as in those that `boxes_of` makes. Reads the cells at p and those from it
-/// to the right and to the left as far as the boxes that have p, and goes round no ring; where more
-/// than 64 rings may hold p, it reads the cells to the edge of the map, as `at` does. Fails for want
-/// of memory alone.
+/// The features at p, as `at` finds them: those that hold it by the even-odd rule, off their borders
+/// (RFC 7946, 3.1.6), and those on whose borders it lies. Each ring of the map has to lie in one of the
+/// boxes, as in those that `boxes_of` makes. Reads the cells at p and those from it to the right and to
+/// the left as far as the boxes that have p, and goes round no ring; where more than 64 rings may hold
+/// p, it reads the cells to the edge of the map, as `at` does. Fails only on allocation failure.
 pub fn at_near<'a, I: SegIndex, A: Allocator + Copy>(
     alloc: A,
     map: &Map<'a, I, A>,
     boxes: &RingBoxes<A>,
     p: Pos,
 ) -> Result<At<A>, AllocError>
-    requires { Covers boxes.now (rings map.now.doc) }
+    requires { CoversRings boxes.now (rings map.now.doc) }
     ensures inside { IfOk result (λ at. at.inside ≡ query.inside_at map.now.doc p) }
     ensures border { IfOk result (λ at. at.border ≡ query.border_at map.now.doc p) }
 {

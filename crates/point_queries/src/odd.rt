@@ -17,8 +17,8 @@ pub(crate) struct PolygonName {
     pub(crate) polygon: usize,
 }
 
-/// Appends the rings that have these segments, a ring for each of its own. Fails for want of memory
-/// alone.
+/// Appends the rings that have these segments, a ring for each of its own. Fails only on allocation
+/// failure.
 fn push_rings<'a, I: SegIndex, A: Allocator + Copy>(
     map: &Map<'a, I, A>,
     segments: &[Seg],

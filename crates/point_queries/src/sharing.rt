@@ -6,7 +6,7 @@ ghost use Rattle.grid_geometry.specs.Common.{edges};
 ghost use Rattle.ring_machine.specs.Common.{has_feature, feature_at};
 ghost use Rattle.ring_machine.specs.Query as query;
 ghost use Rattle.arc_store.specs.Common.{ListsUsers};
-ghost use Rattle.point_queries.specs.Told.{Tells};
+ghost use Rattle.point_queries.specs.Told.{IsFaultOf};
 
 use crate::numbers::{Numbers, sort_once};
 use arc_store::{Map, RingName};
@@ -33,8 +33,8 @@ impl From<AllocError> for QueryFault {
     }
 }
 
-/// Appends the rings that have a segment of this polygon, which has so many rings. Fails for want of
-/// memory alone.
+/// Appends the rings that have a segment of this polygon, which has so many rings. Fails only on
+/// allocation failure.
 fn push_polygon<'a, I: SegIndex, A: Allocator + Copy>(
     map: &Map<'a, I, A>,
     f: u32,
@@ -81,7 +81,7 @@ pub fn neighbours<'a, I: SegIndex, A: Allocator + Copy>(
     ensures found { IfOk result (λ found. found
         ≡ query.neighbours_of map.now.doc (feature_at map.now.doc f)) }
     ensures there { IfOk result (λ found. IsTrue (has_feature map.now.doc f)) }
-    ensures fault { IfErr result (λ fault. Tells map.now.doc f fault) }
+    ensures fault { IfErr result (λ fault. IsFaultOf map.now.doc f fault) }
 {
     let Some(feature) = map.feature(f) else {
         return Err(QueryFault::NoFeature);

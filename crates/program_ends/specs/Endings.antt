@@ -4,7 +4,7 @@ use Rattle.std.specs.declared.io.ErrorKind.{ErrorKind}
 use Rattle.std.specs.declared.io.ErrorKind.TheVariants as kind
 use Rattle.topo_outline.specs.declared.fault.OpenFault.{OpenFault}
 use Rattle.program_ends.specs.declared.diagnostic.Diagnostic.{Diagnostic}
-use Rattle.program_ends.specs.declared.diagnostic.Diagnostic.TheVariants.{Open, Findings, TooLarge, Unmended, Unparted, Map, Script, Write, Save, Refused, NoSeed, NoMemory, NotUtf8, OneFile, LinesRefused, CutOff}
+use Rattle.program_ends.specs.declared.diagnostic.Diagnostic.TheVariants.{Open, Findings, TooLarge, Unmended, Unparted, Map, Script, Write, Save, Refused, NoSeed, NoMemory, NotUtf8, OneFile, NoFeature, LinesRefused, CutOff}
 use Rattle.program_ends.specs.declared.stop.Stop.{Stop}
 use Rattle.program_ends.specs.declared.stop.Stop.TheVariants as stop
 
@@ -13,7 +13,7 @@ abbrev pub IsOpen : OpenFault → Diagnostic → Type 0
 IsOpen f (Open told) = told.now ≡ f
 IsOpen f line = ⊥
 
--- what is told where no work began; what clap says of the words is no line of the program's
+-- what is reported where no work began; what clap says of the words is no line of the program's
 abbrev pub stop_line : Stop → Option Diagnostic
 stop_line (stop.Words error) = None
 stop_line stop.NotUtf8 = Some NotUtf8
@@ -23,21 +23,21 @@ stop_line stop.Script = Some Script
 stop_line stop.NoSeed = Some NoSeed
 stop_line stop.NoMemory = Some NoMemory
 
--- what is told where a file could not be written, by the kind of the error: a refused growth, or else
--- the line of the file
+-- what is reported where a file could not be written, by the kind of the error: a failed allocation, or
+-- else the line of the file
 abbrev pub unwritten_line : ErrorKind → Diagnostic → Diagnostic
 unwritten_line kind.OutOfMemory line = NoMemory
 unwritten_line k line = line
 
--- what is told where FILE could not be written
+-- what is reported where FILE could not be written
 abbrev pub unsaved_line : ErrorKind → Diagnostic
 unsaved_line k = unwritten_line k Save
 
--- what is told where FILE2 could not be written
+-- what is reported where FILE2 could not be written
 abbrev pub unlisted_line : ErrorKind → Diagnostic
 unlisted_line k = unwritten_line k Refused
 
--- what is told where standard output could not be written
+-- what is reported where standard output could not be written
 abbrev pub unprinted_line : ErrorKind → Diagnostic
 unprinted_line k = unwritten_line k Write
 
@@ -58,4 +58,5 @@ line_text NoSeed = Some (codes "no random seed")
 line_text NoMemory = Some (codes "out of memory")
 line_text NotUtf8 = Some (codes "an argument is not UTF-8")
 line_text (OneFile first second) = Some (first.now ++ (codes " and " ++ (second.now ++ codes " name the same file")))
+line_text (NoFeature reason) = Some (codes "no feature: " ++ reason.now)
 line_text CutOff = Some (codes "not saved: the last line of the script has no line feed")

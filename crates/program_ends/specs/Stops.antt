@@ -11,7 +11,7 @@ abbrev stop_by : ErrorKind → Error → Stop
 stop_by OutOfMemory error = NoMemory
 stop_by kind error = Words error
 
--- words with this error: a refused growth, or else the words themselves
+-- words with this error: a failed allocation, or else the words themselves
 abbrev pub words_stop : Error → Stop
 words_stop error = stop_by (kind_of error) error
 
@@ -20,8 +20,8 @@ words_status DisplayHelp = 0
 words_status DisplayVersion = 0
 words_status kind = 64
 
--- 0 where the words ask for help, 64 where they do not parse, are no UTF-8 or name one file twice, and 3
--- where a file can't be read, or there is no seed, or a growth was refused
+-- 0 where the words ask for help, 64 where they do not parse, are no UTF-8 or name one file twice, and
+-- 3 where a file can't be read, or there is no seed, or an allocation failed
 abbrev pub stop_status : Stop → ℕ
 stop_status (Words error) = words_status (kind_of error)
 stop_status NotUtf8 = 64

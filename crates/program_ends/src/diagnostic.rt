@@ -32,12 +32,14 @@ pub enum Diagnostic<'a> {
     Refused,
     /// The operating system gave no random seed: `no random seed`.
     NoSeed,
-    /// A growth was refused: `out of memory`.
+    /// An allocation failed: `out of memory`.
     NoMemory,
     /// An argument is not UTF-8: `an argument is not UTF-8`.
     NotUtf8,
     /// Two arguments name one file: `--refused and MAP name the same file`.
     OneFile { first: &'a str, second: &'a str },
+    /// No feature, or several, are the one that was asked for: `no feature: ` and why.
+    NoFeature { reason: &'a str },
     /// Each line was to be accepted, and so many were refused or bad: `not saved: N lines were refused`.
     LinesRefused(u64),
     /// A script's last line was to have its line feed: `not saved: the last line of the script has no line feed`.
@@ -47,7 +49,7 @@ pub enum Diagnostic<'a> {
 impl<'a> Diagnostic<'a> {
     ghost use Rattle.program_ends.specs.Endings.{unwritten_line, unsaved_line, unlisted_line, unprinted_line};
 
-    /// Why a file could not be written: a refused growth, or else what the file's own line says.
+    /// Why a file could not be written: a failed allocation, or else what the file's own line says.
     fn unwritten(error: Error, line: Diagnostic<'a>) -> Diagnostic<'a>
         ensures { result ≡ unwritten_line (error_kind error) line.entry }
     {
@@ -57,21 +59,21 @@ impl<'a> Diagnostic<'a> {
         }
     }
 
-    /// Why FILE could not be written: a refused growth, or else FILE itself.
+    /// Why FILE could not be written: a failed allocation, or else FILE itself.
     pub fn unsaved(error: Error) -> Diagnostic<'a>
         ensures { result ≡ unsaved_line (error_kind error) }
     {
         Diagnostic::unwritten(error, Diagnostic::Save)
     }
 
-    /// Why FILE2 could not be written: a refused growth, or else FILE2 itself.
+    /// Why FILE2 could not be written: a failed allocation, or else FILE2 itself.
     pub fn unlisted(error: Error) -> Diagnostic<'a>
         ensures { result ≡ unlisted_line (error_kind error) }
     {
         Diagnostic::unwritten(error, Diagnostic::Refused)
     }
 
-    /// Why standard output could not be written: a refused growth, or else standard output itself.
+    /// Why standard output could not be written: a failed allocation, or else standard output itself.
     pub fn unprinted(error: Error) -> Diagnostic<'a>
         ensures { result ≡ unprinted_line (error_kind error) }
     {
@@ -107,6 +109,7 @@ impl<'a> fmt::Display for Diagnostic<'a> {
             Diagnostic::OneFile { first, second } => {
                 write!(f, "{first} and {second} name the same file")
             }
+            Diagnostic::NoFeature { reason } => write!(f, "no feature: {reason}"),
             Diagnostic::LinesRefused(1) => f.write_str("not saved: 1 line was refused"),
             Diagnostic::LinesRefused(count) => write!(f, "not saved: {count} lines were refused"),
             Diagnostic::CutOff => {

@@ -2,6 +2,7 @@
 //! error that says why. Each program has the endings of its own work beside these.
 #![tactic(auto)]
 
+mod advice;
 mod diagnostic;
 mod ending;
 mod files;
@@ -10,6 +11,7 @@ mod replacing;
 mod stop;
 mod texts;
 
+pub use advice::{Errors, Paths, Subject};
 pub use diagnostic::Diagnostic;
 pub use ending::Ending;
 pub use files::{end, end_stopped, given_words, hash_seed, map_bytes};

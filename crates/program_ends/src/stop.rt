@@ -24,14 +24,14 @@ pub enum Stop {
     Script,
     /// The operating system gave no random seed.
     NoSeed,
-    /// A growth was refused.
+    /// An allocation failed.
     NoMemory,
 }
 
 impl Stop {
     ghost use Rattle.program_ends.specs.Stops.{stop_status};
 
-    /// What an error of a file stops for: a refused growth, or else what the file is.
+    /// What an error of a file stops for: a failed allocation, or else what the file is.
     pub fn of_file(error: Error, file: Stop) -> Stop
         ensures no_memory { error_kind error ≡ ErrorKind.OutOfMemory → result ≡ Stop.NoMemory }
         ensures file { error_kind error ≢ ErrorKind.OutOfMemory → result ≡ file }

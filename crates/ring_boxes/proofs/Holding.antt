@@ -8,7 +8,7 @@ use Rattle.grid_geometry.specs.Common.{Position, Segment, box_of, boxes_meet, se
 use Rattle.ring_machine.proofs.Common.{same_answer}
 use Rattle.segment_index.specs.Common.{SegmentSet, Gives, has, segment_is, times_in, times_by}
 use Rattle.segment_index.proofs.Common.{same_segment, segment_eq-is, segment_total, is-itself, times-some}
-use Rattle.ring_boxes.specs.Common.{box_at, lies_in, AreBoxesOf, IsWidened, StaysHeld}
+use Rattle.ring_boxes.specs.Common.{box_at, is_within_diagonal, AreBoxesOf, IsWidened, StaysHeld}
 
 -- ---- the boxes that are held
 
@@ -70,6 +70,6 @@ given_boxes boxes p old new none g = record {
     as_found : (d : Segment) → has new d ≡ true → has g.found d ≡ true
     as_found d h = ap (λ ts. has ts d) (sym found) ∙ h
 
-    by : (d : Segment) (b : Bool) → lies_in d p ≡ b → 1 ≤ times_in g.found d → lies_in d p ≡ true
+    by : (d : Segment) (b : Bool) → is_within_diagonal d p ≡ b → 1 ≤ times_in g.found d → is_within_diagonal d p ≡ true
     by d true e h = e
-    by d false e h = let k : cond {A = ℕ} (lies_in d p) 1 0 ≡ 0 = ap (λ b. cond {A = ℕ} b 1 0) e in absurd (omega (arith, h, k, g.few d))
+    by d false e h = let k : cond {A = ℕ} (is_within_diagonal d p) 1 0 ≡ 0 = ap (λ b. cond {A = ℕ} b 1 0) e in absurd (omega (arith, h, k, g.few d))

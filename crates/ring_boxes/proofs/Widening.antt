@@ -3,7 +3,7 @@ use Rattle.kit_words.proofs.Common.{◌≡◌, Bool, true, false, cond, ◌&&◌
 use Rattle.kit_words.proofs.Common.{Some, IsNone, IfSome, int_min, int_max, is_gt, le_itself, min_left, max_left}
 use Rattle.std.proofs.Common.{unwrap_or}
 use Rattle.grid_geometry.specs.Common.{Position, position, position_cmp, Segment, segment}
-use Rattle.ring_boxes.specs.Common.{lies_in, IsWider}
+use Rattle.ring_boxes.specs.Common.{is_within_diagonal, IsWider}
 use Rattle.ring_boxes.proofs.Coordinates.{min_right, max_right, all_one}
 
 four : (a b c d : Bool) → ((a && b) && (c && d)) ≡ true → (a ≡ true) × (b ≡ true) × (c ≡ true) × (d ≡ true)
@@ -15,10 +15,10 @@ four false b c d h = absurd (cc)
 
 -- a position from a least corner to a greatest one lies in the box of their diagonal
 spanned : (lo hi q : Position) → int_le lo.x q.x ≡ true → int_le q.x hi.x ≡ true
-    → int_le lo.y q.y ≡ true → int_le q.y hi.y ≡ true → lies_in (segment lo hi) q ≡ true
+    → int_le lo.y q.y ≡ true → int_le q.y hi.y ≡ true → is_within_diagonal (segment lo hi) q ≡ true
 spanned lo hi q a b c d = step (is_gt (position_cmp lo hi))
   where
-    step : (e : Bool) → lies_in (cond e (record { lo = hi; hi = lo }) (record { lo = lo; hi = hi })) q ≡ true
+    step : (e : Bool) → is_within_diagonal (cond e (record { lo = hi; hi = lo }) (record { lo = lo; hi = hi })) q ≡ true
     step true = λ i. (min_right hi.x lo.x q.x a i && max_left hi.x lo.x q.x b i)
         && (min_right hi.y lo.y q.y c i && max_left hi.y lo.y q.y d i)
     step false = λ i. (min_left lo.x hi.x q.x a i && max_right lo.x hi.x q.x b i)
@@ -46,7 +46,7 @@ between d p = record {
 }
 
 -- a box has all that it has
-itself : (d : Segment) (p : Position) → lies_in d p ≡ true → IsWider d p d
+itself : (d : Segment) (p : Position) → is_within_diagonal d p ≡ true → IsWider d p d
 itself d p h = record { has_all = λ q k. k; has_it = h }
 
 -- where there is no such diagonal, all is one position

@@ -3,7 +3,7 @@ use Rattle.std.specs.Prelude.{◌≡◌, true, List}
 use Rattle.std.specs.FinSet as set
 use Rattle.grid_geometry.specs.Common.{Position, Segment, Box, box_of}
 use Rattle.segment_index.specs.Common.{is_within, SegmentSet, AreAmong, has}
-use Rattle.ring_boxes.specs.Covering.{lies_in}
+use Rattle.ring_boxes.specs.Covering.{is_within_diagonal}
 
 -- each box that was held still is
 abbrev pub StaysHeld : SegmentSet → SegmentSet → Type 0
@@ -12,13 +12,13 @@ StaysHeld old new = (d : Segment) → set.contains old d ≡ true → set.contai
 -- the list has the held boxes that the position lies in
 pub record AreBoxesOf (boxes : SegmentSet) (p : Position) (near : List Segment) : Type 0 where
   pub among : AreAmong boxes near
-  pub have_it : (d : Segment) → has near d ≡ true → lies_in d p ≡ true
-  pub each : (d : Segment) → set.contains boxes d ≡ true → lies_in d p ≡ true → has near d ≡ true
+  pub have_it : (d : Segment) → has near d ≡ true → is_within_diagonal d p ≡ true
+  pub each : (d : Segment) → set.contains boxes d ≡ true → is_within_diagonal d p ≡ true → has near d ≡ true
 
 -- the second box has the position, and all that the first one has
 pub record IsWider (d : Segment) (p : Position) (wider : Segment) : Type 0 where
-  pub has_all : (q : Position) → lies_in d q ≡ true → lies_in wider q ≡ true
-  pub has_it : lies_in wider p ≡ true
+  pub has_all : (q : Position) → is_within_diagonal d q ≡ true → is_within_diagonal wider q ≡ true
+  pub has_it : is_within_diagonal wider p ≡ true
 
 -- a held box has the position, and all that a given one has
 abbrev pub IsWidened : SegmentSet → Segment → Position → Type 0

@@ -4,7 +4,7 @@ ghost use Rattle.std.specs.FinSet as set;
 ghost use Rattle.grid_geometry.specs.Common.{Position, Segment};
 ghost use Rattle.ring_machine.specs.Common.{is_distinct};
 ghost use Rattle.segment_index.specs.Common.{AreAmong, has};
-ghost use Rattle.ring_boxes.specs.Covering.{lies_in, IsAround, IsCovered, Keeps};
+ghost use Rattle.ring_boxes.specs.Covering.{is_within_diagonal, IsAround, IsCovered, KeepsCovered};
 ghost use Rattle.ring_boxes.specs.Held.{AreBoxesOf, IsWidened, StaysHeld};
 
 use crate::diagonal::{around, box_at, diagonal_of, lies_in, widened};
@@ -54,30 +54,31 @@ impl<A: Allocator + Copy> RingBoxes<A> {
         Ok(Self { alloc, index })
     }
 
-    /// Adds the box of a ring, unless it is held already. Fails only for want of memory; each ring
+    /// Adds the box of a ring, unless it is held already. Fails only on allocation failure; each ring
     /// that lay in a box then still does.
     pub fn add(&mut self, ring: &[Pos]) -> Result<(), AllocError>
         requires some { 2 ≤ length ring.now }
         requires distinct { IsTrue (is_distinct ring.now) }
         ensures covered { OnOk result (IsCovered self.new ring.now) }
-        ensures keeps { Keeps self.old self.new }
+        ensures keeps { KeepsCovered self.old self.new }
     {
         self.hold(diagonal_of(ring))
     }
 
-    /// Adds to each box that has p, and not q, the least box that has all of it, and q. Fails only
-    /// for want of memory; some of these boxes may then have come, and each ring that lay in a box
+    /// Adds to each box that has p, and not q, the least box that has all of it, and q. Fails only on
+    /// allocation failure; some of these boxes may then have come, and each ring that lay in a box
     /// still does.
     pub fn grow(&mut self, p: Pos, q: Pos) -> Result<(), AllocError>
         ensures grown { OnOk result ((ring : List Position) → IsCovered self.old ring
             → Contains ring p → IsCovered self.new (q ∷ ring)) }
-        ensures keeps { Keeps self.old self.new }
+        ensures keeps { KeepsCovered self.old self.new }
     {
         let near = self.boxes_of(p)?;
         self.widen_all(near.as_slice(), q)
     }
 
-    /// The least box that has a position and the boxes that it lies in. Fails only for want of memory.
+    /// The least box that has a position and the boxes that it lies in. Fails only on allocation
+    /// failure.
     pub fn around(&self, p: Pos) -> Result<Rect, AllocError>
         ensures { IfOk result (λ rect. IsAround self.now p rect) }
     {

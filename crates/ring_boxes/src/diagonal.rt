@@ -3,7 +3,7 @@ ghost use Rattle.std.specs.Prelude.{◌≡◌, ◌≤◌, true, length, Contains
 ghost use Rattle.std.specs.Int.{int_min, int_max};
 ghost use Rattle.grid_geometry.specs.Common.{Position, position, Segment};
 ghost use Rattle.ring_machine.specs.Common.{is_distinct};
-ghost use Rattle.ring_boxes.specs.Covering.{box_at, lies_in};
+ghost use Rattle.ring_boxes.specs.Covering.{box_at, is_within_diagonal};
 ghost use Rattle.ring_boxes.specs.Held.{IsLeast, IsWider};
 
 use grid_geometry::{Pos, Rect, Seg};
@@ -23,7 +23,7 @@ pub(crate) fn box_at(p: Pos) -> Rect
 
 /// Whether a position lies in the box of a diagonal.
 pub(crate) fn lies_in(d: Seg, p: Pos) -> bool
-    ensures { result ≡ lies_in d p }
+    ensures { result ≡ is_within_diagonal d p }
 {
     d.rect().meets(box_at(p))
 }
@@ -55,7 +55,7 @@ pub(crate) fn widened(d: Seg, p: Pos) -> Seg
 pub(crate) fn diagonal_of(ring: &[Pos]) -> Seg
     requires some { 2 ≤ length ring.now }
     requires distinct { IsTrue (is_distinct ring.now) }
-    ensures { (p : Position) → Contains ring.now p → lies_in result p ≡ true }
+    ensures { (p : Position) → Contains ring.now p → is_within_diagonal result p ≡ true }
 {
     let mut diagonal = Seg::new(ring[0], ring[1]).unwrap();
     for p in ring {

@@ -100,7 +100,7 @@ pub fn joined<A: Allocator + Copy>(
     Ok(rest)
 }
 
-/// Appends these rings, in order. Fails for want of memory alone.
+/// Appends these rings, in order. Fails only on allocation failure.
 fn push_rings<A: Allocator + Copy>(
     found: &mut Vec<Vec<Pos, A>, A>,
     alloc: A,
@@ -116,7 +116,7 @@ fn push_rings<A: Allocator + Copy>(
 }
 
 /// The rings of two polygons that are joined along the common run of their outer rings: the joined
-/// outer ring, then the holes of both. Fails for want of memory alone.
+/// outer ring, then the holes of both. Fails only on allocation failure.
 pub fn join_polygons<A: Allocator + Copy>(
     alloc: A,
     one: &[Vec<Pos, A>],

@@ -52,8 +52,8 @@ pub fn has_twice(positions: &[Pos]) -> bool
     false
 }
 
-/// The segments of a way that has no position twice, from each position to the next one. Fails for
-/// want of memory alone.
+/// The segments of a way that has no position twice, from each position to the next one. Fails only on
+/// allocation failure.
 pub fn way_segments<A: Allocator + Copy>(
     alloc: A,
     positions: &[Pos],

@@ -43,7 +43,7 @@ fn part_holes<A: Allocator + Copy>(
     Ok(())
 }
 
-/// Both parts of a polygon that a path cuts, each with its holes. Fails for want of memory alone.
+/// Both parts of a polygon that a path cuts, each with its holes. Fails only on allocation failure.
 pub fn both_parts<A: Allocator + Copy>(
     alloc: A,
     path: &Path<'_>,

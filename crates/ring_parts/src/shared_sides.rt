@@ -38,7 +38,7 @@ pub struct SharedSides<'r, A: Allocator> {
 }
 
 impl<'r, A: Allocator + Copy> SharedSides<'r, A> {
-    /// What the two rings have in common. Fails for want of memory alone.
+    /// What the two rings have in common. Fails only on allocation failure.
     pub fn new(
         alloc: A,
         first: &'r [Pos],

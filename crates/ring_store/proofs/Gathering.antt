@@ -1,4 +1,4 @@
--- Numbers that come behind a list, each once.
+-- Numbers that come after a list, each once.
 use Rattle.kit_words.proofs.Common.{◌≡◌, ℕ, ◌≤◌, refl, ap, ap₂, ◌∙◌, subst, arith, List, [], ◌∷◌, ◌++◌, take, drop}
 use Rattle.kit_words.proofs.Common.{length, Contains, ◌⊎◌, inl, inr, length-take-le, take-append_seam, drop-append_seam}
 use Rattle.kit_words.proofs.Common.{drop-length, take-length}
@@ -55,6 +55,6 @@ gathered-append from xs ys zs l = ap₂ (λ a b. a ++ including_all b zs) first 
     rest : drop from (gathered from xs ys) ≡ including_all (drop from xs) ys
     rest = subst (λ n. drop n (gathered from xs ys) ≡ including_all (drop from xs) ys) len (drop-append_seam (take from xs) (including_all (drop from xs) ys))
 
--- behind the whole list
+-- after the whole list
 pub gathered_behind : (xs ys : List ℕ) → gathered (length xs) xs ys ≡ xs ++ including_all [] ys
 gathered_behind xs ys = ap₂ (λ a b. a ++ including_all b ys) (take-length xs) (drop-length xs)

@@ -9,7 +9,7 @@ use Rattle.segment_index.specs.Common.{SegmentSet, AreAmong, AreSingle, segment_
 use Rattle.segment_index.proofs.Common.{segment_total, same_sets, is-itself, has-is, has-some, times-some, times-push}
 use Rattle.segment_index.proofs.Common.{times-take}
 use Rattle.arc_tables.specs.Common.{AllDifferent}
-use Rattle.ring_store.specs.Common.{AreNew, Gains, Drops, Exchanges}
+use Rattle.ring_store.specs.Common.{AreNew, GainsSegments, Drops, Exchanges}
 use Rattle.ring_store.proofs.KeyRings.{has_key}
 
 -- ---- lists
@@ -72,7 +72,7 @@ has_taken ss i t h = has-some ss t (omega (arith, times-some (take i ss) t h, ti
 
 -- the next segment that comes is not held yet
 pub next_new : (old now : SegmentSet) (ss : List Segment) (i : ℕ) (x : Segment) → AreNew old ss
-    → AreSingle ss → i < length ss → x ≡ get_or ss i x → Gains old (take i ss) now
+    → AreSingle ss → i < length ss → x ≡ get_or ss i x → GainsSegments old (take i ss) now
     → set.contains now x ≡ false
 next_new old now ss i x new single l e h =
     ap (set.contains now) e ∙ h (get_or ss i x)
@@ -80,8 +80,8 @@ next_new old now ss i x new single l e h =
 
 -- and then it has come
 pub gained_more : (old now next : SegmentSet) (ss : List Segment) (i : ℕ) (x : Segment)
-    → i < length ss → x ≡ get_or ss i x → Gains old (take i ss) now → next ≡ set.insert now x
-    → Gains old (take (i + 1) ss) next
+    → i < length ss → x ≡ get_or ss i x → GainsSegments old (take i ss) now → next ≡ set.insert now x
+    → GainsSegments old (take (i + 1) ss) next
 gained_more old now next ss i x l e h n t =
     ap (λ z. set.contains z t) (n ∙ ap (set.insert now) e) ∙ set.contains-insert segment_total now (get_or ss i x) t
     ∙ ap (λ b. segment_is t (get_or ss i x) || b) (h t)
@@ -122,7 +122,7 @@ dropped_more old now next ss i x l e h n t =
     turned false true false = refl
     turned false false c = refl
 
-pub gains_none : (old : SegmentSet) → Gains old [] old
+pub gains_none : (old : SegmentSet) → GainsSegments old [] old
 gains_none old t = by (set.contains old t)
   where
     by : (b : Bool) → b ≡ (b || false)
@@ -139,7 +139,7 @@ drops_none old t = by (set.contains old t)
 -- ---- whole lists
 
 -- what came is held
-pub gained_among : (old now : SegmentSet) (ss : List Segment) → Gains old ss now → AreAmong now ss
+pub gained_among : (old now : SegmentSet) (ss : List Segment) → GainsSegments old ss now → AreAmong now ss
 gained_among old now ss h t i = h t ∙ or_second (set.contains old t) i
   where
     or_second : (a : Bool) → has ss t ≡ true → (a || has ss t) ≡ true
@@ -147,13 +147,13 @@ gained_among old now ss h t i = h t ∙ or_second (set.contains old t) i
     or_second false e = e
 
 -- what was held still is
-pub still_held : (old now : SegmentSet) (ss held : List Segment) → Gains old ss now
+pub still_held : (old now : SegmentSet) (ss held : List Segment) → GainsSegments old ss now
     → AreAmong old held → AreAmong now held
 still_held old now ss held h among t i = h t ∙ ap (λ b. b || has ss t) (among t i)
 
 -- what came and went leaves the index as it was
 pub came_and_went : (old now next : SegmentSet) (ss : List Segment) → AreNew old ss
-    → Gains old ss now → Drops now ss next → next ≡ old
+    → GainsSegments old ss now → Drops now ss next → next ≡ old
 came_and_went old now next ss new gained dropped =
     same_sets next old (λ t. dropped t ∙ ap (λ b. b && not (has ss t)) (gained t) ∙ by t (has ss t) refl (set.contains old t) refl)
   where
@@ -169,7 +169,7 @@ pub new_taken : (old : SegmentSet) (ss : List Segment) (i : ℕ) → AreNew old 
 new_taken old ss i h t e = h t (has_taken ss i t e)
 
 -- the added ones came, and then the others went
-pub exchanged : (old now next : SegmentSet) (added gone : List Segment) → Gains old added now
+pub exchanged : (old now next : SegmentSet) (added gone : List Segment) → GainsSegments old added now
     → Drops now gone next → Exchanges old added gone next
 exchanged old now next added gone gained dropped t =
     dropped t ∙ ap (λ b. b && not (has gone t)) (gained t)

@@ -8,7 +8,7 @@ use Rattle.slab.specs.Slab.{get}
 use Rattle.slab.proofs.SlabLemmas.{Contains-cons, Contains-cons_cases}
 use Rattle.arc_tables.specs.declared.arc.Use.{Use}
 use Rattle.arc_tables.specs.declared.tables.Tables.{Tables}
-use Rattle.ring_store.specs.Common.{Neighbours, noted_all, other_ends, Passes, edge_count, less_of, least_of, users_at}
+use Rattle.ring_store.specs.Common.{Neighbours, noted_all, other_ends, Passes, edge_count, less_of, least_number, users_at}
 use Rattle.ring_store.specs.Shortest.{is_any, touches, rings_among}
 use Rattle.ring_store.specs.declared.neighbours.Neighbours.TheVariants as neighbours
 use Rattle.arc_tables.specs.Common.{Edge, links, walk, chain, times, edges_of, Rings, rings_of, path_of, users_in}
@@ -40,21 +40,21 @@ count_more limit path us i d l =
 
 -- ---- the least
 
-pub least_of-append : (o : Option ℕ) (ms ns : List ℕ) → least_of o (ms ++ ns) ≡ least_of (least_of o ms) ns
+pub least_of-append : (o : Option ℕ) (ms ns : List ℕ) → least_number o (ms ++ ns) ≡ least_number (least_number o ms) ns
 least_of-append o [] ns = refl
 least_of-append o (m ∷ ms) ns = least_of-append (less_of o m) ms ns
 
 -- one ring more
-pub least_more : (count : ℕ → ℕ) (o : Option ℕ) (rs : List ℕ) (i : ℕ) → i < length rs → less_of (least_of o (map count (take i rs))) (count (get_or rs i 0)) ≡ least_of o (map count (take (i + 1) rs))
-least_more count o rs i l = sym (least_of-append o (map count (take i rs)) (count (get_or rs i 0) ∷ [])) ∙ ap (least_of o) (sym (ap (map count) (take_more rs i 0 l) ∙ map-append count (take i rs) (get_or rs i 0 ∷ [])))
+pub least_more : (count : ℕ → ℕ) (o : Option ℕ) (rs : List ℕ) (i : ℕ) → i < length rs → less_of (least_number o (map count (take i rs))) (count (get_or rs i 0)) ≡ least_number o (map count (take (i + 1) rs))
+least_more count o rs i l = sym (least_of-append o (map count (take i rs)) (count (get_or rs i 0) ∷ [])) ∙ ap (least_number o) (sym (ap (map count) (take_more rs i 0 l) ∙ map-append count (take i rs) (get_or rs i 0 ∷ [])))
 
 -- and one arc more
 pub among_least : (count : ℕ → ℕ) (o : Option ℕ) (path users : ℕ → List ℕ) (k : ℕ) (among : List ℕ) (i : ℕ) → i < length among →
-    least_of (least_of o (map count (rings_among path users (take i among) k))) (map count (users_at path users k (get_or among i 0))) ≡ least_of o (map count (rings_among path users (take (i + 1) among) k))
+    least_number (least_number o (map count (rings_among path users (take i among) k))) (map count (users_at path users k (get_or among i 0))) ≡ least_number o (map count (rings_among path users (take (i + 1) among) k))
 among_least count o path users k among i l =
     let f : ℕ → List ℕ = users_at path users k in
     let more : rings_among path users (take (i + 1) among) k ≡ rings_among path users (take i among) k ++ f (get_or among i 0) = ap (flat_map f) (take_more among i 0 l) ∙ flat_map-append f (take i among) (get_or among i 0 ∷ []) ∙ ap (λ z. rings_among path users (take i among) k ++ z) (append-nil (f (get_or among i 0))) in
-    sym (least_of-append o (map count (rings_among path users (take i among) k)) (map count (f (get_or among i 0)))) ∙ ap (least_of o) (sym (ap (map count) more ∙ map-append count (rings_among path users (take i among) k) (f (get_or among i 0))))
+    sym (least_of-append o (map count (rings_among path users (take i among) k)) (map count (f (get_or among i 0)))) ∙ ap (least_number o) (sym (ap (map count) more ∙ map-append count (rings_among path users (take i among) k) (f (get_or among i 0))))
 
 -- the number has the property, and no lesser one has
 abbrev pub IsLeastOf : (ℕ → Type 0) → Option ℕ → Type 0
@@ -73,16 +73,16 @@ one_more P (Some l) n h = by (cases_lt n l)
     by (inl f) = subst (λ z. IsLeastOf (λ m. P m ⊎ (m ≡ n)) (Some z)) (sym (min-eq_right {n = n} {m = l} (omega arith))) (inr refl, λ m k. elim k [ inl p ↦ omega (arith, h.1 m p) | inr e ↦ omega (arith, e) ])
     by (inr f) = subst (λ z. IsLeastOf (λ m. P m ⊎ (m ≡ n)) (Some z)) (sym (min-eq_left {n = l} {m = n} f)) (inl h.0, λ m k. elim k [ inl p ↦ h.1 m p | inr e ↦ omega (arith, e) ])
 
-all_more : (P : ℕ → Type 0) (o : Option ℕ) (ns : List ℕ) → IsLeastOf P o → IsLeastOf (λ m. P m ⊎ Contains ns m) (least_of o ns)
+all_more : (P : ℕ → Type 0) (o : Option ℕ) (ns : List ℕ) → IsLeastOf P o → IsLeastOf (λ m. P m ⊎ Contains ns m) (least_number o ns)
 all_more P o [] h = least_alike P (λ m. P m ⊎ Contains [] m) (λ m p. inl p) (λ m k. elim k [ inl p ↦ p | inr z ↦ absurd (omega (arith, z.1)) ]) o h
 all_more P o (n ∷ ns) h =
     least_alike (λ m. (P m ⊎ (m ≡ n)) ⊎ Contains ns m) (λ m. P m ⊎ Contains (n ∷ ns) m)
     (λ m k. elim k [ inl j ↦ elim j [ inl p ↦ inl p | inr e ↦ inr (0, omega arith, sym e) ] | inr z ↦ inr (Contains-cons n m ns z) ])
     (λ m k. elim k [ inl p ↦ inl (inl p) | inr z ↦ elim (Contains-cons_cases n m ns z) [ inl e ↦ inl (inr (sym e)) | inr j ↦ inr j ] ])
-    (least_of (less_of o n) ns) (all_more (λ m. P m ⊎ (m ≡ n)) (less_of o n) ns (one_more P o n h))
+    (least_number (less_of o n) ns) (all_more (λ m. P m ⊎ (m ≡ n)) (less_of o n) ns (one_more P o n h))
 
-pub least_list : (ns : List ℕ) → IsLeastOf (Contains ns) (least_of None ns)
-least_list ns = least_alike (λ m. ⊥ ⊎ Contains ns m) (Contains ns) (λ m k. elim k [ inl p ↦ absurd p | inr z ↦ z ]) (λ m z. inr z) (least_of None ns) (all_more (λ m. ⊥) None ns (λ m p. p))
+pub least_list : (ns : List ℕ) → IsLeastOf (Contains ns) (least_number None ns)
+least_list ns = least_alike (λ m. ⊥ ⊎ Contains ns m) (Contains ns) (λ m k. elim k [ inl p ↦ absurd p | inr z ↦ z ]) (λ m z. inr z) (least_number None ns) (all_more (λ m. ⊥) None ns (λ m p. p))
 
 in_map : (f : ℕ → ℕ) (xs : List ℕ) (y : ℕ) → Contains (map f xs) y → (x : ℕ) × Contains xs x × (f x ≡ y)
 in_map f xs y m =
@@ -155,8 +155,8 @@ module _ {A : Type 0} where
           has = chain_has k x.0 (path_of t) f.0 (uses_in (get t.rings r)) x.1 used;
         }
 
-    pub shortest_seen : (limit : ℕ) → SaysShortest (Passes (rings_of t) k) limit (least_of None (map (λ r. edge_count limit (path_of t) (uses_in (get t.rings r))) rings_here))
-    shortest_seen limit = by (least_of None (map count rings_here)) (least_list (map count rings_here))
+    pub shortest_seen : (limit : ℕ) → SaysShortest (Passes (rings_of t) k) limit (least_number None (map (λ r. edge_count limit (path_of t) (uses_in (get t.rings r))) rings_here))
+    shortest_seen limit = by (least_number None (map count rings_here)) (least_list (map count rings_here))
       where
         count : ℕ → ℕ
         count r = edge_count limit (path_of t) (uses_in (get t.rings r))
@@ -175,5 +175,5 @@ module _ {A : Type 0} where
 module _ {A : Type 0} where
   -- the same of the map that the tables are seen as
   pub says_shortest : (t : Tables A) (k : ℕ) → Whole t → (limit : ℕ) (m : Rings) (o : Option ℕ) → rings_of t ≡ m →
-      o ≡ least_of None (map (λ r. edge_count limit (path_of t) (uses_in (get t.rings r))) (rings_among (path_of t) (λ j. users_in (get t.arcs j)) (stand_at t.stands.items k) k)) → SaysShortest (Passes m k) limit o
+      o ≡ least_number None (map (λ r. edge_count limit (path_of t) (uses_in (get t.rings r))) (rings_among (path_of t) (λ j. users_in (get t.arcs j)) (stand_at t.stands.items k) k)) → SaysShortest (Passes m k) limit o
   says_shortest t k w limit m o e f = subst (λ z. SaysShortest (Passes z k) limit o) e (subst (SaysShortest (Passes (rings_of t) k) limit) (sym f) (shortest_seen t k w.known w.listed limit))

@@ -7,7 +7,7 @@ use Rattle.grid_geometry.specs.Common.{Position, Segment}
 use Rattle.vertex_index.specs.Common.{Placement, IsOccupied}
 use Rattle.segment_index.specs.Common.{SegmentSet, AreAmong, segment_is, has}
 use Rattle.segment_index.proofs.Common.{segment_total, remove_inserted}
-use Rattle.ring_store.specs.Common.{Exchanges, Gains, Drops}
+use Rattle.ring_store.specs.Common.{Exchanges, GainsSegments, Drops}
 use Rattle.ring_store.proofs.Places.{insert_other, remove_here, remove_other}
 
 -- where a vertex stands a look finds one
@@ -35,7 +35,7 @@ place_back places k q new =
 
 -- some came, and one of the others went
 pub one_went : (old mid new : SegmentSet) (came : List Segment) (s : Segment)
-    → Gains old came mid → new ≡ set.remove mid s → Exchanges old came (s ∷ []) new
+    → GainsSegments old came mid → new ≡ set.remove mid s → Exchanges old came (s ∷ []) new
 one_went old mid new came s h e t =
     ap (λ z. set.contains z t) e
     ∙ set.contains-remove segment_total mid s t

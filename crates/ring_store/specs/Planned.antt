@@ -30,8 +30,8 @@ abbrev pub AreNew : SegmentSet → List Segment → Type 0
 AreNew held ss = (t : Segment) → has ss t ≡ true → set.contains held t ≡ false
 
 -- an index came to hold these too
-abbrev pub Gains : SegmentSet → List Segment → SegmentSet → Type 0
-Gains old ss new = (t : Segment) → set.contains new t ≡ (set.contains old t || has ss t)
+abbrev pub GainsSegments : SegmentSet → List Segment → SegmentSet → Type 0
+GainsSegments old ss new = (t : Segment) → set.contains new t ≡ (set.contains old t || has ss t)
 
 -- an index holds these no more
 abbrev pub Drops : SegmentSet → List Segment → SegmentSet → Type 0

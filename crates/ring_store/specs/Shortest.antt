@@ -33,9 +33,9 @@ less_of None n = Some n
 less_of (Some m) n = Some (min m n)
 
 -- the least of these numbers and of one that may be there
-abbrev pub least_of : Option ℕ → List ℕ → Option ℕ
-least_of best [] = best
-least_of best (n ∷ ns) = least_of (less_of best n) ns
+abbrev pub least_number : Option ℕ → List ℕ → Option ℕ
+least_number best [] = best
+least_number best (n ∷ ns) = least_number (less_of best n) ns
 
 -- the rings that have arc i, where a segment of it ends at k
 abbrev pub users_at : (ℕ → List ℕ) → (ℕ → List ℕ) → ℕ → ℕ → List ℕ

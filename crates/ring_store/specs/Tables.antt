@@ -8,8 +8,8 @@ use Rattle.ring_store.specs.Standing.{Stands}
 use Rattle.ring_store.specs.declared.tables.RingTables.{RingTables}
 
 -- the positions of the ring with this number, from its first key on
-abbrev pub ring_at : Placement → Rings → ℕ → List Position
-ring_at places rings r = map (place places) (begins (unwrap_or (table.get rings r) []))
+abbrev pub keyed_ring : Placement → Rings → ℕ → List Position
+keyed_ring places rings r = map (place places) (begins (unwrap_or (table.get rings r) []))
 
 module _ {I A : Type 0} where
   -- the tables belong together
@@ -18,4 +18,4 @@ module _ {I A : Type 0} where
 
   -- the positions of the ring with this number, from its first key on
   abbrev pub ring_in : RingTables I A → ℕ → List Position
-  ring_in t r = ring_at t.vertices t.borders r
+  ring_in t r = keyed_ring t.vertices t.borders r

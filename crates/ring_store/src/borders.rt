@@ -49,7 +49,7 @@ impl<A: Allocator + Copy> Borders<A> {
         }
     }
 
-    /// No ring, with room for what so many vertices stand in. Fails for want of memory alone.
+    /// No ring, with room for what so many vertices stand in. Fails only on allocation failure.
     pub fn with_room(alloc: A, vertices: usize) -> Result<Self, AllocError>
         ensures { IfOk result (λ borders. borders ≡ map.empty) }
     {
@@ -71,17 +71,17 @@ impl<A: Allocator + Copy> Borders<A> {
         self.tables.rings.get(r).is_some()
     }
 
-    /// Lets new borders end at a vertex, as at a junction of the map that is to be put in: what
-    /// ends there is never cut there. No ring changes. Fails for want of memory alone.
+    /// Lets new borders end at a vertex, as at a junction of the map that is to be put in: what ends
+    /// there is never cut there. No ring changes. Fails only on allocation failure.
     pub fn end_arcs_at(&mut self, k: VertexKey) -> Result<(), AllocError>
         ensures { self.new ≡ self.old }
     {
         mark_end(&mut self.tables.stands, k)
     }
 
-    /// Puts in the ring that goes along these keys, and from the last to the first, under a
-    /// number that was not held. Its segments that other rings have, in either direction, stand
-    /// where they stood. Fails for want of memory alone, and then no ring has changed.
+    /// Puts in the ring that goes along these keys, and from the last to the first, under a number that
+    /// was not held. Its segments that other rings have, in either direction, stand where they stood.
+    /// Fails only on allocation failure, and then no ring has changed.
     pub fn add_ring(&mut self, keys: &[VertexKey]) -> Result<usize, AllocError>
         requires some { 1 ≤ length keys.now }
         ensures new { IfOk result (λ r. map.get self.old r ≡ None) }
@@ -122,7 +122,7 @@ impl<A: Allocator + Copy> Borders<A> {
     }
 
     /// Appends the numbers of the rings that have the segment of these two vertices, in either
-    /// direction, each once. Fails for want of memory alone.
+    /// direction, each once. Fails only on allocation failure.
     pub fn push_users<B: Allocator>(
         &self,
         a: VertexKey,
@@ -143,9 +143,9 @@ impl<A: Allocator + Copy> Borders<A> {
         self.tables.users_around(a)
     }
 
-    /// Appends the numbers of the rings that have a segment in common with ring `r`, itself among
-    /// them, some perhaps several times; none where no such ring is held. Fails for want of memory
-    /// alone; some of them may then have been appended.
+    /// Appends the numbers of the rings that have a segment in common with ring `r`, itself among them,
+    /// some perhaps several times; none where no such ring is held. Fails only on allocation failure;
+    /// some of them may then have been appended.
     pub fn push_sharing<B: Allocator>(
         &self,
         r: usize,
@@ -156,8 +156,8 @@ impl<A: Allocator + Copy> Borders<A> {
         self.tables.push_sharing(r, out)
     }
 
-    /// Appends the keys of a ring that is held, in order. Fails for want of memory alone; some of
-    /// the keys may then have been appended.
+    /// Appends the keys of a ring that is held, in order. Fails only on allocation failure; some of the
+    /// keys may then have been appended.
     pub fn push_keys<B: Allocator>(
         &self,
         r: usize,
@@ -170,8 +170,8 @@ impl<A: Allocator + Copy> Borders<A> {
         push_ring_keys(&self.tables, r, out)
     }
 
-    /// Puts vertex `q`, which no ring has, between `a` and `b` in every ring that has their
-    /// segment. Fails for want of memory alone.
+    /// Puts vertex `q`, which no ring has, between `a` and `b` in every ring that has their segment.
+    /// Fails only on allocation failure.
     pub fn insert(&mut self, a: VertexKey, b: VertexKey, q: VertexKey) -> Result<(), AllocError>
         requires unjoined { (x : ℕ) → ¬ Joined self.old q x }
         requires apart { AreApart a b q }
@@ -183,8 +183,8 @@ impl<A: Allocator + Copy> Borders<A> {
     }
 
     /// Puts these vertices, which no ring has, each between its two in every ring that has their
-    /// segment, one after the other, and says how many positions the rings gain. Fails for want of
-    /// memory alone, and then nothing has changed.
+    /// segment, one after the other, and says how many positions the rings gain. Fails only on
+    /// allocation failure, and then nothing has changed.
     pub fn insert_all(&mut self, puts: &[Put]) -> Result<usize, AllocError>
         requires fits { ArePuts (λ q. (x : ℕ) → ¬ Joined self.old q x) puts.now }
         requires few { gained puts.now (map.values self.old) < 2 ^ 64 }
@@ -196,8 +196,8 @@ impl<A: Allocator + Copy> Borders<A> {
         self.tables.insert_all(puts)
     }
 
-    /// Takes vertex `p`, whose neighbours are `a` and `b` in every ring that has it, out of every
-    /// ring. Fails for want of memory alone.
+    /// Takes vertex `p`, whose neighbours are `a` and `b` in every ring that has it, out of every ring.
+    /// Fails only on allocation failure.
     pub fn remove(&mut self, p: VertexKey, a: VertexKey, b: VertexKey) -> Result<(), AllocError>
         requires between { (x : ℕ) → Joined self.old p x → (x ≡ a) ⊎ (x ≡ b) }
         requires unjoined { ¬ Joined self.old a b }
@@ -209,7 +209,7 @@ impl<A: Allocator + Copy> Borders<A> {
         self.tables.remove(p, b)
     }
 
-    /// The same rings under the same numbers. Fails for want of memory alone.
+    /// The same rings under the same numbers. Fails only on allocation failure.
     pub fn copy(&self) -> Result<Borders<A>, AllocError>
         ensures { IfOk result (λ copy. copy ≡ self.now) }
     {

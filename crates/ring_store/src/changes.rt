@@ -1,6 +1,6 @@
 // What an edit of vertices reads and changes in the tables.
 ghost use Rattle.std.specs.Prelude.{◌≡◌, false, IfOk, OnOk, OnErr, true, ◌≢◌, ℕ, Some, None, [], ◌∷◌, ◌⊎◌, ◌<◌, ◌^◌, ◌||◌, List, ◌++◌};
-ghost use Rattle.ring_store.specs.Common.{AreAround, AreKeyed, AreNew, ArePlaceable, ArePlaced, ArePutBack, Drops, Exchanges, Gains, HasBridging, HasMoving, IsBridging, IsMoving, IsParting, Joined, PutBetween, Removal, TakenOut, comings, goings};
+ghost use Rattle.ring_store.specs.Common.{AreAround, AreKeyed, AreNew, ArePlaceable, ArePlaced, ArePutBack, Drops, Exchanges, GainsSegments, HasBridging, HasMoving, IsBridging, IsMoving, IsParting, Joined, PutBetween, Removal, TakenOut, comings, goings};
 ghost use Rattle.segment_index.specs.Common.{AreAmong, AreSingle, has};
 ghost use Rattle.arc_tables.specs.Common.{AreApart, users_of, gained};
 ghost use Rattle.grid_geometry.specs.Common.{Segment, segment};
@@ -21,7 +21,7 @@ use segment_index::SegIndex;
 use std::alloc::{AllocError, Allocator};
 use vertex_index::{VertexKey, Vertices};
 
-/// Appends the segment of two positions that differ. Fails for want of memory alone.
+/// Appends the segment of two positions that differ. Fails only on allocation failure.
 fn push_segment<A: Allocator + Copy>(
     segments: &mut Vec<Seg, A>,
     a: Pos,
@@ -36,8 +36,8 @@ fn push_segment<A: Allocator + Copy>(
     Ok(())
 }
 
-/// The segments from each of these to a position that is none of them. Fails for want of memory
-/// alone.
+/// The segments from each of these to a position that is none of them. Fails only on allocation
+/// failure.
 pub(crate) fn spokes<A: Allocator + Copy>(
     alloc: A,
     p: Pos,
@@ -53,7 +53,7 @@ pub(crate) fn spokes<A: Allocator + Copy>(
     Ok(segments)
 }
 
-/// The positions of the vertices that are joined to one. Fails for want of memory alone.
+/// The positions of the vertices that are joined to one. Fails only on allocation failure.
 pub(crate) fn positions_around<I: SegIndex, A: Allocator + Copy>(
     tables: &RingTables<I, A>,
     k: VertexKey,
@@ -88,7 +88,7 @@ pub(crate) fn discard_all<I: SegIndex>(index: &mut I, segments: &[Seg])
 pub(crate) fn add_all<I: SegIndex>(index: &mut I, segments: &[Seg]) -> Result<(), AllocError>
     requires new { AreNew (I.held index.old) segments.now }
     requires once { AreSingle segments.now }
-    ensures gained { OnOk result (Gains (I.held index.old) segments.now (I.held index.new)) }
+    ensures gained { OnOk result (GainsSegments (I.held index.old) segments.now (I.held index.new)) }
     ensures unchanged { OnErr result (I.held index.new ≡ I.held index.old) }
     ensures cells { I.cells index.new ≡ I.cells index.old }
 {
@@ -114,8 +114,8 @@ pub struct Moving<A: Allocator + Copy> {
     pub after: Vec<Seg, A>,
 }
 
-/// What a move of the vertex at p to q, where none is, changes in the tables. Fails for want of
-/// memory alone.
+/// What a move of the vertex at p to q, where none is, changes in the tables. Fails only on allocation
+/// failure.
 pub fn read_moving<I: SegIndex, A: Allocator + Copy>(
     tables: &RingTables<I, A>,
     p: Pos,
@@ -137,8 +137,8 @@ pub fn read_moving<I: SegIndex, A: Allocator + Copy>(
     })
 }
 
-/// Moves vertex `k`, in the table of vertices and in the index. Where that fails for want of memory
-/// nothing has changed.
+/// Moves vertex `k`, in the table of vertices and in the index. On allocation failure nothing has
+/// changed.
 pub fn shift<I: SegIndex, A: Allocator + Copy>(
     tables: &mut RingTables<I, A>,
     k: VertexKey,
@@ -178,8 +178,7 @@ pub struct Parting<A: Allocator + Copy> {
     pub after: Vec<Seg, A>,
 }
 
-/// What a vertex at q between those at a and b changes in the tables. Fails for want of memory
-/// alone.
+/// What a vertex at q between those at a and b changes in the tables. Fails only on allocation failure.
 pub fn read_parting<I: SegIndex, A: Allocator + Copy>(
     tables: &RingTables<I, A>,
     a: Pos,
@@ -204,8 +203,8 @@ pub fn read_parting<I: SegIndex, A: Allocator + Copy>(
     })
 }
 
-/// Puts a vertex at q between two that are joined, in the tables of vertices and of borders. Where
-/// that fails for want of memory both are as they were.
+/// Puts a vertex at q between two that are joined, in the tables of vertices and of borders. On
+/// allocation failure both are as they were.
 fn put_between<A: Allocator + Copy>(
     vertices: &mut Vertices<A>,
     borders: &mut Borders<A>,
@@ -231,8 +230,8 @@ fn put_between<A: Allocator + Copy>(
     }
 }
 
-/// Puts a vertex at q between two that are joined, where their segment goes and the added ones
-/// come, and says how many rings have it. Where that fails for want of memory nothing has changed.
+/// Puts a vertex at q between two that are joined, where their segment goes and the added ones come,
+/// and says how many rings have it. On allocation failure nothing has changed.
 pub fn put_in<I: SegIndex, A: Allocator + Copy>(
     tables: &mut RingTables<I, A>,
     ends: (VertexKey, VertexKey),
@@ -282,8 +281,8 @@ pub struct Bridging<A: Allocator + Copy> {
     pub after: Seg,
 }
 
-/// What a removal of the vertex at p changes in the tables. It is no junction, and its neighbours
-/// are not joined. Fails for want of memory alone.
+/// What a removal of the vertex at p changes in the tables. It is no junction, and its neighbours are
+/// not joined. Fails only on allocation failure.
 pub fn read_bridging<I: SegIndex, A: Allocator + Copy>(
     tables: &RingTables<I, A>,
     p: Pos,
@@ -308,7 +307,7 @@ pub fn read_bridging<I: SegIndex, A: Allocator + Copy>(
 }
 
 /// Takes vertex `k` out from between two, where its two segments go and one comes, and says how many
-/// rings had it. Where that fails for want of memory nothing has changed.
+/// rings had it. On allocation failure nothing has changed.
 pub fn take_out<I: SegIndex, A: Allocator + Copy>(
     tables: &mut RingTables<I, A>,
     k: VertexKey,
@@ -346,7 +345,7 @@ pub fn take_out<I: SegIndex, A: Allocator + Copy>(
     }
 }
 
-/// The segments that come with these vertices, and those that go. Fails for want of memory alone.
+/// The segments that come with these vertices, and those that go. Fails only on allocation failure.
 fn exchanged_segments<A: Allocator + Copy>(
     alloc: A,
     removals: &[Removal],
@@ -419,9 +418,9 @@ fn place_all<A: Allocator + Copy>(
     Ok(placed)
 }
 
-/// Puts vertices back that were left out, one after the other, each between its two neighbours in
-/// every ring that has their segment by then, and says how many positions the rings gain. Where that
-/// fails for want of memory nothing has changed.
+/// Puts vertices back that were left out, one after the other, each between its two neighbours in every
+/// ring that has their segment by then, and says how many positions the rings gain. On allocation
+/// failure nothing has changed.
 pub fn put_all<I: SegIndex, A: Allocator + Copy>(
     tables: &mut RingTables<I, A>,
     removals: &[Removal],

@@ -4,8 +4,8 @@
 //! the segments of a ring come into the index and go.
 //!
 //! A call costs what its rings are long, or what stands around its vertex, and what a look into arcs
-//! and cells costs; it never goes through the whole map. It tests nothing. Only want of memory makes
-//! one fail, and then nothing has changed.
+//! and cells costs; it never goes through the whole map. It tests nothing. Only allocation failure
+//! makes one fail, and then nothing has changed.
 #![tactic(auto)]
 
 mod borders;

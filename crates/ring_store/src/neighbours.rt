@@ -2,7 +2,7 @@
 ghost use Rattle.std.specs.Prelude.{◌≡◌, ◌≤◌, List, [], ◌∷◌, length, min, OnOk, IfOk, IfSome, IfNone};
 ghost use Rattle.slab.specs.Slab.{get, entries};
 ghost use Rattle.arc_tables.specs.Common.{Edge, links, path_in, users_in, uses_in};
-ghost use Rattle.ring_store.specs.Common.{AreAllNeighbours, AreNeighbours, ListsJoined, Neighbours, Passes, SeesMore, edge_count, edge_counts, ending, ends_among, ends_in, gathered, least_of, less_of, most, noted, noted_all, other_end, other_ends, rings_along, rings_of_arc};
+ghost use Rattle.ring_store.specs.Common.{AreAllNeighbours, AreNeighbours, ListsJoined, Neighbours, Passes, SeesMore, edge_count, edge_counts, ending, ends_among, ends_in, gathered, least_number, less_of, most, noted, noted_all, other_end, other_ends, rings_along, rings_of_arc};
 
 use crate::borders::Borders;
 use arc_tables::{Arc, Ring, Use, arcs_at};
@@ -148,7 +148,7 @@ fn shortest_of<A: Allocator + Copy>(
     users: &[usize],
     best: Option<usize>,
 ) -> Option<usize>
-    ensures { result ≡ least_of best (edge_counts arcs.now rings.now users.now) }
+    ensures { result ≡ least_number best (edge_counts arcs.now rings.now users.now) }
 {
     let mut least = best;
     for r in users {
@@ -167,7 +167,7 @@ fn shortest_at<A: Allocator + Copy>(
     best: Option<usize>,
 ) -> Option<usize>
     ensures { result
-        ≡ least_of best (edge_counts arcs.now rings.now (rings_of_arc arcs.now i k)) }
+        ≡ least_number best (edge_counts arcs.now rings.now (rings_of_arc arcs.now i k)) }
 {
     match with_path(Neighbours::None, path_at(arcs, i), k) {
         Neighbours::None => best,
@@ -183,7 +183,7 @@ fn shortest_among<A: Allocator + Copy>(
     k: VertexKey,
 ) -> Option<usize>
     ensures { result
-        ≡ least_of None (edge_counts arcs.now rings.now (rings_along arcs.now among.now k)) }
+        ≡ least_number None (edge_counts arcs.now rings.now (rings_along arcs.now among.now k)) }
 {
     let mut least = None;
     for i in among {
@@ -332,8 +332,8 @@ impl<A: Allocator + Copy> Borders<A> {
         )
     }
 
-    /// Appends the vertices that some ring joins to `k` by a segment, each once. Fails for want of
-    /// memory alone; some of them may then have been appended.
+    /// Appends the vertices that some ring joins to `k` by a segment, each once. Fails only on
+    /// allocation failure; some of them may then have been appended.
     pub fn push_neighbours<B: Allocator>(
         &self,
         k: VertexKey,
@@ -346,9 +346,9 @@ impl<A: Allocator + Copy> Borders<A> {
         push_among(&self.tables.arcs, among, k, out, from)
     }
 
-    /// For each vertex, by the index of its key, the vertices that some ring joins to it by a
-    /// segment, as `neighbours` gives them; none where the table ends before it. One pass over the
-    /// borders. Fails for want of memory alone.
+    /// For each vertex, by the index of its key, the vertices that some ring joins to it by a segment,
+    /// as `neighbours` gives them; none where the table ends before it. One pass over the borders.
+    /// Fails only on allocation failure.
     pub fn all_neighbours(&self) -> Result<Vec<Neighbours, A>, AllocError>
         ensures { IfOk result (λ table. AreAllNeighbours self.now table.items) }
     {

@@ -15,8 +15,8 @@ use segment_index::SegIndex;
 use std::alloc::{AllocError, Allocator};
 use vertex_index::{VertexKey, Vertices};
 
-/// Gathers the keys of different positions, each put where no vertex stands there. Where that fails
-/// for want of memory, the keys of some of them are there.
+/// Gathers the keys of different positions, each put where no vertex stands there. On allocation
+/// failure, the keys of some of them are there.
 pub fn key_ring<A: Allocator + Copy>(
     vertices: &mut Vertices<A>,
     ring: &[Pos],

@@ -107,7 +107,7 @@ pub struct RingTables<I: SegIndex, A: Allocator + Copy = Global> {
 }
 
 impl<I: SegIndex, A: Allocator + Copy> RingTables<I, A> {
-    /// The same tables, in memory of the same allocator. Fails for want of memory alone.
+    /// The same tables, in memory of the same allocator. Fails only on allocation failure.
     pub fn copy(&self) -> Result<RingTables<I, A>, AllocError>
         ensures { IfOk result (λ copy. copy ≡ self.now) }
     {

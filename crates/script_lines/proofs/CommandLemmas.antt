@@ -9,10 +9,10 @@ use Rattle.grid_geometry.specs.Common.{Position}
 use Rattle.ring_machine.specs.Common.{Text, Command, Move, Insert, Remove, Thin, Split, Merge, Rename, Delete, Undo}
 use Rattle.ring_machine.specs.Common.{Area, At, Neighbours, Rings, Count, Show}
 use Rattle.topo_outline.specs.Common.{IsName}
-use Rattle.map_text.specs.Common.{string_text}
+use Rattle.edit_records.specs.Common.{string_text}
 use Rattle.script_lines.specs.Lines.{is_comment}
 use Rattle.script_lines.specs.Common.{spaced, spaced_position, spaced_token, spaced_path, most_bound}
-use Rattle.script_lines.specs.Common.{ArePositions, AreFeatures, AreNaming, word_of, AskedWith, Asks, Says, is_letter}
+use Rattle.script_lines.specs.Common.{AreSpaced, AreFeatures, AreNaming, asking_word, AskedWith, Asks, Says, is_letter}
 use Rattle.script_lines.specs.Common.{EndsWord, NoMark, IsFeature, IsPlace, IsToken, IsPathTail, says_of, IsRefused}
 use Rattle.script_lines.specs.Common.{Finds, FindsCommand, AskedBy, Line}
 use Rattle.script_lines.specs.declared.lines.LineFault.{LineFault}
@@ -29,17 +29,17 @@ not_empty (x ∷ xs) h e = cc
 
 -- ---- positions
 
-positions_first : (tail : List ℕ) (p : Position) (ps : List Position) → ArePositions tail (p ∷ ps) → IsPlace tail p (spaced_path ps)
+positions_first : (tail : List ℕ) (p : Position) (ps : List Position) → AreSpaced tail (p ∷ ps) → IsPlace tail p (spaced_path ps)
 positions_first tail p ps h = subst (λ t. IsPlace t p (spaced_path ps)) (sym h.0) (first_place p ps h.1)
 
-pub positions_none : (tail : List ℕ) (p : Position) (ps : List Position) → NoPlace tail → ArePositions tail (p ∷ ps) → ⊥
+pub positions_none : (tail : List ℕ) (p : Position) (ps : List Position) → NoPlace tail → AreSpaced tail (p ∷ ps) → ⊥
 positions_none tail p ps never h = never p (spaced_path ps) (positions_first tail p ps h)
 
--- behind the position in front stand the others
-pub positions_rest : (tail rest : List ℕ) (q p : Position) (ps : List Position) → IsPlace tail q rest → ArePositions tail (p ∷ ps) → ArePositions rest ps
+-- after the first position stand the others
+pub positions_rest : (tail rest : List ℕ) (q p : Position) (ps : List Position) → IsPlace tail q rest → AreSpaced tail (p ∷ ps) → AreSpaced rest ps
 positions_rest tail rest q p ps s h = ((place_once tail rest (spaced_path ps) q p s (positions_first tail p ps h)).1, h.1.1)
 
-pub positions_more : (tail rest : List ℕ) (p : Position) (ps : List Position) → IsPlace tail p rest → ArePositions rest ps → ArePositions tail (p ∷ ps)
+pub positions_more : (tail rest : List ℕ) (p : Position) (ps : List Position) → IsPlace tail p rest → AreSpaced rest ps → AreSpaced tail (p ∷ ps)
 positions_more tail rest p ps s h = (s.whole ∙ ap (λ r. spaced_position p ++ r) h.0, (s.range, h.1))
 
 -- ---- features
@@ -130,7 +130,7 @@ bound_far tail word n _ e is h over k = k
 
 -- ---- what stands behind a word begins with a space
 
-positions_end : (tail : List ℕ) (ps : List Position) → ArePositions tail ps → EndsWord tail
+positions_end : (tail : List ℕ) (ps : List Position) → AreSpaced tail ps → EndsWord tail
 positions_end tail ps h = subst EndsWord (sym h.0) (path_ends ps)
 
 features_tail : (tail ns : List ℕ) → AreFeatures tail ns → EndsWord tail
@@ -159,37 +159,37 @@ asked_end tail _ h = absurd h
 
 -- ---- the word in front
 
-command_word : (c : Command) → IsWord (word_of c)
+command_word : (c : Command) → IsWord (asking_word c)
 command_word Undo = search rules
 command_word _ = search rules
 
 -- no command begins as a comment does
-unmarked : (c : Command) (tail : List ℕ) → is_comment (word_of c ++ tail) ≡ false
+unmarked : (c : Command) (tail : List ℕ) → is_comment (asking_word c ++ tail) ≡ false
 unmarked Undo tail = refl
 unmarked _ tail = refl
 
 -- ---- the rows of the table, by their words
 
--- the command has the word, and what stands behind it is what it is asked with
+-- the command has the word, and what follows it is what it is asked with
 abbrev pub Row : List ℕ → List ℕ → Command → Type 0
-Row front tail c = MatchBool (bytes_eq (word_of c) front) (AskedWith tail c) ⊥
+Row front tail c = MatchBool (bytes_eq (asking_word c) front) (AskedWith tail c) ⊥
 
 row : (front tail : List ℕ) (c : Command) → AskedBy front tail c → Row front tail c
-row front tail c h = subst (λ w. Row w tail c) h.0 (by (bytes_eq (word_of c) (word_of c)) ((bytes_eq-Decides (word_of c) (word_of c)).1 refl))
+row front tail c h = subst (λ w. Row w tail c) h.0 (by (bytes_eq (asking_word c) (asking_word c)) ((bytes_eq-Decides (asking_word c) (asking_word c)).1 refl))
   where
     by : (b : Bool) → b ≡ true → MatchBool b (AskedWith tail c) ⊥
     by true e = h.1
     by false e = absurd (false≢true e)
 
-pub row_move : (tail : List ℕ) (c : Command) → Row (codes "move") tail c → (pair : Position × Position) × ArePositions tail (pair.0 ∷ pair.1 ∷ [])
+pub row_move : (tail : List ℕ) (c : Command) → Row (codes "move") tail c → (pair : Position × Position) × AreSpaced tail (pair.0 ∷ pair.1 ∷ [])
 row_move tail (Move p q) h = ((p, q), h)
 row_move tail _ h = absurd h
 
-pub row_insert : (tail : List ℕ) (c : Command) → Row (codes "insert") tail c → (all : Position × Position × Position) × ArePositions tail (all.0 ∷ all.1 ∷ all.2 ∷ [])
+pub row_insert : (tail : List ℕ) (c : Command) → Row (codes "insert") tail c → (all : Position × Position × Position) × AreSpaced tail (all.0 ∷ all.1 ∷ all.2 ∷ [])
 row_insert tail (Insert a b q) h = ((a, b, q), h)
 row_insert tail _ h = absurd h
 
-pub row_remove : (tail : List ℕ) (c : Command) → Row (codes "remove") tail c → (p : Position) × ArePositions tail (p ∷ [])
+pub row_remove : (tail : List ℕ) (c : Command) → Row (codes "remove") tail c → (p : Position) × AreSpaced tail (p ∷ [])
 row_remove tail (Remove p) h = (p, h)
 row_remove tail _ h = absurd h
 
@@ -217,7 +217,7 @@ pub row_area : (tail : List ℕ) (c : Command) → Row (codes "area") tail c →
 row_area tail (Area n) h = (n, h)
 row_area tail _ h = absurd h
 
-pub row_at : (tail : List ℕ) (c : Command) → Row (codes "at") tail c → (p : Position) × ArePositions tail (p ∷ [])
+pub row_at : (tail : List ℕ) (c : Command) → Row (codes "at") tail c → (p : Position) × AreSpaced tail (p ∷ [])
 row_at tail (At p) h = (p, h)
 row_at tail _ h = absurd h
 
@@ -230,12 +230,12 @@ row_rings tail (Rings n) h = (n, h)
 row_rings tail _ h = absurd h
 
 module _ (line word tail : List ℕ) (taken : word ≡ take_while is_letter line) (left : tail ≡ rest_of line) where
-  -- what a line asks for is asked with its word and what stands behind it
+  -- what a line asks for is asked with its word and what follows it
   pub asked_by : (c : Command) → Asks line c → AskedBy word tail c
   asked_by c a =
       let ends = asked_end a.tail c a.asked in
-      let front : word ≡ word_of c = taken ∙ ap (take_while is_letter) a.whole ∙ word-taken (word_of c) a.tail (command_word c) ends in
-      let back : tail ≡ a.tail = left ∙ ap rest_of a.whole ∙ word-rest (word_of c) a.tail (command_word c) ends in
+      let front : word ≡ asking_word c = taken ∙ ap (take_while is_letter) a.whole ∙ word-taken (asking_word c) a.tail (command_word c) ends in
+      let back : tail ≡ a.tail = left ∙ ap rest_of a.whole ∙ word-rest (asking_word c) a.tail (command_word c) ends in
       (sym front, subst (λ t. AskedWith t c) (sym back) a.asked)
 
   pub asks : (c : Command) → AskedBy word tail c → Asks line c
@@ -245,8 +245,8 @@ module _ (line word tail : List ℕ) (taken : word ≡ take_while is_letter line
     asked = h.1;
   }
 
-  -- what is found behind the word in front is what the line asks for: each row of the table has that
-  -- word alone, and makes its command of what stands behind it
+  -- what is found after the first word is what the line asks for: each row of the table has that word
+  -- alone, and makes its command of what follows it
   pub arm : {X : Type 0} (front : List ℕ) (Is : X → Type 0) (line_of : X → Line) → ((c : Command) → Row front tail c → (x : X) × Is x)
       → ((x : X) → Is x → IsSomeAnd (says_of (line_of x)) (AskedBy front tail)) → (found : Option X) (o : Option Line) → word ≡ front → Finds found Is
       → MatchOption found (o ≡ None) (λ x. IsSomeAnd o (λ l. l ≡ line_of x)) → FindsCommand o (Asks line)

@@ -10,7 +10,7 @@ use Rattle.json_spans.specs.Common.{IsValue, IsText, quoted, decoded, spaces_bef
 use Rattle.json_spans.specs.Common.{trimmed}
 use Rattle.json_spans.specs.Parts.{Node}
 use Rattle.topo_outline.specs.Common.{IsName}
-use Rattle.map_text.specs.Common.{string_text}
+use Rattle.edit_records.specs.Common.{string_text}
 use Rattle.script_lines.specs.Common.{Gives, IsMarked}
 
 -- ---- a JSON string ends in a quotation mark

@@ -25,7 +25,7 @@ none_left : (rest : List ℕ) (more : List Position) → NoPlace rest → rest �
 none_left rest [] never e h = refl
 none_left rest (p ∷ ps) never e h = absurd (never p (spaced_path ps) (subst (λ t. IsPlace t p (spaced_path ps)) (sym e) (first_place p ps h)))
 
--- what is left begins with the position in front
+-- what is left begins with the first position
 record Begins (p : Position) (tail : List ℕ) (more : List Position) : Type 0 where
   others : List Position
   is : more ≡ p ∷ others
@@ -84,7 +84,7 @@ module _ (bytes rest : List ℕ) (front : List Position) (r : Read bytes rest fr
         record { more = b.others; is = o.is ∙ shifted front b.others o.more p b.is; left = b.left };
   }
 
-  -- behind 256 positions stands one more
+  -- after 256 positions stands one more
   pub too_many : (tail : List ℕ) (p : Position) → IsPlace rest p tail → length front ≡ 256 → (path : List Position) → ¬ IsPathTail bytes path
   too_many tail p s full path h =
       let o = r.only path h in

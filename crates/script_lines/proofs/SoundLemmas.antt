@@ -1,9 +1,9 @@
 -- What a line says is sound: the path of a split has as many positions as a path may have.
 use Rattle.kit_words.proofs.Common.{List, ℕ, Some}
 use Rattle.script_lines.specs.Common.{Asks, Says, says_of, SaysSound, Line}
-use Rattle.undo_ring.specs.Common.{command_of, IsSound}
-use Rattle.undo_ring.specs.declared.command.Command.{Command}
-use Rattle.undo_ring.specs.declared.command.Command.TheVariants as line
+use Rattle.edit_records.specs.Common.{command_of, IsSound}
+use Rattle.edit_records.specs.declared.command.Command.{Command}
+use Rattle.edit_records.specs.declared.command.Command.TheVariants as line
 use Rattle.script_lines.specs.declared.lines.Line.TheVariants as said
 
 asked_sound : (text : List ℕ) (c : Command) → Asks text (command_of c) → IsSound c

@@ -1,4 +1,4 @@
--- A token ends in the last quotation mark of a line, and stands behind its space in one way.
+-- A token ends in the last quotation mark of a line, and follows its space in one way.
 use Rattle.kit_words.proofs.Common.{◌≡◌, ◌≢◌, ℕ, ◌+◌, ◌-◌, ◌%◌, ◌<◌, ◌≤◌, ◌^◌, Bool, true, false, refl, sym, ap, ap₂}
 use Rattle.kit_words.proofs.Common.{◌∙◌, subst, List, [], ◌∷◌, ◌++◌, length, take, drop, ℤ, pos, negsuc, suc, arith}
 use Rattle.kit_words.proofs.Common.{FitsSigned, w64, reverse, take_while, AllByRecursion, signed_decimal, nat_tests}
@@ -99,7 +99,7 @@ cut tail more u (x ∷ xs) e whole none stop =
       last = NoMark-reverse u none;
     }
 
--- behind a space and a quotation mark a token is found
+-- after a space and a quotation mark a token is found
 pub token_found : (tail more token rest : List ℕ) (n : ℕ) → tail ≡ 34 ∷ more → n ≡ length (take_while is_unmarked (reverse tail)) → token ≡ take (length tail - n) tail
     → rest ≡ drop (length tail - n) tail → IsToken (32 ∷ tail) token rest
 token_found tail more token rest n e is t r =
@@ -113,7 +113,7 @@ token_found tail more token rest n e is t r =
 
 -- ---- a token in one way alone
 
--- how many bytes stand behind the last quotation mark
+-- how many bytes follow the last quotation mark
 unmarked : (bs before rest : List ℕ) → bs ≡ (before ++ 34 ∷ []) ++ rest → NoMark rest → length (taken (reverse bs)) ≡ length rest
 unmarked bs before rest e none =
     let back : reverse bs ≡ reverse rest ++ (34 ∷ reverse before) = ap reverse e ∙ reverse-append (before ++ 34 ∷ []) rest ∙ ap (λ t. reverse rest ++ t) (reverse-append before (34 ∷ [])) in

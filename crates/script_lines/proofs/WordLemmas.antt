@@ -106,7 +106,7 @@ spaced_word b tail r z s =
 spaced_rest : (b : ℕ) (tail r : List ℕ) (z : ℤ) → IsSpaced (b ∷ tail) z r → rest_of tail ≡ r
 spaced_rest b tail r z s = ap rest_of (tail_is b tail r z s.whole) ∙ word-rest (signed_decimal z) r (number_word z s.fits) s.ends
 
--- a list stands behind a space in one way alone
+-- a list follows a space in one way alone
 pub spaced_once : (bs r t : List ℕ) (y z : ℤ) → IsSpaced bs y r → IsSpaced bs z t → (y ≡ z) × (r ≡ t)
 spaced_once [] r t y z s k = absurd (nothing s.whole)
   where
@@ -131,7 +131,7 @@ fits_along n y z e f h = subst (FitsUnsignedBits 32) (sym (e ∙ f)) h
 pos_once : (m n : ℕ) → pos m ≡ pos n → m ≡ n
 pos_once m n e = cc
 
--- the number of a feature stands behind a space in one way alone
+-- the number of a feature follows a space in one way alone
 pub feature_once : (bs r t : List ℕ) (m n : ℕ) → IsFeature bs m r → IsFeature bs n t → (m ≡ n) × (r ≡ t)
 feature_once bs r t m n s k =
     let same = spaced_once bs r t (pos m) (pos n) (feature_spaced bs r m s) (feature_spaced bs t n k) in
@@ -260,7 +260,7 @@ no_place_behind bs behind r x p s never k =
     let same = spaced_once bs behind (spaced p.y ++ r) x p.x s (place_first bs r p k) in
     never p.y r (subst (λ t. IsSpaced t p.y r) (sym same.1) (place_second bs r p k))
 
--- the numbers in front are those of the position
+-- the first number are those of the position
 pub place_numbers : (bs behind r t : List ℕ) (x y : ℤ) (p : Position) → IsSpaced bs x behind → IsSpaced behind y t → IsPlace bs p r → (x ≡ p.x) × (y ≡ p.y)
 place_numbers bs behind r t x y p s k h =
     let first = spaced_once bs behind (spaced p.y ++ r) x p.x s (place_first bs r p h) in

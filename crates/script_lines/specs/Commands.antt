@@ -1,8 +1,8 @@
 -- The lines of the code as the machine's commands.
 use Rattle.std.specs.Prelude.{◌≡◌, ℕ, List, Option, None, Some, MatchOption, IsSomeAnd}
 use Rattle.ring_machine.specs.Common.{Command, Undo, Rings, Count, Show}
-use Rattle.script_lines.specs.Lines.{word_of, AskedWith, Says}
-use Rattle.undo_ring.specs.Common.{command_of, IsSound}
+use Rattle.script_lines.specs.Lines.{asking_word, AskedWith, Says}
+use Rattle.edit_records.specs.Common.{command_of, IsSound}
 use Rattle.script_lines.specs.declared.lines.Line.{Line}
 use Rattle.script_lines.specs.declared.lines.Line.TheVariants as said
 use Rattle.script_lines.specs.declared.lines.LineFault.{LineFault}
@@ -39,6 +39,6 @@ Finds {X} found Is = MatchOption found ((x : X) → ¬ Is x) Is
 abbrev pub FindsCommand : Option Line → (Command → Type 0) → Type 0
 FindsCommand found Is = MatchOption found ((c : Command) → ¬ Is c) (λ l. IsSomeAnd (says_of l) Is)
 
--- the command is asked with this word and what stands behind it
+-- the command is asked with this word and what follows it
 abbrev pub AskedBy : List ℕ → List ℕ → Command → Type 0
-AskedBy word tail c = (word_of c ≡ word) × AskedWith tail c
+AskedBy word tail c = (asking_word c ≡ word) × AskedWith tail c

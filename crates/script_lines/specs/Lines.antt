@@ -6,9 +6,9 @@ use Rattle.grid_geometry.specs.Common.{Position, InRange}
 use Rattle.ring_machine.specs.Common.{Text, Command, Move, Insert, Remove, Thin, Split, Merge, Rename, Delete, Undo}
 use Rattle.ring_machine.specs.Common.{Area, At, Neighbours, Rings, Count, Show}
 use Rattle.topo_outline.specs.Common.{IsName}
-use Rattle.map_text.specs.Common.{string_text}
+use Rattle.edit_records.specs.Common.{string_text}
 
--- a number behind its space: 0, or digits of which the first is not 0, perhaps behind a minus
+-- a number after its space: 0, or digits of which the first is not 0, perhaps after a minus
 abbrev pub spaced : ℤ → List ℕ
 spaced z = 32 ∷ signed_decimal z
 
@@ -19,11 +19,11 @@ spaced_position p = spaced p.x ++ spaced p.y
 abbrev pub most_bound : ℕ
 most_bound = 8000000000000000000000000
 
--- a JSON string behind its space
+-- a JSON string after its space
 abbrev pub spaced_token : Text → List ℕ
 spaced_token token = 32 ∷ token
 
--- the positions one after another, each number behind its space
+-- the positions one after another, each number after its space
 abbrev pub spaced_path : List Position → List ℕ
 spaced_path path = flat_map spaced_position path
 
@@ -41,8 +41,8 @@ pub record IsPath (path : List Position) : Type 0 where
   pub in_range : AllByRecursion InRange path
 
 -- the words are these positions and no more, each of the grid
-abbrev pub ArePositions : List ℕ → List Position → Type 0
-ArePositions words ps = (words ≡ spaced_path ps) × AllByRecursion InRange ps
+abbrev pub AreSpaced : List ℕ → List Position → Type 0
+AreSpaced words ps = (words ≡ spaced_path ps) × AllByRecursion InRange ps
 
 -- the words are the numbers of these features and no more
 abbrev pub AreFeatures : List ℕ → List ℕ → Type 0
@@ -57,28 +57,28 @@ pub record AreNaming (words : List ℕ) (n : ℕ) (id : Text) (rest : List ℕ) 
   pub gives : Gives token id
 
 -- the word that the line of a command begins with
-abbrev pub word_of : Command → List ℕ
-word_of (Move p q) = codes "move"
-word_of (Insert a b q) = codes "insert"
-word_of (Remove p) = codes "remove"
-word_of (Thin t) = codes "thin"
-word_of (Split n id path) = codes "split"
-word_of (Merge n m) = codes "merge"
-word_of (Rename n id) = codes "rename"
-word_of (Delete n) = codes "delete"
-word_of Undo = codes "undo"
-word_of (Area n) = codes "area"
-word_of (At p) = codes "at"
-word_of (Neighbours n) = codes "neighbours"
-word_of (Rings n) = codes "rings"
-word_of Count = codes "count"
-word_of Show = codes "document"
+abbrev pub asking_word : Command → List ℕ
+asking_word (Move p q) = codes "move"
+asking_word (Insert a b q) = codes "insert"
+asking_word (Remove p) = codes "remove"
+asking_word (Thin t) = codes "thin"
+asking_word (Split n id path) = codes "split"
+asking_word (Merge n m) = codes "merge"
+asking_word (Rename n id) = codes "rename"
+asking_word (Delete n) = codes "delete"
+asking_word Undo = codes "undo"
+asking_word (Area n) = codes "area"
+asking_word (At p) = codes "at"
+asking_word (Neighbours n) = codes "neighbours"
+asking_word (Rings n) = codes "rings"
+asking_word Count = codes "count"
+asking_word Show = codes "document"
 
--- what stands behind the word, with exactly one space before each word
+-- what follows the word, with exactly one space before each word
 abbrev pub AskedWith : List ℕ → Command → Type 0
-AskedWith tail (Move p q) = ArePositions tail (p ∷ q ∷ [])
-AskedWith tail (Insert a b q) = ArePositions tail (a ∷ b ∷ q ∷ [])
-AskedWith tail (Remove p) = ArePositions tail (p ∷ [])
+AskedWith tail (Move p q) = AreSpaced tail (p ∷ q ∷ [])
+AskedWith tail (Insert a b q) = AreSpaced tail (a ∷ b ∷ q ∷ [])
+AskedWith tail (Remove p) = AreSpaced tail (p ∷ [])
 AskedWith tail (Thin (pos t)) = (tail ≡ spaced (pos t)) × (t ≤ most_bound)
 AskedWith tail (Thin (negsuc t)) = ⊥
 AskedWith tail (Split n id path) = AreNaming tail n id (spaced_path path) × IsPath path
@@ -87,7 +87,7 @@ AskedWith tail (Rename n id) = AreNaming tail n id []
 AskedWith tail (Delete n) = AreFeatures tail (n ∷ [])
 AskedWith tail Undo = tail ≡ []
 AskedWith tail (Area n) = AreFeatures tail (n ∷ [])
-AskedWith tail (At p) = ArePositions tail (p ∷ [])
+AskedWith tail (At p) = AreSpaced tail (p ∷ [])
 AskedWith tail (Neighbours n) = AreFeatures tail (n ∷ [])
 AskedWith tail (Rings n) = AreFeatures tail (n ∷ [])
 AskedWith tail Count = tail ≡ []
@@ -96,7 +96,7 @@ AskedWith tail Show = tail ≡ []
 -- the line asks for the command
 pub record Asks (line : List ℕ) (c : Command) : Type 0 where
   pub tail : List ℕ
-  pub whole : line ≡ word_of c ++ tail
+  pub whole : line ≡ asking_word c ++ tail
   pub asked : AskedWith tail c
 
 -- an empty line, or a comment

@@ -18,7 +18,7 @@ WithoutNeedlessZero [] = ⊥
 WithoutNeedlessZero (d ∷ []) = Unit {0}
 WithoutNeedlessZero (d ∷ ds) = d ≢ 48
 
--- behind a space stands the number z, and the rest follows
+-- after a space stands the number z, and the rest follows
 pub record IsSpaced (bytes : List ℕ) (z : ℤ) (rest : List ℕ) : Type 0 where
   pub whole : bytes ≡ spaced z ++ rest
   pub ends : EndsWord rest
@@ -30,7 +30,7 @@ pub record IsPlace (bytes : List ℕ) (p : Position) (rest : List ℕ) : Type 0 
   pub ends : EndsWord rest
   pub range : InRange p
 
--- behind a space stands the number n of a feature, and the rest follows
+-- after a space stands the number n of a feature, and the rest follows
 pub record IsFeature (bytes : List ℕ) (n : ℕ) (rest : List ℕ) : Type 0 where
   pub whole : bytes ≡ spaced (pos n) ++ rest
   pub ends : EndsWord rest
@@ -52,7 +52,7 @@ pub record IsMarked (token : List ℕ) : Type 0 where
   pub begins : token ≡ 34 ∷ behind
   pub ends : token ≡ before ++ 34 ∷ []
 
--- behind a space stands a token that ends in the last quotation mark, and the rest follows
+-- after a space stands a token that ends in the last quotation mark, and the rest follows
 pub record IsToken (bytes token rest : List ℕ) : Type 0 where
   pub whole : bytes ≡ spaced_token token ++ rest
   pub marked : IsMarked token

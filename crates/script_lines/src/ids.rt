@@ -4,7 +4,7 @@ ghost use Rattle.json_spans.specs.Common.{IsText, node};
 ghost use Rattle.topo_outline.specs.Common.{IsName};
 ghost use Rattle.script_lines.specs.Words.{IsMarked};
 
-use arc_store::IdText;
+use edit_records::IdText;
 use json_spans::{ScanFault, Span, TextFault, scan, text};
 use std::alloc::{AllocError, Global};
 

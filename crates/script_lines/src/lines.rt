@@ -1,5 +1,5 @@
+use edit_records::Command;
 use std::alloc::AllocError;
-use undo_ring::Command;
 
 /// What a line of a script asks.
 #[derive(Debug, Drop)]

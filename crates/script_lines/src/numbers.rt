@@ -43,7 +43,7 @@ fn ends_word(rest: &[u8]) -> bool
     }
 }
 
-/// The number that the word in front is by its digits alone, and what follows the word.
+/// The number that the first word is by its digits alone, and what follows the word.
 fn unsigned_number(bytes: &[u8]) -> Option<(u64, &[u8])>
     ensures value { IfSome result (λ found. IsSpaced (32 ∷ bytes.now) (pos found.0) found.1.now) }
     ensures small { IfSome result (λ found. found.0 < 10 ^ 18) }
@@ -57,8 +57,8 @@ fn unsigned_number(bytes: &[u8]) -> Option<(u64, &[u8])>
     }
 }
 
-/// The number that the word in front is, and what follows the word. `None` also where the number
-/// has more than eighteen digits.
+/// The number that the first word is, and what follows the word. `None` also where the number has more
+/// than eighteen digits.
 pub(crate) fn short_number(bytes: &[u8]) -> Option<(i64, &[u8])>
     ensures { IfSome result (λ found. IsSpaced (32 ∷ bytes.now) found.0 found.1.now) }
 {

@@ -1,8 +1,8 @@
 ghost use Rattle.std.specs.Prelude.{◌≡◌, ◌∷◌, [], IfOk, MatchResult, Option};
 ghost use Rattle.std.specs.Prelude.{Some, None};
-ghost use Rattle.map_text.specs.Common.{string_text};
+ghost use Rattle.edit_records.specs.Common.{string_text};
 ghost use Rattle.ring_machine.specs.Command.{Split as Cut, Rename as Name, Thin as Thinning};
-ghost use Rattle.script_lines.specs.Lines.{ArePositions, AreFeatures, AskedWith, Asks, Says};
+ghost use Rattle.script_lines.specs.Lines.{AreSpaced, AreFeatures, AskedWith, Asks, Says};
 ghost use Rattle.script_lines.specs.Lines.{is_comment};
 ghost use Rattle.script_lines.specs.Commands.{Finds, FindsCommand, says_of, IsRefused};
 
@@ -12,11 +12,10 @@ use crate::paths::read_path;
 use crate::words::{
     behind, spaced_feature, spaced_position, spaced_token, split_word, wide_number,
 };
-use arc_store::{IdText, Path};
+use edit_records::{Command, IdText, Path};
 use grid_geometry::Pos;
 use std::alloc::{AllocError, Global};
 use std::str;
-use undo_ring::Command;
 
 /// The most that the bound of a thinning may be: twice the area of the whole grid, which no
 /// triangle is over.
@@ -25,9 +24,9 @@ const MAX_BOUND: u128 = 8_000_000_000_000_000_000_000_000;
 /// The most bytes of a line.
 const MAX_LINE: usize = 8192;
 
-/// The position that stands behind a word.
+/// The position after a word.
 fn position_behind(tail: &[u8]) -> Option<Pos>
-    ensures { Finds result (λ p. ArePositions tail.now (p ∷ [])) }
+    ensures { Finds result (λ p. AreSpaced tail.now (p ∷ [])) }
 {
     let Some(position) = spaced_position(tail) else {
         return None;
@@ -39,9 +38,9 @@ fn position_behind(tail: &[u8]) -> Option<Pos>
     }
 }
 
-/// The two positions that stand behind a word.
+/// The two positions after a word.
 fn pair_behind(tail: &[u8]) -> Option<(Pos, Pos)>
-    ensures { Finds result (λ pair. ArePositions tail.now (pair.0 ∷ pair.1 ∷ [])) }
+    ensures { Finds result (λ pair. AreSpaced tail.now (pair.0 ∷ pair.1 ∷ [])) }
 {
     let Some(first) = spaced_position(tail) else {
         return None;
@@ -49,9 +48,9 @@ fn pair_behind(tail: &[u8]) -> Option<(Pos, Pos)>
     Some((first.0, position_behind(first.1)?))
 }
 
-/// The three positions that stand behind a word.
+/// The three positions after a word.
 fn triple_behind(tail: &[u8]) -> Option<(Pos, Pos, Pos)>
-    ensures { Finds result (λ all. ArePositions tail.now (all.0 ∷ all.1 ∷ all.2 ∷ [])) }
+    ensures { Finds result (λ all. AreSpaced tail.now (all.0 ∷ all.1 ∷ all.2 ∷ [])) }
 {
     let Some(first) = spaced_position(tail) else {
         return None;
@@ -60,7 +59,7 @@ fn triple_behind(tail: &[u8]) -> Option<(Pos, Pos, Pos)>
     Some((first.0, second, third))
 }
 
-/// The bound of a thinning that stands behind a word.
+/// The bound of a thinning after a word.
 fn bound_behind(tail: &[u8]) -> Option<i128>
     ensures { Finds result (λ t. AskedWith tail.now (Thinning t)) }
 {
@@ -73,7 +72,7 @@ fn bound_behind(tail: &[u8]) -> Option<i128>
     }
 }
 
-/// The number of a feature that stands behind a word.
+/// The number of a feature after a word.
 fn feature_behind(tail: &[u8]) -> Option<u32>
     ensures { Finds result (λ n. AreFeatures tail.now (n ∷ [])) }
 {
@@ -81,7 +80,7 @@ fn feature_behind(tail: &[u8]) -> Option<u32>
     if end.is_empty() { Some(feature) } else { None }
 }
 
-/// The numbers of two features that stand behind a word.
+/// The numbers of two features after a word.
 fn features_behind(tail: &[u8]) -> Option<(u32, u32)>
     ensures { Finds result (λ both. AreFeatures tail.now (both.0 ∷ both.1 ∷ [])) }
 {
@@ -89,7 +88,7 @@ fn features_behind(tail: &[u8]) -> Option<(u32, u32)>
     Some((first, feature_behind(rest)?))
 }
 
-/// The number of a feature and its new id that stand behind a word.
+/// The number of a feature and its new id after a word.
 #[tactic(auto, using(crate::proofs::CommandLemmas::renamed))]
 fn naming_behind(heap: Global, tail: &[u8]) -> Result<Option<(u32, IdText)>, AllocError>
     ensures { IfOk result (λ found. Finds found
@@ -110,7 +109,7 @@ fn naming_behind(heap: Global, tail: &[u8]) -> Result<Option<(u32, IdText)>, All
     }
 }
 
-/// The number of a feature, the id of the new one and the path that stand behind a word.
+/// The number of a feature, the id of the new one and the path after a word.
 #[tactic(auto, using(crate::proofs::CommandLemmas::cut))]
 fn cut_behind(heap: Global, tail: &[u8]) -> Result<Option<(u32, IdText, Path)>, AllocError>
     ensures { IfOk result (λ found. Finds found
@@ -181,12 +180,12 @@ fn is_comment(line: &[u8]) -> bool
     }
 }
 
-/// What a line of a script says, without its line feed and without the carriage return that is
-/// dropped before it. A line is a command's word and what it is asked with, with exactly one space
-/// between two of them, and none before or behind; a number is `0`, or digits of which the first is
-/// not `0`, perhaps behind a minus, and an id is a JSON string (RFC 8259, section 7). `heap` holds
-/// an id and a path. `BadLine` comes where the line says nothing, as any line of more than 8,192
-/// bytes, `OutOfMemory` where `heap` has no room for what it says.
+/// What a line of a script says, without its line feed and without the carriage return that is dropped
+/// before it. A line is a command's word and what it is asked with, with exactly one space between two
+/// of them, and none before or after; a number is `0`, or digits of which the first is not `0`, perhaps
+/// after a minus, and an id is a JSON string (RFC 8259, section 7). `heap` holds an id and a path.
+/// `BadLine` comes where the line says nothing, as any line of more than 8,192 bytes, `OutOfMemory`
+/// where `heap` has no room for what it says.
 #[tactic(auto, using(crate::proofs::CommandLemmas::no_memory))]
 pub fn parse_line(heap: Global, line: &[u8]) -> Result<Line, LineFault>
     ensures { MatchResult result

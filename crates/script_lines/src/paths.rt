@@ -4,7 +4,7 @@ ghost use Rattle.script_lines.specs.Commands.{Finds};
 ghost use Rattle.script_lines.specs.Words.{IsPathTail};
 
 use crate::words::spaced_position;
-use arc_store::Path;
+use edit_records::Path;
 use std::alloc::{AllocError, Global};
 
 /// The least number of positions of a path.

@@ -1,4 +1,4 @@
-// Numbers, positions and tokens at the front of a line.
+// Numbers, positions and tokens at the start of a line.
 ghost use Rattle.std.specs.Prelude.{◌≡◌, ◌≢◌, ◌≤◌, ◌++◌, ◌<◌, ◌^◌, ◌∷◌, ℤ, List, ℕ, length, take_while, drop, reverse, MatchOption, FitsSigned};
 ghost use Rattle.std.specs.Int.{w64};
 ghost use Rattle.std.specs.Fmt.{decimal, signed_decimal};
@@ -71,7 +71,7 @@ pub(crate) fn wide_number(word: &[u8]) -> Option<u128>
     }
 }
 
-/// What stands behind a word at the front.
+/// What follows a word at the start.
 #[tactic(auto, using(crate::proofs::WordLemmas::behind_found, crate::proofs::WordLemmas::behind_none))]
 pub(crate) fn behind<'b>(word: &[u8], bytes: &'b [u8]) -> Option<&'b [u8]>
     ensures { MatchOption result
@@ -81,7 +81,7 @@ pub(crate) fn behind<'b>(word: &[u8], bytes: &'b [u8]) -> Option<&'b [u8]>
     bytes.strip_prefix(word)
 }
 
-/// The number behind a space, and what follows it.
+/// The number after a space, and what follows it.
 pub(crate) fn spaced_number(bytes: &[u8]) -> Option<(i64, &[u8])>
     ensures { MatchOption result
         ((z : ℤ) (rest : List ℕ) → ¬ IsSpaced bytes.now z rest)
@@ -95,7 +95,7 @@ pub(crate) fn spaced_number(bytes: &[u8]) -> Option<(i64, &[u8])>
     Some((number(word)?, rest))
 }
 
-/// The number of a feature behind a space, and what follows it.
+/// The number of a feature after a space, and what follows it.
 pub(crate) fn spaced_feature(bytes: &[u8]) -> Option<(u32, &[u8])>
     ensures { MatchOption result
         ((n : ℕ) (rest : List ℕ) → ¬ IsFeature bytes.now n rest)
@@ -108,7 +108,7 @@ pub(crate) fn spaced_feature(bytes: &[u8]) -> Option<(u32, &[u8])>
     }
 }
 
-/// The position in front, each of its numbers behind a space, and what follows it.
+/// The first position, each of its numbers after a space, and what follows it.
 pub(crate) fn spaced_position(bytes: &[u8]) -> Option<(Pos, &[u8])>
     ensures { MatchOption result
         ((p : Position) (rest : List ℕ) → ¬ IsPlace bytes.now p rest)
@@ -119,7 +119,7 @@ pub(crate) fn spaced_position(bytes: &[u8]) -> Option<(Pos, &[u8])>
     Some((Pos::new(x, y)?, rest))
 }
 
-/// How many bytes stand behind the last quotation mark.
+/// How many bytes follow the last quotation mark.
 fn unmarked_len(bytes: &[u8]) -> usize
     ensures value { result ≡ length (take_while is_unmarked (reverse bytes.now)) }
     ensures bound { result ≤ length bytes.now }
@@ -127,7 +127,7 @@ fn unmarked_len(bytes: &[u8]) -> usize
     bytes.iter().rev().take_while(|b| **b != b'"').count()
 }
 
-/// The token behind a space, from a quotation mark to the last one, and what follows it.
+/// The token after a space, from a quotation mark to the last one, and what follows it.
 pub(crate) fn spaced_token(bytes: &[u8]) -> Option<(&[u8], &[u8])>
     ensures { MatchOption result
         ((token rest : List ℕ) → ¬ IsToken bytes.now token rest)

@@ -178,7 +178,7 @@ next_rest : (bs : List ℕ) (k : ℕ) → take (length (drop k bs) - 1) (drop 1 
 next_rest bs k =
     take_all (length (drop k bs) - 1) (drop 1 (drop k bs)) (omega (arith, length-drop 1 (drop k bs))) ∙ drop-drop 1 k bs
 
--- cut behind a line feed: the line, and what follows
+-- cut after a line feed: the line, and what follows
 pub cut_behind : (bs line behind : List ℕ) (k : ℕ) → NoneBefore (Passes (is_byte 10) bs) 0 (length bs) k × Passes (is_byte 10) bs k → line ≡ take k bs → behind ≡ drop k bs
     → bs ≡ (line ++ 10 ∷ []) ++ take (length behind - 1) (drop 1 behind)
 cut_behind bs line behind k found e f = rw (e, f, next_rest bs k) (line_cut bs k found.0.high found.1)

@@ -6,7 +6,7 @@ use Rattle.kit_words.proofs.Common.{take-append-drop, bytes_eq-Decides}
 use Rattle.std.proofs.Common.{append-nil, length-append}
 use Rattle.ring_machine.specs.Common.{Document, State}
 use Rattle.script_runner.specs.Common.{NoFeed, NoFeeds, with_feeds, AreLines, ScriptLine, without_return, ended_line}
-use Rattle.script_runner.specs.Common.{Meaning, Bad, Means, AllMean, reply_text, state_after, answered_by, refused_by}
+use Rattle.script_runner.specs.Common.{Meaning, Bad, LineMeans, AllMean, reply_text, state_after_line, answered_by, refused_by}
 use Rattle.script_runner.specs.Common.{ShowsSaved, AllShowSaved, replies, state_after_all, answered, refused}
 use Rattle.script_runner.specs.Common.{opened_state, Progress, start, line_at, KeptMeans, LineStep, more, ByteStep}
 use Rattle.script_runner.specs.Common.{Feeds}
@@ -40,7 +40,7 @@ not_returned (a ∷ b ∷ bs) e = ap (λ t. a ∷ t) (not_returned (b ∷ bs) (s
 
 -- ---- lists of meanings
 
-pub AllMean-more : (ls : List ScriptLine) (ms : List Meaning) (l : ScriptLine) (m : Meaning) → AllMean ls ms → Means l m → AllMean (ls ++ l ∷ []) (ms ++ m ∷ [])
+pub AllMean-more : (ls : List ScriptLine) (ms : List Meaning) (l : ScriptLine) (m : Meaning) → AllMean ls ms → LineMeans l m → AllMean (ls ++ l ∷ []) (ms ++ m ∷ [])
 AllMean-more [] [] l m h k = (k, tt)
 AllMean-more [] (n ∷ ms) l m h k = absurd h
 AllMean-more (x ∷ ls) [] l m h k = absurd h
@@ -49,19 +49,19 @@ AllMean-more (x ∷ ls) (n ∷ ms) l m h k = (h.0, AllMean-more ls ms l m h.1 k)
 module _ (depth : ℕ) where
   replies-more : (st : State) (ms : List Meaning) (m : Meaning) → replies depth st (ms ++ m ∷ []) ≡ replies depth st ms ++ reply_text depth (state_after_all depth st ms) m
   replies-more st [] m = append-nil (reply_text depth st m)
-  replies-more st (n ∷ ms) m = ap (λ t. reply_text depth st n ++ t) (replies-more (state_after depth st n) ms m) ∙ sym (append_assoc (reply_text depth st n) (replies depth (state_after depth st n) ms) (reply_text depth (state_after_all depth (state_after depth st n) ms) m))
+  replies-more st (n ∷ ms) m = ap (λ t. reply_text depth st n ++ t) (replies-more (state_after_line depth st n) ms m) ∙ sym (append_assoc (reply_text depth st n) (replies depth (state_after_line depth st n) ms) (reply_text depth (state_after_all depth (state_after_line depth st n) ms) m))
 
-  state-more : (st : State) (ms : List Meaning) (m : Meaning) → state_after_all depth st (ms ++ m ∷ []) ≡ state_after depth (state_after_all depth st ms) m
+  state-more : (st : State) (ms : List Meaning) (m : Meaning) → state_after_all depth st (ms ++ m ∷ []) ≡ state_after_line depth (state_after_all depth st ms) m
   state-more st [] m = refl
-  state-more st (n ∷ ms) m = state-more (state_after depth st n) ms m
+  state-more st (n ∷ ms) m = state-more (state_after_line depth st n) ms m
 
   shown-more : (st : State) (ms : List Meaning) (m : Meaning) → AllShowSaved depth st ms → ShowsSaved (state_after_all depth st ms) m → AllShowSaved depth st (ms ++ m ∷ [])
   shown-more st [] m h k = (k, tt)
-  shown-more st (n ∷ ms) m h k = (h.0, shown-more (state_after depth st n) ms m h.1 k)
+  shown-more st (n ∷ ms) m h k = (h.0, shown-more (state_after_line depth st n) ms m h.1 k)
 
   refused-more : (st : State) (ms : List Meaning) (m : Meaning) → refused depth st (ms ++ m ∷ []) ≡ refused depth st ms + refused_by depth (state_after_all depth st ms) m
   refused-more st [] m = omega arith
-  refused-more st (n ∷ ms) m = let h = refused-more (state_after depth st n) ms m in omega arith
+  refused-more st (n ∷ ms) m = let h = refused-more (state_after_line depth st n) ms m in omega arith
 
 answered-more : (ms : List Meaning) (m : Meaning) → answered (ms ++ m ∷ []) ≡ answered ms + answered_by m
 answered-more [] m = omega arith
@@ -102,19 +102,19 @@ pub record Mid (depth : ℕ) (d : Document) (seen out : List ℕ) (p : Progress)
   pub refused : p.refused ≡ refused depth (opened_state d) meanings
   pub kept : Kept p pending
 
-long_is_bad : (ended : Bool) (pending : List ℕ) → 8192 < length pending → Means (line_at ended pending) Bad
+long_is_bad : (ended : Bool) (pending : List ℕ) → 8192 < length pending → LineMeans (line_at ended pending) Bad
 long_is_bad true pending h = λ short. absurd (omega arith)
 long_is_bad false pending h = λ short. absurd (omega arith)
 
 -- what the kept line means, the line means
 pub kept_means : (ended over : Bool) (line pending : List ℕ) (m : Meaning) → over ≡ nat_lt 8192 (length pending) → (length pending ≤ 8192 → line ≡ pending)
-    → KeptMeans over ended line m → Means (line_at ended pending) m
+    → KeptMeans over ended line m → LineMeans (line_at ended pending) m
 kept_means ended true line pending m o same k =
     let long : 8192 < length pending = grind (arith, nat_tests) in
-    subst (Means (line_at ended pending)) (sym k) (long_is_bad ended pending long)
+    subst (LineMeans (line_at ended pending)) (sym k) (long_is_bad ended pending long)
 kept_means ended false line pending m o same k =
     let short : length pending ≤ 8192 = grind (arith, nat_tests) in
-    subst (λ l. Means (line_at ended l) m) (same short) k
+    subst (λ l. LineMeans (line_at ended l) m) (same short) k
 
 Kept-more : (p : Progress) (pending : List ℕ) (b : ℕ) → Kept p pending → Kept (more p b) (pending ++ b ∷ [])
 Kept-more p pending b k = by (nat_lt (length p.line) 8192) refl
@@ -156,8 +156,8 @@ module _ (depth : ℕ) (d : Document) (seen out : List ℕ) (p q : Progress) (m 
   pub showing : (said : Meaning) → ShowsSaved p.state said → AllShowSaved depth (opened_state d) (m.meanings ++ said ∷ [])
   showing said h = shown-more depth (opened_state d) m.meanings said m.shown (subst (λ s. ShowsSaved s said) m.state h)
 
-  pub stated : (said : Meaning) → q.state ≡ state_after p.depth p.state said → q.state ≡ state_after_all depth (opened_state d) (m.meanings ++ said ∷ [])
-  stated said h = h ∙ ap₂ (λ n s. state_after n s said) m.keeps m.state ∙ sym (state-more depth (opened_state d) m.meanings said)
+  pub stated : (said : Meaning) → q.state ≡ state_after_line p.depth p.state said → q.state ≡ state_after_all depth (opened_state d) (m.meanings ++ said ∷ [])
+  stated said h = h ∙ ap₂ (λ n s. state_after_line n s said) m.keeps m.state ∙ sym (state-more depth (opened_state d) m.meanings said)
 
   pub counted : (said : Meaning) → q.answered ≡ p.answered + answered_by said → q.answered ≡ answered (m.meanings ++ said ∷ [])
   counted said h = h ∙ ap (λ n. n + answered_by said) m.answered ∙ sym (answered-more m.meanings said)

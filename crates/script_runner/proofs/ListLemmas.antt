@@ -5,10 +5,10 @@ use Rattle.kit_words.proofs.Common.{signed_decimal, drop_more, drop_all}
 use Rattle.std.proofs.Common.{append-nil}
 use Rattle.grid_geometry.specs.Common.{Position, position}
 use Rattle.ring_machine.specs.Common.{Document, feature_at}
-use Rattle.map_frame.specs.Common.{ring_at}
+use Rattle.map_frame.specs.Common.{frame_ring}
 use Rattle.map_text.specs.Common.{further, commas, comma_if, list_text, pair_text}
 use Rattle.point_queries.proofs.Common.{ring_read, no_ring_read}
-use Rattle.script_runner.specs.Common.{ring_text}
+use Rattle.script_runner.specs.Common.{ring_list_text}
 
 -- what is left to append: each with a comma before it where something stands before
 abbrev pub left_text : Bool → List (List ℕ) → List ℕ
@@ -49,7 +49,7 @@ module _ {T : Type 0} (text : T → List ℕ) (xs : List T) (i : ℕ) where
       ∙ left_step (nat_lt 0 i) (text (get_or xs i d)) (map text (drop (i + 1) xs)) now mid end e f
       ∙ ap (λ ys. now ++ left_text (nat_lt 0 i) (map text ys)) (sym (drop_more xs i d l))
 
-  -- all items were appended behind the opening bracket
+  -- all items were appended after the opening bracket
   pub items_end : (old now end : List ℕ) → length xs ≤ i → now ++ left_text (nat_lt 0 i) (map text (drop i xs)) ≡ (old ++ codes "[") ++ commas (map text xs) → end ≡ now ++ codes "]"
       → end ≡ old ++ list_text (map text xs)
   items_end old now end past all e =
@@ -67,15 +67,15 @@ between items old now mid end e f g =
     ∙ append_assoc old (codes "[") (items ++ codes "]")
 
 -- a ring that is shown, and one that is not there
-pub ring_shown : (d : Document) (n polygon ring : ℕ) (positions : List Position) → Some positions ≡ ring_at d n polygon ring → (old end : List ℕ) → end ≡ old ++ ring_text positions
-    → end ≡ old ++ ring_text (get_or (get_or (feature_at d n).polygons polygon []) ring [])
-ring_shown d n polygon ring positions e old end f = f ∙ ap (λ ps. old ++ ring_text ps) (ring_read d n polygon ring positions e)
+pub ring_shown : (d : Document) (n polygon ring : ℕ) (positions : List Position) → Some positions ≡ frame_ring d n polygon ring → (old end : List ℕ) → end ≡ old ++ ring_list_text positions
+    → end ≡ old ++ ring_list_text (get_or (get_or (feature_at d n).polygons polygon []) ring [])
+ring_shown d n polygon ring positions e old end f = f ∙ ap (λ ps. old ++ ring_list_text ps) (ring_read d n polygon ring positions e)
 
-pub no_ring_shown : (d : Document) (n polygon ring : ℕ) → None ≡ ring_at d n polygon ring → (old end : List ℕ) → end ≡ old ++ codes "[]"
-    → end ≡ old ++ ring_text (get_or (get_or (feature_at d n).polygons polygon []) ring [])
-no_ring_shown d n polygon ring e old end f = f ∙ ap (λ ps. old ++ ring_text ps) (no_ring_read d n polygon ring e)
+pub no_ring_shown : (d : Document) (n polygon ring : ℕ) → None ≡ frame_ring d n polygon ring → (old end : List ℕ) → end ≡ old ++ codes "[]"
+    → end ≡ old ++ ring_list_text (get_or (get_or (feature_at d n).polygons polygon []) ring [])
+no_ring_shown d n polygon ring e old end f = f ∙ ap (λ ps. old ++ ring_list_text ps) (no_ring_read d n polygon ring e)
 
--- a list of numbers behind its name, and another behind that
+-- a list of numbers after its name, and another after that
 pub two_lists : (front between first second old a b c end : List ℕ) → a ≡ old ++ front → b ≡ a ++ first → c ≡ b ++ between → end ≡ c ++ second
     → end ≡ old ++ (front ++ (first ++ (between ++ second)))
 two_lists front between first second old a b c end e f g h =

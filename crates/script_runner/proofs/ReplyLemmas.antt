@@ -6,7 +6,7 @@ use Rattle.ring_machine.specs.Common.{feature_refusals, feature_at, State, step,
 use Rattle.ring_machine.specs.Command.{Command, Undo, Rings, Count, Show, Refusal, NoFeature, NothingToUndo, Answer as Answered, Done, RingsAre, CountsAre, DocumentIs, Refused}
 use Rattle.arc_store.specs.declared.fault.EditFault.{EditFault}
 use Rattle.undo_ring.specs.Common.{answer_of, refusal_of, Edited, machine_of, Applies, Refuses, LacksMemory, IsCutShort}
-use Rattle.undo_ring.specs.Common.{Fails, IsUndone}
+use Rattle.undo_ring.specs.Common.{CommandFails, IsUndone}
 use Rattle.undo_ring.specs.declared.answer.Answer.{Answer}
 use Rattle.undo_ring.specs.declared.answer.Answer.TheVariants as told
 use Rattle.undo_ring.proofs.MapAnswers.{is_false}
@@ -53,7 +53,7 @@ refused : (was is : Edited) (c : Command) (r : Refusal) (old new : List ℕ) →
 refused was is c r old new h t =
     by_step was is c old new true (Refused r) (machine_of was) h.steps (ap machine_of h.same) (ap (λ e. e.depth) h.same) t refl
 
-pub failed : (was is : Edited) (c : Command) (fault : EditFault) (old new : List ℕ) → Fails fault was is c → TellsFault fault old new → Replied was is c old new true
+pub failed : (was is : Edited) (c : Command) (fault : EditFault) (old new : List ℕ) → CommandFails fault was is c → TellsFault fault old new → Replied was is c old new true
 failed was is c fault old new h t = by (refusal_of fault) h t
   where
     by : (o : Option Refusal) → MatchOption o (LacksMemory was is ⊎ IsCutShort was is c) (Refuses was is c) → IsSomeAnd o (λ r. new ≡ old ++ (codes "refused " ++ refusal_text r)) → Replied was is c old new true

@@ -5,11 +5,11 @@ use Rattle.kit_words.proofs.Common.{map, inl, inr, ◌⊎◌, Option, nat_tests,
 use Rattle.kit_words.proofs.Common.{Appends, Consumes, Keeps, IsAtEnd, Appends-trans, Consumes-trans, Consumes-kept}
 use Rattle.std.proofs.Common.{append-nil, length-append, length-drop}
 use Rattle.ring_machine.specs.Common.{Document}
-use Rattle.script_runner.specs.Common.{Reader, Writer, Devices, devices, ended_line, open_line, lines_of, reply_text}
+use Rattle.script_runner.specs.Common.{Reader, Writer, Devices, devices, ended_line, open_line, all_lines, reply_text}
 use Rattle.script_runner.specs.Common.{state_after_all, opened_state, Progress, start, line_at, LineStep, Feeds}
 use Rattle.script_runner.specs.Common.{FeedsPart, IsReplyFront, IsPartAt, Told, Finishes, PutsLast, OpensAs, Runs}
 use Rattle.script_runner.specs.Common.{AnswersAll, AnswersUpTo, AnswersLines, AnswersPart, IsNextLine, IsFront}
-use Rattle.script_runner.specs.Common.{Completes, SavesPart, Ends, Answers, AnswersAndSaves, Fails, Halts, Summary}
+use Rattle.script_runner.specs.Common.{Completes, SavesPart, RunEnds, Answers, AnswersAndSaves, RunFails, Halts, Summary}
 use Rattle.script_runner.specs.Common.{IsAnswerEnd, IsSaveEnd}
 use Rattle.topo_writer.specs.Common.{of_device}
 use Rattle.topo_writer.specs.declared.fault.WriteFault.{WriteFault}
@@ -19,7 +19,7 @@ use Rattle.script_runner.specs.declared.fault.RunFault.TheVariants as fault
 use Rattle.device_io.specs.Common.{AppendsPrefix}
 use Rattle.map_text.specs.Common.{text_of, Saved}
 use Rattle.arc_store.specs.State.{State as MapState}
-use Rattle.undo_ring.specs.Common.{Edited, begun}
+use Rattle.undo_ring.specs.Common.{Edited, with_no_history}
 use Rattle.script_lines.proofs.Common.{not_empty}
 use Rattle.script_runner.proofs.StepLemmas.{Feeds-append}
 use Rattle.script_runner.proofs.LineLemmas.{Kept, Mid, Mid-feeds, Mid-start, kept_means, AllMean-more, replied, showing, stated, counted, refusing}
@@ -61,7 +61,7 @@ module _ (depth : ℕ) (d : Document) (before after : Devices) where
     cause = cause;
   }
 
-  -- a part of the reply to the kept line is the front of the reply to the next line
+  -- a part of the reply to the kept line is the prefix of the reply to the next line
   front : (ended : Bool) (read text : List ℕ) (p : Progress) (m : Mid depth d read text p) (further part : List ℕ) → IsNextLine m.pending further after.script.coming (line_at ended m.pending)
       → IsReplyFront ended p part → IsFront depth (state_after_all depth (opened_state d) m.meanings) (IsNextLine m.pending further after.script.coming) part
   front ended read text p m further part next h =
@@ -119,7 +119,7 @@ length_zero : (xs : List ℕ) → length xs ≡ 0 → xs ≡ []
 length_zero [] e = refl
 length_zero (x ∷ xs) e = absurd (omega arith)
 
-with_last : (ended : List (List ℕ)) (pending : List ℕ) → (pending ≡ [] → ⊥) → lines_of ended pending ≡ map ended_line ended ++ open_line pending ∷ []
+with_last : (ended : List (List ℕ)) (pending : List ℕ) → (pending ≡ [] → ⊥) → all_lines ended pending ≡ map ended_line ended ++ open_line pending ∷ []
 with_last ended [] h = absurd (h refl)
 with_last ended (b ∷ bs) h = refl
 
@@ -187,7 +187,7 @@ pub end_read : (a b c : Option (List ℕ)) (read room : List ℕ) (n : ℕ) → 
 end_read a b c read room n e h k =
     subst (Consumes a c) (append-nil read) (Consumes-trans a b c read [] h (subst (λ m. Consumes b c (take m room)) e k))
 
--- what came in one more call: a front of it that is fed, and the rest
+-- what came in one more call: a prefix of it that is fed, and the rest
 pub piece_came : (a b c : Option (List ℕ)) (read room : List ℕ) (n t : ℕ) → t ≤ n → Consumes a b read → Consumes b c (take n room)
     → Consumes a c (read ++ (take t room ++ drop t (take n room)))
 piece_came a b c read room n t within h k = Consumes-trans a b c read (take t room ++ drop t (take n room)) h (subst (Consumes b c) parts k)
@@ -261,7 +261,7 @@ halts_at write.OutOfMemory end depth d coming left taken given is part failed = 
 
 -- the answering ended early, and nothing was saved
 pub fails_halted : (f : RunFault) (depth : ℕ) (d : Document) (coming left : Reader) (taken given : Writer) → Halts f depth d coming left taken given → (held : Writer)
-    → Fails f depth d (devices coming taken held) (devices left given held)
+    → RunFails f depth d (devices coming taken held) (devices left given held)
 fails_halted (fault.Open f) depth d coming left taken given h held = absurd h
 fails_halted fault.Read depth d coming left taken given h held = (h held, refl)
 fails_halted fault.Write depth d coming left taken given (h, failed) held = (h held, failed, refl)
@@ -281,16 +281,16 @@ module _ (depth : ℕ) (d last ended : Document) (coming left : Reader) (taken g
 
   -- the saving ended early, by its writer or as memory was refused
   pub fails_saving : (f : WriteFault) (end : RunFault) → IsSaveEnd f end → AppendsPrefix held.taken holds.taken (text_of last) → Saved (text_of last) last → holds.failed ≡ of_device f
-      → Fails end depth d (devices coming taken held) (devices left given holds)
+      → RunFails end depth d (devices coming taken held) (devices left given holds)
   fails_saving write.Device end is wrote saved failed =
-      subst (λ e. Fails e depth d (devices coming taken held) (devices left given holds)) (sym is) (saves_part wrote saved, failed)
+      subst (λ e. RunFails e depth d (devices coming taken held) (devices left given holds)) (sym is) (saves_part wrote saved, failed)
   fails_saving write.OutOfMemory end is wrote saved failed =
-      subst (λ e. Fails e depth d (devices coming taken held) (devices left given holds)) (sym is) (inr (saves_part wrote saved))
+      subst (λ e. RunFails e depth d (devices coming taken held) (devices left given holds)) (sym is) (inr (saves_part wrote saved))
 
 pub starts : (depth : ℕ) (d : Document) (p : Progress) → p ≡ start depth d → p ≡ start p.depth p.state.doc
 starts depth d p e = subst (λ (q : Progress). q ≡ start q.depth q.state.doc) (sym e) refl
 
-module _ (bytes : List ℕ) (depth : ℕ) (opened : MapState) (began : Edited) (is : began ≡ begun opened depth) (opens : OpensAs bytes opened.doc) (p : Progress)
+module _ (bytes : List ℕ) (depth : ℕ) (opened : MapState) (began : Edited) (is : began ≡ with_no_history opened depth) (opens : OpensAs bytes opened.doc) (p : Progress)
     (begins : p ≡ start began.depth began.map.doc) (before after : Devices) where
   begins_opened : p ≡ start depth opened.doc
   begins_opened = begins ∙ ap (λ (e : Edited). start e.depth e.map.doc) is
@@ -300,12 +300,12 @@ module _ (bytes : List ℕ) (depth : ℕ) (opened : MapState) (began : Edited) (
       let all = subst (λ (q : Progress). AnswersAndSaves q.depth q.state.doc before after s) begins_opened h in
       record { document = opened.doc; last = all.last; opens = opens; answers = all.answers; wrote = all.wrote; sent = all.sent; saved = all.saved }
 
-  ends_opened : (f : RunFault) → Fails f depth opened.doc before after → Ends f bytes depth before after
+  ends_opened : (f : RunFault) → RunFails f depth opened.doc before after → RunEnds f bytes depth before after
   ends_opened (fault.Open f) h = absurd h
   ends_opened fault.Read h = (opened.doc, opens, h.0, h.1)
   ends_opened fault.Write h = (opened.doc, opens, h.0, h.1, h.2)
   ends_opened fault.Save h = (opened.doc, opens, h.0, h.1)
   ends_opened fault.OutOfMemory h = inr (opened.doc, opens, h)
 
-  pub ends : (f : RunFault) → Fails f p.depth p.state.doc before after → Ends f bytes depth before after
-  ends f h = ends_opened f (subst (λ (q : Progress). Fails f q.depth q.state.doc before after) begins_opened h)
+  pub ends : (f : RunFault) → RunFails f p.depth p.state.doc before after → RunEnds f bytes depth before after
+  ends f h = ends_opened f (subst (λ (q : Progress). RunFails f q.depth q.state.doc before after) begins_opened h)

@@ -5,15 +5,16 @@ use Rattle.kit_words.proofs.Common.{MatchBool, Bool, true, false, cond, ◌==◌
 use Rattle.kit_words.proofs.Common.{Appends, Appends-kept}
 use Rattle.std.proofs.Common.{append-nil}
 use Rattle.ring_machine.specs.Common.{Document, Show}
-use Rattle.undo_ring.specs.Common.{command_of, Edited, machine_of}
-use Rattle.undo_ring.specs.declared.command.Command.{Command}
-use Rattle.undo_ring.specs.declared.command.Command.TheVariants as command
+use Rattle.undo_ring.specs.Common.{Edited, machine_of}
+use Rattle.edit_records.specs.Common.{command_of}
+use Rattle.edit_records.specs.declared.command.Command.{Command}
+use Rattle.edit_records.specs.declared.command.Command.TheVariants as command
 use Rattle.script_lines.specs.declared.lines.Line.{Line}
 use Rattle.script_lines.specs.declared.lines.Line.TheVariants as said
 use Rattle.script_lines.proofs.Common.{not_empty}
 use Rattle.device_io.specs.Common.{AppendsPrefix}
 use Rattle.device_io.proofs.Common.{Appends-none}
-use Rattle.script_runner.specs.Common.{Meaning, Asked, reply_text, state_after, answered_by, refused_by, ShowsSaved}
+use Rattle.script_runner.specs.Common.{Meaning, Asked, reply_text, state_after_line, answered_by, refused_by, ShowsSaved}
 use Rattle.script_runner.specs.Common.{RepliedLine, IsShownSaved, meaning_of_said, Progress, KeptMeans, LineStep}
 use Rattle.script_runner.specs.Common.{ByteStep, Feeds, IsReplyFront, PutsPart, IsPartAt, FeedsPart, Told, Finishes}
 use Rattle.script_runner.specs.Common.{PutsLast, LastStep, Counts, Summary}
@@ -22,7 +23,7 @@ pub OnErr-by : {A E : Type 0} (r : Result A E) {P : Type 0} → P → OnErr r P
 OnErr-by (Ok x) h = tt
 OnErr-by (Err e) h = h
 
--- the front of a reply
+-- the prefix of a reply
 pub put_part : (ended : Bool) (p : Progress) (old new : Option (List ℕ)) (e : Edited) (over : Bool) (line : List ℕ) (m : Meaning)
     → p.depth ≡ e.depth → p.state ≡ machine_of e → p.over ≡ over → p.line ≡ line → KeptMeans over ended line m → AppendsPrefix old new (reply_text e.depth (machine_of e) m)
     → PutsPart ended p old new
@@ -43,7 +44,7 @@ answered_line was is ended p q over line m refuses ed es eo el k r shows qd qs q
       record {
         told = ap₂ (λ n s. reply_text n s m) (sym ed) (sym es);
         shown = subst (λ s. ShowsSaved s m) (sym es) shows;
-        after = qs ∙ r.stands ∙ ap₂ (λ n s. state_after n s m) (sym ed) (sym es);
+        after = qs ∙ r.stands ∙ ap₂ (λ n s. state_after_line n s m) (sym ed) (sym es);
         depth = qd ∙ r.depth ∙ sym ed;
         line = ql;
         over = qo;

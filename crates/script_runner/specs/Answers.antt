@@ -43,16 +43,16 @@ refusal_text NothingToUndo = codes "nothing to undo"
 refusal_text Sweeps = codes "sweeps"
 
 -- a ring as a list of JSON (RFC 8259, 5): the pairs of its positions, the last one not repeated
-abbrev pub ring_text : List Position → List ℕ
-ring_text positions = list_text (map pair_text positions)
+abbrev pub ring_list_text : List Position → List ℕ
+ring_list_text positions = list_text (map pair_text positions)
 
 -- a polygon as the list of its rings, the outer ring first
-abbrev pub polygon_text : List (List Position) → List ℕ
-polygon_text rings = list_text (map ring_text rings)
+abbrev pub polygon_list_text : List (List Position) → List ℕ
+polygon_list_text rings = list_text (map ring_list_text rings)
 
 -- a feature as the list of its polygons
 abbrev pub polygons_text : List (List (List Position)) → List ℕ
-polygons_text polygons = list_text (map polygon_text polygons)
+polygons_text polygons = list_text (map polygon_list_text polygons)
 
 -- each number after a space
 abbrev pub spaced_numbers : List ℕ → List ℕ

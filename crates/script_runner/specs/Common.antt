@@ -1,17 +1,17 @@
 -- The words of this crate that others cite most, passed on from one place. Declares nothing.
-pub use Rattle.script_runner.specs.Answers.{answer_text, numbers_text, polygon_text, polygons_text, position_text}
-pub use Rattle.script_runner.specs.Answers.{refusal_text, ring_text, segment_text, spaced_numbers}
+pub use Rattle.script_runner.specs.Answers.{answer_text, numbers_text, polygon_list_text, polygons_text, position_text}
+pub use Rattle.script_runner.specs.Answers.{refusal_text, ring_list_text, segment_text, spaced_numbers}
 pub use Rattle.script_runner.specs.Devices.{Devices, Reader, Writer, devices, devices_of, reader_of, writer_of}
-pub use Rattle.script_runner.specs.Ended.{Answers, AnswersAndSaves, Fails, Halts, IsAnswerEnd, IsBuildEnd, IsOpenEnd}
+pub use Rattle.script_runner.specs.Ended.{Answers, AnswersAndSaves, RunFails, Halts, IsAnswerEnd, IsBuildEnd, IsOpenEnd}
 pub use Rattle.script_runner.specs.Ended.{IsSaveEnd}
 pub use Rattle.script_runner.specs.Finish.{Counts, Finishes, LastStep, PutsLast}
-pub use Rattle.script_runner.specs.Outcome.{AnswersAll, AnswersLines, AnswersPart, AnswersUpTo, Completes, Ends}
-pub use Rattle.script_runner.specs.Outcome.{IsFront, IsNextLine, IsUnopened, LacksMemory, OpensAs, Runs, SavesPart}
+pub use Rattle.script_runner.specs.Outcome.{AnswersAll, AnswersLines, AnswersPart, AnswersUpTo, Completes, RunEnds}
+pub use Rattle.script_runner.specs.Outcome.{IsFront, IsNextLine, IsUnopened, RunsOutOfMemory, OpensAs, Runs, SavesPart}
 pub use Rattle.script_runner.specs.Progress.{ByteStep, Feeds, FeedsPart, IsPartAt, IsReplyFront, KeptMeans, LineStep}
 pub use Rattle.script_runner.specs.Progress.{Progress, PutsPart, Told, line_at, more, start}
 pub use Rattle.script_runner.specs.Replies.{IsShown, IsShownSaved, Replied, RepliedLine, TellsFault, meaning_of_said}
-pub use Rattle.script_runner.specs.Runs.{AllMean, AllShowSaved, AreLines, Asked, Bad, Meaning, Means, NoFeed, NoFeeds}
-pub use Rattle.script_runner.specs.Runs.{ScriptLine, ShowsSaved, answered, answered_by, ended_line, lines_of, open_line}
-pub use Rattle.script_runner.specs.Runs.{opened_state, refusals, refused, refused_by, replies, reply_text, state_after}
+pub use Rattle.script_runner.specs.Runs.{AllMean, AllShowSaved, AreLines, Asked, Bad, Meaning, LineMeans, NoFeed, NoFeeds}
+pub use Rattle.script_runner.specs.Runs.{ScriptLine, ShowsSaved, answered, answered_by, ended_line, all_lines, open_line}
+pub use Rattle.script_runner.specs.Runs.{opened_state, refusals, refused, refused_by, replies, reply_text, state_after_line}
 pub use Rattle.script_runner.specs.Runs.{state_after_all, with_feeds, without_return}
 pub use Rattle.script_runner.specs.declared.runner.Summary.{Summary}

@@ -10,7 +10,7 @@ use Rattle.topo_outline.specs.declared.fault.OpenFault.TheVariants as opening
 use Rattle.arc_store.specs.declared.fault.BuildFault.{BuildFault}
 use Rattle.arc_store.specs.declared.fault.BuildFault.TheVariants as build
 use Rattle.script_runner.specs.Devices.{Devices, Reader, Writer, devices}
-use Rattle.script_runner.specs.Outcome.{IsUnopened, AnswersAll, AnswersLines, AnswersPart, SavesPart, LacksMemory}
+use Rattle.script_runner.specs.Outcome.{IsUnopened, AnswersAll, AnswersLines, AnswersPart, SavesPart, RunsOutOfMemory}
 use Rattle.script_runner.specs.declared.runner.Summary.{Summary}
 use Rattle.script_runner.specs.declared.fault.RunFault.{RunFault}
 use Rattle.script_runner.specs.declared.fault.RunFault.TheVariants as fault
@@ -43,13 +43,13 @@ pub record AnswersAndSaves (depth : ℕ) (d : Document) (before after : Devices)
   pub saved : Saved (text_of last) last
 
 -- how far the answers or the saving came, where either ended early
-abbrev pub Fails : RunFault → ℕ → Document → Devices → Devices → Type 0
-Fails (fault.Open f) depth d before after = ⊥
-Fails fault.Read depth d before after = AnswersLines depth d before after × (after.saved ≡ before.saved)
-Fails fault.Write depth d before after =
+abbrev pub RunFails : RunFault → ℕ → Document → Devices → Devices → Type 0
+RunFails (fault.Open f) depth d before after = ⊥
+RunFails fault.Read depth d before after = AnswersLines depth d before after × (after.saved ≡ before.saved)
+RunFails fault.Write depth d before after =
     AnswersPart depth d before after × (after.answers.failed ≡ true) × (after.saved ≡ before.saved)
-Fails fault.Save depth d before after = SavesPart depth d before after × (after.saved.failed ≡ true)
-Fails fault.OutOfMemory depth d before after = LacksMemory depth d before after
+RunFails fault.Save depth d before after = SavesPart depth d before after × (after.saved.failed ≡ true)
+RunFails fault.OutOfMemory depth d before after = RunsOutOfMemory depth d before after
 
 -- the end of a run whose answers were not all written
 abbrev pub IsAnswerEnd : WriteFault → RunFault → Type 0
@@ -61,7 +61,7 @@ abbrev pub IsSaveEnd : WriteFault → RunFault → Type 0
 IsSaveEnd write.Device end = end ≡ fault.Save
 IsSaveEnd write.OutOfMemory end = end ≡ fault.OutOfMemory
 
--- why a map was not opened, want of memory apart
+-- why a map was not opened, allocation failure apart
 abbrev pub IsOpenEnd : RunFault → List ℕ → Type 0
 IsOpenEnd (fault.Open f) bytes = IsFault bytes f × (f ≢ opening.OutOfMemory) × IsUnopened bytes
 IsOpenEnd fault.Read bytes = ⊥

@@ -7,7 +7,7 @@ use Rattle.topo_reader.specs.Common.{IsFault, Reads, Fits}
 use Rattle.topo_outline.specs.declared.fault.OpenFault.TheVariants as opening
 use Rattle.map_text.specs.Common.{text_of, Saved}
 use Rattle.script_runner.specs.Devices.{Devices}
-use Rattle.script_runner.specs.Runs.{AreLines, ScriptLine, ended_line, open_line, lines_of, Meaning, Means, AllMean, AllShowSaved, reply_text, replies, state_after_all, answered, refused, opened_state, document_after}
+use Rattle.script_runner.specs.Runs.{AreLines, ScriptLine, ended_line, open_line, all_lines, Meaning, LineMeans, AllMean, AllShowSaved, reply_text, replies, state_after_all, answered, refused, opened_state, document_after}
 use Rattle.script_runner.specs.declared.runner.Summary.{Summary}
 use Rattle.script_runner.specs.declared.fault.RunFault.{RunFault}
 use Rattle.script_runner.specs.declared.fault.RunFault.TheVariants as fault
@@ -30,7 +30,7 @@ pub record Runs (depth : ℕ) (d e : Document) (script text : List ℕ) (summary
   pub last : List ℕ
   pub meanings : List Meaning
   pub cut : AreLines script ended last
-  pub mean : AllMean (lines_of ended last) meanings
+  pub mean : AllMean (all_lines ended last) meanings
   pub told : text ≡ replies depth (opened_state d) meanings
   pub shown : AllShowSaved depth (opened_state d) meanings
   pub after : e ≡ document_after depth d meanings
@@ -82,15 +82,15 @@ IsNextLine pending further left line =
     ((rest : List ℕ) × (further ≡ 10 ∷ rest) × (line ≡ ended_line pending))
     ⊎ ((further ≡ []) × IsAtEnd left × (pending ≢ []) × (line ≡ open_line pending))
 
--- nothing, or a front of the reply to the next line
+-- nothing, or a prefix of the reply to the next line
 abbrev pub IsFront : ℕ → State → (ScriptLine → Type 0) → List ℕ → Type 0
 IsFront depth st IsNext part =
     (part ≡ [])
-    ⊎ ((line : ScriptLine) × (m : Meaning) × (k : ℕ) × IsNext line × Means line m
+    ⊎ ((line : ScriptLine) × (m : Meaning) × (k : ℕ) × IsNext line × LineMeans line m
     × (part ≡ take k (reply_text depth st m)))
 
--- the answering stopped at a byte of the script, or at its end: what was written of the next answer is a
--- front of it
+-- the answering stopped at a byte of the script, or at its end: what was written of the next answer is
+-- a prefix of it
 pub record AnswersPart (depth : ℕ) (d : Document) (before after : Devices) : Type 0 where
   pub lines : AnswersUpTo depth d before after
   pub stopped : lines.further ≡ [] → IsAtEnd after.script.coming
@@ -109,7 +109,7 @@ pub record Completes (bytes : List ℕ) (depth : ℕ) (before after : Devices) (
   pub sent : after.saved.flushed ≡ true
   pub saved : Saved (text_of last) last
 
--- the script was answered, and a front of the text of the last document was saved
+-- the script was answered, and a prefix of the text of the last document was saved
 pub record SavesPart (depth : ℕ) (d : Document) (before after : Devices) : Type 0 where
   pub last : Document
   pub summary : Summary
@@ -119,23 +119,23 @@ pub record SavesPart (depth : ℕ) (d : Document) (before after : Devices) : Typ
 
 -- memory was refused after the map was opened: in an answer, and then nothing was saved, or in
 -- saving, and then all lines were answered
-abbrev pub LacksMemory : ℕ → Document → Devices → Devices → Type 0
-LacksMemory depth d before after =
+abbrev pub RunsOutOfMemory : ℕ → Document → Devices → Devices → Type 0
+RunsOutOfMemory depth d before after =
     (AnswersPart depth d before after × (after.saved ≡ before.saved))
     ⊎ SavesPart depth d before after
 
 -- what stands after a fault: the map's first fault, or how far the answers or the saving came
-abbrev pub Ends : RunFault → List ℕ → ℕ → Devices → Devices → Type 0
-Ends (fault.Open f) bytes depth before after =
+abbrev pub RunEnds : RunFault → List ℕ → ℕ → Devices → Devices → Type 0
+RunEnds (fault.Open f) bytes depth before after =
     IsFault bytes f × (f ≢ opening.OutOfMemory) × IsUnopened bytes × (after ≡ before)
-Ends fault.Read bytes depth before after =
+RunEnds fault.Read bytes depth before after =
     (d : Document) × OpensAs bytes d × AnswersLines depth d before after
     × (after.saved ≡ before.saved)
-Ends fault.Write bytes depth before after =
+RunEnds fault.Write bytes depth before after =
     (d : Document) × OpensAs bytes d × AnswersPart depth d before after
     × (after.answers.failed ≡ true) × (after.saved ≡ before.saved)
-Ends fault.Save bytes depth before after =
+RunEnds fault.Save bytes depth before after =
     (d : Document) × OpensAs bytes d × SavesPart depth d before after
     × (after.saved.failed ≡ true)
-Ends fault.OutOfMemory bytes depth before after =
-    (after ≡ before) ⊎ ((d : Document) × OpensAs bytes d × LacksMemory depth d before after)
+RunEnds fault.OutOfMemory bytes depth before after =
+    (after ≡ before) ⊎ ((d : Document) × OpensAs bytes d × RunsOutOfMemory depth d before after)

@@ -2,7 +2,7 @@
 use Rattle.std.specs.Prelude.{◌≡◌, ℕ, ◌+◌, ◌≤◌, ◌==◌, List, [], ◌∷◌, ◌++◌, length, take, nat_lt, Bool, true, false, not, ◌||◌, if◌then◌else◌, Option, MatchBool, ◌⊎◌}
 use Rattle.std.specs.Io.KnownBytes.{Appends}
 use Rattle.ring_machine.specs.Common.{Document, State}
-use Rattle.script_runner.specs.Runs.{ScriptLine, ended_line, open_line, Meaning, Bad, Means, reply_text, state_after, answered_by, refused_by, ShowsSaved, opened_state}
+use Rattle.script_runner.specs.Runs.{ScriptLine, ended_line, open_line, Meaning, Bad, LineMeans, reply_text, state_after_line, answered_by, refused_by, ShowsSaved, opened_state}
 
 -- the machine's state and how many changes it keeps at most, the bytes of the line so far, whether more than are kept came, and the counts
 pub record Progress : Type 0 where
@@ -38,13 +38,13 @@ line_at false l = open_line l
 
 -- what the kept line means
 abbrev pub KeptMeans : Bool → Bool → List ℕ → Meaning → Type 0
-KeptMeans over ended line m = MatchBool over (m ≡ Bad) (Means (line_at ended line) m)
+KeptMeans over ended line m = MatchBool over (m ≡ Bad) (LineMeans (line_at ended line) m)
 
 -- the kept line, of this meaning, is answered
 pub record IsAnswered (p : Progress) (m : Meaning) (text : List ℕ) (q : Progress) : Type 0 where
   pub told : text ≡ reply_text p.depth p.state m
   pub shown : ShowsSaved p.state m
-  pub after : q.state ≡ state_after p.depth p.state m
+  pub after : q.state ≡ state_after_line p.depth p.state m
   pub depth : q.depth ≡ p.depth
   pub line : q.line ≡ []
   pub over : q.over ≡ false
@@ -79,7 +79,7 @@ Feeds p (b ∷ bs) text q =
 abbrev pub Told : Option (List ℕ) → Option (List ℕ) → (List ℕ → Type 0) → Type 0
 Told old new P = (text : List ℕ) × Appends old new text × P text
 
--- the front of the reply to the kept line
+-- the prefix of the reply to the kept line
 abbrev pub IsReplyFront : Bool → Progress → List ℕ → Type 0
 IsReplyFront ended p part =
     (m : Meaning) × (k : ℕ) × KeptMeans p.over ended p.line m
@@ -89,7 +89,7 @@ IsReplyFront ended p part =
 abbrev pub PutsPart : Bool → Progress → Option (List ℕ) → Option (List ℕ) → Type 0
 PutsPart ended p old new = Told old new (λ part. (part ≡ []) ⊎ IsReplyFront ended p part)
 
--- nothing, or, where this byte is a line feed, the front of the reply to the line that it ends
+-- nothing, or, where this byte is a line feed, the prefix of the reply to the line that it ends
 abbrev pub IsPartAt : ℕ → Progress → List ℕ → Type 0
 IsPartAt b p part = (part ≡ []) ⊎ ((b ≡ 10) × IsReplyFront true p part)
 

@@ -4,7 +4,7 @@ use Rattle.ring_machine.specs.Common.{Document, Command, step}
 use Rattle.undo_ring.specs.Common.{refusal_of, Edited, machine_of}
 use Rattle.map_text.specs.Common.{text_of, Saved}
 use Rattle.script_runner.specs.Answers.{answer_text, refusal_text}
-use Rattle.script_runner.specs.Runs.{Meaning, Bad, meaning_of, state_after, refused_by, refusals}
+use Rattle.script_runner.specs.Runs.{Meaning, Bad, meaning_of, state_after_line, refused_by, refusals}
 use Rattle.script_lines.specs.Common.{says_of}
 use Rattle.arc_store.specs.declared.fault.EditFault.{EditFault}
 use Rattle.script_lines.specs.declared.lines.Line.{Line}
@@ -21,7 +21,7 @@ pub record Replied (was is : Edited) (c : Command) (old new : List ℕ) (refuses
 
 -- the line is answered: the state after it is the machine's, and the answer refuses or not
 pub record RepliedLine (was is : Edited) (m : Meaning) (refuses : Bool) : Type 0 where
-  pub stands : machine_of is ≡ state_after was.depth (machine_of was) m
+  pub stands : machine_of is ≡ state_after_line was.depth (machine_of was) m
   pub depth : is.depth ≡ was.depth
   pub counts : (if refuses then 1 else 0) ≡ refused_by was.depth (machine_of was) m
 

@@ -45,9 +45,9 @@ abbrev pub open_line : List ℕ → ScriptLine
 open_line l = record { bytes = l; text = l }
 
 -- a last line without a line feed counts where it is not empty
-abbrev pub lines_of : List (List ℕ) → List ℕ → List ScriptLine
-lines_of ended [] = map ended_line ended
-lines_of ended (b ∷ bs) = map ended_line ended ++ open_line (b ∷ bs) ∷ []
+abbrev pub all_lines : List (List ℕ) → List ℕ → List ScriptLine
+all_lines ended [] = map ended_line ended
+all_lines ended (b ∷ bs) = map ended_line ended ++ open_line (b ∷ bs) ∷ []
 
 -- ---- what a line means
 
@@ -61,16 +61,16 @@ meaning_of None = Skipped
 meaning_of (Some c) = Asked c
 
 -- a line of at most 8192 bytes means what it says; one that says nothing, and a longer one, is bad
-abbrev pub Means : ScriptLine → Meaning → Type 0
-Means l Skipped = (length l.bytes ≤ 8192) × Says l.text None
-Means l (Asked c) = (length l.bytes ≤ 8192) × Says l.text (Some c)
-Means l Bad = length l.bytes ≤ 8192 → (said : Option Command) → ¬ Says l.text said
+abbrev pub LineMeans : ScriptLine → Meaning → Type 0
+LineMeans l Skipped = (length l.bytes ≤ 8192) × Says l.text None
+LineMeans l (Asked c) = (length l.bytes ≤ 8192) × Says l.text (Some c)
+LineMeans l Bad = length l.bytes ≤ 8192 → (said : Option Command) → ¬ Says l.text said
 
 abbrev pub AllMean : List ScriptLine → List Meaning → Type 0
 AllMean [] [] = Unit {0}
 AllMean [] (m ∷ ms) = ⊥
 AllMean (l ∷ ls) [] = ⊥
-AllMean (l ∷ ls) (m ∷ ms) = Means l m × AllMean ls ms
+AllMean (l ∷ ls) (m ∷ ms) = LineMeans l m × AllMean ls ms
 
 -- ---- answers of the machine, which keeps at most depth changes
 
@@ -79,10 +79,10 @@ reply_text depth st Skipped = []
 reply_text depth st (Asked c) = answer_text (step depth st c).0 ++ codes "\n"
 reply_text depth st Bad = codes "bad line\n"
 
-abbrev pub state_after : ℕ → State → Meaning → State
-state_after depth st Skipped = st
-state_after depth st (Asked c) = (step depth st c).1
-state_after depth st Bad = st
+abbrev pub state_after_line : ℕ → State → Meaning → State
+state_after_line depth st Skipped = st
+state_after_line depth st (Asked c) = (step depth st c).1
+state_after_line depth st Bad = st
 
 -- an answer that is a refusal counts one
 abbrev pub refusals : Answer → ℕ
@@ -102,11 +102,11 @@ refused_by depth st Bad = 1
 -- the answers in order
 abbrev pub replies : ℕ → State → List Meaning → List ℕ
 replies depth st [] = []
-replies depth st (m ∷ ms) = reply_text depth st m ++ replies depth (state_after depth st m) ms
+replies depth st (m ∷ ms) = reply_text depth st m ++ replies depth (state_after_line depth st m) ms
 
 abbrev pub state_after_all : ℕ → State → List Meaning → State
 state_after_all depth st [] = st
-state_after_all depth st (m ∷ ms) = state_after_all depth (state_after depth st m) ms
+state_after_all depth st (m ∷ ms) = state_after_all depth (state_after_line depth st m) ms
 
 abbrev pub answered : List Meaning → ℕ
 answered [] = 0
@@ -114,7 +114,7 @@ answered (m ∷ ms) = answered_by m + answered ms
 
 abbrev pub refused : ℕ → State → List Meaning → ℕ
 refused depth st [] = 0
-refused depth st (m ∷ ms) = refused_by depth st m + refused depth (state_after depth st m) ms
+refused depth st (m ∷ ms) = refused_by depth st m + refused depth (state_after_line depth st m) ms
 
 -- where a line asks to see the document, the text of it means it, and has each border once
 abbrev pub ShowsSaved : State → Meaning → Type 0
@@ -122,7 +122,7 @@ ShowsSaved st m = m ≡ Asked Show → Saved (text_of st.doc) st.doc
 
 abbrev pub AllShowSaved : ℕ → State → List Meaning → Type 0
 AllShowSaved depth st [] = Unit {0}
-AllShowSaved depth st (m ∷ ms) = ShowsSaved st m × AllShowSaved depth (state_after depth st m) ms
+AllShowSaved depth st (m ∷ ms) = ShowsSaved st m × AllShowSaved depth (state_after_line depth st m) ms
 
 -- opened: the next number is that of the features, and there is no history
 abbrev pub opened_state : Document → State

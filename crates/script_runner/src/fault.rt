@@ -12,7 +12,7 @@ pub enum RunFault<'a> {
     Write,
     /// The writer of the saved text failed, after all lines were answered: `save fault`.
     Save,
-    /// A growth was refused, in opening too: `out of memory`.
+    /// An allocation failed, in opening too: `out of memory`.
     OutOfMemory,
 }
 

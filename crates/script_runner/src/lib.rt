@@ -10,8 +10,9 @@ mod running;
 mod sending;
 mod texts;
 
+pub use edit_records::Command;
 pub use fault::RunFault;
 pub use runner::Summary;
 pub use running::run;
 pub use script_lines::{Line, LineFault, parse_line};
-pub use undo_ring::{Answer, Command};
+pub use undo_ring::Answer;

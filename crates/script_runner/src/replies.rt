@@ -1,19 +1,21 @@
 // The answers to commands, and their texts.
 ghost use Rattle.std.specs.Prelude.{◌≡◌, ◌++◌, codes, decimal, OnOk, IfOk};
 ghost use Rattle.ring_machine.specs.Common.{Undo};
-ghost use Rattle.undo_ring.specs.Common.{command_of, IsSound, answer_of};
+ghost use Rattle.undo_ring.specs.Common.{answer_of};
+ghost use Rattle.edit_records.specs.Common.{command_of, IsSound};
 ghost use Rattle.script_runner.specs.Answers.{position_text, segment_text};
 ghost use Rattle.script_runner.specs.Answers.{answer_text, at_text, neighbours_text};
 ghost use Rattle.script_runner.specs.Replies.{Replied, TellsFault};
 
 use crate::texts::{push_features, push_number, push_position, push_segment};
 use arc_store::EditFault;
+use edit_records::Command;
 use grid_geometry::{Pos, Seg};
 use itoa::Integer;
 use point_queries::{At, Numbers};
 use segment_index::TreeIndex;
 use std::alloc::{AllocError, Allocator};
-use undo_ring::{Answer, Command, Editor, UndoFault};
+use undo_ring::{Answer, Editor, UndoFault};
 
 /// Appends the pair of segments in conflict.
 fn push_conflict<A: Allocator + Copy>(
@@ -47,7 +49,7 @@ fn push_common<A: Allocator + Copy>(text: &mut Vec<u8, A>, pos: Pos) -> Result<(
     push_position(text, pos)
 }
 
-/// Appends the text of a refusal; want of memory is none.
+/// Appends the text of a refusal; allocation failure is none.
 fn push_refusal<A: Allocator + Copy>(
     text: &mut Vec<u8, A>,
     fault: EditFault,

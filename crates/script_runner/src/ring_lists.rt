@@ -2,7 +2,7 @@
 ghost use Rattle.std.specs.Prelude.{◌≡◌, ◌++◌, [], map, length, get_or, OnOk, IfOk};
 ghost use Rattle.ring_machine.specs.Common.{Rings, feature_at};
 ghost use Rattle.map_text.specs.Common.{commas, pair_text};
-ghost use Rattle.script_runner.specs.Answers.{ring_text, polygon_text};
+ghost use Rattle.script_runner.specs.Answers.{ring_list_text, polygon_list_text};
 ghost use Rattle.script_runner.specs.Replies.{IsShown};
 
 use arc_store::{Map, RingIter};
@@ -35,7 +35,7 @@ fn push_ring<A: Allocator + Copy>(
     ring: usize,
     text: &mut Vec<u8, A>,
 ) -> Result<(), AllocError>
-    ensures { OnOk result (text.new.items ≡ text.old.items ++ ring_text
+    ensures { OnOk result (text.new.items ≡ text.old.items ++ ring_list_text
         (get_or (get_or (feature_at map.now.doc f).polygons polygon []) ring [])) }
 {
     let Some(positions) = map.ring(f, polygon, ring) else {
@@ -58,7 +58,7 @@ fn push_polygon<A: Allocator + Copy>(
 ) -> Result<(), AllocError>
     requires { rings ≡ length (get_or (feature_at map.now.doc f).polygons polygon []) }
     ensures { OnOk result (text.new.items ≡ text.old.items
-        ++ polygon_text (get_or (feature_at map.now.doc f).polygons polygon [])) }
+        ++ polygon_list_text (get_or (feature_at map.now.doc f).polygons polygon [])) }
 {
     text.extend_from_slice(b"[")?;
     for ring in 0..rings {

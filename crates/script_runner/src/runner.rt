@@ -165,7 +165,7 @@ impl<'a, A: Allocator + Copy> Runner<'a, A> {
         Ok(())
     }
 
-    /// Takes the bytes of a line and the line feed behind them, and answers the line.
+    /// Takes the bytes of a line and the line feed after them, and answers the line.
     fn feed_line<W: Sink>(&mut self, line: &[u8], out: &mut W) -> Result<(), WriteFault>
         requires works { W.has_failed out.old ≡ false }
         requires feeds { NoFeed line.now }

@@ -4,9 +4,9 @@ ghost use Rattle.device_io.specs.Common.{Sends};
 ghost use Rattle.map_text.specs.Common.{text_of, Saved};
 ghost use Rattle.topo_writer.specs.Common.{of_device};
 ghost use Rattle.script_runner.specs.Devices.{reader_of, writer_of, devices_of};
-ghost use Rattle.script_runner.specs.Outcome.{OpensAs, Completes, Ends};
+ghost use Rattle.script_runner.specs.Outcome.{OpensAs, Completes, RunEnds};
 ghost use Rattle.script_runner.specs.Progress.{start};
-ghost use Rattle.script_runner.specs.Ended.{Answers, AnswersAndSaves, Halts, Fails};
+ghost use Rattle.script_runner.specs.Ended.{Answers, AnswersAndSaves, Halts, RunFails};
 ghost use Rattle.script_runner.specs.Ended.{IsOpenEnd, IsBuildEnd, IsAnswerEnd, IsSaveEnd};
 
 use crate::fault::RunFault;
@@ -158,7 +158,7 @@ fn answer_and_save<'a, A: Allocator + Copy, R: Source, W: Sink, V: Sink>(
     ensures done { IfOk result (λ summary. AnswersAndSaves runner.old.depth runner.old.state.doc
         (devices_of R.Source W.Sink V.Sink script.old out.old saved.old)
         (devices_of R.Source W.Sink V.Sink script.new out.new saved.new) summary) }
-    ensures fault { IfErr result (λ fault. Fails fault runner.old.depth runner.old.state.doc
+    ensures fault { IfErr result (λ fault. RunFails fault runner.old.depth runner.old.state.doc
         (devices_of R.Source W.Sink V.Sink script.old out.old saved.old)
         (devices_of R.Source W.Sink V.Sink script.new out.new saved.new)) }
 {
@@ -200,7 +200,7 @@ pub fn run<'a, A: Allocator + Copy, R: Source, W: Sink, V: Sink>(
         (devices_of R.Source W.Sink V.Sink script.old out.old saved.old)
         (devices_of R.Source W.Sink V.Sink script.new out.new saved.new)
         summary) }
-    ensures fault { IfErr result (λ fault. Ends fault map.now depth
+    ensures fault { IfErr result (λ fault. RunEnds fault map.now depth
         (devices_of R.Source W.Sink V.Sink script.old out.old saved.old)
         (devices_of R.Source W.Sink V.Sink script.new out.new saved.new)) }
 {

@@ -2,16 +2,16 @@
 use Rattle.kit_words.proofs.Common.{◌≡◌, true, sym, subst, List, Contains, ◌⊎◌, inl, inr, Option, Result, Ok, Err, ℕ}
 use Rattle.kit_words.proofs.Common.{◌<◌, All, IfSome, IfErr, IsErrAnd}
 use Rattle.grid_geometry.specs.Common.{Segment, conflict}
-use Rattle.segment_paths.specs.Common.{Path, ArePaths, links_of, inner_positions, StillConflict, HasMore, paths_seen}
-use Rattle.segment_paths.specs.Common.{IsPiece, IsOf, AreOwners, SegmentPath}
+use Rattle.segment_paths.specs.Common.{PathOfSegment, ArePaths, links_of, inner_positions, StillConflict, HasMore, paths_seen}
+use Rattle.segment_paths.specs.Common.{IsPiece, IsLinkOf, AreOwners, SegmentPath}
 use Rattle.segment_paths.specs.declared.link.Piece.{Piece}
 use Rattle.segment_paths.specs.declared.fault.PathFault.{PathFault}
 
 piece_in : (P : Piece → Type 0) (ones : List Piece) (one : Piece) → All P ones → Contains ones one → P one
 piece_in P ones one h k = subst P k.2 (h k.0 one k.1)
 
-pub owners_conflict : (ss : List Segment) (paths : List Path) (s t : Segment) (ones others : List Piece) (old new : Option (Segment × Segment)) → conflict s t ≡ true
-    → All (IsPiece ss paths) ones → All (IsPiece ss paths) others → All (IsOf s) ones → All (IsOf t) others → (new ≡ old) ⊎ AreOwners ones others new
+pub owners_conflict : (ss : List Segment) (paths : List PathOfSegment) (s t : Segment) (ones others : List Piece) (old new : Option (Segment × Segment)) → conflict s t ≡ true
+    → All (IsPiece ss paths) ones → All (IsPiece ss paths) others → All (IsLinkOf s) ones → All (IsLinkOf t) others → (new ≡ old) ⊎ AreOwners ones others new
     → IfSome old (λ p. StillConflict ss paths p.0 p.1) → IfSome new (λ p. StillConflict ss paths p.0 p.1)
 owners_conflict ss paths s t ones others old new m h k i j (inl e) was = subst (λ o. IfSome o (λ p. StillConflict ss paths p.0 p.1)) (sym e) was
 owners_conflict ss paths s t ones others old new m h k i j (inr w) was =
@@ -24,9 +24,9 @@ owners_conflict ss paths s t ones others old new m h k i j (inr w) was =
       one = first.among;
       other = second.among;
       link = s;
-      of_one = subst (Contains (links_of paths one.owner)) (piece_in (IsOf s) ones one i w.2) first.has_it;
+      of_one = subst (Contains (links_of paths one.owner)) (piece_in (IsLinkOf s) ones one i w.2) first.has_it;
       opposite = t;
-      of_other = subst (Contains (links_of paths other.owner)) (piece_in (IsOf t) others other j w.3) second.has_it;
+      of_other = subst (Contains (links_of paths other.owner)) (piece_in (IsLinkOf t) others other j w.3) second.has_it;
       conflict = m;
     })
 

@@ -1,7 +1,7 @@
 -- Worked examples: what is a way along a segment, and what is none.
 use Rattle.kit_words.proofs.Common.{◌≡◌, ℕ, pos, refl, [], ◌∷◌, IsStrictlySortedBy, Less, Equal, Greater}
 use Rattle.grid_geometry.specs.Common.{orientation, Position, position, Segment, segment}
-use Rattle.snap_geometry.specs.Common.{is_near, along}
+use Rattle.segment_paths.specs.Near.{is_near, along}
 use Rattle.segment_paths.specs.Common.{IsWay}
 
 abbrev at : ℕ → ℕ → Position

@@ -6,8 +6,8 @@ use Rattle.kit_words.proofs.Common.{list_all-append, All-push, All-same, All-nil
 use Rattle.grid_geometry.specs.Common.{Position, position_cmp, position_eq, Segment, segment, segment_cmp, segment_lt}
 use Rattle.grid_geometry.proofs.Common.{position_eq-same}
 use Rattle.segment_index.proofs.Common.{segment_total}
-use Rattle.snap_geometry.specs.Common.{is_near, along}
-use Rattle.segment_paths.specs.Common.{Path, IsWay, IsKnown, vertex, ArePaths, segments_of, links_of, path_seen}
+use Rattle.segment_paths.specs.Near.{is_near, along}
+use Rattle.segment_paths.specs.Common.{PathOfSegment, IsWay, IsKnown, vertex, ArePaths, segments_with_path, links_of, path_of_segment}
 use Rattle.segment_paths.specs.Common.{paths_seen, SegmentPath, IsStop, IsPiece, AreWays}
 use Rattle.segment_paths.specs.declared.ways.Ways.{Ways}
 use Rattle.segment_paths.proofs.Rising.{Rising, rising_push, rising_one, sorted_push, past_last}
@@ -51,19 +51,19 @@ pub no_paths : (ss : List Segment) → ArePaths ss []
 unfolding IsStrictlySortedBy
 no_paths ss = record { ascending = tt; among = λ k d l. absurd (omega arith); ways = λ k d l. absurd (omega arith); known = λ k d l. absurd (omega arith) }
 
-pub paths_push : (ss : List Segment) (ps : List Path) (s : Segment) (inner : List Position) → ArePaths ss ps
+pub paths_push : (ss : List Segment) (ps : List PathOfSegment) (s : Segment) (inner : List Position) → ArePaths ss ps
     → IsStrictlySortedBy segment_cmp (map (λ p. p.0) ps ++ s ∷ []) → Contains ss s → IsWay s inner → All (IsKnown ss) inner
     → ArePaths ss (ps ++ (s, inner) ∷ [])
 paths_push ss ps s inner h sorted there way known = record {
-  ascending = subst (IsStrictlySortedBy segment_cmp) (sym (map-append (λ (p : Path). p.0) ps ((s, inner) ∷ []))) sorted;
-  among = All-push (λ (p : Path). Contains ss p.0) ps (s, inner) h.among there;
-  ways = All-push (λ (p : Path). IsWay p.0 p.1) ps (s, inner) h.ways way;
-  known = All-push (λ (p : Path). All (IsKnown ss) p.1) ps (s, inner) h.known known;
+  ascending = subst (IsStrictlySortedBy segment_cmp) (sym (map-append (λ (p : PathOfSegment). p.0) ps ((s, inner) ∷ []))) sorted;
+  among = All-push (λ (p : PathOfSegment). Contains ss p.0) ps (s, inner) h.among there;
+  ways = All-push (λ (p : PathOfSegment). IsWay p.0 p.1) ps (s, inner) h.ways way;
+  known = All-push (λ (p : PathOfSegment). All (IsKnown ss) p.1) ps (s, inner) h.known known;
 }
 
 -- ---- pieces
 
-pub link_known : (ss : List Segment) (paths : List Path) (owner : Segment) (from to : Position) (link : Segment) → Contains ss owner → IsKnown ss from → IsKnown ss to
+pub link_known : (ss : List Segment) (paths : List PathOfSegment) (owner : Segment) (from to : Position) (link : Segment) → Contains ss owner → IsKnown ss from → IsKnown ss to
     → Contains (links_of paths owner) (segment from to) → link ≡ segment from to → IsPiece ss paths (record { link = link; owner = owner })
 link_known ss paths owner from to link there k l has e = record {
   among = there;
@@ -86,7 +86,7 @@ lo_known ss s there = vertex there (ap (λ b. b || position_eq s.lo s.hi) (posit
 pub hi_known : (ss : List Segment) (s : Segment) → Contains ss s → IsKnown ss s.hi
 hi_known ss s there = vertex there (or_right (position_eq s.hi s.lo) (position_eq s.hi s.hi) (position_eq-same s.hi))
 
-pub whole_known : (ss : List Segment) (paths : List Path) (s : Segment) → Contains ss s → Contains (links_of paths s) s
+pub whole_known : (ss : List Segment) (paths : List PathOfSegment) (s : Segment) → Contains ss s → Contains (links_of paths s) s
     → IsPiece ss paths (record { link = s; owner = s })
 whole_known ss paths s there alone = record {
   among = there;
@@ -111,13 +111,13 @@ ways_none ss ways stops paths links given = record {
 
 -- ---- a path after the others
 
-seen_segments : {A : Type 0} (paths : List (SegmentPath A)) → segments_of (paths_seen paths) ≡ map (λ p. p.segment) paths
+seen_segments : {A : Type 0} (paths : List (SegmentPath A)) → segments_with_path (paths_seen paths) ≡ map (λ p. p.segment) paths
 seen_segments [] = refl
 seen_segments (p ∷ ps) = ap (λ z. p.segment ∷ z) (seen_segments ps)
 
 pub past_all : {A : Type 0} (paths : List (SegmentPath A)) (n : ℕ) (p : SegmentPath A) (s : Segment) → length paths ≡ suc n → p ≡ get_or paths n p
-    → segment_lt p.segment s ≡ true → IsStrictlySortedBy segment_cmp (segments_of (paths_seen paths))
-    → IsStrictlySortedBy segment_cmp (segments_of (paths_seen paths) ++ s ∷ [])
+    → segment_lt p.segment s ≡ true → IsStrictlySortedBy segment_cmp (segments_with_path (paths_seen paths))
+    → IsStrictlySortedBy segment_cmp (segments_with_path (paths_seen paths) ++ s ∷ [])
 past_all paths n p s l e less sorted =
     let same = seen_segments paths in
     subst (λ z. IsStrictlySortedBy segment_cmp (z ++ s ∷ [])) (sym same)
@@ -126,24 +126,24 @@ past_all paths n p s l e less sorted =
     (past_last (λ q. q.segment) segment_cmp segment_total paths n p s l e (less_is (segment_cmp p.segment s) less) before))
 
 pub past_none : {A : Type 0} (paths : List (SegmentPath A)) (s : Segment) → length paths ≤ 0
-    → IsStrictlySortedBy segment_cmp (segments_of (paths_seen paths) ++ s ∷ [])
+    → IsStrictlySortedBy segment_cmp (segments_with_path (paths_seen paths) ++ s ∷ [])
 unfolding IsStrictlySortedBy
 past_none [] s l = (tt, tt)
 past_none (p ∷ ps) s l = absurd (omega arith)
 
 pub paths_more : {A : Type 0} (ss : List Segment) (old new : List (SegmentPath A)) (p : SegmentPath A) → new ≡ old ++ p ∷ [] → ArePaths ss (paths_seen old)
-    → IsStrictlySortedBy segment_cmp (segments_of (paths_seen old) ++ p.segment ∷ []) → Contains ss p.segment → IsWay p.segment p.inner.items → All (IsKnown ss) p.inner.items
+    → IsStrictlySortedBy segment_cmp (segments_with_path (paths_seen old) ++ p.segment ∷ []) → Contains ss p.segment → IsWay p.segment p.inner.items → All (IsKnown ss) p.inner.items
     → ArePaths ss (paths_seen new)
 paths_more ss old new p e h sorted there way known =
-    subst (ArePaths ss) (sym (ap paths_seen e ∙ map-append path_seen old (p ∷ [])))
+    subst (ArePaths ss) (sym (ap paths_seen e ∙ map-append path_of_segment old (p ∷ [])))
     (paths_push ss (paths_seen old) p.segment p.inner.items h sorted there way known)
 
 pub past_seen : {A : Type 0} (given paths : List (SegmentPath A)) (s : Segment) → given ≡ paths
-    → (IsStrictlySortedBy segment_cmp (segments_of (paths_seen given)) → IsStrictlySortedBy segment_cmp (segments_of (paths_seen given) ++ s ∷ []))
-    → IsStrictlySortedBy segment_cmp (segments_of (paths_seen paths)) → IsStrictlySortedBy segment_cmp (segments_of (paths_seen paths) ++ s ∷ [])
+    → (IsStrictlySortedBy segment_cmp (segments_with_path (paths_seen given)) → IsStrictlySortedBy segment_cmp (segments_with_path (paths_seen given) ++ s ∷ []))
+    → IsStrictlySortedBy segment_cmp (segments_with_path (paths_seen paths)) → IsStrictlySortedBy segment_cmp (segments_with_path (paths_seen paths) ++ s ∷ [])
 past_seen given paths s e past sorted =
-    subst (λ ps. IsStrictlySortedBy segment_cmp (segments_of (paths_seen ps) ++ s ∷ [])) e
-    (past (subst (λ ps. IsStrictlySortedBy segment_cmp (segments_of (paths_seen ps))) (sym e) sorted))
+    subst (λ ps. IsStrictlySortedBy segment_cmp (segments_with_path (paths_seen ps) ++ s ∷ [])) e
+    (past (subst (λ ps. IsStrictlySortedBy segment_cmp (segments_with_path (paths_seen ps))) (sym e) sorted))
 
 pub some_left : {X : Type 0} (xs : List X) (n : ℕ) (b : Bool) → n ≡ length xs → b ≡ (n == 0) → b ≡ false → 0 < length xs
 some_left xs zero b l e h = absurd (false≢true (sym h ∙ e))

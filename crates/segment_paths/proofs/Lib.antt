@@ -1,3 +1,7 @@
+pub mod Crossings
+pub mod Rounding
+pub mod Widths
+mod SnapExamples
 pub mod Rising
 pub mod Searched
 pub mod Linked

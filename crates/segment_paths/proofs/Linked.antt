@@ -6,7 +6,7 @@ use Rattle.grid_geometry.specs.Common.{Position, Segment, segment, segment_cmp, 
 use Rattle.ring_machine.specs.Common.{segment_of}
 use Rattle.ring_machine.proofs.Common.{segment_eq-true, In, in_contains}
 use Rattle.segment_index.proofs.Common.{segment_total}
-use Rattle.segment_paths.specs.Common.{Path, inner_of, links_of, segments_of, paths_seen, SegmentPath}
+use Rattle.segment_paths.specs.Common.{PathOfSegment, inner_of, links_of, segments_with_path, paths_seen, SegmentPath}
 use Rattle.segment_paths.proofs.Searched.{found_at}
 
 -- what is not different is the same
@@ -29,30 +29,30 @@ last_in : (a b : Position) (inner : List Position) (from : Position) → from �
 last_in a b [] from e = inl (ap (λ z. segment z b) (sym e))
 last_in a b (p ∷ ps) from e = inr (last_in p b ps from e)
 
-pub mid_link : (paths : List Path) (s : Segment) (inner : List Position) (i : ℕ) (from to : Position) → inner_of paths s ≡ inner → i < length inner
+pub mid_link : (paths : List PathOfSegment) (s : Segment) (inner : List Position) (i : ℕ) (from to : Position) → inner_of paths s ≡ inner → i < length inner
     → from ≡ get_or (s.lo ∷ inner) i from → to ≡ get_or inner i to → Contains (links_of paths s) (segment from to)
 mid_link paths s inner i from to same l e k =
     subst (λ ps. Contains (over (s.lo ∷ ps ++ s.hi ∷ [])) (segment from to)) (sym same)
     (in_contains _ _ (mid_in s.lo s.hi inner i from to l e k))
 
--- an element behind the first one
+-- an element after the first one
 pub next_at : (a : Position) (xs : List Position) (i n : ℕ) (x : Position) → n ≡ suc i → x ≡ get_or xs i x → x ≡ get_or (a ∷ xs) n x
 next_at a xs i n x e h = h ∙ ap (λ k. get_or (a ∷ xs) k x) (sym e)
 
-pub last_link : (paths : List Path) (s : Segment) (inner : List Position) (i : ℕ) (from : Position) → inner_of paths s ≡ inner → i ≡ length inner
+pub last_link : (paths : List PathOfSegment) (s : Segment) (inner : List Position) (i : ℕ) (from : Position) → inner_of paths s ≡ inner → i ≡ length inner
     → from ≡ get_or (s.lo ∷ inner) i from → Contains (links_of paths s) (segment from s.hi)
 last_link paths s inner i from same l e =
     subst (λ ps. Contains (over (s.lo ∷ ps ++ s.hi ∷ [])) (segment from s.hi)) (sym same)
     (in_contains _ _ (last_in s.lo s.hi inner from (e ∙ ap (λ n. get_or (s.lo ∷ inner) n from) l)))
 
 -- a segment without a path is its own link
-pub own_link : (paths : List Path) (s : Segment) → IsSegment s → inner_of paths s ≡ [] → Contains (links_of paths s) s
+pub own_link : (paths : List PathOfSegment) (s : Segment) → IsSegment s → inner_of paths s ≡ [] → Contains (links_of paths s) s
 own_link paths s h none =
     subst (λ ps. Contains (over (s.lo ∷ ps ++ s.hi ∷ [])) s) (sym none)
     (in_contains (segment s.lo s.hi ∷ []) s (inl (ap (λ o. cond {A = Segment} (is_gt o) (record { lo = s.hi; hi = s.lo }) s) h)))
 
 -- what a path among ascending ones puts in
-pub inner_at : {A : Type 0} (paths : List (SegmentPath A)) (i : ℕ) (p : SegmentPath A) → IsStrictlySortedBy segment_cmp (segments_of (paths_seen paths))
+pub inner_at : {A : Type 0} (paths : List (SegmentPath A)) (i : ℕ) (p : SegmentPath A) → IsStrictlySortedBy segment_cmp (segments_with_path (paths_seen paths))
     → i < length paths → p ≡ get_or paths i p → inner_of (paths_seen paths) p.segment ≡ p.inner.items
 inner_at paths i p h l e =
     found_at (λ q. q.segment) (λ q. q.inner.items) paths i p p.segment h l e

@@ -7,7 +7,7 @@ use Rattle.kit_words.proofs.Common.{tied_itself, cases_lt, searchable_from_sorte
 use Rattle.grid_geometry.specs.Common.{Position, Segment, segment_cmp, segment_eq}
 use Rattle.ring_machine.proofs.Common.{In, in_recursion}
 use Rattle.segment_index.proofs.Common.{segment_total, segment_exact, segment_eq-is}
-use Rattle.segment_paths.specs.Common.{Path, inner_of}
+use Rattle.segment_paths.specs.Common.{PathOfSegment, inner_of}
 
 -- of two segments one at most is less
 not_both : (s t : Segment) → segment_cmp s t ≡ Less → segment_cmp t s ≡ Less → ⊥
@@ -27,7 +27,7 @@ greater_differs : (s t : Segment) → segment_cmp t s ≡ Greater → segment_eq
 greater_differs s t h = segment_eq-is t s ∙ ap is_eq h
 
 module _ {X : Type 0} (key : X → Segment) (inner : X → List Position) where
-  abbrev seen : X → Path
+  abbrev seen : X → PathOfSegment
   seen x = (key x, inner x)
 
   abbrev keys : List X → List Segment

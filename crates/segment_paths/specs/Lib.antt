@@ -1,3 +1,5 @@
+pub mod Near
+pub mod Crossing
 pub mod Paths
 pub mod Faults
 pub mod Seen

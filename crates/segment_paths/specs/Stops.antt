@@ -7,7 +7,7 @@ use Rattle.segment_paths.specs.declared.stop.Stop.{Stop}
 use Rattle.segment_paths.specs.declared.link.Piece.{Piece}
 use Rattle.segment_paths.specs.declared.ways.Ways.{Ways}
 use Rattle.segment_paths.specs.declared.round.Round.{Round}
-use Rattle.segment_paths.specs.Paths.{Path, IsKnown, ArePaths, links_of}
+use Rattle.segment_paths.specs.Paths.{PathOfSegment, IsKnown, ArePaths, links_of}
 use Rattle.segment_paths.specs.Faults.{StillConflict}
 use Rattle.segment_paths.specs.Seen.{paths_seen}
 
@@ -17,15 +17,15 @@ pub record IsStop (ss : List Segment) (stop : Stop) : Type 0 where
   pub known : IsKnown ss stop.pos
 
 -- a link between known positions, with a segment whose link it is
-pub record IsPiece (ss : List Segment) (paths : List Path) (piece : Piece) : Type 0 where
+pub record IsPiece (ss : List Segment) (paths : List PathOfSegment) (piece : Piece) : Type 0 where
   pub among : Contains ss piece.owner
   pub lesser : IsKnown ss piece.link.lo
   pub greater : IsKnown ss piece.link.hi
   pub has_it : Contains (links_of paths piece.owner) piece.link
 
 -- the piece has this link
-abbrev pub IsOf : Segment → Piece → Type 0
-IsOf link piece = piece.link ≡ link
+abbrev pub IsLinkOf : Segment → Piece → Type 0
+IsLinkOf link piece = piece.link ≡ link
 
 -- the segments of two pieces, one of each list
 abbrev pub AreOwners : List Piece → List Piece → Option (Segment × Segment) → Type 0

@@ -3,13 +3,13 @@ ghost use Rattle.std.specs.Prelude.{◌≡◌, [], List, Contains, IfOk, OnOk};
 ghost use Rattle.std.specs.List.{All};
 ghost use Rattle.grid_geometry.specs.Common.{Segment, segment};
 ghost use Rattle.segment_paths.specs.Paths as spec;
-ghost use Rattle.segment_paths.specs.Paths.{Path, IsKnown, ArePaths};
+ghost use Rattle.segment_paths.specs.Paths.{PathOfSegment, IsKnown, ArePaths};
 ghost use Rattle.segment_paths.specs.Seen.{paths_seen};
-ghost use Rattle.segment_paths.specs.Stops.{IsPiece, IsOf};
+ghost use Rattle.segment_paths.specs.Stops.{IsPiece, IsLinkOf};
 
+use crate::along;
 use crate::path::SegmentPath;
 use grid_geometry::{Pos, Seg};
-use snap_geometry::along;
 use std::alloc::{AllocError, Allocator};
 
 /// A link, from one position of a path to the next, and the segment whose path it is.
@@ -34,7 +34,7 @@ fn push_link<A: Allocator + Copy>(
     from: Pos,
     to: Pos,
 ) -> Result<(), AllocError>
-    ensures { OnOk result ((ss : List Segment) (paths : List Path)
+    ensures { OnOk result ((ss : List Segment) (paths : List PathOfSegment)
         → All (IsPiece ss paths) links.old.items → Contains ss owner → IsKnown ss from
         → IsKnown ss to → Contains (spec.links_of paths owner) (segment from to)
         → All (IsPiece ss paths) links.new.items) }
@@ -51,7 +51,7 @@ fn push_links<A: Allocator + Copy>(
     owner: Seg,
     inner: &[Pos],
 ) -> Result<(), AllocError>
-    ensures { OnOk result ((ss : List Segment) (paths : List Path)
+    ensures { OnOk result ((ss : List Segment) (paths : List PathOfSegment)
         → All (IsPiece ss paths) links.old.items → Contains ss owner → All (IsKnown ss) inner.now
         → spec.inner_of paths owner ≡ inner.now → All (IsPiece ss paths) links.new.items) }
 {
@@ -86,10 +86,10 @@ pub(crate) fn push_pieces<A: Allocator + Copy>(
     links: &[Piece],
     link: Seg,
 ) -> Result<(), AllocError>
-    ensures kept { OnOk result ((ss : List Segment) (paths : List Path)
+    ensures kept { OnOk result ((ss : List Segment) (paths : List PathOfSegment)
         → All (IsPiece ss paths) found.old.items → All (IsPiece ss paths) links.now
         → All (IsPiece ss paths) found.new.items) }
-    ensures same { OnOk result (All (IsOf link) found.old.items → All (IsOf link) found.new.items) }
+    ensures same { OnOk result (All (IsLinkOf link) found.old.items → All (IsLinkOf link) found.new.items) }
     ensures none { OnOk result (links.now ≡ [] → found.new.items ≡ found.old.items) }
 {
     let begin = links.partition_point(|piece| piece.link < link);

@@ -2,7 +2,7 @@
 ghost use Rattle.std.specs.Prelude.{◌≡◌};
 ghost use Rattle.std.specs.List.Sorted.{IsStrictlySortedBy};
 ghost use Rattle.grid_geometry.specs.Common.{segment_cmp};
-ghost use Rattle.segment_paths.specs.Paths.{inner_of, segments_of};
+ghost use Rattle.segment_paths.specs.Paths.{inner_of, segments_with_path};
 ghost use Rattle.segment_paths.specs.Seen.{paths_seen};
 
 use grid_geometry::{Pos, Seg};
@@ -22,7 +22,7 @@ pub struct SegmentPath<A: Allocator + Copy = Global> {
 /// The positions between the ends of a segment on its path; none where it has none. The paths ascend
 /// by their segments.
 pub fn positions_between<A: Allocator + Copy>(paths: &[SegmentPath<A>], lo: Pos, hi: Pos) -> &[Pos]
-    ensures { IsStrictlySortedBy segment_cmp (segments_of (paths_seen paths.now))
+    ensures { IsStrictlySortedBy segment_cmp (segments_with_path (paths_seen paths.now))
         → result.now ≡ inner_of (paths_seen paths.now) (record { lo = lo; hi = hi }) }
 {
     match paths.binary_search_by_key(&(lo, hi), |path| (path.segment.lo, path.segment.hi)) {

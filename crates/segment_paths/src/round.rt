@@ -4,16 +4,16 @@ ghost use Rattle.std.specs.List.{All};
 ghost use Rattle.grid_geometry.specs.Common.{Segment};
 ghost use Rattle.grid_geometry.specs.Conflict as geometry;
 ghost use Rattle.segment_paths.specs.Faults.{IsPathFault};
-ghost use Rattle.segment_paths.specs.Paths.{Path, IsKnown};
+ghost use Rattle.segment_paths.specs.Paths.{PathOfSegment, IsKnown};
 ghost use Rattle.segment_paths.specs.Stops.{IsStop, IsPiece, AreOwners, AreWays, IsRound};
 
 use crate::fault::PathFault;
 use crate::link::Piece;
 use crate::stop::{Stop, push_stop, sort_stops};
 use crate::ways::{Ways, paths_of, room_after};
+use crate::{meets_square, rounded_crossing};
 use grid_geometry::{Pos, Seg, conflict, cross};
 use segment_index::SegIndex;
-use snap_geometry::{meets_square, rounded_crossing};
 use std::alloc::{AllocError, Allocator};
 
 /// What a round finds: stops, which part links that conflict, and two segments whose paths have
@@ -31,7 +31,7 @@ fn join_end<A: Allocator + Copy>(
     piece: &Piece,
     end: Pos,
 ) -> Result<bool, AllocError>
-    ensures { OnOk result ((ss : List Segment) (paths : List Path)
+    ensures { OnOk result ((ss : List Segment) (paths : List PathOfSegment)
         → All (IsStop ss) stops.old.items → IsPiece ss paths piece.now → IsKnown ss end
         → All (IsStop ss) stops.new.items) }
 {
@@ -47,7 +47,7 @@ fn join_ends<A: Allocator + Copy>(
     piece: &Piece,
     other: &Piece,
 ) -> Result<bool, AllocError>
-    ensures { OnOk result ((ss : List Segment) (paths : List Path)
+    ensures { OnOk result ((ss : List Segment) (paths : List PathOfSegment)
         → All (IsStop ss) stops.old.items → IsPiece ss paths piece.now
         → IsPiece ss paths other.now → All (IsStop ss) stops.new.items) }
 {
@@ -63,7 +63,7 @@ fn part<A: Allocator + Copy>(
     one: &Piece,
     other: &Piece,
 ) -> Result<(), AllocError>
-    ensures { OnOk result ((ss : List Segment) (paths : List Path)
+    ensures { OnOk result ((ss : List Segment) (paths : List PathOfSegment)
         → All (IsStop ss) stops.old.items → IsPiece ss paths one.now → IsPiece ss paths other.now
         → All (IsStop ss) stops.new.items) }
 {
@@ -83,7 +83,7 @@ fn part_from_each<A: Allocator + Copy>(
     one: &Piece,
     others: &[Piece],
 ) -> Result<(), AllocError>
-    ensures { OnOk result ((ss : List Segment) (paths : List Path)
+    ensures { OnOk result ((ss : List Segment) (paths : List PathOfSegment)
         → All (IsStop ss) stops.old.items → IsPiece ss paths one.now
         → All (IsPiece ss paths) others.now → All (IsStop ss) stops.new.items) }
 {
@@ -99,7 +99,7 @@ fn part_all<A: Allocator + Copy>(
     ones: &[Piece],
     others: &[Piece],
 ) -> Result<(), AllocError>
-    ensures { OnOk result ((ss : List Segment) (paths : List Path)
+    ensures { OnOk result ((ss : List Segment) (paths : List PathOfSegment)
         → All (IsStop ss) stops.old.items → All (IsPiece ss paths) ones.now
         → All (IsPiece ss paths) others.now → All (IsStop ss) stops.new.items) }
 {

@@ -15,9 +15,9 @@ use std::alloc::Allocator;
 
 /// Paths for those of the segments that conflict with others, so that no two links of all paths
 /// conflict; a segment without a path is its own link. A position that is put in is an end of one of
-/// the segments or the crossing of two of them, rounded to the grid. Fails for want of memory, where
-/// more than `most` positions would be put in, and where two paths still conflict and no position
-/// parts them.
+/// the segments or the crossing of two of them, rounded to the grid. Fails on allocation failure, where
+/// more than `most` positions would be put in, and where two paths still conflict and no position parts
+/// them.
 ///
 /// Conflicts are found where the segments ascend, each once, and the index is empty; of others some
 /// may be missed.

@@ -2,12 +2,12 @@
 ghost use Rattle.std.specs.Prelude.{List, OnOk};
 ghost use Rattle.std.specs.List.{All};
 ghost use Rattle.grid_geometry.specs.Common.{Segment};
-ghost use Rattle.segment_paths.specs.Paths.{Path, IsKnown};
+ghost use Rattle.segment_paths.specs.Paths.{PathOfSegment, IsKnown};
 ghost use Rattle.segment_paths.specs.Stops.{IsStop, IsPiece};
 
 use crate::link::{Piece, comes_between};
+use crate::{along, is_near};
 use grid_geometry::{Pos, Seg};
-use snap_geometry::{along, is_near};
 use std::alloc::{AllocError, Allocator};
 
 /// A position that a segment is led over. Stops are ordered by segments, and those of a segment by
@@ -26,7 +26,7 @@ pub(crate) fn push_stop<A: Allocator + Copy>(
     piece: &Piece,
     pos: Pos,
 ) -> Result<bool, AllocError>
-    ensures { OnOk result ((ss : List Segment) (paths : List Path)
+    ensures { OnOk result ((ss : List Segment) (paths : List PathOfSegment)
         → All (IsStop ss) stops.old.items → IsPiece ss paths piece.now → IsKnown ss pos
         → All (IsStop ss) stops.new.items) }
 {

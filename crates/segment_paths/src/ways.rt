@@ -4,18 +4,18 @@ ghost use Rattle.std.specs.Prelude.{length, take_while, ◌++◌, ◌∷◌, ◌
 ghost use Rattle.std.specs.List.Sorted.{IsStrictlySortedBy};
 ghost use Rattle.std.specs.List.{All};
 ghost use Rattle.grid_geometry.specs.Common.{Segment, segment_cmp, segment_eq, segment_lt};
-ghost use Rattle.snap_geometry.specs.Common.{is_near, along};
+ghost use Rattle.segment_paths.specs.Near.{is_near, along};
 ghost use Rattle.segment_paths.specs.Paths as spec;
-ghost use Rattle.segment_paths.specs.Paths.{IsKnown, IsWay, ArePaths, segments_of};
+ghost use Rattle.segment_paths.specs.Paths.{IsKnown, IsWay, ArePaths, segments_with_path};
 ghost use Rattle.segment_paths.specs.Paths.{inner_positions};
 ghost use Rattle.segment_paths.specs.Seen.{paths_seen};
-ghost use Rattle.segment_paths.specs.Stops.{IsStop, IsPiece, IsOf, AreWays};
+ghost use Rattle.segment_paths.specs.Stops.{IsStop, IsPiece, IsLinkOf, AreWays};
 
 use crate::link::{Piece, links_of, push_pieces};
 use crate::path::{SegmentPath, positions_between};
 use crate::stop::{Stop, sort_stops};
+use crate::{along, is_near};
 use grid_geometry::{Pos, Seg};
-use snap_geometry::{along, is_near};
 use std::alloc::{AllocError, Allocator};
 
 /// The paths so far of ascending segments: the stops of all of them, sorted; the paths of the
@@ -73,8 +73,8 @@ fn is_before(s: Seg, t: Seg) -> bool
 
 /// Whether a segment comes after those of all paths, which ascend.
 fn is_past<A: Allocator + Copy>(paths: &[SegmentPath<A>], segment: Seg) -> bool
-    ensures { IsTrue result → IsStrictlySortedBy segment_cmp (segments_of (paths_seen paths.now))
-        → IsStrictlySortedBy segment_cmp (segments_of (paths_seen paths.now) ++ segment ∷ []) }
+    ensures { IsTrue result → IsStrictlySortedBy segment_cmp (segments_with_path (paths_seen paths.now))
+        → IsStrictlySortedBy segment_cmp (segments_with_path (paths_seen paths.now) ++ segment ∷ []) }
 {
     match paths.last() {
         Some(path) => is_before(path.segment, segment),
@@ -168,7 +168,7 @@ impl<'s, A: Allocator + Copy> Ways<'s, A> {
     fn is_whole(&self, link: Seg) -> bool
         ensures among { IsTrue result → Contains self.now.segments.now link }
         ensures alone { IsTrue result
-            → IsStrictlySortedBy segment_cmp (segments_of (paths_seen self.now.paths.items))
+            → IsStrictlySortedBy segment_cmp (segments_with_path (paths_seen self.now.paths.items))
             → Contains (spec.links_of (paths_seen self.now.paths.items) link) link }
     {
         match self.segments.binary_search(&link) {
@@ -181,7 +181,7 @@ impl<'s, A: Allocator + Copy> Ways<'s, A> {
     pub(crate) fn pieces_of(&self, alloc: A, link: Seg) -> Result<Vec<Piece, A>, AllocError>
         ensures pieces { IfOk result (λ found. (ss : List Segment) → AreWays ss self.now
             → All (IsPiece ss (paths_seen self.now.paths.items)) found.items) }
-        ensures same { IfOk result (λ found. All (IsOf link) found.items) }
+        ensures same { IfOk result (λ found. All (IsLinkOf link) found.items) }
         ensures whole { IfOk result (λ found. self.now.links.items ≡ [] → 0 < length found.items
             → Contains self.now.segments.now link) }
     {

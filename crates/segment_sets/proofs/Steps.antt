@@ -46,7 +46,7 @@ gains-more s from j old mid c above some e so_far k t = at-set (λ (x : List Seg
     rw (here, e, same, push, none) (omega arith))
     (λ (other : k ≢ j). rw (within-else from j k other) (so_far k t))
 
--- a front of a range gained it: so some of the range did
+-- a prefix of a range gained it: so some of the range did
 front_grows : (a b d : Bool) (m n : ℕ) → (b ≡ false → a ≡ false) → n ≡ m + cond (a && d) 1 0 → (m ≤ n) × (n ≤ m + cond (b && d) 1 0)
 front_grows a b d m n f e = (grind (arith, f), grind (arith, f))
 

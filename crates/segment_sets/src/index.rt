@@ -8,8 +8,8 @@ ghost use Rattle.segment_sets.specs.Times.{times_by};
 use grid_geometry::{Rect, Seg};
 use std::alloc::{AllocError, Allocator};
 
-/// A finite set of segments that finds the candidates for a box. A call fails only for want of
-/// memory.
+/// A finite set of segments that finds the candidates for a box. A call fails only on allocation
+/// failure.
 pub trait SegIndex: Drop {
     /// The segments that it holds.
     ghost held: { Self → SegmentSet };
@@ -19,7 +19,7 @@ pub trait SegIndex: Drop {
     ghost cells: { Self → Option Frame };
 
     /// Makes ready for about so many segments, before the first is added; no answer depends on it. A
-    /// call fails only for want of memory, and then it holds nothing, as before.
+    /// call fails only on allocation failure, and then it holds nothing, as before.
     fn prepare(&mut self, count: usize) -> Result<(), AllocError>
         requires empty { held self.old ≡ set.empty }
         ensures empty { held self.new ≡ set.empty }

@@ -1,5 +1,5 @@
-//! Finite sets of segments that find the candidates for a box, the segments that may meet it: in trees
-//! of boxes, one for each cell of the plane, and by a list.
+//! Finite sets of segments that find the candidates for a box, the segments that may meet it: in R-trees, which are
+//! trees of bounding boxes, one for each cell of the plane, and in a list.
 #![tactic(auto)]
 
 mod bounds;

@@ -50,8 +50,8 @@ impl<A: Allocator + Copy> ListIndex<A> {
         self.cell.segments()
     }
 
-    /// Held segments of another index, among them every one whose box meets the asked box. For the
-    /// box of another segment that index may give none less often. Fails for want of memory alone.
+    /// Held segments of another index, among them every one whose box meets the asked box. For the box
+    /// of another segment that index may give none less often. Fails only on allocation failure.
     pub fn near<I: SegIndex>(alloc: A, index: &I, rect: Rect) -> Result<Self, AllocError>
         ensures near { IfOk result (λ near. HasNear (I.held index.now) rect near) }
         ensures no_less { OnOk result ((s t : Segment)

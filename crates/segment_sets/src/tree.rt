@@ -14,7 +14,7 @@ use std::mem;
 /// For how many segments a leaf has room at first.
 const FIRST_ROOM: usize = 8;
 
-/// Segments in leaves of some each. A leaf that is full is parted into the two sides of a fork.
+/// An R-tree: segments in leaves of some each. A leaf that is full is parted into the two sides of a fork.
 /// Leaves and forks have a box that all their segments lie in.
 #[cycle(tree)]
 #[derive(Drop)]

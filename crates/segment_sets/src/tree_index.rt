@@ -8,7 +8,7 @@ use grid_geometry::{Rect, Seg};
 use std::alloc::{AllocError, Allocator, Global};
 use std::marker::Model;
 
-/// The segments in trees of boxes, each once, wherever they lie: in one tree, and from `prepare` on in
+/// The segments in R-trees, each once, wherever they lie: in one tree, and from `prepare` on in
 /// one for each cell of the extent and one beside them. A call for candidates goes into those boxes
 /// that meet the asked one, and gives each segment whose own box does, once, and no other. It is seen
 /// as the set of its segments.

@@ -19,7 +19,7 @@ first_group [] ys r h = absurd cc
 first_group (None ∷ xs) ys r h = first_group xs ys r h
 first_group (Some q ∷ xs) ys r h = h
 
--- a fault that names no refusal is want of memory, and may come in the place of any
+-- a fault that names no refusal is allocation failure, and may come in the place of any
 pub memory : (fault : EditFault) (refusal : Option Refusal) → Refuses fault None
     → Refuses fault refusal
 memory edit.OutOfMemory refusal h = tt

@@ -4,9 +4,9 @@ use Rattle.arc_store.specs.declared.fault.EditFault.{EditFault}
 use Rattle.arc_store.specs.declared.fault.EditFault.TheVariants.{Conflict, WrongSide, TooLarge, OutOfMemory}
 
 -- the split fails by a condition that comes before the pairs of segments
-abbrev pub is_early : EditFault → Bool
-is_early (Conflict s t) = false
-is_early WrongSide = false
-is_early TooLarge = false
-is_early OutOfMemory = false
-is_early _ = true
+abbrev pub comes_before_pairs : EditFault → Bool
+comes_before_pairs (Conflict s t) = false
+comes_before_pairs WrongSide = false
+comes_before_pairs TooLarge = false
+comes_before_pairs OutOfMemory = false
+comes_before_pairs _ = true

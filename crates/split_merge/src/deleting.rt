@@ -6,9 +6,8 @@ use arc_store::{EditFault, Map};
 use segment_index::SegIndex;
 use std::alloc::Allocator;
 
-/// Takes feature f out of its collection; one that is itself the geometry of a layer becomes an
-/// empty collection (TopoJSON 1.0, 2.2.7). Refused where no feature has the number, or for want of
-/// memory.
+/// Takes feature f out of its collection; one that is itself the geometry of a layer becomes an empty
+/// collection (TopoJSON 1.0, 2.2.7). Refused where no feature has the number, or on allocation failure.
 pub fn delete<'a, I: SegIndex, A: Allocator + Copy>(
     map: &mut Map<'a, I, A>,
     f: u32,

@@ -2,9 +2,9 @@ ghost use Rattle.std.specs.Prelude.{◌≡◌, [], ◌∷◌, IfOk};
 ghost use Rattle.json.specs.Print.{print};
 ghost use Rattle.json.specs.Token.{string};
 ghost use Rattle.topo_outline.specs.Common.{IsJson};
-ghost use Rattle.map_text.specs.Common.{string_text};
+ghost use Rattle.edit_records.specs.Common.{string_text};
 
-use arc_store::IdText;
+use edit_records::IdText;
 use json::Writer;
 use std::alloc::{AllocError, Allocator};
 

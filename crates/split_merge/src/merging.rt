@@ -72,9 +72,9 @@ fn merge_now<'a, I: SegIndex, A: Allocator + Copy>(
     map.raw_merge(f, g)
 }
 
-/// Joins feature g to feature f along the only run of segments that their outer rings have in
-/// common: f has the holes of both then, and keeps its id, its properties and its members; g is
-/// taken out. Refused by the first condition that fails, or for want of memory.
+/// Joins feature g to feature f along the only run of segments that their outer rings have in common: f
+/// has the holes of both then, and keeps its id, its properties and its members; g is taken out.
+/// Refused by the first condition that fails, or on allocation failure.
 pub fn merge<'a, I: SegIndex, A: Allocator + Copy>(
     map: &mut Map<'a, I, A>,
     f: u32,

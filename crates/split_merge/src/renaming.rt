@@ -1,14 +1,15 @@
 ghost use Rattle.std.specs.Prelude.{◌≡◌, OnOk};
 ghost use Rattle.ring_machine.specs.Common.{renamed, first_of, feature_refusals};
 ghost use Rattle.arc_store.specs.Common.{Edits, edit_begun, IsRecorded};
-ghost use Rattle.map_text.specs.Common.{string_text};
+ghost use Rattle.edit_records.specs.Common.{string_text};
 
 use crate::id_text::json_string;
-use arc_store::{EditFault, IdText, Map};
+use arc_store::{EditFault, Map};
+use edit_records::IdText;
 use segment_index::SegIndex;
 use std::alloc::Allocator;
 
-/// Gives feature f another id. Refused where no feature has the number, or for want of memory.
+/// Gives feature f another id. Refused where no feature has the number, or on allocation failure.
 pub fn rename<'a, I: SegIndex, A: Allocator + Copy>(
     map: &mut Map<'a, I, A>,
     f: u32,

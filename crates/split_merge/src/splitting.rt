@@ -7,18 +7,19 @@ ghost use Rattle.segment_index.specs.Common.{times_by};
 ghost use Rattle.local_planarity.specs.Common.{most_for};
 ghost use Rattle.arc_store.specs.Common.{Refuses, Edits, edit_begun, split_map, IsRecorded};
 ghost use Rattle.split_merge.specs.Conditions.{place_refusals, early_refusals};
-ghost use Rattle.split_merge.specs.Untested.{is_early};
-ghost use Rattle.map_text.specs.Common.{string_text};
+ghost use Rattle.split_merge.specs.Untested.{comes_before_pairs};
+ghost use Rattle.edit_records.specs.Common.{string_text};
 
 use crate::id_text::json_string;
 use crate::path_way::check_path;
-use arc_store::{EditFault, IdText, Map, Path};
+use arc_store::{EditFault, Map};
+use edit_records::{IdText, Path};
 use grid_geometry::Pos;
 use ring_parts::first_cut;
 use segment_index::SegIndex;
 use std::alloc::{AllocError, Allocator};
 
-/// Whether the path cuts a polygon of the feature. Fails for want of memory alone.
+/// Whether the path cuts a polygon of the feature. Fails only on allocation failure.
 fn is_cut<'a, I: SegIndex, A: Allocator + Copy>(
     map: &Map<'a, I, A>,
     f: u32,
@@ -91,7 +92,7 @@ fn split_now<'a, I: SegIndex, A: Allocator + Copy>(
         (split_map map.old f (string_text id.now) (path_of positions.now)) }
     ensures made { IfOk result (λ made. made ≡ map.old.next) }
     ensures untested { IfErr result
-        (λ fault. IsTrue (is_early fault) → map.new.tests ≡ map.old.tests) }
+        (λ fault. IsTrue (comes_before_pairs fault) → map.new.tests ≡ map.old.tests) }
     ensures few { map.new.tests ≤ map.old.tests + most_for (times_by map.old.cells) map.old.doc
         (cut map.old.doc f (string_text id.now) (path_of positions.now) map.old.next) }
 {
@@ -102,11 +103,11 @@ fn split_now<'a, I: SegIndex, A: Allocator + Copy>(
     map.raw_split(f, text, positions)
 }
 
-/// Cuts the first polygon of feature f that the path, of 2 to 256 positions, leads across: f keeps
-/// the part in which the path runs backwards, and the other one becomes a new Polygon directly after
-/// it, with this id and the properties and unknown members of f. A hole goes with the part that it
-/// lies in. Answers the number of the new feature. Refused by the first condition that fails, or
-/// for want of memory.
+/// Cuts the first polygon of feature f that the path, of 2 to 256 positions, leads across: f keeps the
+/// part in which the path runs backwards, and the other one becomes a new Polygon directly after it,
+/// with this id and the properties and unknown members of f. A hole goes with the part that it lies in.
+/// Answers the number of the new feature. Refused by the first condition that fails, or on allocation
+/// failure.
 pub fn split<'a, I: SegIndex, A: Allocator + Copy>(
     map: &mut Map<'a, I, A>,
     f: u32,
@@ -123,7 +124,7 @@ pub fn split<'a, I: SegIndex, A: Allocator + Copy>(
     ensures areas { IfOk result (λ made.
         area_of (feature_at map.new.doc f) +ℤ area_of (feature_at map.new.doc made)
         ≡ area_of (feature_at map.old.doc f)) }
-    ensures untested { IfErr result (λ fault. IsTrue (is_early fault) → map.new.tests ≡ 0) }
+    ensures untested { IfErr result (λ fault. IsTrue (comes_before_pairs fault) → map.new.tests ≡ 0) }
     ensures few { map.new.tests ≤ most_for (times_by map.old.cells) map.old.doc
         (cut map.old.doc f (string_text id) (path_of path) map.old.next) }
 {

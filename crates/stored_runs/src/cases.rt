@@ -41,7 +41,7 @@ pub(crate) fn odd_line(case: &str) -> Option<&str> {
     None
 }
 
-/// What stands behind this mark, on the first line of the case that begins with it.
+/// What follows this mark, on the first line of the case that begins with it.
 pub(crate) fn field<'t>(case: &'t str, mark: &str) -> Option<&'t str> {
     for line in case.lines() {
         if let Some(rest) = line.strip_prefix(mark) {
@@ -116,7 +116,7 @@ fn byte_of(high: u8, low: u8) -> Option<u8> {
     Some(digit(high)?.wrapping_mul(16).wrapping_add(digit(low)?))
 }
 
-/// Appends what stands behind a `%`: the byte of two digits, and the rest.
+/// Appends what follows a `%`: the byte of two digits, and the rest.
 fn push_escaped(script: &mut Vec<u8>, part: &[u8]) -> Result<(), AllocError> {
     if let [high, low, rest @ ..] = part {
         if let Some(byte) = byte_of(*high, *low) {

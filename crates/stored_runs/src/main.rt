@@ -26,7 +26,7 @@ const FAMILIES: &str = "families.txt";
 /// Has small maps and texts by name.
 const NAMED: &str = "maps.txt";
 
-/// Names maps, behind the numbers of their features.
+/// Names maps, after the numbers of their features.
 const SAVED_MAPS: &str = "saved_maps.txt";
 
 /// What was run so far.
@@ -106,7 +106,7 @@ fn show_family<R: Print + AllocGlobal + Files>(
     Ok(())
 }
 
-/// Saves a map, which stands behind the number of its features, and prints what is said of it.
+/// Saves a map, which follows the number of its features, and prints what is said of it.
 fn show_saved<R: Print + AllocGlobal + Files>(
     rt: &R,
     seed: RandomState,

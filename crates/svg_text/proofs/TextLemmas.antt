@@ -1,8 +1,8 @@
 -- What escaping makes of bytes is text.
 use Rattle.kit_words.proofs.Common.{◌≡◌, ℕ, ◌<◌, ◌==◌, ◌⊎◌, inl, inr, List, [], ◌∷◌, ◌++◌, Bool, true, false, refl}
 use Rattle.kit_words.proofs.Common.{arith, lit<, if◌then◌else◌, eqb-false, lt-ltb, eqb_tells}
-use Rattle.svg_text.specs.Common.{escaped, escaped_from, escaped_byte, escaped_behind, ends_noncharacter, is_control}
-use Rattle.svg_text.specs.Common.{IsText, IsPlain, none, plain, reference, ampersand, less, greater, quote, apostrophe}
+use Rattle.svg_text.specs.Common.{escaped, escaped_from, escaped_byte, escaped_after, ends_noncharacter, is_control}
+use Rattle.svg_text.specs.Common.{IsXmlText, IsPlain, none, plain, reference, ampersand, less, greater, quote, apostrophe}
 use Rattle.svg_text.specs.Common.{return}
 
 -- a choice has what both of its sides have
@@ -31,9 +31,9 @@ tab_or_line b fine low =
       ]
     ]
 
-text_byte : (b : ℕ) (bs : List ℕ) → IsText bs → IsText (escaped_byte b ++ bs)
+text_byte : (b : ℕ) (bs : List ℕ) → IsXmlText bs → IsXmlText (escaped_byte b ++ bs)
 text_byte b bs rest =
-    let P : List ℕ → Type 0 = λ z. IsText (z ++ bs) in
+    let P : List ℕ → Type 0 = λ z. IsXmlText (z ++ bs) in
     by_test (b == 38) _ _ P (λ _. reference ampersand rest) (λ n38.
     by_test (b == 60) _ _ P (λ _. reference less rest) (λ n60.
     by_test (b == 62) _ _ P (λ _. reference greater rest) (λ n62.
@@ -51,14 +51,14 @@ text_byte b bs rest =
       no_control = tab_or_line b fine;
     }) rest)))))))
 
-text_behind : (first second b : ℕ) (bs : List ℕ) → IsText bs → IsText (escaped_behind first second b ++ bs)
-text_behind first second b bs rest =
-    let P : List ℕ → Type 0 = λ z. IsText (z ++ bs) in
+text_after : (first second b : ℕ) (bs : List ℕ) → IsXmlText bs → IsXmlText (escaped_after first second b ++ bs)
+text_after first second b bs rest =
+    let P : List ℕ → Type 0 = λ z. IsXmlText (z ++ bs) in
     by_test (ends_noncharacter first second b) _ _ P (λ _. plain (high 189 (lit< tt)) rest) (λ _. text_byte b bs rest)
 
-text_from : (first second : ℕ) (bytes : List ℕ) → IsText (escaped_from first second bytes)
+text_from : (first second : ℕ) (bytes : List ℕ) → IsXmlText (escaped_from first second bytes)
 text_from first second [] = none
-text_from first second (b ∷ bs) = text_behind first second b (escaped_from second b bs) (text_from second b bs)
+text_from first second (b ∷ bs) = text_after first second b (escaped_from second b bs) (text_from second b bs)
 
-pub is_text : (bytes : List ℕ) → IsText (escaped bytes)
+pub is_text : (bytes : List ℕ) → IsXmlText (escaped bytes)
 is_text bytes = text_from 0 0 bytes

@@ -10,7 +10,7 @@ replacement = 239 ∷ 191 ∷ 189 ∷ []
 abbrev pub is_control : ℕ → Bool
 is_control b = nat_lt b 32 && not (b == 9 || b == 10)
 
--- what stands for a byte of a text
+-- a byte of a text, as XML has it
 abbrev pub escaped_byte : ℕ → List ℕ
 escaped_byte b =
     if b == 38 then codes "&amp;" else
@@ -25,15 +25,15 @@ escaped_byte b =
 abbrev pub ends_noncharacter : ℕ → ℕ → ℕ → Bool
 ends_noncharacter first second b = first == 239 && second == 191 && (b == 190 || b == 191)
 
--- what stands for a byte behind two others; the last byte of U+FFFE becomes that of U+FFFD
-abbrev pub escaped_behind : ℕ → ℕ → ℕ → List ℕ
-escaped_behind first second b =
+-- a byte after two others, as XML has it; the last byte of U+FFFE becomes that of U+FFFD
+abbrev pub escaped_after : ℕ → ℕ → ℕ → List ℕ
+escaped_after first second b =
     if ends_noncharacter first second b then (189 ∷ []) else escaped_byte b
 
--- what stands for the bytes behind two others
+-- the bytes after two others, as XML has them
 abbrev pub escaped_from : ℕ → ℕ → List ℕ → List ℕ
 escaped_from first second [] = []
-escaped_from first second (b ∷ bs) = escaped_behind first second b ++ escaped_from second b bs
+escaped_from first second (b ∷ bs) = escaped_after first second b ++ escaped_from second b bs
 
 -- a text as XML has it
 abbrev pub escaped : List ℕ → List ℕ
@@ -61,7 +61,7 @@ pub record IsPlain (b : ℕ) : Type 0 where
   pub no_control : b < 32 → (b ≡ 9) ⊎ (b ≡ 10)
 
 -- bytes that mean themselves, and references
-pub data IsText : List ℕ → Type 0 where
-  none : IsText []
-  plain : {b : ℕ} {bs : List ℕ} → IsPlain b → IsText bs → IsText (b ∷ bs)
-  reference : {name bs : List ℕ} → IsReference name → IsText bs → IsText (name ++ bs)
+pub data IsXmlText : List ℕ → Type 0 where
+  none : IsXmlText []
+  plain : {b : ℕ} {bs : List ℕ} → IsPlain b → IsXmlText bs → IsXmlText (b ∷ bs)
+  reference : {name bs : List ℕ} → IsReference name → IsXmlText bs → IsXmlText (name ++ bs)

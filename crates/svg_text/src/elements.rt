@@ -1,14 +1,14 @@
-// The elements of a drawing.
+// The elements of a drawing (SVG 1.1, 5.1, 5.2, 7.7 and 10.4).
 ghost use Rattle.std.specs.Prelude.{◌≡◌, ◌++◌, codes, OnOk};
-ghost use Rattle.svg_text.specs.Elements.{box_text, place_text, picture_text, view_text, turned_text, words_text};
+ghost use Rattle.svg_text.specs.Elements.{view_box_text, box_attributes, opened_picture_text, opened_view_text, text_element};
 
 use crate::escaping::push_escaped;
-use crate::numbers::{push_attribute, push_number, push_pair};
+use crate::numbers::{push_attribute, push_pair};
 use std::alloc::{AllocError, Allocator};
 
-/// Where an element stands, and how large it is.
+/// The box of an element: `x`, `y`, `width` and `height` (SVG 1.1, 5.1.2).
 #[derive(Clone, Copy, Debug, PartialEq, Eq)]
-pub struct Place {
+pub struct ElementBox {
     /// How far its left side is from the left.
     pub x: i64,
     /// How far its upper side is from the top.
@@ -19,9 +19,13 @@ pub struct Place {
     pub height: i64,
 }
 
-/// Appends a view box as an attribute.
-fn push_box<A: Allocator>(text: &mut Vec<u8, A>, width: i64, height: i64) -> Result<(), AllocError>
-    ensures { OnOk result (text.new.items ≡ text.old.items ++ box_text width height) }
+/// Appends the attribute `viewBox` (SVG 1.1, 7.7).
+fn push_view_box<A: Allocator>(
+    text: &mut Vec<u8, A>,
+    width: i64,
+    height: i64,
+) -> Result<(), AllocError>
+    ensures { OnOk result (text.new.items ≡ text.old.items ++ view_box_text width height) }
 {
     text.extend_from_slice(b" viewBox=\"0 0 ")?;
     push_pair(text, width, height)?;
@@ -29,9 +33,12 @@ fn push_box<A: Allocator>(text: &mut Vec<u8, A>, width: i64, height: i64) -> Res
     Ok(())
 }
 
-/// Appends a place as attributes.
-fn push_place<A: Allocator>(text: &mut Vec<u8, A>, place: Place) -> Result<(), AllocError>
-    ensures { OnOk result (text.new.items ≡ text.old.items ++ place_text place) }
+/// Appends a box as four attributes.
+fn push_box_attributes<A: Allocator>(
+    text: &mut Vec<u8, A>,
+    place: ElementBox,
+) -> Result<(), AllocError>
+    ensures { OnOk result (text.new.items ≡ text.old.items ++ box_attributes place) }
 {
     push_attribute(text, "x", place.x)?;
     push_attribute(text, "y", place.y)?;
@@ -40,49 +47,39 @@ fn push_place<A: Allocator>(text: &mut Vec<u8, A>, place: Place) -> Result<(), A
     Ok(())
 }
 
-/// Begins a picture of so many units across and down.
+/// Begins a picture of this width and height.
 pub fn open_picture<A: Allocator>(
     text: &mut Vec<u8, A>,
     width: i64,
     height: i64,
 ) -> Result<(), AllocError>
-    ensures { OnOk result (text.new.items ≡ text.old.items ++ picture_text width height) }
+    ensures { OnOk result (text.new.items ≡ text.old.items ++ opened_picture_text width height) }
 {
     text.extend_from_slice(b"<svg xmlns=\"http://www.w3.org/2000/svg\"")?;
     push_attribute(text, "width", width)?;
     push_attribute(text, "height", height)?;
-    push_box(text, width, height)?;
+    push_view_box(text, width, height)?;
     text.extend_from_slice(b">\n")?;
     Ok(())
 }
 
-/// Begins a view at a place of the picture, of so many units of its own across and down.
+/// Begins a nested view in this box of the picture, with this width and height in units of its own.
 pub fn open_view<A: Allocator>(
     text: &mut Vec<u8, A>,
-    place: Place,
+    place: ElementBox,
     width: i64,
     height: i64,
 ) -> Result<(), AllocError>
-    ensures { OnOk result (text.new.items ≡ text.old.items ++ view_text place width height) }
+    ensures { OnOk result (text.new.items ≡ text.old.items ++ opened_view_text place width height) }
 {
     text.extend_from_slice(b"<svg")?;
-    push_place(text, place)?;
-    push_box(text, width, height)?;
+    push_box_attributes(text, place)?;
+    push_view_box(text, width, height)?;
     text.extend_from_slice(b">\n")?;
     Ok(())
 }
 
-/// Begins a group of this height in which y grows upwards.
-pub fn open_turned<A: Allocator>(text: &mut Vec<u8, A>, height: i64) -> Result<(), AllocError>
-    ensures { OnOk result (text.new.items ≡ text.old.items ++ turned_text height) }
-{
-    text.extend_from_slice(b"<g transform=\"translate(0 ")?;
-    push_number(text, height)?;
-    text.extend_from_slice(b") scale(1 -1)\">\n")?;
-    Ok(())
-}
-
-/// Ends a group.
+/// Ends a group (`g`).
 pub fn close_group<A: Allocator>(text: &mut Vec<u8, A>) -> Result<(), AllocError>
     ensures { OnOk result (text.new.items ≡ text.old.items ++ codes "</g>\n") }
 {
@@ -96,7 +93,8 @@ pub fn close_picture<A: Allocator>(text: &mut Vec<u8, A>) -> Result<(), AllocErr
     text.extend_from_slice(b"</svg>\n")
 }
 
-/// Appends a line of words that begins, or has its middle, at a position, as its style says.
+/// Appends a `text` element of this class at a position. Its style says whether the words begin, end or have
+/// their middle there.
 pub fn push_words<A: Allocator>(
     text: &mut Vec<u8, A>,
     style: &str,
@@ -105,7 +103,7 @@ pub fn push_words<A: Allocator>(
     words: &[u8],
 ) -> Result<(), AllocError>
     ensures { OnOk result
-        (text.new.items ≡ text.old.items ++ words_text style.now x y words.now) }
+        (text.new.items ≡ text.old.items ++ text_element style.now x y words.now) }
 {
     text.extend_from_slice(b"<text class=\"")?;
     text.extend_from_slice(style.as_bytes())?;

@@ -1,6 +1,6 @@
 // Text as XML has it.
 ghost use Rattle.std.specs.Prelude.{◌≡◌, ◌++◌, [], OnOk};
-ghost use Rattle.svg_text.specs.Escaping.{ends_noncharacter, escaped, escaped_byte, escaped_behind, is_control, IsText};
+ghost use Rattle.svg_text.specs.Escaping.{ends_noncharacter, escaped, escaped_byte, escaped_after, is_control, IsXmlText};
 
 use std::alloc::{AllocError, Allocator};
 
@@ -14,14 +14,14 @@ fn is_control(byte: u8) -> bool
     byte < 32 && !(byte == b'\t' || byte == b'\n')
 }
 
-/// Whether it ends U+FFFE or U+FFFF, which no XML text may have, behind these two bytes.
+/// Whether it ends U+FFFE or U+FFFF, which no XML text may have, after these two bytes.
 fn ends_noncharacter(first: u8, second: u8, byte: u8) -> bool
     ensures { result ≡ ends_noncharacter first second byte }
 {
     first == 0xEF && second == 0xBF && (byte == 0xBE || byte == 0xBF)
 }
 
-/// Appends what stands for a byte.
+/// Appends a byte as XML has it.
 fn push_byte<A: Allocator>(text: &mut Vec<u8, A>, byte: u8) -> Result<(), AllocError>
     ensures { OnOk result (text.new.items ≡ text.old.items ++ escaped_byte byte) }
 {
@@ -40,14 +40,14 @@ fn push_byte<A: Allocator>(text: &mut Vec<u8, A>, byte: u8) -> Result<(), AllocE
     }
 }
 
-/// Appends what stands for a byte behind two others.
-fn push_behind<A: Allocator>(
+/// Appends a byte as XML has it after these two bytes.
+fn push_after<A: Allocator>(
     text: &mut Vec<u8, A>,
     first: u8,
     second: u8,
     byte: u8,
 ) -> Result<(), AllocError>
-    ensures { OnOk result (text.new.items ≡ text.old.items ++ escaped_behind first second byte) }
+    ensures { OnOk result (text.new.items ≡ text.old.items ++ escaped_after first second byte) }
 {
     if ends_noncharacter(first, second, byte) {
         text.extend_from_slice(&[REPLACEMENT_END])
@@ -56,17 +56,17 @@ fn push_behind<A: Allocator>(
     }
 }
 
-/// Appends a text of UTF-8 so that XML reads it as it stands, between elements and in a quoted value:
+/// Appends a text of UTF-8 so that XML reads it as it is, between elements and in a quoted value:
 /// `&`, `<`, `>`, `"`, `'` and a carriage return as references, and U+FFFD for each character that XML
 /// 1.0 forbids.
 pub fn push_escaped<A: Allocator>(text: &mut Vec<u8, A>, bytes: &[u8]) -> Result<(), AllocError>
     ensures escaped { OnOk result (text.new.items ≡ text.old.items ++ escaped bytes.now) }
-    ensures means { IsText (escaped bytes.now) }
+    ensures means { IsXmlText (escaped bytes.now) }
 {
     let mut first = 0;
     let mut second = 0;
     for byte in bytes {
-        push_behind(text, first, second, *byte)?;
+        push_after(text, first, second, *byte)?;
         first = second;
         second = *byte;
     }

@@ -1,7 +1,7 @@
 // Whole numbers.
 ghost use Rattle.std.specs.Prelude.{◌≡◌, ◌++◌, OnOk};
 ghost use Rattle.std.specs.Fmt.{signed_decimal};
-ghost use Rattle.svg_text.specs.Numbers.{attribute_text, pair_text};
+ghost use Rattle.svg_text.specs.Numbers.{attribute_text, number_pair_text};
 
 use itoa::Buffer;
 use std::alloc::{AllocError, Allocator};
@@ -17,7 +17,7 @@ pub fn push_number<A: Allocator>(text: &mut Vec<u8, A>, number: i64) -> Result<(
 
 /// Appends two numbers with a space between them.
 pub fn push_pair<A: Allocator>(text: &mut Vec<u8, A>, x: i64, y: i64) -> Result<(), AllocError>
-    ensures { OnOk result (text.new.items ≡ text.old.items ++ pair_text x y) }
+    ensures { OnOk result (text.new.items ≡ text.old.items ++ number_pair_text x y) }
 {
     push_number(text, x)?;
     text.extend_from_slice(b" ")?;

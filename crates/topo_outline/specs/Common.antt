@@ -14,6 +14,7 @@ pub use Rattle.topo_outline.specs.Layers.{LayerText, OutlineText, Piece, at_most
 pub use Rattle.topo_outline.specs.Layers.{text}
 unfoldable pub use Rattle.topo_outline.specs.Layers.{leaves, leaves_in}
 pub use Rattle.topo_outline.specs.Members.{EntryNode, code, entry_of, head, is_known, kept, kept_text, member, text_of}
+pub use Rattle.topo_outline.specs.Numbered.{items_from, layers_from, numbered, polygons_at}
 pub use Rattle.topo_outline.specs.Outline.{outline, outline_text, outlined}
 pub use Rattle.topo_outline.specs.OutlineView.{IsPlaced, view_outline}
 pub use Rattle.topo_outline.specs.Shape.{are_lists, are_lists_of_lists, are_rings, are_two_numbers, each_joined}

@@ -5,8 +5,8 @@ use Rattle.topo_outline.specs.declared.fault.OpenFault.{OpenFault}
 use Rattle.topo_outline.specs.declared.fault.OpenFault.TheVariants as open_fault
 use Rattle.topo_outline.specs.Faults.{Fault, ◌>>=◌, too_deep, not_topology, bad_member, duplicate, unsupported, not_whole, out_of_range, bad_position, bad_arc_index, arcs_do_not_meet, ring_short, ring_repeats, too_large}
 
--- The code's fault is the one defined. Want of memory may come in the place of any answer, and
--- what is told before or after a value is walked is never answered.
+-- The code's fault is the one defined. Allocation failure may come in the place of any answer, and what
+-- is reported before or after a value is walked is never answered.
 abbrev pub Fails : {Y : Type 0} → OpenFault → Result Y Fault → Type 0
 Fails (open_fault.NotJson place) r = ⊥
 Fails (open_fault.TooDeep place) r = r ≡ Err (too_deep place)
@@ -32,7 +32,7 @@ abbrev pub Gives : {X Y : Type 0} → (X → Y) → Result X OpenFault → Resul
 Gives view (Ok x) r = r ≡ Ok (view x)
 Gives view (Err e) r = Fails e r
 
--- what is defined was put behind the old list, or the fault is the one defined
+-- what is defined was put after the old list, or the fault is the one defined
 abbrev pub Appends : {X A : Type 0} → List A → List A → Result X OpenFault →
     Result (List A) Fault → Type 0
 Appends old new (Ok x) r = (r >>= λ xs. Ok (old ++ xs)) ≡ Ok new

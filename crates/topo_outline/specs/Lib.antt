@@ -3,6 +3,7 @@ pub mod Faults
 pub mod Gives
 pub mod Members
 pub mod Layers
+pub mod Numbered
 pub mod Shape
 pub mod Outline
 pub mod IsOutline

@@ -91,7 +91,7 @@ pub enum OpenFault<'a> {
     Conflict { s: Seg, t: Seg },
     #[error("too large {what}")]
     TooLarge { what: Limit },
-    /// A growth of memory was refused.
+    /// An allocation failed.
     #[error("out of memory")]
     OutOfMemory,
 }

@@ -237,8 +237,8 @@ fn topology<'a, A: Allocator + Copy>(
 }
 
 /// The outline of the topology whose root this is, or the first fault of its shape: `NotTopology`,
-/// `BadMember`, `Duplicate`, `Unsupported`, at the end `TooLarge` with more than 200,000 features,
-/// and `OutOfMemory` where a growth is refused. What stands in `arcs` is not tested.
+/// `BadMember`, `Duplicate`, `Unsupported`, at the end `TooLarge` with more than 200,000 features, and
+/// `OutOfMemory` where an allocation fails. What stands in `arcs` is not tested.
 ///
 /// All that the outline owns lies in `alloc`. `heap` has each decoded name while its object is
 /// read, for `serde_json` decodes into `Global` only.

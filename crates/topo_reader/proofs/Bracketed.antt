@@ -6,7 +6,8 @@ use Rattle.ring_machine.specs.Common.{is_inner, is_geometry}
 use Rattle.topo_outline.specs.Common.{EntryNode, Piece, ends, LayerText, leaves_in, IsGeometry, null_geometry, point}
 use Rattle.topo_outline.specs.Common.{multi_point, polygon, multi_polygon, collection, AreGeometries, no_geometry}
 use Rattle.topo_outline.specs.Common.{geometry, AreLayers, no_layer, layer}
-use Rattle.topo_reader.specs.Common.{Polygons, items_from, layers_from}
+use Rattle.topo_reader.specs.Common.{Polygons}
+use Rattle.topo_outline.specs.Common.{items_from, layers_from}
 
 module _ (all : List Polygons) where
   -- with the pieces that follow, whatever numbers they have, the open collections are closed

@@ -6,7 +6,8 @@ use Rattle.json_spans.specs.Common.{Node}
 use Rattle.grid_geometry.specs.Common.{Position}
 use Rattle.ring_machine.specs.Common.{Form, Polygon, MultiPolygon, Null, Head, feature_of, fits_form}
 use Rattle.topo_outline.specs.Common.{LayerText, Piece, leaf, leaves_in, leaves}
-use Rattle.topo_reader.specs.Common.{Arc, Polygons, polygons_at, numbered, items_from, layers_from, GeometryUses}
+use Rattle.topo_reader.specs.Common.{Arc, Polygons, GeometryUses}
+use Rattle.topo_outline.specs.Common.{polygons_at, numbered, items_from, layers_from}
 use Rattle.topo_reader.specs.Common.{AreClosed}
 
 -- ---- one feature

@@ -7,7 +7,8 @@ use Rattle.ring_machine.specs.Common.{Feature, Item, Layer, feature_of, WellForm
 use Rattle.ring_machine.proofs.Common.{AreNumbered, numbered-append, numbered_distinct}
 use Rattle.topo_outline.specs.Common.{LayerText, Piece, leaf, OutlineText, leaves_in, leaves}
 use Rattle.topo_outline.specs.Common.{IsOutline}
-use Rattle.topo_reader.specs.Common.{Arc, Polygons, items_from, layers_from, document_of, GeometryUses, AreClosed}
+use Rattle.topo_reader.specs.Common.{Arc, Polygons, document_of, GeometryUses, AreClosed}
+use Rattle.topo_outline.specs.Common.{items_from, layers_from}
 use Rattle.topo_reader.proofs.Bracketed.{each_geometry}
 use Rattle.topo_reader.proofs.Fitting.{each_fits}
 

@@ -4,7 +4,8 @@ use Rattle.json_spans.specs.Common.{Node}
 use Rattle.topo_outline.specs.Common.{LayerText, Piece, starts, ends, leaf, text, OutlineText, leaves_in, IsOutline}
 use Rattle.topo_outline.specs.Common.{NestsAtMost, IsName, KeepsItem, KeepsTexts}
 use Rattle.topo_outline.proofs.Keeping.{KeepsPiece, outline_keeps}
-use Rattle.topo_reader.specs.Common.{Polygons, items_from, layers_from, document_of}
+use Rattle.topo_reader.specs.Common.{Polygons, document_of}
+use Rattle.topo_outline.specs.Common.{items_from, layers_from}
 
 module _ (all : List Polygons) where
   items_keep : (n : ℕ) (ps : List Piece) → AllByRecursion KeepsPiece ps

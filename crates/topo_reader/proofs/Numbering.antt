@@ -7,7 +7,8 @@ use Rattle.std.specs.Prelude.{sum_by}
 use Rattle.grid_geometry.specs.Common.{Position}
 use Rattle.ring_machine.specs.Common.{ItemOf, LayerOf, feature_of, rings_of}
 use Rattle.topo_outline.specs.Common.{LayerText, Piece, leaf, leaves_in, leaves}
-use Rattle.topo_reader.specs.Common.{Polygons, polygons_at, items_from, layers_from}
+use Rattle.topo_reader.specs.Common.{Polygons}
+use Rattle.topo_outline.specs.Common.{polygons_at, items_from, layers_from}
 
 module _ {R : Type 0} where
   abbrev within_items : List (ItemOf R) → List R
@@ -23,7 +24,7 @@ module _ {R : Type 0} where
   take-nil : (k : ℕ) → take {A = List (List R)} k [] ≡ []
   take-nil k = take_all {A = List (List R)} k [] (omega arith)
 
-  -- the polygons of feature n, and those of the features behind it
+  -- the polygons of feature n, and those of the features after it
   at_place : (all : List (List (List R))) (n k : ℕ)
       → rings_within (polygons_at all n) ++ flat_map rings_within (take k (drop (suc n) all))
       ≡ flat_map rings_within (take (suc k) (drop n all))

@@ -77,7 +77,7 @@ step_front delta before p bytes false left ps rest s f =
       spans = λ r. bracket_long a b r ea eb;
     }
 
--- whatever the rest is read as, the whole is read as the positions in front and these
+-- whatever the rest is read as, the whole is read as the first position and these
 abbrev pub Continues : Bool → List ℕ → List Position → Position → Bool → List ℕ → Type 0
 Continues delta inside front before more left = (ps : List Position) (rest : List ℕ) → PlainFront delta before more left ps rest → PlainFront delta origin true inside (front ++ ps) rest
 

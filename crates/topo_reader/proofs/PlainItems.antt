@@ -130,7 +130,7 @@ bracket_passes : (r : List ℕ) → part_len 44 Plain 1 (93 ∷ r) ≡ suc (part
 unfolding part_len
 bracket_passes r = refl
 
--- inside a list, a part goes on past the pair and what it goes on past behind it
+-- inside a list, a part goes on past the pair and what it goes on past after it
 pair_long : (a b tail r : List ℕ) → list_all is_plain a ≡ true → list_all is_plain b ≡ true → part_len 44 Plain 1 (tail ++ r) ≡ length tail + part_len 44 Plain 0 r → part_len 44 Plain 1 ((pair_text a b ++ tail) ++ r) ≡ length (pair_text a b ++ tail) + part_len 44 Plain 0 r
 pair_long a b tail r ea eb e =
     let pair : List ℕ = pair_text a b in

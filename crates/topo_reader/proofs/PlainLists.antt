@@ -16,7 +16,7 @@ use Rattle.topo_reader.proofs.PlainArcs.{left_len, arc_reads}
 
 -- ---- space
 
--- what stands behind the space that is left stands behind the space of the whole
+-- what follows the space that is left follows the space of the whole
 abbrev pub Spaced : List ℕ → ℕ → Type 0
 Spaced bytes i = (rest : List ℕ) → Space (drop i bytes) rest → Space bytes rest
 
@@ -141,7 +141,7 @@ item_reads delta bytes ps false left as' i h =
       begins = begins t;
     }
 
--- whatever the rest is read as, the whole is read as the arcs in front and these
+-- whatever the rest is read as, the whole is read as the first arc and these
 abbrev pub Continues : Bool → List ℕ → List (List Position) → Bool → List ℕ → Type 0
 Continues delta inside front more left = (as' : List (List Position)) → PlainItems delta more left as' → PlainItems delta true inside (front ++ as')
 

@@ -4,7 +4,8 @@ use Rattle.kit_words.proofs.Common.{Some, slice_get, unwrap_or, option_map, slic
 use Rattle.grid_geometry.specs.Common.{Position}
 use Rattle.ring_machine.specs.Common.{Open, Close, Leaf, Kept, in_feature, in_item, in_layer, in_rings}
 use Rattle.topo_outline.specs.Common.{Piece, starts, ends, leaf, text, LayerText, leaves_in}
-use Rattle.topo_reader.specs.Common.{Polygons, Opened, polygons_at, numbered, items_from, layers_from, document_of}
+use Rattle.topo_reader.specs.Common.{Polygons, Opened, document_of}
+use Rattle.topo_outline.specs.Common.{polygons_at, numbered, items_from, layers_from}
 
 module _ (g : List Position → List Position) where
   abbrev changed : Polygons → Polygons

@@ -1,7 +1,7 @@
 -- The words of this crate that others cite most, passed on from one place. Declares nothing.
 pub use Rattle.topo_reader.specs.Arcs.{Arc, origin}
 pub use Rattle.topo_reader.specs.Document.{IsOf, IsOfRings, IsOfWalks, Opened, Polygons, document_of, is_simple}
-pub use Rattle.topo_reader.specs.Document.{is_walk, items_from, layers_from, numbered, polygons_at}
+pub use Rattle.topo_reader.specs.Document.{is_walk}
 pub use Rattle.topo_reader.specs.DocumentView.{view_raw}
 pub use Rattle.topo_reader.specs.Extent.{box_with, extent_of, widened}
 pub use Rattle.topo_reader.specs.Indexes.{arc_named, index, index_from}

@@ -1,10 +1,9 @@
 -- What was read, as a document: each feature with its number and its polygons.
-use Rattle.std.specs.Prelude.{◌≡◌, ℕ, ◌+◌, ◌≤◌, nat_le, Bool, not, ◌&&◌, List, [], ◌∷◌, length, Option, unwrap_or, slice_get, IsTrue}
+use Rattle.std.specs.Prelude.{◌≡◌, ◌≤◌, nat_le, Bool, not, ◌&&◌, List, length, Option, IsTrue}
 use Rattle.std.specs.List.{list_all}
 use Rattle.grid_geometry.specs.Common.{Position, position_eq, edges}
-use Rattle.ring_machine.specs.Common.{is_ring, is_distinct, Text, Form, Member, Head, FeatureOf, ItemOf, Open, Close}
-use Rattle.ring_machine.specs.Common.{Leaf, Kept, LayerOf, Document, rings, size, WellFormed}
-use Rattle.topo_outline.specs.Common.{Piece, starts, ends, leaf, text, LayerText, leaves_in, leaves, KeepsTexts}
+use Rattle.ring_machine.specs.Common.{is_ring, is_distinct, Text, Member, Document, rings, size, WellFormed}
+use Rattle.topo_outline.specs.Common.{LayerText, leaves, layers_from, KeepsTexts}
 
 -- the polygons of one feature: an outer ring and its holes each (RFC 7946, 3.1.6)
 abbrev pub Polygons : Type 0
@@ -16,39 +15,6 @@ pub record Opened : Type 0 where
   pub layers : List LayerText
   pub members : List Member
   pub polygons : List Polygons
-
--- with rings of any kind
-module _ {R : Type 0} where
-  -- the polygons of feature n
-  abbrev pub polygons_at : List (List (List R)) → ℕ → List (List R)
-  polygons_at all n = unwrap_or (slice_get all n) []
-
-  -- a feature with its number and its polygons
-  abbrev pub numbered : ℕ → Form → Head → List (List R) → FeatureOf R
-  numbered n form head polygons = record {
-    number = n;
-    id = head.id;
-    form = form;
-    properties = head.properties;
-    members = head.members;
-    polygons = polygons;
-  }
-
-  -- the items, their features numbered from n in the order of the text
-  abbrev pub items_from : ℕ → List (List (List R)) → List Piece → List (ItemOf R)
-  items_from n all [] = []
-  items_from n all (starts head ∷ ps) = Open head ∷ items_from n all ps
-  items_from n all (ends ∷ ps) = Close ∷ items_from n all ps
-  items_from n all (leaf form head arcs ∷ ps) =
-      Leaf (numbered n form head (polygons_at all n)) ∷ items_from (n + 1) all ps
-  items_from n all (text t ∷ ps) = Kept t ∷ items_from n all ps
-
-  -- the layers, the features of each numbered on from those before it
-  abbrev pub layers_from : ℕ → List (List (List R)) → List LayerText → List (LayerOf R)
-  layers_from n all [] = []
-  layers_from n all (l ∷ ls) =
-      record { name = l.name; items = items_from n all l.pieces }
-      ∷ layers_from (n + length (leaves_in l.pieces)) all ls
 
 -- the document: features are numbered from 0 in the order of the text
 abbrev pub document_of : Opened → Document

@@ -91,7 +91,7 @@ pub record IsNotJson (bytes : List ℕ) : Type 0 where
   pub short : length bytes ≤ 67108864
   pub not_json : ¬ Json 100 bytes
 
--- the fault is the first of the bytes; want of memory may come at any time
+-- the fault is the first of the bytes; allocation failure may come at any time
 abbrev pub IsFaultIn : (Node → Result Opened Fault) → List ℕ → OpenFault → Type 0
 IsFaultIn read bytes (fault.NotJson place) = IsNotJson bytes
 IsFaultIn read bytes (fault.TooDeep place) =
@@ -125,7 +125,7 @@ IsFault bytes f = IsFaultBy Rings bytes f
 abbrev pub IsWalkFault : List ℕ → OpenFault → Type 0
 IsWalkFault bytes f = IsFaultBy Walks bytes f
 
--- where a text stops to be the front of a JSON text, or where a bracket opens level 101
+-- where a text stops to be the prefix of a JSON text, or where a bracket opens level 101
 abbrev pub IsPlaceBy : Closed → List ℕ → OpenFault → Type 0
 IsPlaceBy closed bytes (fault.NotJson place) = verdict bytes ≡ verdicts.not_json place
 IsPlaceBy closed bytes (fault.TooDeep place) =

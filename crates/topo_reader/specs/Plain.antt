@@ -63,7 +63,7 @@ abbrev pub Ends : Bool → List ℕ → Type 0
 Ends true text = (front : List ℕ) × (text ≡ front ++ 93 ∷ [])
 Ends false text = text ≡ []
 
--- inside the list, or behind it
+-- inside the list, or after it
 abbrev pub level : Bool → ℕ
 level true = 1
 level false = 0

@@ -15,8 +15,8 @@ use std::alloc::{AllocError, Allocator};
 /// Ten times a number below it, and a digit, is a number of at most eighteen digits.
 const LIMIT: u64 = 100_000_000_000_000_000;
 
-/// The digits in front as a number, and what follows them; `None` where there is none, or where
-/// the number has more than eighteen.
+/// The first digits as a number, and what follows them; `None` where there is none, or where the number
+/// has more than eighteen.
 fn digits(bytes: &[u8]) -> Option<(u64, &[u8])>
     ensures { IfSome result (λ n. PlainDigits bytes.now n.0 n.1.now) }
 {
@@ -42,7 +42,7 @@ pub(crate) fn after(byte: u8, bytes: &[u8]) -> Option<&[u8]>
     }
 }
 
-/// The number in front, and what follows it.
+/// The first number, and what follows it.
 fn plain_number(bytes: &[u8]) -> Option<(i64, &[u8])>
     ensures { IfSome result (λ n. PlainNumber bytes.now n.0 n.1.now) }
 {
@@ -54,7 +54,7 @@ fn plain_number(bytes: &[u8]) -> Option<(i64, &[u8])>
     Some((value as i64, rest))
 }
 
-/// The two numbers of the pair in front, and what follows it.
+/// The two numbers of the first pair, and what follows it.
 fn plain_pair(bytes: &[u8]) -> Option<(i64, i64, &[u8])>
     ensures { IfSome result (λ n. PlainPair bytes.now n.0 n.1 n.2.now) }
 {
@@ -81,7 +81,7 @@ fn moved(before: Pos, x: i64, y: i64) -> Option<Pos>
     Pos::new(before.x().checked_add(x)?, before.y().checked_add(y)?)
 }
 
-/// The position that a pair leads to, whether a comma stands behind it, and what follows.
+/// The position that a pair leads to, whether a comma follows it, and what follows.
 #[derive(Clone, Copy)]
 struct Step<'a> {
     to: Pos,
@@ -98,8 +98,8 @@ fn plain_step(before: Pos, bytes: &[u8]) -> Option<Step<'_>>
     Some(Step { to, more, left })
 }
 
-/// Lists the positions of the pairs behind the bracket in `found`, in place of what it held, and
-/// gives what follows the bracket that closes the list.
+/// Lists the positions of the pairs after the bracket in `found`, in place of what it held, and gives
+/// what follows the bracket that closes the list.
 fn plain_positions<'a, A: Allocator + Copy>(
     found: &mut Vec<Pos, A>,
     delta: bool,
@@ -123,7 +123,7 @@ fn plain_positions<'a, A: Allocator + Copy>(
     Ok(Some(left))
 }
 
-/// What follows the bracket in front, where another one does.
+/// What follows the first bracket, where another one does.
 fn inside(text: &[u8]) -> Option<&[u8]>
     ensures { IfSome result (λ s. (text.now ≡ 91 ∷ s.now) × (s.now ≡ 91 ∷ drop 1 s.now)) }
 {
@@ -133,7 +133,7 @@ fn inside(text: &[u8]) -> Option<&[u8]>
     }
 }
 
-/// The positions of the arc in front, and what follows it; `None` where none is written plainly.
+/// The positions of the first arc, and what follows it; `None` where none is written plainly.
 ///
 /// They grow in `scratch`, whose room serves for one arc after the other, and are copied out at
 /// their exact length.

@@ -16,7 +16,7 @@ fn is_space(x: u8) -> bool
     matches!(x, b' ' | b'\t' | b'\n' | b'\r')
 }
 
-/// What follows the white space in front.
+/// What follows the leading white space.
 fn after_space(bytes: &[u8]) -> &[u8]
     ensures { Space bytes.now result.now }
 {
@@ -28,7 +28,7 @@ fn after_space(bytes: &[u8]) -> &[u8]
     &bytes[bytes.len()..]
 }
 
-/// The positions of the arc in front, whether another one follows, and what is left.
+/// The positions of the first arc, whether another one follows, and what is left.
 fn plain_item<'a, A: Allocator + Copy>(
     alloc: A,
     scratch: &mut Vec<Pos, A>,
@@ -46,7 +46,7 @@ fn plain_item<'a, A: Allocator + Copy>(
     }
 }
 
-/// The arcs behind the bracket, up to the one at the end.
+/// The arcs after the bracket, up to the one at the end.
 fn plain_items<A: Allocator + Copy>(
     alloc: A,
     scratch: &mut Vec<Pos, A>,

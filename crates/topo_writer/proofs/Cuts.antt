@@ -4,7 +4,7 @@ use Rattle.kit_words.proofs.Common.{subst, List, [], ◌∷◌, ◌++◌, ◌||�
 use Rattle.kit_words.proofs.Common.{pos, get_or-drop, length-drop, take_more}
 use Rattle.std.proofs.Common.{append-nil}
 use Rattle.grid_geometry.specs.Common.{Position, position}
-use Rattle.topo_writer.specs.Common.{at_place, between, cut_after, is_end, Rising}
+use Rattle.topo_writer.specs.Common.{at_place, cut_between, cut_after, is_done, Rising}
 use Rattle.topo_writer.proofs.Marks.{cut_step, round_start}
 
 -- ---- places that rise
@@ -42,20 +42,20 @@ rising_at n cuts i x y l r e f =
 
 -- ---- the parts between them
 
-pub between_count : (way : List Position) (cuts : List ℕ) → length (between way cuts) ≡ length cuts - 1
+pub between_count : (way : List Position) (cuts : List ℕ) → length (cut_between way cuts) ≡ length cuts - 1
 between_count way [] = refl
 between_count way (c ∷ []) = refl
 between_count way (c ∷ d ∷ cuts) = let k = between_count way (d ∷ cuts) in omega (arith, k)
 
 between_next : (way : List Position) (cuts : List ℕ) (i x y : ℕ) (ps : List Position) → suc i < length cuts
-    → get_or (between way cuts) i ps ≡ take (get_or cuts (suc i) y + 1 - get_or cuts i x) (drop (get_or cuts i x) way)
+    → get_or (cut_between way cuts) i ps ≡ take (get_or cuts (suc i) y + 1 - get_or cuts i x) (drop (get_or cuts i x) way)
 between_next way [] i x y ps l = absurd (omega (arith, l))
 between_next way (c ∷ []) i x y ps l = absurd (omega (arith, l))
 between_next way (c ∷ d ∷ cuts) zero x y ps l = refl
 between_next way (c ∷ d ∷ cuts) (suc i) x y ps l = between_next way (d ∷ cuts) i x y ps (omega (arith, l))
 
 pub between_at : (way : List Position) (cuts : List ℕ) (i x y : ℕ) (ps : List Position) → i + 1 < length cuts
-    → x ≡ get_or cuts i x → y ≡ get_or cuts (i + 1) y → take (y + 1 - x) (drop x way) ≡ get_or (between way cuts) i ps
+    → x ≡ get_or cuts i x → y ≡ get_or cuts (i + 1) y → take (y + 1 - x) (drop x way) ≡ get_or (cut_between way cuts) i ps
 between_at way cuts i x y ps l e f =
     let one : suc i ≡ i + 1 = omega arith in
     let is : get_or cuts (suc i) y ≡ y = ap (λ z. get_or cuts z y) one ∙ sym f in
@@ -68,7 +68,7 @@ open_part way i (c ∷ []) = take (i - c) (drop c way)
 open_part way i (c ∷ d ∷ cuts) = open_part way i (d ∷ cuts)
 
 module _ (way : List Position) (i : ℕ) (l : i < length way) where
-  between_push : (cuts : List ℕ) → 0 < length cuts → between way (cuts ++ i ∷ []) ≡ between way cuts ++ open_part way (i + 1) cuts ∷ []
+  between_push : (cuts : List ℕ) → 0 < length cuts → cut_between way (cuts ++ i ∷ []) ≡ cut_between way cuts ++ open_part way (i + 1) cuts ∷ []
   between_push [] s = absurd (omega (arith, s))
   between_push (c ∷ []) s = refl
   between_push (c ∷ d ∷ cuts) s = ap (λ z. take (d + 1 - c) (drop c way) ∷ z) (between_push (d ∷ cuts) (omega arith))
@@ -90,17 +90,17 @@ module _ (way : List Position) (i : ℕ) (l : i < length way) where
 
   -- what is cut, with what is cut of the rest, stays as it is when one goes on by one place
   pub place_step : (junction : Position → Bool) (ends : Bool) (cuts new : List ℕ) → 0 < length cuts → Rising i cuts
-      → ends ≡ (is_end (drop (i + 1) way) || junction (at_place way i)) → new ≡ cuts ++ (if ends then (i ∷ []) else [])
-      → between way new ++ cut_after junction (open_part way (i + 1) new) (drop (i + 1) way)
-      ≡ between way cuts ++ cut_after junction (open_part way i cuts) (drop i way)
+      → ends ≡ (is_done (drop (i + 1) way) || junction (at_place way i)) → new ≡ cuts ++ (if ends then (i ∷ []) else [])
+      → cut_between way new ++ cut_after junction (open_part way (i + 1) new) (drop (i + 1) way)
+      ≡ cut_between way cuts ++ cut_after junction (open_part way i cuts) (drop i way)
   place_step junction ends cuts new s r is e =
-      cut_step junction way (open_part way i cuts) (open_part way (i + 1) new) (between way cuts) (between way new) i ends l is
-      (ap (between way) e ∙ cut_by ends) (ap (open_part way (i + 1)) e ∙ open_by ends)
+      cut_step junction way (open_part way i cuts) (open_part way (i + 1) new) (cut_between way cuts) (cut_between way new) i ends l is
+      (ap (cut_between way) e ∙ cut_by ends) (ap (open_part way (i + 1)) e ∙ open_by ends)
     where
-      cut_by : (b : Bool) → between way (cuts ++ (if b then (i ∷ []) else []))
-          ≡ between way cuts ++ (if b then ((open_part way i cuts ++ at_place way i ∷ []) ∷ []) else [])
-      cut_by true = between_push cuts s ∙ ap (λ z. between way cuts ++ z ∷ []) (open_more cuts s r)
-      cut_by false = ap (between way) (append-nil cuts) ∙ sym (append-nil (between way cuts))
+      cut_by : (b : Bool) → cut_between way (cuts ++ (if b then (i ∷ []) else []))
+          ≡ cut_between way cuts ++ (if b then ((open_part way i cuts ++ at_place way i ∷ []) ∷ []) else [])
+      cut_by true = between_push cuts s ∙ ap (λ z. cut_between way cuts ++ z ∷ []) (open_more cuts s r)
+      cut_by false = ap (cut_between way) (append-nil cuts) ∙ sym (append-nil (cut_between way cuts))
 
       open_by : (b : Bool) → open_part way (i + 1) (cuts ++ (if b then (i ∷ []) else []))
           ≡ (if b then (at_place way i ∷ []) else (open_part way i cuts ++ at_place way i ∷ []))

@@ -6,7 +6,7 @@ use Rattle.ring_machine.specs.Common.{Document, Feature, Item, ItemOf, Head, Ope
 use Rattle.ring_machine.specs.Common.{feature_of, features, WellFormed, are_distinct, is_geometry}
 use Rattle.ring_machine.proofs.Common.{In, all_in, in-flat_map, contains_in, map_there}
 use Rattle.map_frame.specs.Common.{ShownItem, Opens, Closes, Stands, Keeps, shown_item}
-use Rattle.topo_writer.specs.Common.{bare, item_at, written_item, written_at, feature_at, IsThere, ShowsLayer, is_begin}
+use Rattle.topo_writer.specs.Common.{bare, item_at, written_item, written_at, feature_or_bare, IsThere, ShowsLayer, is_begin}
 use Rattle.topo_writer.specs.Common.{open_after, more_after}
 use Rattle.topo_writer.proofs.OpenedLemmas.{geometry_begins}
 
@@ -69,19 +69,19 @@ written_begins d formed items s =
     ∙ geometry_begins s.layer.items (all_in (λ l. is_geometry l.items) d.layers s.layer formed.geometries (contains_in d.layers s.layer s.there))
 
 stands_there : (d : Document) → WellFormed d → (items : List ShownItem) → ShowsLayer d items → (n : ℕ) → In (Stands n) items
-    → feature d n ≡ Some (feature_at d n)
+    → feature d n ≡ Some (feature_or_bare d n)
 stands_there d formed items s n i = go s.layer.items (λ f k. leaf_feature d formed s.layer s.there f k) (subst (In (Stands n)) s.shows i)
   where
-    known : (f : Feature) → feature d f.number ≡ Some f → feature d f.number ≡ Some (feature_at d f.number)
+    known : (f : Feature) → feature d f.number ≡ Some f → feature d f.number ≡ Some (feature_or_bare d f.number)
     known f e = e ∙ ap (λ o. Some (unwrap_or o (bare f.number))) (sym e)
 
-    go : (xs : List Item) → ((f : Feature) → In (Leaf f) xs → feature d f.number ≡ Some f) → In (Stands n) (map shown_item xs) → feature d n ≡ Some (feature_at d n)
+    go : (xs : List Item) → ((f : Feature) → In (Leaf f) xs → feature d f.number ≡ Some f) → In (Stands n) (map shown_item xs) → feature d n ≡ Some (feature_or_bare d n)
     go [] h k = absurd k
     go (Open o ∷ xs) h (inl e) = absurd cc
     go (Close ∷ xs) h (inl e) = absurd cc
     go (Leaf f ∷ xs) h (inl e) =
         let same : f.number ≡ n = cc in
-        subst (λ m. feature d m ≡ Some (feature_at d m)) same (known f (h f (inl refl)))
+        subst (λ m. feature d m ≡ Some (feature_or_bare d m)) same (known f (h f (inl refl)))
     go (Kept t ∷ xs) h (inl e) = absurd cc
     go (x ∷ xs) h (inr k) = go xs (λ f m. h f (inr m)) k
 

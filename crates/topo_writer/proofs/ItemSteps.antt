@@ -70,7 +70,7 @@ module _ (d : Document) (xs : List ShownItem) (s : ShownItem) where
               ∙ ap (λ z. z ++ later) text_more ∙ append_assoc before mine later,
         )
 
-    -- a sink after one more item, and after a front of it
+    -- a sink after one more item, and after a prefix of it
     pub sent_step : {W : Type 0} {its : sink.Ghosts W} {a b c : W} → Took its a b before → Took its b c mine
         → Took its a c (items_text [] false (map (written_at d) one_more))
     sent_step {its = its} {a = a} {c = c} p q = subst (Took its a c) (sym text_more) (took_both p q)

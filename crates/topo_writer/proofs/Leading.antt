@@ -8,7 +8,7 @@ use Rattle.ring_machine.specs.Common.{Document, Feature, Item, Leaf, Layer, feat
 use Rattle.ring_machine.specs.Common.{in_feature, size, is_junction}
 use Rattle.map_text.specs.Common.{arcs_of, indexes, pieces, with_pieces}
 use Rattle.map_text.proofs.Common.{all_arcs}
-use Rattle.topo_writer.specs.Common.{feature_at, item_rings, LeadsOn, all_rings_at}
+use Rattle.topo_writer.specs.Common.{feature_or_bare, item_rings, LeadsOn, all_rings_at}
 use Rattle.topo_writer.proofs.Later.{with_pieces-append}
 use Rattle.topo_writer.proofs.LaterParts.{Known, rings_same, rings_few}
 
@@ -97,20 +97,20 @@ feature_whole d arcs next f h e =
     ∙ ap (λ z. in_feature (indexes j z) f) (sym whole)
 
 -- the rings of a feature by its number
-rings_by_number : (d : Document) (n : ℕ) → feature d n ≡ Some (feature_at d n) → all_rings_at d n ≡ rings_of (feature_at d n)
+rings_by_number : (d : Document) (n : ℕ) → feature d n ≡ Some (feature_or_bare d n) → all_rings_at d n ≡ rings_of (feature_or_bare d n)
 rings_by_number d n e = ap (λ o. flat_map (λ polygon. polygon) (unwrap_or (option_map (λ f. f.polygons) o) [])) e
 
 -- the arcs after a feature
-pub leaf_rings : (d : Document) (n : ℕ) (next arcs : List (List Position)) → feature d n ≡ Some (feature_at d n)
+pub leaf_rings : (d : Document) (n : ℕ) (next arcs : List (List Position)) → feature d n ≡ Some (feature_or_bare d n)
     → next ≡ with_pieces arcs (flat_map (pieces (is_junction d)) (all_rings_at d n))
-    → next ≡ with_pieces arcs (flat_map (pieces (is_junction d)) (rings_of (feature_at d n)))
+    → next ≡ with_pieces arcs (flat_map (pieces (is_junction d)) (rings_of (feature_or_bare d n)))
 leaf_rings d n next arcs e h = h ∙ ap (λ z. with_pieces arcs (flat_map (pieces (is_junction d)) z)) (rings_by_number d n e)
 
 -- there is room for its arcs
-pub leaf_few : (d : Document) (arcs : List (List Position)) (n : ℕ) → feature d n ≡ Some (feature_at d n) → LeadsOn d arcs (Leaf (feature_at d n) ∷ [])
+pub leaf_few : (d : Document) (arcs : List (List Position)) (n : ℕ) → feature d n ≡ Some (feature_or_bare d n) → LeadsOn d arcs (Leaf (feature_or_bare d n) ∷ [])
     → length arcs + sum_by length (all_rings_at d n) ≤ 4000000
 leaf_few d arcs n e h =
-    let mine = rings_of (feature_at d n) in
+    let mine = rings_of (feature_or_bare d n) in
     omega (
       arith,
       h.few,

@@ -5,10 +5,10 @@ use Rattle.kit_words.proofs.Common.{pos, drop_more, take_more, map-append, drop-
 use Rattle.std.proofs.Common.{append-nil}
 use Rattle.grid_geometry.specs.Common.{Position, position}
 use Rattle.map_text.specs.Common.{begun, from_first, before_first}
-use Rattle.topo_writer.specs.Common.{at_place, is_end, cut_after}
+use Rattle.topo_writer.specs.Common.{at_place, is_done, cut_after}
 
 -- before the end
-pub not_end : (way : List Position) (n : ℕ) → n < length way → is_end (drop n way) ≡ false
+pub not_end : (way : List Position) (n : ℕ) → n < length way → is_done (drop n way) ≡ false
 not_end [] n l = absurd (omega (arith, l))
 not_end (p ∷ ps) zero l = refl
 not_end (p ∷ ps) (suc n) l = not_end ps n (omega (arith, l))
@@ -22,7 +22,7 @@ mark_at junction ps marks i e l =
 
 -- one place more of a way
 pub cut_step : (junction : Position → Bool) (way piece piece' : List Position) (done done' : List (List Position)) (i : ℕ)
-    (ends : Bool) → i < length way → ends ≡ (is_end (drop (i + 1) way) || junction (at_place way i))
+    (ends : Bool) → i < length way → ends ≡ (is_done (drop (i + 1) way) || junction (at_place way i))
     → done' ≡ done ++ (if ends then ((piece ++ at_place way i ∷ []) ∷ []) else [])
     → piece' ≡ (if ends then (at_place way i ∷ []) else (piece ++ at_place way i ∷ []))
     → done' ++ cut_after junction piece' (drop (i + 1) way) ≡ done ++ cut_after junction piece (drop i way)
@@ -37,7 +37,7 @@ cut_step junction way piece piece' done done' i ends l is d p =
     x : Position
     x = at_place way i
 
-    by_ends : (e : Bool) → e ≡ (is_end rest || junction x)
+    by_ends : (e : Bool) → e ≡ (is_done rest || junction x)
         → (done ++ (if e then ((piece ++ x ∷ []) ∷ []) else [])) ++ cut_after junction (if e then (x ∷ []) else (piece ++ x ∷ [])) rest
         ≡ done ++ cut_after junction piece (x ∷ rest)
     by_ends true h =

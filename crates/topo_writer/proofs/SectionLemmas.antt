@@ -1,4 +1,4 @@
--- The sections of a text are the text, and a front of some of them is a front of it.
+-- The sections of a text are the text, and a prefix of some of them is a prefix of it.
 use Rattle.kit_words.proofs.Common.{◌≡◌, ◌≤◌, refl, sym, ap, ap₂, ◌∙◌, subst, List, [], ◌∷◌, ◌++◌, map, append_assoc}
 use Rattle.kit_words.proofs.Common.{Bool, Option, Some, None, arith, codes, is_some, option_map, AllByRecursion}
 use Rattle.device_io.specs.Common.{TookFront}

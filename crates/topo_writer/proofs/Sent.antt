@@ -24,7 +24,7 @@ commas_split {A = A} f (y ∷ ys) (suc i) x h e =
     later (z ∷ zs) zero l d = (further (map f zs), ap (λ w. (codes "," ++ f w) ++ further (map f zs)) (sym d))
     later (z ∷ zs) (suc k) l d = let r = later zs k (omega arith) d in (r.0, ap (λ w. (codes "," ++ f z) ++ w) r.1 ∙ sym (append_assoc (codes "," ++ f z) (further (map f (take k zs))) ((codes "," ++ f x) ++ r.0)))
 
--- a sink after one more item, and after a front of it
+-- a sink after one more item, and after a prefix of it
 module _ {W A : Type 0} {its : sink.Ghosts W} (f : A → List ℕ) (xs : List A) (i : ℕ) (x : A) (h : i < length xs) (e : x ≡ get_or xs i x) {a b c : W} where
   pub sent_step : Took its a b (commas (map f (take i xs))) → Took its b c (comma_if (nat_lt 0 i) ++ f x) → Took its a c (commas (map f (take (i + 1) xs)))
   sent_step p q = subst (Took its a c) (sym (commas_step f xs i x h e)) (took_both p q)

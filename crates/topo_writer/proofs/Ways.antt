@@ -10,7 +10,7 @@ use Rattle.ring_machine.proofs.Common.{same_answer, edge_eq-refl, position_eq-tr
 use Rattle.map_text.specs.Common.{begun, cut_round, pieces, led_from, cut_way, are_equal, index_from, is_arc}
 use Rattle.map_text.specs.Common.{with_piece, with_pieces, index_of}
 use Rattle.map_text.proofs.Common.{becomes_arc, are_equal-true, are_equal-refl}
-use Rattle.topo_writer.specs.Common.{first_edge, last_edge, found_from, found, with_found, Fits, at_place, cut_after}
+use Rattle.topo_writer.specs.Common.{first_edge, last_edge, found_from, arc_found, with_found, Fits, at_place, cut_after}
 use Rattle.topo_writer.specs.Common.{all_found, indexes_found, FitAll}
 use Rattle.topo_writer.proofs.Later.{index_kept, with_pieces_new}
 
@@ -116,7 +116,7 @@ module _ (k : Position → Bool) (next : Position → Position → Position) whe
     apart = ap (edge_eq (first_edge ps)) b.last_is ∙ same_first ps (reverse ps) b.long r.long b.piece r.piece ∙ n;
     both = λ none.
         let e : is_arc arcs ps ≡ false = sym (some_is 0 arcs ps) ∙ ap is_some (sym (found_is 0 arcs ps h b) ∙ none) in
-        ap (found arcs) b.last_is ∙ none_of (found arcs (first_edge (reverse ps))) (ap is_some (found_is 0 arcs (reverse ps) h r) ∙ some_is 0 arcs (reverse ps) ∙ reverse_arc arcs ps ∙ e);
+        ap (arc_found arcs) b.last_is ∙ none_of (arc_found arcs (first_edge (reverse ps))) (ap is_some (found_is 0 arcs (reverse ps) h r) ∙ some_is 0 arcs (reverse ps) ∙ reverse_arc arcs ps ∙ e);
   }
 
   -- ---- all pieces, one after another
@@ -135,9 +135,9 @@ module _ (k : Position → Bool) (next : Position → Position → Position) whe
       let h' = borders_more arcs ps h b.0 in
       let r = streamed (with_piece arcs ps) pss h' b.1 in
       let new = with_pieces_new (with_piece arcs ps) pss in
-      let one : or_zero (found (with_piece arcs ps) (first_edge ps)) ≡ index_of (with_pieces (with_piece arcs ps) pss) ps =
+      let one : or_zero (arc_found (with_piece arcs ps) (first_edge ps)) ≡ index_of (with_pieces (with_piece arcs ps) pss) ps =
       ap or_zero (found_is 0 (with_piece arcs ps) ps h' b.0 ∙ sym (ap (λ z. index_from 0 z ps) new.1 ∙ index_kept 0 (with_piece arcs ps) new.0 ps (becomes_arc arcs ps))) in
-      (ap (λ z. all_found z pss) w ∙ r.0, ap (λ z. or_zero (found z (first_edge ps)) ∷ indexes_found z pss) w ∙ ap₂ (λ y z. y ∷ z) one r.1)
+      (ap (λ z. all_found z pss) w ∙ r.0, ap (λ z. or_zero (arc_found z (first_edge ps)) ∷ indexes_found z pss) w ∙ ap₂ (λ y z. y ∷ z) one r.1)
 
   long_of : (ps : List Position) → 2 ≤ length ps → IsLong ps
   long_of [] h = absurd (omega arith)

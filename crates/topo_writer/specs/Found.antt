@@ -26,17 +26,17 @@ found_from n (a ∷ arcs) e =
     else found_from (n + 1) arcs e)
 
 -- the index of the arc that begins with the edge
-abbrev pub found : List (List Position) → Edge → Option ℤ
-found arcs e = found_from 0 arcs e
+abbrev pub arc_found : List (List Position) → Edge → Option ℤ
+arc_found arcs e = found_from 0 arcs e
 
 -- a piece whose first edge is not found becomes the next arc
 abbrev pub with_found : List (List Position) → List Position → List (List Position)
 with_found arcs piece =
-    if is_some (found arcs (first_edge piece)) then arcs else (arcs ++ piece ∷ [])
+    if is_some (arc_found arcs (first_edge piece)) then arcs else (arcs ++ piece ∷ [])
 
 -- what is kept by edges is what is found
 abbrev pub Mirrors : (Edge → Option ℤ) → List (List Position) → Type 0
-Mirrors kept arcs = (e : Edge) → kept e ≡ found arcs e
+Mirrors kept arcs = (e : Edge) → kept e ≡ arc_found arcs e
 
 -- a table that keeps so many arcs by edges has these
 pub record HasArcs (kept : Edge → Option ℤ) (count : ℕ) (arcs : List (List Position)) : Type 0 where
@@ -47,4 +47,4 @@ pub record HasArcs (kept : Edge → Option ℤ) (count : ℕ) (arcs : List (List
 pub record Fits (arcs : List (List Position)) (piece : List Position) : Type 0 where
   pub long : 2 ≤ length piece
   pub apart : edge_eq (first_edge piece) (last_edge piece) ≡ false
-  pub both : found arcs (first_edge piece) ≡ None → found arcs (last_edge piece) ≡ None
+  pub both : arc_found arcs (first_edge piece) ≡ None → arc_found arcs (last_edge piece) ≡ None

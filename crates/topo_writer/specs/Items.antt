@@ -27,14 +27,14 @@ bare n = record {
 }
 
 -- the feature with this number; a bare one where no feature has it
-abbrev pub feature_at : Document → ℕ → Feature
-feature_at d n = unwrap_or (feature d n) (bare n)
+abbrev pub feature_or_bare : Document → ℕ → Feature
+feature_or_bare d n = unwrap_or (feature d n) (bare n)
 
 -- the item of the document that is shown so
 abbrev pub item_at : Document → ShownItem → Item
 item_at d (Opens h) = Open h
 item_at d Closes = Close
-item_at d (Stands n) = Leaf (feature_at d n)
+item_at d (Stands n) = Leaf (feature_or_bare d n)
 item_at d (Keeps t) = Kept t
 
 -- the items of the document that are shown so
@@ -45,7 +45,7 @@ items_at d items = map (item_at d) items
 abbrev pub IsThere : Document → ShownItem → Type 0
 IsThere d (Opens h) = Unit {0}
 IsThere d Closes = Unit {0}
-IsThere d (Stands n) = feature d n ≡ Some (feature_at d n)
+IsThere d (Stands n) = feature d n ≡ Some (feature_or_bare d n)
 IsThere d (Keeps t) = Unit {0}
 
 -- the items are shown of a layer of the document
@@ -74,7 +74,7 @@ written d item = items_written d (view_item_view item ∷ [])
 
 -- the text of the feature with this number, by the indexes of the document's arcs
 abbrev pub leaf_text : Document → ℕ → Text
-leaf_text d n = written_feature (is_junction d) (arcs_of d) (feature_at d n)
+leaf_text d n = written_feature (is_junction d) (arcs_of d) (feature_or_bare d n)
 
 -- the heads of open collections, the innermost first; they are kept with the innermost last
 abbrev pub open_heads : {A : Type 0} → List (Bor (CodeHead A)) → List Head

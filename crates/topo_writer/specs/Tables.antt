@@ -12,7 +12,7 @@ use Rattle.map_text.specs.Common.{with_pieces}
 use Rattle.topo_writer.specs.declared.arcs.Arcs.{Arcs}
 use Rattle.topo_writer.specs.declared.arcs.RingName.{RingName}
 use Rattle.topo_writer.specs.Found.{HasArcs}
-use Rattle.topo_writer.specs.Items.{feature_at, item_rings, items_at, LeadsOn}
+use Rattle.topo_writer.specs.Items.{feature_or_bare, item_rings, items_at, LeadsOn}
 use Rattle.topo_writer.specs.Named.{arcs_along, listed_arcs, named_pieces, named_ring}
 use Rattle.topo_writer.specs.Reading.{all_rings_at, rings_at}
 use Rattle.topo_writer.specs.Ways.{arcs_with}
@@ -70,7 +70,7 @@ module _ {A : Type 0} where
 
   -- the table takes a feature; nothing where no feature has the number
   abbrev pub TakesFeature : Document → Arcs A → Arcs A → ℕ → Type 0
-  TakesFeature d old new n = TakesRings d old new (rings_of (feature_at d n))
+  TakesFeature d old new n = TakesRings d old new (rings_of (feature_or_bare d n))
 
   -- the table takes the features among these items
   abbrev pub TakesItems : Document → Arcs A → Arcs A → List ShownItem → Type 0

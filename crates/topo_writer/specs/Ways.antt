@@ -6,27 +6,27 @@ use Rattle.grid_geometry.specs.Common.{Position}
 use Rattle.ring_machine.specs.Common.{Document, Feature, Form, Text, rings, in_feature, is_junction}
 use Rattle.map_text.specs.Common.{pieces, indexes, with_pieces, commas, further, member_if, member_text, feature_text}
 use Rattle.map_text.specs.Common.{ring_text, polygon_text, shape_text}
-use Rattle.topo_writer.specs.Found.{found, first_edge, with_found, Fits}
+use Rattle.topo_writer.specs.Found.{arc_found, first_edge, with_found, Fits}
 
 -- nothing is left
-abbrev pub is_end : List Position → Bool
-is_end [] = true
-is_end (p ∷ ps) = false
+abbrev pub is_done : List Position → Bool
+is_done [] = true
+is_done (p ∷ ps) = false
 
 -- the pieces of the way, of which the first goes on from what stands; one ends at each junction
 -- and at the end of the way
 abbrev pub cut_after : (Position → Bool) → List Position → List Position → List (List Position)
 cut_after junction piece [] = []
 cut_after junction piece (p ∷ ps) =
-    if is_end ps || junction p
+    if is_done ps || junction p
     then ((piece ++ p ∷ []) ∷ cut_after junction (p ∷ []) ps)
     else cut_after junction (piece ++ p ∷ []) ps
 
 -- the parts of the way between these places, each with both its ends
-abbrev pub between : List Position → List ℕ → List (List Position)
-between way [] = []
-between way (from ∷ []) = []
-between way (from ∷ to ∷ cuts) = take (to + 1 - from) (drop from way) ∷ between way (to ∷ cuts)
+abbrev pub cut_between : List Position → List ℕ → List (List Position)
+cut_between way [] = []
+cut_between way (from ∷ []) = []
+cut_between way (from ∷ to ∷ cuts) = take (to + 1 - from) (drop from way) ∷ cut_between way (to ∷ cuts)
 
 -- the places rise, and are among the first so many
 abbrev pub Rising : ℕ → List ℕ → Type 0
@@ -41,7 +41,7 @@ all_found arcs (piece ∷ pieces) = all_found (with_found arcs piece) pieces
 
 -- the index of a piece when it has been found or has become an arc
 abbrev pub index_found : List (List Position) → List Position → ℤ
-index_found arcs piece = unwrap_or (found (with_found arcs piece) (first_edge piece)) (pos 0)
+index_found arcs piece = unwrap_or (arc_found (with_found arcs piece) (first_edge piece)) (pos 0)
 
 -- the indexes of these pieces, each as it was found
 abbrev pub indexes_found : List (List Position) → List (List Position) → List ℤ

@@ -6,7 +6,7 @@ ghost use Rattle.std.specs.List.{AllByRecursion};
 ghost use Rattle.indexmap.specs.IndexMap.{get, Updates};
 ghost use Rattle.grid_geometry.specs.Common.{Position};
 ghost use Rattle.ring_machine.specs.Common.{edge_eq};
-ghost use Rattle.topo_writer.specs.Found.{found, first_edge, with_found, Fits};
+ghost use Rattle.topo_writer.specs.Found.{arc_found, first_edge, with_found, Fits};
 ghost use Rattle.topo_writer.specs.Tables.{Finds};
 ghost use Rattle.topo_writer.specs.Ways.{all_found, indexes_found, FitAll};
 
@@ -62,7 +62,7 @@ fn backward(n: usize) -> i64
 
 impl<A: Allocator + Copy> Arcs<A> {
     /// No arc, with room for texts of so many bytes; the seed by which edges are hashed, and whether
-    /// positions are to be written as differences. Fails for want of memory alone.
+    /// positions are to be written as differences. Fails only on allocation failure.
     pub fn with_room(
         alloc: A,
         room: usize,
@@ -115,7 +115,7 @@ impl<A: Allocator + Copy> Arcs<A> {
             → Fits arcs piece.now → Finds self.new (with_found arcs piece.now)) }
         ensures index { IfOk result (λ i. (arcs : List (List Position)) → Finds self.old arcs
             → Fits arcs piece.now
-            → found (with_found arcs piece.now) (first_edge piece.now) ≡ Some i) }
+            → arc_found (with_found arcs piece.now) (first_edge piece.now) ≡ Some i) }
     {
         if let Some(index) = self.look(piece[0], piece[1]) {
             return Ok(index);

@@ -3,7 +3,7 @@ ghost use Rattle.std.specs.Prelude.{◌≡◌, ◌+◌, ◌-◌, ◌<◌, ◌≤
 ghost use Rattle.std.specs.Prelude.{if◌then◌else◌, Bool, List, true, false, get_or, OnOk, IfOk};
 ghost use Rattle.grid_geometry.specs.Common.{Position};
 ghost use Rattle.map_text.specs.Common.{begun, pieces};
-ghost use Rattle.topo_writer.specs.Ways.{between, cut_after, is_end, Rising};
+ghost use Rattle.topo_writer.specs.Ways.{cut_between, cut_after, is_done, Rising};
 
 use grid_geometry::Pos;
 use std::alloc::{AllocError, Allocator, Global};
@@ -27,9 +27,9 @@ impl<A: Allocator + Copy> Model for CutRing<A> {
 
     ghost coded = { coded_list (coded_list position_code) };
 
-    ghost use Rattle.topo_writer.specs.Ways.{between, Rising};
+    ghost use Rattle.topo_writer.specs.Ways.{cut_between, Rising};
 
-    ghost view = { λ r. between r.way.items r.cuts.items };
+    ghost view = { λ r. cut_between r.way.items r.cuts.items };
 
     ghost invariant = { λ r. Rising (length r.way.items) r.cuts.items };
 }
@@ -64,7 +64,7 @@ fn part(way: &[Pos], from: usize, to: usize) -> &[Pos]
 fn ends_at(way: &[Pos], marks: &[bool], i: usize) -> bool
     requires way { i < length way.now }
     requires marks { i < length marks.now }
-    ensures { result ≡ (is_end (drop (i + 1) way.now) || get_or marks.now i false) }
+    ensures { result ≡ (is_done (drop (i + 1) way.now) || get_or marks.now i false) }
 {
     i + 1 == way.len() || marks[i]
 }
@@ -95,7 +95,7 @@ fn cut_way<A: Allocator + Copy>(
     ensures rising { IfOk result (λ cuts. Rising (length way.now) cuts.items) }
     ensures pieces { IfOk result (λ cuts. (junction : Position → Bool)
         → marks.now ≡ map junction way.now
-        → between way.now cuts.items ≡ cut_after junction (take 1 way.now) (drop 1 way.now)) }
+        → cut_between way.now cuts.items ≡ cut_after junction (take 1 way.now) (drop 1 way.now)) }
 {
     let mut cuts = Vec::new(alloc);
     cuts.push(0)?;

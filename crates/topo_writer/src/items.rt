@@ -5,7 +5,7 @@ ghost use Rattle.ring_machine.specs.Common.{Close, feature, Proper, WellFormed};
 ghost use Rattle.map_frame.specs.Common.{Stands, view_item_view};
 ghost use Rattle.map_text.specs.Common.{comma_if, items_text};
 ghost use Rattle.topo_writer.specs.Faults.{of_device};
-ghost use Rattle.topo_writer.specs.Items.{feature_at, items_written, leaf_text, open_heads};
+ghost use Rattle.topo_writer.specs.Items.{feature_or_bare, items_written, leaf_text, open_heads};
 ghost use Rattle.topo_writer.specs.Items.{written, IsThere, ShowsLayer};
 ghost use Rattle.topo_writer.specs.Opened.{more_after, open_after};
 ghost use Rattle.topo_writer.specs.Tables.{FindsArcs, Leads, TakesFeature, TakesItem, TakesItems};
@@ -47,7 +47,7 @@ fn push_leaf<'a, I: SegIndex, A: Allocator + Copy>(
 ) -> Result<(), AllocError>
     requires proper { Proper map.now }
     requires formed { WellFormed map.now }
-    requires there { feature map.now n ≡ Some (feature_at map.now n) }
+    requires there { feature map.now n ≡ Some (feature_or_bare map.now n) }
     requires table { FindsArcs map.now arcs.old }
     requires leads { Leads map.now arcs.old (Stands n ∷ []) }
     ensures table { OnOk result (FindsArcs map.now arcs.new) }

@@ -3,7 +3,7 @@ ghost use Rattle.std.specs.Prelude.{◌≡◌, ◌++◌, length, Contains, OnOk,
 ghost use Rattle.ring_machine.specs.Common.{rings, Proper};
 ghost use Rattle.topo_writer.specs.ByTable.{text_of_polygon, text_of_ring};
 ghost use Rattle.topo_writer.specs.Named.{named_pieces, named_ring};
-ghost use Rattle.topo_writer.specs.Reading.{rings_at, AreRings};
+ghost use Rattle.topo_writer.specs.Reading.{rings_at, AreRingsOf};
 ghost use Rattle.topo_writer.specs.Tables.{FindsArcs, HasRoom, HasRoomForRing};
 ghost use Rattle.topo_writer.specs.Tables.{TakesPolygon, TakesRing};
 
@@ -74,7 +74,7 @@ pub(crate) fn push_polygon_of<'a, I: SegIndex, A: Allocator + Copy>(
 ) -> Result<(), AllocError>
     requires proper { Proper map.now }
     requires count { count ≡ length (rings_at map.now n polygon) }
-    requires there { AreRings map.now (rings_at map.now n polygon) }
+    requires there { AreRingsOf map.now (rings_at map.now n polygon) }
     requires table { FindsArcs map.now arcs.old }
     requires few { HasRoom map.now arcs.old (rings_at map.now n polygon) }
     ensures table { OnOk result (FindsArcs map.now arcs.new) }

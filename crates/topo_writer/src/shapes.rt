@@ -5,7 +5,7 @@ ghost use Rattle.topo_outline.specs.Common.{form_of};
 ghost use Rattle.map_frame.specs.Common.{shown};
 ghost use Rattle.map_text.specs.Common.{type_text};
 ghost use Rattle.topo_writer.specs.ByTable.{text_of_feature, text_of_polygons, text_of_shape};
-ghost use Rattle.topo_writer.specs.Reading.{all_rings_at, AreRings};
+ghost use Rattle.topo_writer.specs.Reading.{all_rings_at, AreRingsOf};
 ghost use Rattle.topo_writer.specs.Tables.{FindsArcs, HasRoom, TakesPolygons};
 
 use crate::arcs::Arcs;
@@ -27,7 +27,7 @@ pub(crate) fn push_polygons_of<'a, I: SegIndex, A: Allocator + Copy>(
 ) -> Result<(), AllocError>
     requires proper { Proper map.now }
     requires seen { Some view.now ≡ option_map shown (feature map.now n) }
-    requires there { AreRings map.now (all_rings_at map.now n) }
+    requires there { AreRingsOf map.now (all_rings_at map.now n) }
     requires table { FindsArcs map.now arcs.old }
     requires few { HasRoom map.now arcs.old (all_rings_at map.now n) }
     ensures table { OnOk result (FindsArcs map.now arcs.new) }
@@ -54,7 +54,7 @@ fn push_shape<'a, I: SegIndex, A: Allocator + Copy>(
     requires proper { Proper map.now }
     requires seen { Some view.now ≡ option_map shown (feature map.now n) }
     requires fits { (f : Feature) → feature map.now n ≡ Some f → fits_form f ≡ true }
-    requires there { AreRings map.now (all_rings_at map.now n) }
+    requires there { AreRingsOf map.now (all_rings_at map.now n) }
     requires table { FindsArcs map.now arcs.old }
     requires few { HasRoom map.now arcs.old (all_rings_at map.now n) }
     ensures table { OnOk result (FindsArcs map.now arcs.new) }
@@ -100,7 +100,7 @@ pub(crate) fn push_feature<'a, I: SegIndex, A: Allocator + Copy>(
     requires proper { Proper map.now }
     requires seen { Some view.now ≡ option_map shown (feature map.now n) }
     requires fits { (f : Feature) → feature map.now n ≡ Some f → fits_form f ≡ true }
-    requires there { AreRings map.now (all_rings_at map.now n) }
+    requires there { AreRingsOf map.now (all_rings_at map.now n) }
     requires table { FindsArcs map.now arcs.old }
     requires few { HasRoom map.now arcs.old (all_rings_at map.now n) }
     ensures table { OnOk result (FindsArcs map.now arcs.new) }

@@ -72,10 +72,10 @@ fn send_map<'m, 'a, I: SegIndex, A: Allocator + Copy, W: Sink>(
     Ok(())
 }
 
-/// Writes the text of a map (TopoJSON 1.0): its layers by name, each border in one arc, and the
-/// members that were kept. The map is not changed. Where the writer fails in this call, the fault
-/// is `Device`, and where memory for a piece of the text is refused, `OutOfMemory`; a front of the
-/// text may have been taken then.
+/// Writes the text of a map (TopoJSON 1.0): its layers by name, each border in one arc, and the members
+/// that were kept. The map is not changed. Where the writer fails in this call, the fault is `Device`,
+/// and where memory for a piece of the text is refused, `OutOfMemory`; a prefix of the text may have
+/// been taken then.
 pub fn write<'a, I: SegIndex, A: Allocator + Copy, W: Sink>(
     alloc: A,
     map: &Map<'a, I, A>,

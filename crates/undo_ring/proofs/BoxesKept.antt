@@ -13,15 +13,16 @@ use Rattle.ring_machine.specs.Common.{area_of, neighbours_of}
 use Rattle.ring_machine.proofs.Common.{contains_in, in_contains, has-in, in-has, step-move, step-insert, step-remove}
 use Rattle.ring_machine.proofs.Common.{step-thin, step-split, step-merge, step-rename, step-delete}
 use Rattle.segment_index.specs.Common.{SegmentSet}
-use Rattle.ring_boxes.specs.Common.{Covers, IsCovered, Keeps}
+use Rattle.ring_boxes.specs.Common.{CoversRings, IsCovered, KeepsCovered}
 use Rattle.arc_store.specs.Common.{IsSameMap}
 use Rattle.arc_store.specs.State.{State as MapState}
 use Rattle.arc_store.specs.declared.fault.EditFault.{EditFault}
-use Rattle.undo_ring.specs.Common.{refusal_of, with_past, StopsOn, RefusesOn, AnswersMap, command_of, AreCovered}
+use Rattle.undo_ring.specs.Common.{refusal_of, with_past, StopsOn, RefusesOn, AnswersMap, AreCovered}
+use Rattle.edit_records.specs.Common.{command_of}
 use Rattle.undo_ring.specs.Common.{IsKnown, HasGrown, IsReady, touched_by, HasCome, Follows, Near}
 use Rattle.undo_ring.specs.declared.answer.Answer.{Answer as Told}
-use Rattle.undo_ring.specs.declared.command.Command.{Command as Asked}
-use Rattle.undo_ring.specs.declared.command.Command.TheVariants as told
+use Rattle.edit_records.specs.declared.command.Command.{Command as Asked}
+use Rattle.edit_records.specs.declared.command.Command.TheVariants as told
 use Rattle.point_queries.specs.Common.{CoversFeature}
 use Rattle.undo_ring.proofs.Recording.{handed}
 use Rattle.undo_ring.proofs.RingOrigins.{put_from, ins_from, del_from, thinned_from, thinned_over_from, renamed_from, take_out_from, cut_from, join_from}
@@ -63,35 +64,35 @@ module _ (boxes : SegmentSet) where
 
   -- ---- one document
 
-  module _ (d : Document) (covers : Covers boxes (rings d)) where
-    put_covers : (p q : Position) → HasGrown d p q boxes → Covers boxes (rings (put d p q))
+  module _ (d : Document) (covers : CoversRings boxes (rings d)) where
+    put_covers : (p q : Position) → HasGrown d p q boxes → CoversRings boxes (rings (put d p q))
     put_covers p q grown r i =
         let f = put_from d p q r i in grown_part p q f.0 r (covers f.0 f.1) (grown f.0 f.1) f.2
 
-    ins_covers : (a b q : Position) → HasGrown d a q boxes → Covers boxes (rings (ins d a b q))
+    ins_covers : (a b q : Position) → HasGrown d a q boxes → CoversRings boxes (rings (ins d a b q))
     ins_covers a b q grown r i =
         let f = ins_from d a b q r i in grown_part a q f.0 r (covers f.0 f.1) (grown f.0 f.1) f.2
 
-    del_covers : (p : Position) → Covers boxes (rings (del d p))
+    del_covers : (p : Position) → CoversRings boxes (rings (del d p))
     del_covers p r i = let f = del_from d p r i in covered_part f.0 r (covers f.0 f.1) f.2
 
-    pub part_covers : (t : ℤ) (e : Document) → IsThinnedPart t d e → Covers boxes (rings e)
+    pub part_covers : (t : ℤ) (e : Document) → IsThinnedPart t d e → CoversRings boxes (rings e)
     part_covers t e part r i =
         let f = thinned_over_from t d (take part.0 (vertices d)) r (subst (λ z. Contains (rings z) r) part.1 i) in
         covered_part f.0 r (covers f.0 f.1) f.2
 
-    thinned_covers : (t : ℤ) → Covers boxes (rings (thinned t d).doc)
+    thinned_covers : (t : ℤ) → CoversRings boxes (rings (thinned t d).doc)
     thinned_covers t r i = let f = thinned_from t d r i in covered_part f.0 r (covers f.0 f.1) f.2
 
-    renamed_covers : (n : ℕ) (id : Text) → Covers boxes (rings (renamed d n id))
+    renamed_covers : (n : ℕ) (id : Text) → CoversRings boxes (rings (renamed d n id))
     renamed_covers n id r i = covers r (renamed_from d n id r i)
 
-    taken_covers : (n : ℕ) → Covers boxes (rings (take_out d n))
+    taken_covers : (n : ℕ) → CoversRings boxes (rings (take_out d n))
     taken_covers n r i = covers r (take_out_from d n r i)
 
     cut_covers : (n : ℕ) (id : Text) (path : Path) (next : ℕ)
         → CoversFeature boxes (cut d n id path next) n → CoversFeature boxes (cut d n id path next) next
-        → Covers boxes (rings (cut d n id path next))
+        → CoversRings boxes (rings (cut d n id path next))
     cut_covers n id path next first second r i = elim (cut_from d n id path next r i) [
       | inl j ↦ covers r j
       | inr f ↦ elim f.3 [
@@ -100,7 +101,7 @@ module _ (boxes : SegmentSet) where
       ]
     ]
 
-    join_covers : (n : ℕ) (g : Feature) → CoversFeature boxes (join d n g) n → Covers boxes (rings (join d n g))
+    join_covers : (n : ℕ) (g : Feature) → CoversFeature boxes (join d n g) n → CoversRings boxes (rings (join d n g))
     join_covers n g come r i = elim (join_from d n g r i) [
       | inl j ↦ covers r j
       | inr f ↦ come f.0 f.1 f.3 r f.2
@@ -108,10 +109,10 @@ module _ (boxes : SegmentSet) where
 
   -- ---- one step of the machine
 
-  module _ (st : State) (covers : Covers boxes (rings st.doc)) where
+  module _ (st : State) (covers : CoversRings boxes (rings st.doc)) where
     -- the state after it is covered, where what came is
     abbrev StaysCovered : Option (ℕ × ℕ) → State → Type 0
-    StaysCovered touched after = HasCome boxes after.doc touched → Covers boxes (rings after.doc)
+    StaysCovered touched after = HasCome boxes after.doc touched → CoversRings boxes (rings after.doc)
 
     -- a step that may be refused
     edit_covers : (c : Command) (rs : List (Option Refusal)) (a : Answer) (touched : Option (ℕ × ℕ)) (after : State)
@@ -166,19 +167,19 @@ module _ (boxes : SegmentSet) where
 
   -- ---- what a command makes of a map
 
-  module _ (m n : MapState) (c : Command) (commands : IsNoUndo c) (covers : Covers boxes (rings m.doc)) where
-    same_covers : IsSameMap m n → Covers boxes (rings n.doc)
-    same_covers same = subst (λ (s : MapState). Covers boxes (rings s.doc)) (sym same) covers
+  module _ (m n : MapState) (c : Command) (commands : IsNoUndo c) (covers : CoversRings boxes (rings m.doc)) where
+    same_covers : IsSameMap m n → CoversRings boxes (rings n.doc)
+    same_covers same = subst (λ (s : MapState). CoversRings boxes (rings s.doc)) (sym same) covers
 
-    fault_covers : (o : Option Refusal) → MatchOption o (IsSameMap m n ⊎ StopsOn m n c) (RefusesOn m n c) → Covers boxes (rings n.doc)
+    fault_covers : (o : Option Refusal) → MatchOption o (IsSameMap m n ⊎ StopsOn m n c) (RefusesOn m n c) → CoversRings boxes (rings n.doc)
     fault_covers None (inl same) = same_covers same
     fault_covers None (inr stops) = part_covers m.doc covers stops.bound n.doc stops.part
     fault_covers (Some r) refuses = same_covers refuses.same
 
     pub answer_covers : {A : Type 0} (result : Result (Told A) EditFault) → AnswersMap m n c result
-        → OnOk result (IsReady m.doc c boxes) → HasCome boxes n.doc (touched_by m.next c) → Covers boxes (rings n.doc)
+        → OnOk result (IsReady m.doc c boxes) → HasCome boxes n.doc (touched_by m.next c) → CoversRings boxes (rings n.doc)
     answer_covers (Ok answer) accepts ready come =
-        subst (λ (r : Answer × State). HasCome boxes r.1.doc (touched_by m.next c) → Covers boxes (rings r.1.doc))
+        subst (λ (r : Answer × State). HasCome boxes r.1.doc (touched_by m.next c) → CoversRings boxes (rings r.1.doc))
         (sym (accepts.steps 0 []))
         (step_covers (with_past m []) covers c commands ready) come
     answer_covers (Err fault) fails ready come = fault_covers (refusal_of fault) fails
@@ -200,13 +201,13 @@ bounded boxes (suc k) (suc c) (d ∷ docs) h = (h.0, bounded boxes k c docs h.1)
 module _ {A : Type 0} (before after : Near A) (d e : Document) (past : List Document) where
   -- after a change to the document e
   pub changed_known : IsKnown before (d ∷ past) → (depth : ℕ) (touched : Option (ℕ × ℕ)) → Follows before after e touched
-      → ((boxes : SegmentSet) → Covers boxes (rings d) → (was : SegmentSet) → before.boxes ≡ Some was → Keeps was boxes
-      → HasCome boxes e touched → Covers boxes (rings e))
+      → ((boxes : SegmentSet) → CoversRings boxes (rings d) → (was : SegmentSet) → before.boxes ≡ Some was → KeepsCovered was boxes
+      → HasCome boxes e touched → CoversRings boxes (rings e))
       → IsKnown after (e ∷ take depth (d ∷ past))
   changed_known known depth touched follows covers = by after.boxes refl follows.boxes
     where
       by : (o : Option SegmentSet) → after.boxes ≡ o
-          → IfSome o (λ boxes. (was : SegmentSet) × (before.boxes ≡ Some was) × Keeps was boxes × HasCome boxes e touched)
+          → IfSome o (λ boxes. (was : SegmentSet) × (before.boxes ≡ Some was) × KeepsCovered was boxes × HasCome boxes e touched)
           → IfSome o (λ boxes. AreCovered boxes (take (suc after.since) (e ∷ take depth (d ∷ past))))
       by None same h = tt
       by (Some boxes) same h =
@@ -218,7 +219,7 @@ module _ {A : Type 0} (before after : Near A) (d e : Document) (past : List Docu
           )
 
 -- what is ready in boxes is so in boxes that keep them
-ready_kept : (d : Document) (c : Command) (a b : SegmentSet) → Keeps a b → IsReady d c a → IsReady d c b
+ready_kept : (d : Document) (c : Command) (a b : SegmentSet) → KeepsCovered a b → IsReady d c a → IsReady d c b
 ready_kept d (Move p q) a b keeps h = λ ring i j. keeps (q ∷ ring) (h ring i j)
 ready_kept d (Insert p r q) a b keeps h = λ ring i j. keeps (q ∷ ring) (h ring i j)
 ready_kept d c a b keeps h = tt
@@ -235,8 +236,8 @@ module _ {A B : Type 0} (before after : Near A) (m n : MapState) (past later : L
   abbrev c : Command
   c = command_of asked
 
-  come_covers : (boxes : SegmentSet) → Covers boxes (rings m.doc) → (was : SegmentSet) → before.boxes ≡ Some was → Keeps was boxes
-      → HasCome boxes n.doc (touched_by m.next c) → Covers boxes (rings n.doc)
+  come_covers : (boxes : SegmentSet) → CoversRings boxes (rings m.doc) → (was : SegmentSet) → before.boxes ≡ Some was → KeepsCovered was boxes
+      → HasCome boxes n.doc (touched_by m.next c) → CoversRings boxes (rings n.doc)
   come_covers boxes covers was same keeps come =
       answer_covers boxes m n c (no_undo asked) covers result answers (by result ready) come
     where

@@ -13,7 +13,7 @@ use Rattle.ring_machine.specs.Common.{split_state}
 use Rattle.ring_machine.specs.Command as machine
 use Rattle.ring_machine.proofs.Common.{step-move, step-insert, step-remove, step-thin, step-split, step-merge}
 use Rattle.ring_machine.proofs.Common.{step-rename, step-delete}
-use Rattle.map_text.specs.Common.{string_text}
+use Rattle.edit_records.specs.Common.{string_text}
 use Rattle.edit_records.specs.Common.{Record, Takes}
 use Rattle.arc_store.specs.Common.{Edits, IsSameMap, edit_begun, split_map, IsRecorded, Refuses}
 use Rattle.arc_store.specs.State.{State as MapState}
@@ -21,7 +21,7 @@ use Rattle.arc_store.specs.declared.fault.EditFault.{EditFault}
 use Rattle.arc_store.specs.declared.fault.EditFault.TheVariants.{OutOfMemory}
 use Rattle.point_queries.specs.declared.numbers.At.{At as AtFound}
 use Rattle.edit_vertex.specs.Common.{IsThinRecorded}
-use Rattle.undo_ring.specs.Common.{with_past, past_after, is_change, StaysPlaced, Keeps, AcceptsOn, RefusesOn, StopsOn}
+use Rattle.undo_ring.specs.Common.{with_past, past_after, is_change, StaysPlaced, KeepsMap, AcceptsOn, RefusesOn, StopsOn}
 use Rattle.undo_ring.specs.Common.{FailsOn, AnswersMap, done_of, made_of}
 use Rattle.undo_ring.specs.declared.answer.Answer.TheVariants as told
 
@@ -175,16 +175,16 @@ module _ (d : Document) (t : ℤ) where
 
 -- what a thinning keeps, as the count says
 thin_kept : (A : Type 0) (old new : MapState) (k : ℕ) → old.last ≡ None → StaysPlaced old new → new.cells ≡ old.cells
-    → IsThinRecorded old new → MatchOption new.last (k ≡ 0) (λ made. 1 ≤ k) → Keeps (is_change {A = A} (told.Thinned k)) old new
+    → IsThinRecorded old new → MatchOption new.last (k ≡ 0) (λ made. 1 ≤ k) → KeepsMap (is_change {A = A} (told.Thinned k)) old new
 thin_kept A old new k taken placed cells recorded some = on new.last refl recorded some
   where
     on : (o : Option Record) → new.last ≡ o
         → MatchOption o (new.doc ≡ old.doc) (λ made. Takes new.places new.next old.doc new.doc made × (new.doc ≢ old.doc))
-        → MatchOption o (k ≡ 0) (λ made. 1 ≤ k) → Keeps (not (k == 0)) old new
+        → MatchOption o (k ≡ 0) (λ made. 1 ≤ k) → KeepsMap (not (k == 0)) old new
     on None e d z =
-        subst (λ j. Keeps (not (j == 0)) old new) (sym z) (same_map old new d placed cells (e ∙ sym taken))
+        subst (λ j. KeepsMap (not (j == 0)) old new) (sym z) (same_map old new d placed cells (e ∙ sym taken))
     on (Some made) e h l =
-        subst (λ b. Keeps (not b) old new) (sym (positive k l)) ((made, e, h.0), inl placed)
+        subst (λ b. KeepsMap (not b) old new) (sym (positive k l)) ((made, e, h.0), inl placed)
       where
         positive : (j : ℕ) → 1 ≤ j → (j == 0) ≡ false
         positive j p = grind (arith, nat_tests)

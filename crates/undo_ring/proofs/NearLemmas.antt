@@ -3,12 +3,12 @@ use Rattle.kit_words.proofs.Common.{◌≡◌, ◌≤◌, ℕ, suc, refl, sym, s
 use Rattle.kit_words.proofs.Common.{Result, Ok, Err, OnOk, is_ok, IfSome, false≢true}
 use Rattle.ring_machine.specs.Common.{Document}
 use Rattle.segment_index.specs.Common.{SegmentSet}
-use Rattle.ring_boxes.specs.Common.{Keeps}
+use Rattle.ring_boxes.specs.Common.{KeepsCovered}
 use Rattle.point_queries.specs.Common.{CoversFeature}
 use Rattle.undo_ring.specs.Common.{AreCovered, IsKnown, HasCome, Follows, Near}
 
 -- boxes that keep what lay in others cover the documents that those did
-pub keeps_covered : (old new : SegmentSet) (docs : List Document) → Keeps old new → AreCovered old docs → AreCovered new docs
+pub keeps_covered : (old new : SegmentSet) (docs : List Document) → KeepsCovered old new → AreCovered old docs → AreCovered new docs
 keeps_covered old new [] keeps h = tt
 keeps_covered old new (d ∷ docs) keeps h = (λ r i. keeps r (h.0 r i), keeps_covered old new docs keeps h.1)
 
@@ -28,12 +28,12 @@ pub follows_same : {A : Type 0} (old new : Near A) (d : Document) (touched : Opt
     → new.boxes ≡ old.boxes → new.since ≤ suc old.since → Follows old new d touched
 follows_same old new d touched none same since = record {
   since = since;
-  boxes = subst (λ o. IfSome o (λ boxes. (before : SegmentSet) × (old.boxes ≡ Some before) × Keeps before boxes × HasCome boxes d touched))
+  boxes = subst (λ o. IfSome o (λ boxes. (before : SegmentSet) × (old.boxes ≡ Some before) × KeepsCovered before boxes × HasCome boxes d touched))
       (sym same) (by old.boxes refl);
 }
   where
     by : (o : Option SegmentSet) → old.boxes ≡ o
-        → IfSome o (λ boxes. (before : SegmentSet) × (old.boxes ≡ Some before) × Keeps before boxes × HasCome boxes d touched)
+        → IfSome o (λ boxes. (before : SegmentSet) × (old.boxes ≡ Some before) × KeepsCovered before boxes × HasCome boxes d touched)
     by None e = tt
     by (Some b) e = (b, e, λ r h. h, subst (λ t. HasCome b d t) (sym none) tt)
 
@@ -45,11 +45,11 @@ was_ok (Err e) t p = absurd (false≢true t)
 -- a change that made other rings of two features
 pub follows_more : {A : Type 0} (old new : Near A) (before between after : SegmentSet) (d : Document) (n m : ℕ)
     (touched : Option (ℕ × ℕ)) → touched ≡ Some (n, m) → old.boxes ≡ Some before → new.boxes ≡ Some after
-    → new.since ≤ suc old.since → Keeps before between → Keeps between after → CoversFeature between d n
+    → new.since ≤ suc old.since → KeepsCovered before between → KeepsCovered between after → CoversFeature between d n
     → CoversFeature after d m → Follows old new d touched
 follows_more old new before between after d n m touched named was is since first second covered last = record {
   since = since;
-  boxes = subst (λ o. IfSome o (λ boxes. (before : SegmentSet) × (old.boxes ≡ Some before) × Keeps before boxes × HasCome boxes d touched))
+  boxes = subst (λ o. IfSome o (λ boxes. (before : SegmentSet) × (old.boxes ≡ Some before) × KeepsCovered before boxes × HasCome boxes d touched))
       (sym is) (before, was, λ r h. second r (first r h), subst (HasCome after d) (sym named) come);
 }
   where
@@ -61,6 +61,6 @@ pub follows_none : {A : Type 0} (old new : Near A) (d : Document) (touched : Opt
     → new.since ≤ suc old.since → Follows old new d touched
 follows_none old new d touched none since = record {
   since = since;
-  boxes = subst (λ o. IfSome o (λ boxes. (before : SegmentSet) × (old.boxes ≡ Some before) × Keeps before boxes × HasCome boxes d touched))
+  boxes = subst (λ o. IfSome o (λ boxes. (before : SegmentSet) × (old.boxes ≡ Some before) × KeepsCovered before boxes × HasCome boxes d touched))
       (sym none) tt;
 }

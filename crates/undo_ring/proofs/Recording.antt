@@ -14,9 +14,9 @@ use Rattle.topo_outline.specs.Common.{KeepsTexts}
 use Rattle.arc_store.specs.Common.{IsRecorded, IsSameMap}
 use Rattle.arc_store.specs.State.{State as MapState}
 use Rattle.arc_store.specs.declared.fault.EditFault.{EditFault}
-use Rattle.undo_ring.specs.Common.{answer_of, refusal_of, with_past, is_change, past_after, StaysPlaced, IsGrown, Keeps}
-use Rattle.undo_ring.specs.Common.{AcceptsOn, RefusesOn, StopsOn, FailsOn, AnswersMap, Edited, machine_of, IsSame}
-use Rattle.undo_ring.specs.Common.{Applies, Refuses, LacksMemory, IsCutShort, Fails, IsUndone, IsTrail, kept, edited_by}
+use Rattle.undo_ring.specs.Common.{answer_of, refusal_of, with_past, is_change, past_after, StaysPlaced, IsGrown, KeepsMap}
+use Rattle.undo_ring.specs.Common.{AcceptsOn, RefusesOn, StopsOn, FailsOn, AnswersMap, Edited, machine_of, IsSameButTests}
+use Rattle.undo_ring.specs.Common.{Applies, Refuses, LacksMemory, IsCutShort, CommandFails, IsUndone, IsTrail, records_kept, edited_by}
 use Rattle.undo_ring.specs.Common.{Answer}
 use Rattle.undo_ring.proofs.MapAnswers.{same_map}
 
@@ -110,21 +110,21 @@ module _ {X : Type 0} (seen : X → Record) where
         taken = trail.taken;
       })
 
-      same_still : IsSame (edited_by seen m records) (edited_by seen (handed n) records)
+      same_still : IsSameButTests (edited_by seen m records) (edited_by seen (handed n) records)
       same_still = ap (λ z. edited_by seen z records) still
 
     -- ---- what became of the map, and of the records
 
     module _ (n : MapState) (made : Option X) (given : option_map seen made ≡ n.last) where
       abbrev after : Edited
-      after = edited_by seen (handed n) (kept records made)
+      after = edited_by seen (handed n) (records_kept records made)
 
       abbrev Stays : Type 0
-      Stays = IsTrail (handed n) (map seen (kept records made).items)
+      Stays = IsTrail (handed n) (map seen (records_kept records made).items)
 
-      when_same : IsSameMap m n → Stays × IsSame (edited_by seen m records) after
+      when_same : IsSameMap m n → Stays × IsSameButTests (edited_by seen m records) after
       when_same same =
-          subst (λ o. IsTrail (handed n) (map seen (kept records o).items) × IsSame (edited_by seen m records) (edited_by seen (handed n) (kept records o)))
+          subst (λ o. IsTrail (handed n) (map seen (records_kept records o).items) × IsSameButTests (edited_by seen m records) (edited_by seen (handed n) (records_kept records o)))
           (sym (none_made n same made given)) (trail_still n same, same_still n same)
 
       -- nothing was recorded, and the documents are as they were; or the one from before is the newest of
@@ -147,8 +147,8 @@ module _ {X : Type 0} (seen : X → Record) where
         when_changed recorded placed = by made given
           where
             by : (o : Option X) → option_map seen o ≡ n.last
-                → IsTrail (handed n) (map seen (kept records o).items)
-                × ((documents n.places n.doc (map seen (kept records o).items) ≡ take records.capacity (m.doc ∷ past)) × ((kept records o).capacity ≡ records.capacity))
+                → IsTrail (handed n) (map seen (records_kept records o).items)
+                × ((documents n.places n.doc (map seen (records_kept records o).items) ≡ take records.capacity (m.doc ∷ past)) × ((records_kept records o).capacity ≡ records.capacity))
             by None e = let both = e ∙ recorded.1 in absurd cc
             by (Some r) e = (trail_pushed n free keeps recorded placed r e, (past_pushed n free keeps recorded placed r e, refl))
 
@@ -173,7 +173,7 @@ module _ {X : Type 0} (seen : X → Record) where
         pub newer : {A : Type 0} (c : Command) (result : Result (Answer A) EditFault) → AnswersMap m n c result → IsNewer
         newer c (Ok a) h = by (is_change a) h.kept
           where
-            by : (b : Bool) → Keeps b m n → IsNewer
+            by : (b : Bool) → KeepsMap b m n → IsNewer
             by true k = by_change k.0 k.1
             by false k = by_same k
         newer c (Err fault) h = by (refusal_of fault) h
@@ -192,7 +192,7 @@ module _ {X : Type 0} (seen : X → Record) where
                 → (answer_of a, with_past n p) ≡ step records.capacity (with_past m past) c
             steps p e = ap (λ z. (answer_of a, with_past n z)) e ∙ h.steps records.capacity past
 
-            by : (b : Bool) → is_change a ≡ b → Keeps b m n
+            by : (b : Bool) → is_change a ≡ b → KeepsMap b m n
                 → Stays × Applies (edited_by seen m records) after c a
             by true e k =
                 let w = when_changed k.0 k.1 in (
@@ -213,7 +213,7 @@ module _ {X : Type 0} (seen : X → Record) where
 
         -- one that failed
         pub failed : (c : Command) (fault : EditFault) → FailsOn fault m n c
-            → Stays × Fails fault (edited_by seen m records) after c
+            → Stays × CommandFails fault (edited_by seen m records) after c
         failed c fault h = by (refusal_of fault) h
           where
             cut_short : StopsOn m n c → Stays × (LacksMemory (edited_by seen m records) after ⊎ IsCutShort (edited_by seen m records) after c)
@@ -298,7 +298,7 @@ module _ {X : Type 0} (seen : X → Record) (m : MapState) (records popped : Buf
 
 module _ {X : Type 0} (seen : X → Record) (m n now : MapState) (records after : Buffer X) (trail : IsTrail m (map seen records.items))
     (held : IsHeld m.places m.next m.doc) (keeps : KeepsTexts m.doc) (made : Option X) (given : option_map seen made ≡ n.last)
-    (is : now ≡ handed n) (pushed : after ≡ kept records made) where
+    (is : now ≡ handed n) (pushed : after ≡ records_kept records made) where
   abbrev old : Edited
   old = edited_by seen m records
 
@@ -309,14 +309,14 @@ module _ {X : Type 0} (seen : X → Record) (m n now : MapState) (records after 
   free = held.below m.next (omega arith)
 
   answered : {A : Type 0} (result : Result (Answer A) EditFault) (c : Command) → AnswersMap m n c result
-      → IsTrail (handed n) (map seen (kept records made).items)
-      × (IfOk result (Applies old (edited_by seen (handed n) (kept records made)) c) × IfErr result (λ fault. Fails fault old (edited_by seen (handed n) (kept records made)) c))
+      → IsTrail (handed n) (map seen (records_kept records made).items)
+      × (IfOk result (Applies old (edited_by seen (handed n) (records_kept records made)) c) × IfErr result (λ fault. CommandFails fault old (edited_by seen (handed n) (records_kept records made)) c))
   answered (Ok a) c h = let r = applied seen m records trail n made given free keeps c a h in (r.0, (r.1, tt))
   answered (Err fault) c h = let r = failed seen m records trail n made given free keeps c fault h in (r.0, (tt, r.1))
 
   module _ {A : Type 0} (result : Result (Answer A) EditFault) (c : Command) (h : AnswersMap m n c result) where
     -- what holds of the map and of the records that are kept, as the calls have them
-    as_kept : (P : MapState → Buffer X → Type 0) → P (handed n) (kept records made) → P now after
+    as_kept : (P : MapState → Buffer X → Type 0) → P (handed n) (records_kept records made) → P now after
     as_kept P k = subst (λ z. P z after) (sym is) (subst (P (handed n)) (sym pushed) k)
 
     pub trail_after : IsTrail now (map seen after.items)
@@ -336,7 +336,7 @@ module _ {X : Type 0} (seen : X → Record) (m n now : MapState) (records after 
           subst (λ z. IfOk result (λ a. Applies z new c a)) view
           (as_kept (λ z b. IfOk result (λ a. Applies old (edited_by seen z b) c a)) (answered result c h).1.0)
 
-      pub failed_after : IfErr result (λ fault. Fails fault e new c)
+      pub failed_after : IfErr result (λ fault. CommandFails fault e new c)
       failed_after =
-          subst (λ z. IfErr result (λ fault. Fails fault z new c)) view
-          (as_kept (λ z b. IfErr result (λ fault. Fails fault old (edited_by seen z b) c)) (answered result c h).1.1)
+          subst (λ z. IfErr result (λ fault. CommandFails fault z new c)) view
+          (as_kept (λ z b. IfErr result (λ fault. CommandFails fault old (edited_by seen z b) c)) (answered result c h).1.1)

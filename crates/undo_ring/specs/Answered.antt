@@ -39,9 +39,9 @@ pub record IsGrown (old new : MapState) : Type 0 where
   pub places : new.places ≡ grown after old.next old.places
 
 -- a change is recorded; what is none leaves the map as it was
-abbrev pub Keeps : Bool → MapState → MapState → Type 0
-Keeps true old new = IsRecorded old new × (StaysPlaced old new ⊎ IsGrown old new)
-Keeps false old new = IsSameMap old new
+abbrev pub KeepsMap : Bool → MapState → MapState → Type 0
+KeepsMap true old new = IsRecorded old new × (StaysPlaced old new ⊎ IsGrown old new)
+KeepsMap false old new = IsSameMap old new
 
 -- the command was accepted: answer, document and next number are the machine's
 pub record AcceptsOn {A : Type 0} (old new : MapState) (c : Command) (answer : Answer A) : Type 0 where
@@ -49,7 +49,7 @@ pub record AcceptsOn {A : Type 0} (old new : MapState) (c : Command) (answer : A
       → (answer_of answer, with_past new (past_after answer depth old.doc past))
       ≡ step depth (with_past old past) c
   pub cells : new.cells ≡ old.cells
-  pub kept : Keeps (is_change answer) old new
+  pub kept : KeepsMap (is_change answer) old new
 
 -- the machine refuses the command, and nothing was changed but the count of tests
 pub record RefusesOn (old new : MapState) (c : Command) (r : Refusal) : Type 0 where

@@ -15,7 +15,7 @@ answer_of (Area z) = machine.AreaIs z
 answer_of (At at) = machine.AtIs at.inside at.border
 answer_of (Neighbours ns) = machine.NeighboursAre ns
 
--- the refusal that a fault is; want of memory is none
+-- the refusal that a fault is; allocation failure is none
 abbrev pub refusal_of : EditFault → Option Refusal
 refusal_of NoFeature = Some machine.NoFeature
 refusal_of NoVertex = Some machine.NoVertex

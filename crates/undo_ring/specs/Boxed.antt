@@ -5,13 +5,13 @@ use Rattle.std.specs.List.{AllByRecursion}
 use Rattle.grid_geometry.specs.Common.{Position}
 use Rattle.ring_machine.specs.Common.{Document, rings, Command, Move, Insert, Split, Merge}
 use Rattle.segment_index.specs.Common.{SegmentSet}
-use Rattle.ring_boxes.specs.Common.{Covers, IsCovered, Keeps}
+use Rattle.ring_boxes.specs.Common.{CoversRings, IsCovered, KeepsCovered}
 use Rattle.point_queries.specs.Common.{CoversFeature}
 use Rattle.undo_ring.specs.declared.near.Near.{Near}
 
 -- each ring of these documents lies in one of the boxes
 abbrev pub AreCovered : SegmentSet → List Document → Type 0
-AreCovered boxes docs = AllByRecursion (λ d. Covers boxes (rings d)) docs
+AreCovered boxes docs = AllByRecursion (λ d. CoversRings boxes (rings d)) docs
 
 -- the boxes, if there are any, cover the first of the documents, and so many after it
 abbrev pub IsKnown : {A : Type 0} → Near A → List Document → Type 0
@@ -45,4 +45,4 @@ pub record Follows {A : Type 0} (old new : Near A) (d : Document) (touched : Opt
     : Type 0 where
   pub since : new.since ≤ suc old.since
   pub boxes : IfSome new.boxes (λ boxes. (before : SegmentSet) × (old.boxes ≡ Some before)
-      × Keeps before boxes × HasCome boxes d touched)
+      × KeepsCovered before boxes × HasCome boxes d touched)

@@ -22,8 +22,8 @@ abbrev pub machine_of : Edited → State
 machine_of e = record { doc = e.map.doc; next = e.map.next; past = e.past }
 
 -- a map with no history
-abbrev pub begun : MapState → ℕ → Edited
-begun m depth = record { map = record m { last = None }; past = []; depth = depth }
+abbrev pub with_no_history : MapState → ℕ → Edited
+with_no_history m depth = record { map = record m { last = None }; past = []; depth = depth }
 
 -- the command moves, inserts or removes a vertex, or thins
 abbrev pub EditsVertices : Command → Type 0
@@ -39,8 +39,8 @@ pub record StaysMade (old new : Edited) : Type 0 where
   pub cells : new.map.cells ≡ old.map.cells
 
 -- nothing was changed but the count of tests
-abbrev pub IsSame : Edited → Edited → Type 0
-IsSame old new = new ≡ record old { map = record old.map { tests = new.map.tests } }
+abbrev pub IsSameButTests : Edited → Edited → Type 0
+IsSameButTests old new = new ≡ record old { map = record old.map { tests = new.map.tests } }
 
 -- the command was accepted: its answer, and what is left, are the machine's
 pub record Applies {A : Type 0} (old new : Edited) (c : Command) (answer : Answer A) : Type 0 where
@@ -50,11 +50,11 @@ pub record Applies {A : Type 0} (old new : Edited) (c : Command) (answer : Answe
 -- the machine refuses the command, and nothing was changed
 pub record Refuses (old new : Edited) (c : Command) (r : Refusal) : Type 0 where
   pub steps : (Refused r, machine_of old) ≡ step old.depth (machine_of old) c
-  pub same : IsSame old new
+  pub same : IsSameButTests old new
 
 -- memory was refused, and nothing was changed
 abbrev pub LacksMemory : Edited → Edited → Type 0
-LacksMemory old new = IsSame old new
+LacksMemory old new = IsSameButTests old new
 
 -- memory was refused in the middle of a thinning: what was left out so far is one change
 pub record IsCutShort (old new : Edited) (c : Command) : Type 0 where
@@ -65,9 +65,9 @@ pub record IsCutShort (old new : Edited) (c : Command) : Type 0 where
   pub change : machine_of new ≡ changed old.depth (machine_of old) new.map.doc
   pub stays : StaysMade old new
 
--- what a fault leaves: a refusal, or else want of memory
-abbrev pub Fails : EditFault → Edited → Edited → Command → Type 0
-Fails fault old new c =
+-- what a fault leaves: a refusal, or else allocation failure
+abbrev pub CommandFails : EditFault → Edited → Edited → Command → Type 0
+CommandFails fault old new c =
     MatchOption (refusal_of fault)
     (LacksMemory old new ⊎ IsCutShort old new c)
     (Refuses old new c)

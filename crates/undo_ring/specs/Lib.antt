@@ -1,4 +1,3 @@
-pub mod Commands
 pub mod Answers
 pub mod Edited
 pub mod Answered

@@ -22,9 +22,9 @@ pub record IsEditor {A : Type 0} (now : MapState) (rs : List Record) (near : Nea
   pub known : IsKnown near (now.doc ∷ documents now.places now.doc rs)
 
 -- the records with one more in front, where there is one
-abbrev pub kept : {X : Type 0} → Buffer X → Option X → Buffer X
-kept records None = records
-kept records (Some made) = buffer (take records.capacity (made ∷ records.items)) records.capacity
+abbrev pub records_kept : {X : Type 0} → Buffer X → Option X → Buffer X
+records_kept records None = records
+records_kept records (Some made) = buffer (take records.capacity (made ∷ records.items)) records.capacity
 
 -- an editor of this map, with these records of its changes
 abbrev pub edited_by : {X : Type 0} → (X → Record) → MapState → Buffer X → Edited

@@ -2,16 +2,16 @@
 ghost use Rattle.std.specs.Prelude.{◌≡◌, ◌≤◌, ◌∷◌, length, List, None, IfOk, IfSome, OnOk};
 ghost use Rattle.ring_machine.specs.Common.{Split, Rename, Thin, Area, At, Neighbours, Document};
 ghost use Rattle.ring_machine.specs.Common.{rings, border_at, inside_at};
-ghost use Rattle.map_text.specs.Common.{string_text};
-ghost use Rattle.ring_boxes.specs.Common.{Covers};
+ghost use Rattle.edit_records.specs.Common.{string_text};
+ghost use Rattle.ring_boxes.specs.Common.{CoversRings};
 ghost use Rattle.undo_ring.specs.Boxed.{IsKnown, IsReady};
-ghost use Rattle.undo_ring.specs.Commands.{command_of, IsSound};
+ghost use Rattle.edit_records.specs.Commands.{command_of, IsSound};
 ghost use Rattle.undo_ring.specs.Answered.{AnswersMap, done_of, made_of};
 
 use crate::answer::Answer;
-use crate::command::Command;
 use crate::near::Near;
-use arc_store::{EditFault, IdText, Map, Path};
+use arc_store::{EditFault, Map};
+use edit_records::{Command, IdText, Path};
 use edit_vertex::{insert_vertex, move_vertex, remove_vertex, thin};
 use grid_geometry::Pos;
 use point_queries::{At as Found, QueryFault, area2_of, at, at_near, neighbours};
@@ -122,14 +122,14 @@ fn area_on<'a, I: SegIndex, A: Allocator + Copy>(
     }
 }
 
-/// The features at a position, found near it where the boxes of the rings are told.
+/// The features at a position, found near it where the boxes of the rings are given.
 fn found_at<'a, I: SegIndex, A: Allocator + Copy>(
     alloc: A,
     map: &Map<'a, I, A>,
     boxes: Option<&RingBoxes<A>>,
     position: Pos,
 ) -> Result<Found<A>, AllocError>
-    requires { IfSome boxes (λ b. Covers b.now (rings map.now.doc)) }
+    requires { IfSome boxes (λ b. CoversRings b.now (rings map.now.doc)) }
     ensures inside { IfOk result (λ at. at.inside ≡ inside_at map.now.doc position) }
     ensures border { IfOk result (λ at. at.border ≡ border_at map.now.doc position) }
 {
@@ -146,7 +146,7 @@ fn at_on<'a, I: SegIndex, A: Allocator + Copy>(
     boxes: Option<&RingBoxes<A>>,
     position: Pos,
 ) -> Result<Answer<A>, EditFault>
-    requires { IfSome boxes (λ b. Covers b.now (rings map.now.doc)) }
+    requires { IfSome boxes (λ b. CoversRings b.now (rings map.now.doc)) }
     ensures { AnswersMap map.now map.now (At position) result }
 {
     match found_at(alloc, map, boxes, position) {
@@ -177,7 +177,7 @@ fn answer<'a, I: SegIndex, A: Allocator + Copy>(
     boxes: Option<&RingBoxes<A>>,
     command: Command,
 ) -> Result<Answer<A>, EditFault>
-    requires covered { IfSome boxes (λ b. Covers b.now (rings map.old.doc)) }
+    requires covered { IfSome boxes (λ b. CoversRings b.now (rings map.old.doc)) }
     requires taken { map.old.last ≡ None }
     requires sound { IsSound command }
     ensures { AnswersMap map.old map.new (command_of command) result }

@@ -1,15 +1,15 @@
 ghost use Rattle.std.specs.Prelude.{◌≡◌, ◌≤◌, OnOk, IfOk, IfErr};
 ghost use Rattle.ring_machine.specs.Common.{KeepsSides};
-ghost use Rattle.undo_ring.specs.Commands.{command_of, IsSound};
-ghost use Rattle.undo_ring.specs.Edited.{begun, Applies, EditsVertices, Fails, IsUndone, StaysDone};
-ghost use Rattle.undo_ring.specs.Trails.{kept};
+ghost use Rattle.edit_records.specs.Commands.{command_of, IsSound};
+ghost use Rattle.undo_ring.specs.Edited.{with_no_history, Applies, EditsVertices, CommandFails, IsUndone, StaysDone};
+ghost use Rattle.undo_ring.specs.Trails.{records_kept};
 
 use crate::answer::Answer;
 use crate::answering::answer_near;
-use crate::command::Command;
 use crate::near::{Near, touched_by};
 use arc_store::{EditFault, Map, Record};
 use circular_buffer::HeapCircularBuffer;
+use edit_records::Command;
 use segment_index::SegIndex;
 use std::alloc::{Allocator, Global};
 use std::marker::Model;
@@ -23,12 +23,12 @@ pub enum UndoFault {
     OutOfMemory,
 }
 
-/// Puts a record in front of the others, where there is one.
+/// Puts a record before the others, where there is one.
 fn keep<'a, A: Allocator + Copy>(
     records: &mut HeapCircularBuffer<Record<'a, A>, A>,
     made: Option<Record<'a, A>>,
 )
-    ensures { records.new ≡ kept records.old made.entry }
+    ensures { records.new ≡ records_kept records.old made.entry }
 {
     if let Some(made) = made {
         let _ = records.push_front(made);
@@ -60,12 +60,12 @@ impl<'a, I: SegIndex, A: Allocator + Copy> Model for Editor<'a, I, A> {
 }
 
 impl<'a, I: SegIndex, A: Allocator + Copy> Editor<'a, I, A> {
-    /// A map with no history yet, of which so many changes will be kept. Fails for want of memory
-    /// alone, and then hands the map back.
+    /// A map with no history yet, of which so many changes will be kept. Fails only on allocation
+    /// failure, and then hands the map back.
     pub fn new(alloc: A, mut map: Map<'a, I, A>, depth: usize) -> Result<Self, Map<'a, I, A>>
         requires least { 1 ≤ depth }
         requires most { depth ≤ 1000 }
-        ensures made { IfOk result (λ editor. editor ≡ begun map.entry depth) }
+        ensures made { IfOk result (λ editor. editor ≡ with_no_history map.entry depth) }
         ensures back { IfErr result (λ back. back ≡ map.entry) }
     {
         match HeapCircularBuffer::with_capacity(alloc, depth) {
@@ -90,16 +90,16 @@ impl<'a, I: SegIndex, A: Allocator + Copy> Editor<'a, I, A> {
     }
 
     /// Answers a command: it is a step of the machine. An edit that is not refused is one change, a
-    /// thinning where it left something out. A refusal changes nothing but the count of tests. Want
-    /// of memory may stop a thinning on the way: what was left out so far is one change then. An edit
-    /// of vertices leaves every position on its side of every ring. The first question for what is at
-    /// a position walks the map; the others look near the position.
+    /// thinning where it left something out. A refusal changes nothing but the count of tests.
+    /// Allocation failure may stop a thinning on the way: what was left out so far is one change then.
+    /// An edit of vertices leaves every position on its side of every ring. The first question for what
+    /// is at a position walks the map; the others look near the position.
     pub fn apply(&mut self, command: Command) -> Result<Answer<A>, EditFault>
         requires { IsSound command }
         ensures applied { IfOk result
             (λ answer. Applies self.old self.new (command_of command) answer) }
         ensures failed { IfErr result
-            (λ fault. Fails fault self.old self.new (command_of command)) }
+            (λ fault. CommandFails fault self.old self.new (command_of command)) }
         ensures sides { EditsVertices (command_of command)
             → KeepsSides self.old.map.doc self.new.map.doc }
     {

@@ -4,10 +4,9 @@
 
 mod answer;
 mod answering;
-mod command;
 mod editor;
 mod near;
 
 pub use answer::Answer;
-pub use command::Command;
+pub use edit_records::Command;
 pub use editor::{Editor, UndoFault};

@@ -4,10 +4,10 @@ ghost use Rattle.std.specs.Prelude.{◌≡◌, ◌∷◌, true, false, List, IfS
 ghost use Rattle.ring_machine.specs.Common.{Document};
 ghost use Rattle.undo_ring.specs.Boxed.{HasGrown, IsKnown, IsReady, Follows};
 ghost use Rattle.undo_ring.specs.Boxed as boxed;
-ghost use Rattle.undo_ring.specs.Commands.{command_of};
+ghost use Rattle.edit_records.specs.Commands.{command_of};
 
-use crate::command::Command;
 use arc_store::Map;
+use edit_records::Command;
 use grid_geometry::Pos;
 use point_queries::{add_boxes, boxes_of};
 use ring_boxes::RingBoxes;
@@ -46,7 +46,7 @@ impl<A: Allocator + Copy> Near<A> {
         }
     }
 
-    /// Where p lies in a box, q lies in one with all that it has. Fails for want of memory alone.
+    /// Where p lies in a box, q lies in one with all that it has. Fails only on allocation failure.
     fn grow(&mut self, p: Pos, q: Pos) -> Result<(), AllocError>
         ensures known { (docs : List Document) → IsKnown self.old docs → IsKnown self.new docs }
         ensures grown { OnOk result ((d : Document) (docs : List Document)
@@ -58,7 +58,7 @@ impl<A: Allocator + Copy> Near<A> {
         }
     }
 
-    /// The boxes of a map are made, unless they are there. Fails for want of memory alone.
+    /// The boxes of a map are made, unless they are there. Fails only on allocation failure.
     fn look<'a, I: SegIndex>(&mut self, alloc: A, map: &Map<'a, I, A>) -> Result<(), AllocError>
         ensures { (docs : List Document) → IsKnown self.old (map.now.doc ∷ docs)
             → IsKnown self.new (map.now.doc ∷ docs) }
@@ -70,7 +70,7 @@ impl<A: Allocator + Copy> Near<A> {
         Ok(())
     }
 
-    /// Makes the boxes ready for a command to this map. Fails for want of memory alone.
+    /// Makes the boxes ready for a command to this map. Fails only on allocation failure.
     pub(crate) fn prepare<'a, I: SegIndex>(
         &mut self,
         alloc: A,

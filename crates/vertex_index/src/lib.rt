@@ -71,8 +71,8 @@ impl<A: Allocator + Copy> Vertices<A> {
         }
     }
 
-    /// No vertex, with room for so many, and the seed by which positions are hashed. Fails for want
-    /// of memory alone.
+    /// No vertex, with room for so many, and the seed by which positions are hashed. Fails only on
+    /// allocation failure.
     pub fn with_room(alloc: A, seed: RandomState, count: usize) -> Result<Self, AllocError>
         ensures { IfOk result (λ vertices. vertices ≡ map.empty) }
     {
@@ -149,8 +149,8 @@ impl<A: Allocator + Copy> Vertices<A> {
         Ok(key)
     }
 
-    /// The key of the vertex at a position, where one is put if none stands there. Fails for want
-    /// of memory alone, and only where none stands.
+    /// The key of the vertex at a position, where one is put if none stands there. Fails only on
+    /// allocation failure, and only where none stands.
     pub fn key_or_add(&mut self, p: Pos) -> Result<VertexKey, AllocError>
         ensures found { IfOk result (λ k. (j : ℕ) → map.get self.old j ≡ Some p → k ≡ j) }
         ensures key { IfOk result (λ k. (q : Position) → map.get self.old k ≡ Some q → q ≡ p) }
@@ -190,7 +190,7 @@ impl<A: Allocator + Copy> Vertices<A> {
         }
     }
 
-    /// The key of the vertex at a position, if its slot is the one before a slot or the one behind it,
+    /// The key of the vertex at a position, if its slot is the one before a slot or the one after it,
     /// as along a border in either direction. Nothing is hashed.
     fn beside(&self, at: usize, p: Pos) -> Option<VertexKey>
         ensures { IfSome result (λ k. map.get self.now k ≡ Some p) }
@@ -255,7 +255,7 @@ impl<A: Allocator + Copy> Vertices<A> {
         self.slots.get_mut(moved.index()).unwrap().place = gap;
     }
 
-    /// The same positions under the same keys. Fails for want of memory alone.
+    /// The same positions under the same keys. Fails only on allocation failure.
     pub fn copy(&self) -> Result<Self, AllocError>
         ensures { IfOk result (λ copy. copy ≡ self.now) }
     {

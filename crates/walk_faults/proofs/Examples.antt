@@ -4,8 +4,8 @@ use Rattle.grid_geometry.specs.Common.{Position, position, Segment, segment, seg
 use Rattle.grid_geometry.specs.Common.{is_on, are_split, orientation}
 use Rattle.ring_machine.specs.Common.{add_position}
 use Rattle.topo_outline.specs.declared.fault.RingAt.{RingAt}
-use Rattle.walk_faults.specs.Common.{Touch, Crossing, walks_of, is_short, repeated, repeat_at, short_walks, all_repeats}
-use Rattle.walk_faults.specs.Common.{all_positions, all_segments, walk_segments, touch_at, crossing_at, touches_among}
+use Rattle.walk_faults.specs.Common.{Touch, Crossing, walks_of, is_short_walk, repeated, repeat_at, short_walks, all_repeats}
+use Rattle.walk_faults.specs.Common.{all_positions, segments_of_walks, walk_segments, touch_at, crossing_at, touches_among}
 use Rattle.walk_faults.specs.Common.{crossings_among, is_closed_ring}
 
 abbrev at : ℕ → ℕ → Position
@@ -31,7 +31,7 @@ add_side [] s = s ∷ []
 add_side (t ∷ ts) s = if segment_lt s t then (s ∷ t ∷ ts) else (if segment_eq s t then (t ∷ ts) else (t ∷ add_side ts s))
 
 abbrev sides : Map → List Segment
-sides m = fold add_side [] (all_segments (walks_of m))
+sides m = fold add_side [] (segments_of_walks (walks_of m))
 
 abbrev touches : Map → List Touch
 touches m = touches_among (fold add_position [] (all_positions (walks_of m))) (sides m)
@@ -58,7 +58,7 @@ triangle = at 5 0 ∷ at 0 0 ∷ at 0 5 ∷ []
 is_ring_itself : is_closed_ring triangle ≡ true
 is_ring_itself = refl
 
-is_long : is_short triangle ≡ false
+is_long : is_short_walk triangle ≡ false
 is_long = refl
 
 -- a position that stands twice, though not beside itself

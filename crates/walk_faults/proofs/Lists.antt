@@ -46,7 +46,7 @@ pub flat_past : {X Y : Type 0} (f : X → List Y) (xs : List X) (i : ℕ) (x : X
 flat_past f xs i x found n most l e is count more =
     omega (arith, length-flat_map-take f xs i x l, ap length is, ap (λ y. length (f y)) e, count, more)
 
--- what the next one gives comes behind what those before it gave
+-- what the next one gives comes after what those before it gave
 pub flat_next : {X Y : Type 0} (f : X → List Y) (xs : List X) (i : ℕ) (x : X) (before after : List Y) → i < length xs → x ≡ get_or xs i x
     → before ≡ flat_map f (take i xs) → after ≡ before ++ f x → after ≡ flat_map f (take (i + 1) xs)
 flat_next f xs i x before after l e so_far is =

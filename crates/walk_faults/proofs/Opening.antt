@@ -10,9 +10,9 @@ use Rattle.ring_machine.proofs.Common.{In, filter-in, least_conflict_is, least_c
 use Rattle.ring_machine.proofs.Common.{contains_in, in_contains, in_mapped, in_flat, in-map, in-flat_map, in-filter}
 use Rattle.ring_machine.proofs.Common.{in-has, has-in, all_in, position_eq-true, position_eq-refl, segment_ordered}
 use Rattle.walk_faults.specs.declared.findings.Findings.{Findings}
-use Rattle.walk_faults.specs.Common.{Touch, Crossing, Placed, each_at, placed, walks_in_polygon, walks_in_feature}
-use Rattle.walk_faults.specs.Common.{walks_of, is_short, short_walks, repeated, repeat_at, all_repeats, all_positions}
-use Rattle.walk_faults.specs.Common.{all_segments, walk_segments, IsTouch, IsCrossing, touch_at, crossing_at, Found}
+use Rattle.walk_faults.specs.Common.{Touch, Crossing, Placed, flat_map_at, placed, walks_in_polygon, walks_in_feature}
+use Rattle.walk_faults.specs.Common.{walks_of, is_short_walk, short_walks, repeated, repeat_at, all_repeats, all_positions}
+use Rattle.walk_faults.specs.Common.{segments_of_walks, walk_segments, IsTouch, IsCrossing, touch_at, crossing_at, Found}
 use Rattle.walk_faults.specs.Common.{is_closed_ring, all_walks, Opens, IsNothing}
 use Rattle.walk_faults.proofs.Neighbours.{times, in_times, times_in, times-same, times-other, times-le, in_repeated, repeated_in}
 use Rattle.walk_faults.proofs.RingEdges.{ring_segments, segment_ends, vertex_side}
@@ -59,8 +59,8 @@ ring_if : (walks : List Placed) → short_walks walks ≡ [] → all_repeats wal
 ring_if walks short repeats w i = ap₂ (λ a b. a && b) long distinct
   where
     long : nat_le 3 (length w.1) ≡ true
-    long = by_bool (is_short w.1)
-        (λ e. absurd (none_in (short_walks walks) w.0 short (in-map (λ (v : Placed). v.0) w (filter (λ v. is_short v.1) walks) (filter-in (λ v. is_short v.1) w walks i e))))
+    long = by_bool (is_short_walk w.1)
+        (λ e. absurd (none_in (short_walks walks) w.0 short (in-map (λ (v : Placed). v.0) w (filter (λ v. is_short_walk v.1) walks) (filter-in (λ v. is_short_walk v.1) w walks i e))))
         (λ e. long_enough (length w.1) e)
 
     distinct : is_distinct w.1 ≡ true
@@ -70,8 +70,8 @@ ring_if walks short repeats w i = ap₂ (λ a b. a && b) long distinct
 
 no_short : (walks : List Placed) → ((w : Placed) → In w walks → is_closed_ring w.1 ≡ true) → short_walks walks ≡ []
 no_short walks rings = none_if (short_walks walks) (λ r i.
-    let w = in_mapped (λ (v : Placed). v.0) r (filter (λ v. is_short v.1) walks) i in
-    let k = in-filter (λ v. is_short v.1) w.0 walks w.1 in
+    let w = in_mapped (λ (v : Placed). v.0) r (filter (λ v. is_short_walk v.1) walks) i in
+    let k = in-filter (λ v. is_short_walk v.1) w.0 walks w.1 in
     not_short (length (w.0).1) (and_parts (nat_le 3 (length (w.0).1)) (is_distinct (w.0).1) (rings w.0 k.0)).0 k.1)
 
 no_repeats : (walks : List Placed) → ((w : Placed) → In w walks → is_closed_ring w.1 ≡ true) → all_repeats walks ≡ []
@@ -84,12 +84,12 @@ no_repeats walks rings = none_if (all_repeats walks) (λ r i.
 
 -- the segments of rings
 ring_sides : (walks : List Placed) → ((w : Placed) → In w walks → is_closed_ring w.1 ≡ true)
-    → all_segments walks ≡ flat_map segments (map (λ w. w.1) walks)
+    → segments_of_walks walks ≡ flat_map segments (map (λ w. w.1) walks)
 ring_sides [] rings = refl
 ring_sides (w ∷ walks) rings = ap₂ (λ y z. y ++ z) (ring_segments w.1 (rings w (inl refl))) (ring_sides walks (λ v i. rings v (inr i)))
 
 -- the ends of the segments are vertices
-ends_in : (walks : List Placed) (s : Segment) → In s (all_segments walks) → In s.lo (all_positions walks) × In s.hi (all_positions walks)
+ends_in : (walks : List Placed) (s : Segment) → In s (segments_of_walks walks) → In s.lo (all_positions walks) × In s.hi (all_positions walks)
 ends_in walks s i =
     let w = in_flat (λ v. walk_segments v.1) s walks i in
     let k = segment_ends (w.0).1 s w.2 in
@@ -97,7 +97,7 @@ ends_in walks s i =
 
 -- a vertex of rings is an end of a segment
 side_at : (walks : List Placed) → ((w : Placed) → In w walks → is_closed_ring w.1 ≡ true) → (p : Position) → In p (all_positions walks)
-    → (s : Segment) × In s (all_segments walks) × ((s.lo ≡ p) ⊎ (s.hi ≡ p))
+    → (s : Segment) × In s (segments_of_walks walks) × ((s.lo ≡ p) ⊎ (s.hi ≡ p))
 side_at walks rings p i =
     let w = in_flat (λ v. v.1) p walks i in
     let s = vertex_side (w.0).1 (rings w.0 w.1) p w.2 in
@@ -147,7 +147,7 @@ conflict_cases s t h = elim (or_cases (cross s t) ((is_within s.lo t || is_withi
 
 -- where nothing touches and nothing crosses, there is no pair in conflict
 apart_if : (walks : List Placed) → ((t : Touch) → IsTouch walks t → ⊥) → ((c : Crossing) → IsCrossing walks c → ⊥)
-    → least_conflict (all_segments walks) ≡ None
+    → least_conflict (segments_of_walks walks) ≡ None
 apart_if walks touches crossings = sym (least_conflict_unique ss None (λ u b. elim (conflict_cases u.0 u.1 b.meet) [
   | inl c ↦ crossings (crossing_at u.0 u.1) (record {
     one = in_contains ss u.0 b.left;
@@ -162,7 +162,7 @@ apart_if walks touches crossings = sym (least_conflict_unique ss None (λ u b. e
 ]))
   where
     ss : List Segment
-    ss = all_segments walks
+    ss = segments_of_walks walks
 
     touch : (s t : Segment) → In s ss → In t ss → (is_within s.lo t ≡ true) ⊎ (is_within s.hi t ≡ true) → ⊥
     touch s t i j (inl e) = touches (touch_at s.lo t) (record {
@@ -176,10 +176,10 @@ apart_if walks touches crossings = sym (least_conflict_unique ss None (λ u b. e
       within = e;
     })
 
-no_touch : (walks : List Placed) → ((w : Placed) → In w walks → is_closed_ring w.1 ≡ true) → least_conflict (all_segments walks) ≡ None
+no_touch : (walks : List Placed) → ((w : Placed) → In w walks → is_closed_ring w.1 ≡ true) → least_conflict (segments_of_walks walks) ≡ None
     → (t : Touch) → IsTouch walks t → ⊥
 no_touch walks rings apart t k =
-    let ss = all_segments walks in
+    let ss = segments_of_walks walks in
     let s = side_at walks rings t.pos (contains_in (all_positions walks) t.pos k.vertex) in
     let meets : conflict s.0 t.segment ≡ true = elim s.2 [
       | inl e ↦ lo_conflict s.0 t.segment (ap (λ p. is_within p t.segment) e ∙ k.within)
@@ -188,9 +188,9 @@ no_touch walks rings apart t k =
     let u = conflict_bad ss s.0 t.segment s.1 (contains_in ss t.segment k.side) meets in
     none_bad ss apart u.0 u.1
 
-no_crossing : (walks : List Placed) → least_conflict (all_segments walks) ≡ None → (c : Crossing) → IsCrossing walks c → ⊥
+no_crossing : (walks : List Placed) → least_conflict (segments_of_walks walks) ≡ None → (c : Crossing) → IsCrossing walks c → ⊥
 no_crossing walks apart c k =
-    let ss = all_segments walks in
+    let ss = segments_of_walks walks in
     none_bad ss apart (c.first, c.second) (record {
       order = k.lesser;
       left = contains_in ss c.first k.one;
@@ -201,10 +201,10 @@ no_crossing walks apart c k =
 -- ---- the walks without their places
 
 each_flat : {X : Type 0} (f : ℕ → X → List Placed) (g : X → List (List Position)) → ((k : ℕ) (x : X) → map (λ w. w.1) (f k x) ≡ g x)
-    → (k : ℕ) (xs : List X) → map (λ w. w.1) (each_at f k xs) ≡ flat_map g xs
+    → (k : ℕ) (xs : List X) → map (λ w. w.1) (flat_map_at f k xs) ≡ flat_map g xs
 each_flat f g h k [] = refl
 each_flat f g h k (x ∷ xs) =
-    map-append (λ w. w.1) (f k x) (each_at f (suc k) xs) ∙ ap₂ (λ y z. y ++ z) (h k x) (each_flat f g h (suc k) xs)
+    map-append (λ w. w.1) (f k x) (flat_map_at f (suc k) xs) ∙ ap₂ (λ y z. y ++ z) (h k x) (each_flat f g h (suc k) xs)
 
 ones : (xs : List (List Position)) → flat_map (λ x. x ∷ []) xs ≡ xs
 ones [] = refl

@@ -7,7 +7,7 @@ use Rattle.ring_machine.proofs.Common.{In, in-append, filter-in, contains_in, in
 use Rattle.ring_machine.proofs.Common.{in_flat, all_of, in-map, in-flat_map, in_recursion, position_total, in-filter}
 use Rattle.segment_index.proofs.Common.{segment_total}
 use Rattle.walk_faults.specs.Common.{Placed, ListsAll, IsTouch, IsCrossing, touch_at, crossing_at, touch_cmp}
-use Rattle.walk_faults.specs.Common.{crossing_cmp, all_positions, all_segments, touching, crossing, touches_among}
+use Rattle.walk_faults.specs.Common.{crossing_cmp, all_positions, segments_of_walks, touching, crossing, touches_among}
 use Rattle.walk_faults.specs.Common.{crossings_among}
 
 append_ascends : {X : Type 0} (cmp : X → X → Ordering) (xs ys : List X) → IsStrictlySortedBy cmp xs → IsStrictlySortedBy cmp ys
@@ -70,7 +70,7 @@ then_second cmp total x b h = ap₂ ordering_then (tied_itself total x) h
 
 -- each vertex with the segments on which it lies and of which it is no end
 pub touches_all : (walks : List Placed) (ps : List Position) (ss : List Segment) → ListsAll position_cmp (Contains (all_positions walks)) ps
-    → ListsAll segment_cmp (Contains (all_segments walks)) ss → ListsAll touch_cmp (IsTouch walks) (touches_among ps ss)
+    → ListsAll segment_cmp (Contains (segments_of_walks walks)) ss → ListsAll touch_cmp (IsTouch walks) (touches_among ps ss)
 touches_all walks ps ss h k = record {
   ascending = pairs_ascend position_cmp segment_cmp touch_cmp touch_at first second near
       (λ p. IsStrictlySortedBy-filter segment_cmp (is_within p) ss k.ascending) ps h.ascending;
@@ -100,7 +100,7 @@ touches_all walks ps ss h k = record {
     second p s t e = then_second position_cmp position_total p (segment_cmp s t) e
 
 -- each segment with those after it that cross it
-pub crossings_all : (walks : List Placed) (ss : List Segment) → ListsAll segment_cmp (Contains (all_segments walks)) ss
+pub crossings_all : (walks : List Placed) (ss : List Segment) → ListsAll segment_cmp (Contains (segments_of_walks walks)) ss
     → ListsAll crossing_cmp (IsCrossing walks) (crossings_among ss ss)
 crossings_all walks ss k = record {
   ascending = pairs_ascend segment_cmp segment_cmp crossing_cmp crossing_at first second later

@@ -4,7 +4,7 @@ use Rattle.kit_words.proofs.Common.{[], ◌∷◌, ◌++◌, map, length, take, 
 use Rattle.kit_words.proofs.Common.{flat_map, nat_tests, take_more, map-append}
 use Rattle.std.proofs.Common.{append-nil}
 use Rattle.topo_outline.specs.declared.fault.RingAt.{RingAt}
-use Rattle.walk_faults.specs.Common.{FindFault, Placed, each_at, is_short, short_walks, repeat_at, repeated}
+use Rattle.walk_faults.specs.Common.{FindFault, Placed, flat_map_at, is_short_walk, short_walks, repeat_at, repeated}
 use Rattle.walk_faults.specs.Common.{all_repeats, OnlyIfMany, walk_seen}
 use Rattle.walk_faults.specs.declared.findings.FindFault.TheVariants.{TooMany, OutOfMemory}
 use Rattle.walk_faults.specs.declared.findings.Repeat.{Repeat}
@@ -13,12 +13,12 @@ use Rattle.walk_faults.proofs.Lists.{seen_among}
 
 -- ---- with their places
 
-pub each_at-append : {X Y : Type 0} (f : ℕ → X → List Y) (k : ℕ) (xs ys : List X) → each_at f k (xs ++ ys) ≡ each_at f k xs ++ each_at f (k + length xs) ys
-each_at-append f k [] ys = let e : k ≡ k + 0 = omega arith in ap (λ n. each_at f n ys) e
+pub each_at-append : {X Y : Type 0} (f : ℕ → X → List Y) (k : ℕ) (xs ys : List X) → flat_map_at f k (xs ++ ys) ≡ flat_map_at f k xs ++ flat_map_at f (k + length xs) ys
+each_at-append f k [] ys = let e : k ≡ k + 0 = omega arith in ap (λ n. flat_map_at f n ys) e
 each_at-append f k (x ∷ xs) ys =
     let e : suc k + length xs ≡ k + suc (length xs) = omega arith in
-    ap (λ z. f k x ++ z) (each_at-append f (suc k) xs ys ∙ ap (λ n. each_at f (suc k) xs ++ each_at f n ys) e)
-    ∙ sym (append_assoc (f k x) (each_at f (suc k) xs) (each_at f (k + suc (length xs)) ys))
+    ap (λ z. f k x ++ z) (each_at-append f (suc k) xs ys ∙ ap (λ n. flat_map_at f (suc k) xs ++ flat_map_at f n ys) e)
+    ∙ sym (append_assoc (f k x) (flat_map_at f (suc k) xs) (flat_map_at f (k + suc (length xs)) ys))
 
 counted : {X Y : Type 0} (seen : X → Y) (xs : List X) (i : ℕ) → i < length xs → length (map seen (take i xs)) ≡ i
 counted seen xs zero l = refl
@@ -27,33 +27,33 @@ counted seen (y ∷ ys) (suc i) l = ap suc (counted seen ys i (omega arith))
 
 -- one element more, as it is seen
 pub each_more : {X Y Z : Type 0} (f : ℕ → Y → List Z) (seen : X → Y) (xs : List X) (i : ℕ) (x : X) → i < length xs → x ≡ get_or xs i x
-    → each_at f 0 (map seen (take (i + 1) xs)) ≡ each_at f 0 (map seen (take i xs)) ++ f i (seen x)
+    → flat_map_at f 0 (map seen (take (i + 1) xs)) ≡ flat_map_at f 0 (map seen (take i xs)) ++ f i (seen x)
 each_more f seen xs i x l e =
     let so_far = map seen (take i xs) in
     let e' : 0 + length so_far ≡ i = omega (arith, counted seen xs i l) in
-    ap (λ z. each_at f 0 (map seen z)) (take_more xs i x l ∙ ap (λ z. take i xs ++ z ∷ []) (sym e))
-    ∙ ap (each_at f 0) (map-append seen (take i xs) (x ∷ [])) ∙ each_at-append f 0 so_far (seen x ∷ [])
-    ∙ ap (λ n. each_at f 0 so_far ++ (f n (seen x) ++ [])) e' ∙ ap (λ z. each_at f 0 so_far ++ z) (append-nil (f i (seen x)))
+    ap (λ z. flat_map_at f 0 (map seen z)) (take_more xs i x l ∙ ap (λ z. take i xs ++ z ∷ []) (sym e))
+    ∙ ap (flat_map_at f 0) (map-append seen (take i xs) (x ∷ [])) ∙ each_at-append f 0 so_far (seen x ∷ [])
+    ∙ ap (λ n. flat_map_at f 0 so_far ++ (f n (seen x) ++ [])) e' ∙ ap (λ z. flat_map_at f 0 so_far ++ z) (append-nil (f i (seen x)))
 
--- what one element gives comes behind those so far
+-- what one element gives comes after those so far
 pub one_appended : {X Y Z : Type 0} (f : ℕ → Y → List Z) (seen : X → Y) (xs : List X) (i : ℕ) (x : X) (old before after : List Z) → i < length xs → x ≡ get_or xs i x
-    → before ≡ old ++ each_at f 0 (map seen (take i xs)) → after ≡ before ++ f i (seen x)
-    → after ≡ old ++ each_at f 0 (map seen (take (i + 1) xs))
+    → before ≡ old ++ flat_map_at f 0 (map seen (take i xs)) → after ≡ before ++ f i (seen x)
+    → after ≡ old ++ flat_map_at f 0 (map seen (take (i + 1) xs))
 one_appended f seen xs i x old before after l e so_far is =
-    is ∙ ap (λ z. z ++ f i (seen x)) so_far ∙ append_assoc old (each_at f 0 (map seen (take i xs))) (f i (seen x))
+    is ∙ ap (λ z. z ++ f i (seen x)) so_far ∙ append_assoc old (flat_map_at f 0 (map seen (take i xs))) (f i (seen x))
     ∙ ap (λ z. old ++ z) (sym (each_more f seen xs i x l e))
 
 -- ---- short ones
 
 abbrev short_at : Placed → List RingAt
-short_at w = cond (is_short w.1) (w.0 ∷ []) []
+short_at w = cond (is_short_walk w.1) (w.0 ∷ []) []
 
 short_is : (ws : List Placed) → short_walks ws ≡ flat_map short_at ws
 short_is [] = refl
-short_is (w ∷ ws) = by (is_short w.1) (short_is ws)
+short_is (w ∷ ws) = by (is_short_walk w.1) (short_is ws)
   where
     kept : List Placed
-    kept = filter (λ v. is_short v.1) ws
+    kept = filter (λ v. is_short_walk v.1) ws
 
     by : (b : Bool) → map (λ v. v.0) kept ≡ flat_map short_at ws
         → map (λ v. v.0) (cond {A = List Placed} b (w ∷ kept) kept) ≡ cond b (w.0 ∷ []) [] ++ flat_map short_at ws

@@ -20,8 +20,8 @@ use Rattle.walk_faults.specs.Walks.{Placed, walks_of}
 -- ---- each walk for itself
 
 -- the walk has fewer than three positions
-abbrev pub is_short : List Position → Bool
-is_short walk = nat_lt (length walk) 3
+abbrev pub is_short_walk : List Position → Bool
+is_short_walk walk = nat_lt (length walk) 3
 
 -- p stands in the walk more than once
 abbrev pub is_repeated : List Position → Position → Bool
@@ -33,7 +33,7 @@ repeated walk = filter (is_repeated walk) (fold add_position [] walk)
 
 -- where the short walks stand
 abbrev pub short_walks : List Placed → List RingAt
-short_walks walks = map (λ w. w.0) (filter (λ w. is_short w.1) walks)
+short_walks walks = map (λ w. w.0) (filter (λ w. is_short_walk w.1) walks)
 
 -- the walk that stands there passes p more than once
 abbrev pub repeat_at : RingAt → Position → Repeat
@@ -58,8 +58,8 @@ abbrev pub walk_segments : List Position → List Segment
 walk_segments walk = flat_map segment_at (edges walk)
 
 -- the segments of the walks, as often as they stand there
-abbrev pub all_segments : List Placed → List Segment
-all_segments walks = flat_map (λ w. walk_segments w.1) walks
+abbrev pub segments_of_walks : List Placed → List Segment
+segments_of_walks walks = flat_map (λ w. walk_segments w.1) walks
 
 -- p lies on the segment and is none of its ends
 abbrev pub touch_at : Position → Segment → Touch
@@ -68,7 +68,7 @@ touch_at p s = record { pos = p; segment = s }
 -- a vertex of the walks lies on a segment of theirs and is none of its ends
 pub record IsTouch (walks : List Placed) (t : Touch) : Type 0 where
   pub vertex : Contains (all_positions walks) t.pos
-  pub side : Contains (all_segments walks) t.segment
+  pub side : Contains (segments_of_walks walks) t.segment
   pub within : IsTrue (is_within t.pos t.segment)
 
 -- the segments cross
@@ -77,8 +77,8 @@ crossing_at s t = record { first = s; second = t }
 
 -- two segments of the walks cross, the lesser one first
 pub record IsCrossing (walks : List Placed) (c : Crossing) : Type 0 where
-  pub one : Contains (all_segments walks) c.first
-  pub other : Contains (all_segments walks) c.second
+  pub one : Contains (segments_of_walks walks) c.first
+  pub other : Contains (segments_of_walks walks) c.second
   pub lesser : IsTrue (segment_lt c.first c.second)
   pub crosses : IsTrue (cross c.first c.second)
 
@@ -137,5 +137,5 @@ OnlyIfMany Many TooMany = Many
 OnlyIfMany Many OutOfMemory = Unit {0}
 
 -- too many are more than so many of some kind
-abbrev pub Tells : ℕ → List (List (List (List Position))) → FindFault → Type 0
-Tells most polygons fault = OnlyIfMany (HasMore most (walks_of polygons)) fault
+abbrev pub IsFindFault : ℕ → List (List (List (List Position))) → FindFault → Type 0
+IsFindFault most polygons fault = OnlyIfMany (HasMore most (walks_of polygons)) fault

@@ -3,19 +3,11 @@ use Rattle.std.specs.Prelude.{List, Vec, map}
 use Rattle.grid_geometry.specs.Common.{Position}
 use Rattle.walk_faults.specs.declared.walks.Walk.{Walk}
 use Rattle.walk_faults.specs.Walks.{Placed}
+use Rattle.ring_parts.specs.Common.{polygons_seen}
 
 -- a walk with its place
 abbrev pub walk_seen : Walk → Placed
 walk_seen walk = (walk.at, walk.positions.now)
-
--- the walks of a polygon
-abbrev pub rings_seen : {A : Type 0} → List (Vec Position A) → List (List Position)
-rings_seen rings = map (λ ring. ring.items) rings
-
--- the polygons of a feature
-abbrev pub polygons_seen : {A : Type 0}
-    → List (Vec (Vec Position A) A) → List (List (List Position))
-polygons_seen polygons = map (λ polygon. rings_seen polygon.items) polygons
 
 -- the polygons of each feature
 abbrev pub features_seen : {A : Type 0}

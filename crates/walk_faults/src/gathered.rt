@@ -4,7 +4,7 @@ ghost use Rattle.std.specs.FinSet as set;
 ghost use Rattle.std.specs.List.Sorted.{IsStrictlySortedBy};
 ghost use Rattle.grid_geometry.specs.Common.{position_cmp, segment_cmp};
 ghost use Rattle.walk_faults.specs.Findings.{ListsAll, walk_segments, segment_at, all_positions};
-ghost use Rattle.walk_faults.specs.Findings.{all_segments};
+ghost use Rattle.walk_faults.specs.Findings.{segments_of_walks};
 ghost use Rattle.walk_faults.specs.Seen.{walk_seen};
 ghost use Rattle.walk_faults.specs.Meeting.{AreHeld};
 
@@ -84,7 +84,7 @@ pub(crate) fn segments<A: Allocator + Copy>(
     walks: &[Walk<'_>],
 ) -> Result<Vec<Seg, A>, AllocError>
     ensures { IfOk result (λ found.
-        ListsAll segment_cmp (Contains (all_segments (map walk_seen walks.now))) found.items) }
+        ListsAll segment_cmp (Contains (segments_of_walks (map walk_seen walks.now))) found.items) }
 {
     let mut found = Vec::new(alloc);
     for walk in walks {

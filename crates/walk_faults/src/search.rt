@@ -1,7 +1,7 @@
 // All that keeps a map from opening.
 ghost use Rattle.std.specs.Prelude.{◌≡◌, IfOk, IfErr};
 ghost use Rattle.std.specs.FinSet as set;
-ghost use Rattle.walk_faults.specs.Findings.{Found, AreAtMost, Tells};
+ghost use Rattle.walk_faults.specs.Findings.{Found, AreAtMost, IsFindFault};
 ghost use Rattle.walk_faults.specs.Seen.{features_seen};
 
 use crate::findings::{FindFault, Findings};
@@ -17,7 +17,7 @@ use std::alloc::Allocator;
 pub const MOST: usize = 4_000_000;
 
 /// All that keeps a map from opening. Its rings are given as walks, by feature, polygon and ring:
-/// closed lists of positions of any length. The index is empty. Fails for want of memory, and at
+/// closed lists of positions of any length. The index is empty. Fails on allocation failure, and at
 /// once where there are more than [`MOST`] findings of one kind.
 pub fn find<I: SegIndex, A: Allocator + Copy>(
     alloc: A,
@@ -27,7 +27,7 @@ pub fn find<I: SegIndex, A: Allocator + Copy>(
     requires empty { I.held index ≡ set.empty }
     ensures found { IfOk result (λ findings. Found (features_seen polygons.now) findings) }
     ensures few { IfOk result (λ findings. AreAtMost MOST findings) }
-    ensures fault { IfErr result (Tells MOST (features_seen polygons.now)) }
+    ensures fault { IfErr result (IsFindFault MOST (features_seen polygons.now)) }
 {
     find_at_most(alloc, index, polygons, MOST)
 }
@@ -42,7 +42,7 @@ pub fn find_at_most<I: SegIndex, A: Allocator + Copy>(
     requires empty { I.held index ≡ set.empty }
     ensures found { IfOk result (λ findings. Found (features_seen polygons.now) findings) }
     ensures few { IfOk result (λ findings. AreAtMost most findings) }
-    ensures fault { IfErr result (Tells most (features_seen polygons.now)) }
+    ensures fault { IfErr result (IsFindFault most (features_seen polygons.now)) }
 {
     let walks = walks(alloc, polygons)?;
     let short = short(alloc, walks.as_slice(), most)?;

@@ -1,7 +1,8 @@
 // The walks of a map in one list.
 ghost use Rattle.std.specs.Prelude.{◌≡◌, ◌++◌, map, IfOk, OnOk};
 ghost use Rattle.walk_faults.specs.Walks.{walks_in_polygon, walks_in_feature, walks_of};
-ghost use Rattle.walk_faults.specs.Seen.{walk_seen, rings_seen, polygons_seen, features_seen};
+ghost use Rattle.walk_faults.specs.Seen.{walk_seen, features_seen};
+ghost use Rattle.ring_parts.specs.Common.{rings_seen, polygons_seen};
 
 use grid_geometry::Pos;
 use std::alloc::{AllocError, Allocator};

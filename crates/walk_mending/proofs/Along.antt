@@ -4,7 +4,7 @@ use Rattle.kit_words.proofs.Common.{reverse, flat_map, is_lt, is_gt, Ordering, L
 use Rattle.grid_geometry.specs.Common.{Position, position_cmp, position_lt, Segment, segment, Edge}
 use Rattle.grid_geometry.proofs.Common.{position_cmp-exact}
 use Rattle.ring_machine.proofs.Common.{edges_to, edges_is}
-use Rattle.segment_paths.specs.Common.{Path, inner_of}
+use Rattle.segment_paths.specs.Common.{PathOfSegment, inner_of}
 use Rattle.walk_mending.specs.Common.{edge_along, laid, KeepsInOrder, ends, kept, between}
 
 abbrev pub from_to : Position → Position → Segment
@@ -39,7 +39,7 @@ edges_keep f q (p ∷ []) = kept (behind (f (p, q)) [] [] ends)
 edges_keep f q (p ∷ r ∷ ps) = kept (behind (f (p, r)) (r ∷ ps) (flat_map (λ e. e.0 ∷ f e) (edges_to q (r ∷ ps))) (edges_keep f q (r ∷ ps)))
 
 -- the walk stands in the laid one
-pub laid_keeps : (paths : List Path) (walk : List Position) → KeepsInOrder walk (laid paths walk)
+pub laid_keeps : (paths : List PathOfSegment) (walk : List Position) → KeepsInOrder walk (laid paths walk)
 laid_keeps paths [] = ends
 laid_keeps paths (p ∷ ps) =
     subst (λ es. KeepsInOrder (p ∷ ps) (flat_map (edge_along paths) es)) (sym (edges_is p ps))
@@ -49,5 +49,5 @@ pub none_keeps : (walk found : List Position) → length walk ≡ 0 → found �
 none_keeps [] found l e = subst (KeepsInOrder []) (sym e) ends
 none_keeps (p ∷ ps) found l e = absurd (omega arith)
 
-pub keeps_if : (paths : List Path) (walk found : List Position) → found ≡ laid paths walk → KeepsInOrder walk found
+pub keeps_if : (paths : List PathOfSegment) (walk found : List Position) → found ≡ laid paths walk → KeepsInOrder walk found
 keeps_if paths walk found e = subst (KeepsInOrder walk) (sym e) (laid_keeps paths walk)

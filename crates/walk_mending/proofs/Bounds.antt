@@ -11,7 +11,7 @@ use Rattle.ring_machine.proofs.Common.{In, contains_in, in_contains, in_any}
 use Rattle.ring_parts.proofs.Lists as lists
 use Rattle.ring_parts.proofs.Common.{any_permuted}
 use Rattle.walk_faults.specs.Common.{ListsAll, walk_segments}
-use Rattle.walk_mending.specs.Common.{is_among, times_in, is_odd_in, is_bounding}
+use Rattle.walk_mending.specs.Common.{is_among, times_in_walks, is_odd_in, is_bounding}
 use Rattle.walk_mending.proofs.Cancelling.{times, is_odd, among-in, segment_eq-refl}
 
 -- ---- of one polygon
@@ -35,7 +35,7 @@ pub all_bound : (walks : List (List Position)) (found : List Segment) → list_a
 all_bound walks found h p s =
     any_permuted (segment_eq s) (flat_map walk_segments walks) found p
     ∙ any_counted (segment_eq s) (flat_map walk_segments walks)
-    ∙ sym (ap (λ b. cond b (nat_lt 0 (times_in walks s)) (is_odd_in walks s)) h)
+    ∙ sym (ap (λ b. cond b (nat_lt 0 (times_in_walks walks s)) (is_odd_in walks s)) h)
 
 -- of other walks the odd ones
 pub odd_bound : (walks : List (List Position)) (sorted found : List Segment) → list_all is_simple walks ≡ false
@@ -43,7 +43,7 @@ pub odd_bound : (walks : List (List Position)) (sorted found : List Segment) →
     → (s : Segment) → is_among found s ≡ is_bounding walks s
 odd_bound walks sorted found h p odd s =
     odd s ∙ ap is_odd (as_often s (flat_map walk_segments walks) sorted p)
-    ∙ sym (ap (λ b. cond b (nat_lt 0 (times_in walks s)) (is_odd_in walks s)) h)
+    ∙ sym (ap (λ b. cond b (nat_lt 0 (times_in_walks walks s)) (is_odd_in walks s)) h)
 
 -- ---- as a list
 

@@ -3,8 +3,8 @@ use Rattle.kit_words.proofs.Common.{◌≡◌, ℕ, true, false, refl, pos, List
 use Rattle.grid_geometry.specs.Common.{Position, position, Segment, segment}
 use Rattle.ring_machine.specs.Common.{canonical, is_ring}
 use Rattle.topo_reader.specs.Common.{is_simple}
-use Rattle.segment_paths.specs.Common.{Path}
-use Rattle.walk_mending.specs.Common.{laid, times_in, is_odd_in, is_bounding, is_bounding_in, all_rings, has_ring}
+use Rattle.segment_paths.specs.Common.{PathOfSegment}
+use Rattle.walk_mending.specs.Common.{laid, times_in_walks, is_odd_in, is_bounding, is_bounding_in, rings_of_parts, has_ring}
 
 abbrev at : ℕ → ℕ → Position
 at x y = position (pos x) (pos y)
@@ -17,14 +17,14 @@ seg a b c d = segment (at a b) (at c d)
 abbrev square : List Position
 square = at 0 0 ∷ at 10 0 ∷ at 10 10 ∷ at 0 10 ∷ []
 
-abbrev by_the_vertex : List Path
+abbrev by_the_vertex : List PathOfSegment
 by_the_vertex = (seg 10 0 10 10, at 10 5 ∷ []) ∷ []
 
 laid-square : laid by_the_vertex square ≡ (at 0 0 ∷ at 10 0 ∷ at 10 5 ∷ at 10 10 ∷ at 0 10 ∷ [])
 laid-square = refl
 
 -- against the direction of the path its positions come the other way round
-abbrev two_on_it : List Path
+abbrev two_on_it : List PathOfSegment
 two_on_it = (seg 0 0 9 0, []) ∷ (seg 10 0 10 10, at 10 3 ∷ at 10 5 ∷ []) ∷ []
 
 led_back : laid two_on_it (at 0 10 ∷ at 10 10 ∷ at 10 0 ∷ [])
@@ -52,15 +52,15 @@ twice-odd = refl
 abbrev two_triangles : List (List (List Position))
 two_triangles = ((at 0 4 ∷ at 2 2 ∷ at 4 4 ∷ []) ∷ []) ∷ ((at 0 0 ∷ at 4 0 ∷ at 2 2 ∷ []) ∷ []) ∷ []
 
-triangles-are_rings : list_all is_ring (all_rings two_triangles) ≡ true
+triangles-are_rings : list_all is_ring (rings_of_parts two_triangles) ≡ true
 triangles-are_rings = refl
 
-triangles-once : times_in (all_rings two_triangles) (seg 2 2 4 4) ≡ 1
+triangles-once : times_in_walks (rings_of_parts two_triangles) (seg 2 2 4 4) ≡ 1
 triangles-once = refl
 
 -- ---- a bow tie, led along its paths
 
-abbrev bow_paths : List Path
+abbrev bow_paths : List PathOfSegment
 bow_paths = (seg 0 0 10 10, at 5 5 ∷ []) ∷ (seg 0 10 10 0, at 5 5 ∷ []) ∷ []
 
 laid-bow : laid bow_paths (at 0 0 ∷ at 10 10 ∷ at 10 0 ∷ at 0 10 ∷ [])
@@ -72,7 +72,7 @@ laid-bow = refl
 abbrev spike : List (List Position)
 spike = (at 0 0 ∷ at 10 0 ∷ at 10 10 ∷ at 10 15 ∷ at 10 10 ∷ at 0 10 ∷ []) ∷ []
 
-spike-times : times_in spike (seg 10 10 10 15) ≡ 2
+spike-times : times_in_walks spike (seg 10 10 10 15) ≡ 2
 spike-times = refl
 
 spike-bounds_nothing : is_bounding spike (seg 10 10 10 15) ≡ false
@@ -94,7 +94,7 @@ tied-hole = refl
 
 -- ---- rings that collapsed, to two positions and to one
 
-there_and_back : times_in ((at 0 0 ∷ at 5 0 ∷ []) ∷ []) (seg 0 0 5 0) ≡ 2
+there_and_back : times_in_walks ((at 0 0 ∷ at 5 0 ∷ []) ∷ []) (seg 0 0 5 0) ≡ 2
 there_and_back = refl
 
 -- one position has no segment, not even one to itself
@@ -142,10 +142,10 @@ loop_parts =
     ((at 0 0 ∷ at 6 0 ∷ at 6 3 ∷ at 3 3 ∷ at 3 6 ∷ at 0 6 ∷ []) ∷ [])
     ∷ ((at 3 6 ∷ at 6 6 ∷ at 6 3 ∷ at 9 3 ∷ at 9 9 ∷ at 3 9 ∷ []) ∷ []) ∷ []
 
-loops-are_rings : list_all is_ring (all_rings loop_parts) ≡ true
+loops-are_rings : list_all is_ring (rings_of_parts loop_parts) ≡ true
 loops-are_rings = refl
 
-loops-inner_once : times_in (all_rings loop_parts) (seg 3 3 6 3) ≡ 1
+loops-inner_once : times_in_walks (rings_of_parts loop_parts) (seg 3 3 6 3) ≡ 1
 loops-inner_once = refl
 
 -- a ring is begun at its least position
@@ -161,7 +161,7 @@ empty_part = refl
 abbrev back_along : List Position
 back_along = at 0 0 ∷ at 10 0 ∷ at 7 0 ∷ at 3 0 ∷ at 5 8 ∷ []
 
-abbrev back_paths : List Path
+abbrev back_paths : List PathOfSegment
 back_paths = (seg 0 0 10 0, at 3 0 ∷ at 7 0 ∷ []) ∷ []
 
 laid-back : laid back_paths back_along ≡ (at 0 0 ∷ at 3 0 ∷ at 7 0 ∷ at 10 0 ∷ at 7 0 ∷ at 3 0 ∷ at 5 8 ∷ [])

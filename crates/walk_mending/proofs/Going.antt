@@ -7,7 +7,7 @@ use Rattle.grid_geometry.proofs.Common.{segment-comm}
 use Rattle.ring_machine.specs.Common.{Chain, segment_of, segments}
 use Rattle.ring_machine.proofs.Common.{flip, links-reverse, starts, starts_of, closed, edited_chain, starts-flat_map}
 use Rattle.ring_machine.proofs.Common.{In, contains_in, in_contains, in_mapped, in-map, in-flat_map, in_permuted}
-use Rattle.segment_paths.specs.Common.{Path, inner_of, links_of}
+use Rattle.segment_paths.specs.Common.{PathOfSegment, inner_of, links_of}
 use Rattle.walk_mending.specs.Common.{edge_along, laid, GoesAlong}
 use Rattle.walk_mending.proofs.Along.{up, down}
 
@@ -24,7 +24,7 @@ chain_links a b (p ∷ ps) = (refl, chain_links p b ps)
 in_reversed : {A : Type 0} (a : A) (xs : List A) → In a xs → In a (reverse xs)
 in_reversed a xs i = in_permuted (reverse xs) (reverse (reverse xs)) (IsPermutation-reverse (reverse xs)) a (subst (In a) (sym (reverse-reverse xs)) i)
 
-module _ (paths : List Path) where
+module _ (paths : List PathOfSegment) where
   abbrev inner_along : Edge → List Position
   inner_along e = cond (position_lt e.0 e.1) (inner_of paths (segment_of e)) (reverse (inner_of paths (segment_of e)))
 
@@ -82,9 +82,9 @@ module _ (paths : List Path) where
       (subst (λ t. In t (map segment_of (flat_map links_on (edges walk)))) (k.2 ∙ l.2)
       (in-map segment_of k.0 (flat_map links_on (edges walk)) (in-flat_map links_on e.0 k.0 (edges walk) e.1 k.1))))
 
-pub goes_if : (paths : List Path) (walk found : List Position) → found ≡ laid paths walk → GoesAlong paths walk found
+pub goes_if : (paths : List PathOfSegment) (walk found : List Position) → found ≡ laid paths walk → GoesAlong paths walk found
 goes_if paths walk found e = subst (GoesAlong paths walk) (sym e) (laid_goes paths walk)
 
-pub none_goes : (paths : List Path) (walk found : List Position) → length walk ≡ 0 → GoesAlong paths walk found
+pub none_goes : (paths : List PathOfSegment) (walk found : List Position) → length walk ≡ 0 → GoesAlong paths walk found
 none_goes paths [] found l s link i j = absurd (contains_in [] s i)
 none_goes paths (p ∷ ps) found l s link i j = absurd (omega arith)

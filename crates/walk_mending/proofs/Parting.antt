@@ -10,7 +10,7 @@ use Rattle.segment_index.proofs.Common.{segment_total}
 use Rattle.ring_parts.proofs.Lists as lists
 use Rattle.walk_faults.proofs.Common.{not_less}
 use Rattle.walk_faults.specs.Common.{walk_segments}
-use Rattle.walk_mending.specs.Common.{is_among, is_odd_in, all_rings, has_ring, ArePartsOf, HasOdd}
+use Rattle.walk_mending.specs.Common.{is_among, is_odd_in, rings_of_parts, has_ring, ArePartsOf, HasOdd}
 use Rattle.walk_mending.proofs.Cancelling.{times, among-in, segment_eq-refl}
 use Rattle.walk_mending.proofs.Bounds.{as_often}
 
@@ -20,14 +20,14 @@ abbrev pub is_filled : List (List Position) → Bool
 is_filled part = has_ring part && list_all is_ring part
 
 filled_parts : (parts : List (List (List Position))) → list_all is_filled parts ≡ true
-    → (list_all has_ring parts ≡ true) × (list_all is_ring (all_rings parts) ≡ true)
+    → (list_all has_ring parts ≡ true) × (list_all is_ring (rings_of_parts parts) ≡ true)
 filled_parts [] h = (refl, refl)
 filled_parts (part ∷ parts) h =
     let both = and_parts (is_filled part) (list_all is_filled parts) h in
     let here = and_parts (has_ring part) (list_all is_ring part) both.0 in
     let rest = filled_parts parts both.1 in (
       and_from (has_ring part) (list_all has_ring parts) here.0 rest.0,
-      list_all-append is_ring part (all_rings parts) ∙ and_from (list_all is_ring part) (list_all is_ring (all_rings parts)) here.1 rest.1,
+      list_all-append is_ring part (rings_of_parts parts) ∙ and_from (list_all is_ring part) (list_all is_ring (rings_of_parts parts)) here.1 rest.1,
     )
 
 -- ---- each segment once
@@ -51,11 +51,11 @@ once (t ∷ ss) s h = sum_by-cons (λ u. cond {A = ℕ} (segment_eq s u) 1 0) t 
 
 pub are_parts : (walks : List (List Position)) (parts : List (List (List Position))) (odd : List Segment) → list_all is_filled parts ≡ true
     → IsStrictlySortedBy segment_cmp odd → ((s : Segment) → is_among odd s ≡ is_odd_in walks s)
-    → IsPermutation (flat_map walk_segments (all_rings parts)) odd → ArePartsOf walks parts
+    → IsPermutation (flat_map walk_segments (rings_of_parts parts)) odd → ArePartsOf walks parts
 are_parts walks parts odd h up is p = record {
   rings = (filled_parts parts h).1;
   filled = (filled_parts parts h).0;
-  odd = λ s. sym (as_often s (flat_map walk_segments (all_rings parts)) odd p) ∙ once odd s up ∙ ap (λ b. cond {A = ℕ} b 1 0) (is s);
+  odd = λ s. sym (as_often s (flat_map walk_segments (rings_of_parts parts)) odd p) ∙ once odd s up ∙ ap (λ b. cond {A = ℕ} b 1 0) (is s);
 }
 
 -- ---- the segments of one part more

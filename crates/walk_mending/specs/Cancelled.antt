@@ -6,7 +6,7 @@ use Rattle.grid_geometry.specs.Common.{Segment}
 abbrev pub EndsIn : List Segment → Segment → Type 0
 EndsIn ss s = (front : List Segment) × (ss ≡ front ++ s ∷ [])
 
--- the last one of the old list was s and is taken out, or it was not and s comes behind it
+-- the last one of the old list was s and is taken out, or it was not and s comes after it
 pub data IsCancelled (old : List Segment) (s : Segment) (new : List Segment) : Type 0 where
   taken : old ≡ new ++ s ∷ [] → IsCancelled old s new
   put : new ≡ old ++ s ∷ [] → (EndsIn old s → ⊥) → IsCancelled old s new

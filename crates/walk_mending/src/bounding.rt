@@ -2,8 +2,9 @@
 ghost use Rattle.std.specs.Prelude.{◌≡◌, ◌||◌, IsTrue, IfOk, OnOk};
 ghost use Rattle.std.specs.List.{list_any};
 ghost use Rattle.grid_geometry.specs.Common.{Segment, segment_cmp};
-ghost use Rattle.walk_faults.specs.Common.{ListsAll, rings_seen, polygons_seen, features_seen};
+ghost use Rattle.walk_faults.specs.Common.{ListsAll, features_seen};
 ghost use Rattle.walk_mending.specs.Odd.{is_among, is_bounding, is_bounding_in};
+ghost use Rattle.ring_parts.specs.Common.{rings_seen, polygons_seen};
 
 use crate::odd::odd_among;
 use crate::segments::sorted;
@@ -46,8 +47,8 @@ fn push_bounding<A: Allocator + Copy>(
 }
 
 /// The segments that bound something in a map, ascending, each once. The map is given by feature,
-/// polygon and ring. In a polygon whose walks are all rings each segment bounds, in any other one
-/// those that stand an odd number of times in its walks. Fails for want of memory alone.
+/// polygon and ring. In a polygon whose walks are all rings each segment bounds, in any other one those
+/// that stand an odd number of times in its walks. Fails only on allocation failure.
 pub fn bounding_segments<A: Allocator + Copy>(
     alloc: A,
     polygons: &[Vec<Vec<Vec<Pos, A>, A>, A>],

@@ -2,7 +2,7 @@
 ghost use Rattle.std.specs.Prelude.{◌≡◌, ◌++◌, map, IfOk, OnOk};
 ghost use Rattle.std.specs.List.Sorted.{IsStrictlySortedBy};
 ghost use Rattle.grid_geometry.specs.Common.{segment_cmp};
-ghost use Rattle.segment_paths.specs.Common.{path_seen};
+ghost use Rattle.segment_paths.specs.Common.{path_of_segment};
 ghost use Rattle.segment_paths.specs.Paths as spec;
 ghost use Rattle.walk_mending.specs.Laid.{edge_along, laid, KeepsInOrder, GoesAlong};
 
@@ -12,8 +12,8 @@ use std::alloc::{AllocError, Allocator};
 
 /// The positions between the ends of a segment on its path; none where it has none.
 fn inner_of<'p, A: Allocator + Copy>(paths: &'p [SegmentPath<A>], lo: Pos, hi: Pos) -> &'p [Pos]
-    requires { IsStrictlySortedBy segment_cmp (map (λ p. p.0) (map path_seen paths.now)) }
-    ensures { result.now ≡ spec.inner_of (map path_seen paths.now) (record { lo = lo; hi = hi }) }
+    requires { IsStrictlySortedBy segment_cmp (map (λ p. p.0) (map path_of_segment paths.now)) }
+    ensures { result.now ≡ spec.inner_of (map path_of_segment paths.now) (record { lo = lo; hi = hi }) }
 {
     match paths.binary_search_by_key(&(lo, hi), |path| (path.segment.lo, path.segment.hi)) {
         Ok(place) => paths[place].inner.as_slice(),
@@ -29,9 +29,9 @@ fn push_edge<A: Allocator + Copy>(
     from: Pos,
     to: Pos,
 ) -> Result<(), AllocError>
-    requires { IsStrictlySortedBy segment_cmp (map (λ p. p.0) (map path_seen paths.now)) }
+    requires { IsStrictlySortedBy segment_cmp (map (λ p. p.0) (map path_of_segment paths.now)) }
     ensures { OnOk result (found.new.items
-        ≡ found.old.items ++ edge_along (map path_seen paths.now) (from, to)) }
+        ≡ found.old.items ++ edge_along (map path_of_segment paths.now) (from, to)) }
 {
     found.push(from)?;
     if from < to {
@@ -42,19 +42,19 @@ fn push_edge<A: Allocator + Copy>(
     found.extend_from_slice(turned.as_slice())
 }
 
-/// The walk, led along the paths of its segments, which stand in the order of their segments, at
-/// most one for each: between two neighbours come the positions of the path of their segment, in
-/// the direction of the walk. Fails for want of memory alone.
+/// The walk, led along the paths of its segments, which stand in the order of their segments, at most
+/// one for each: between two neighbours come the positions of the path of their segment, in the
+/// direction of the walk. Fails only on allocation failure.
 pub fn laid_walk<A: Allocator + Copy>(
     alloc: A,
     paths: &[SegmentPath<A>],
     walk: &[Pos],
 ) -> Result<Vec<Pos, A>, AllocError>
-    requires { IsStrictlySortedBy segment_cmp (map (λ p. p.0) (map path_seen paths.now)) }
-    ensures laid { IfOk result (λ found. found.items ≡ laid (map path_seen paths.now) walk.now) }
+    requires { IsStrictlySortedBy segment_cmp (map (λ p. p.0) (map path_of_segment paths.now)) }
+    ensures laid { IfOk result (λ found. found.items ≡ laid (map path_of_segment paths.now) walk.now) }
     ensures kept { IfOk result (λ found. KeepsInOrder walk.now found.items) }
     ensures links { IfOk result (λ found.
-        GoesAlong (map path_seen paths.now) walk.now found.items) }
+        GoesAlong (map path_of_segment paths.now) walk.now found.items) }
 {
     let mut found = Vec::new(alloc);
     let [first, rest @ ..] = walk else {

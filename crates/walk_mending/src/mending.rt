@@ -1,8 +1,8 @@
 // A polygon of walks, mended.
 ghost use Rattle.std.specs.Prelude.{◌≡◌, map, IfOk, IfSome, MatchOption};
 ghost use Rattle.ring_machine.specs.Ring as machine;
-ghost use Rattle.walk_faults.specs.Common.{rings_seen, polygons_seen};
-ghost use Rattle.walk_mending.specs.Mended.{ArePartsOf, IsMended, KeepsOddEnds, HasOdd, AreApart};
+ghost use Rattle.walk_mending.specs.Mended.{ArePartsOf, IsMended, KeepsOddEnds, HasOdd, BoundWithoutRings};
+ghost use Rattle.ring_parts.specs.Common.{rings_seen, polygons_seen};
 
 use crate::odd::odd_segments;
 use crate::parts::{all_filled, have_exactly};
@@ -60,7 +60,7 @@ pub fn mended_polygon<A: Allocator + Copy>(
     alloc: A,
     walks: &[Vec<Pos, A>],
 ) -> Result<Option<Vec<Vec<Vec<Pos, A>, A>, A>>, AllocError>
-    ensures mended { IfOk result (λ found. MatchOption found (AreApart (rings_seen walks.now))
+    ensures mended { IfOk result (λ found. MatchOption found (BoundWithoutRings (rings_seen walks.now))
         (λ parts. IsMended (rings_seen walks.now) (polygons_seen parts.items))) }
     ensures ends { IfOk result (λ found. IfSome found
         (λ parts. KeepsOddEnds (rings_seen walks.now) (polygons_seen parts.items))) }

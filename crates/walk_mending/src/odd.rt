@@ -3,9 +3,9 @@ ghost use Rattle.std.specs.Prelude.{◌≡◌, ◌↔◌, ◌%◌, ◌==◌, IfO
 ghost use Rattle.std.specs.List.{count_by};
 ghost use Rattle.std.specs.List.Sorted.{IsSorted, IsStrictlySortedBy};
 ghost use Rattle.grid_geometry.specs.Common.{Segment, segment_cmp, segment_eq};
-ghost use Rattle.walk_faults.specs.Common.{rings_seen};
 ghost use Rattle.walk_mending.specs.Odd.{is_among, is_odd_in};
 ghost use Rattle.walk_mending.specs.Cancelled.{EndsIn};
+ghost use Rattle.ring_parts.specs.Common.{rings_seen};
 
 use crate::segments::sorted;
 use grid_geometry::{Pos, Seg};

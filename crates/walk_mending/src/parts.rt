@@ -2,9 +2,10 @@
 ghost use Rattle.std.specs.Prelude.{◌≡◌, ◌&&◌, IsTrue, IfOk};
 ghost use Rattle.std.specs.List.{flat_map, list_all};
 ghost use Rattle.ring_machine.specs.Common.{is_ring};
-ghost use Rattle.walk_faults.specs.Common.{walk_segments, polygons_seen};
+ghost use Rattle.walk_faults.specs.Common.{walk_segments};
 ghost use Rattle.std.specs.List.Sorted.{IsPermutation};
-ghost use Rattle.walk_mending.specs.Mended.{all_rings, has_ring};
+ghost use Rattle.walk_mending.specs.Mended.{rings_of_parts, has_ring};
+ghost use Rattle.ring_parts.specs.Common.{polygons_seen};
 
 use crate::segments::push_all;
 use crate::simple::are_rings;
@@ -34,7 +35,7 @@ pub(crate) fn have_exactly<A: Allocator + Copy>(
     odd: &[Seg],
 ) -> Result<bool, AllocError>
     ensures { IfOk result (λ have. IsTrue have → IsPermutation
-        (flat_map walk_segments (all_rings (polygons_seen parts.now))) odd.now) }
+        (flat_map walk_segments (rings_of_parts (polygons_seen parts.now))) odd.now) }
 {
     let mut segments = Vec::new(alloc);
     for part in parts {

@@ -3,7 +3,8 @@ ghost use Rattle.std.specs.Prelude.{◌≡◌, ◌++◌, IfOk, OnOk};
 ghost use Rattle.std.specs.List.{flat_map};
 ghost use Rattle.std.specs.List.Sorted.{IsPermutation, IsSorted};
 ghost use Rattle.grid_geometry.specs.Common.{segment_cmp};
-ghost use Rattle.walk_faults.specs.Common.{walk_segments, rings_seen};
+ghost use Rattle.walk_faults.specs.Common.{walk_segments};
+ghost use Rattle.ring_parts.specs.Common.{rings_seen};
 
 use grid_geometry::{Pos, Seg};
 use std::alloc::{AllocError, Allocator};

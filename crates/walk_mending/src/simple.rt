@@ -2,9 +2,9 @@
 ghost use Rattle.std.specs.Prelude.{◌≡◌, drop, IfOk};
 ghost use Rattle.std.specs.List.{list_all, list_any, zip};
 ghost use Rattle.grid_geometry.specs.Common.{position_eq};
+ghost use Rattle.ring_parts.specs.Common.{rings_seen};
 ghost use Rattle.ring_machine.specs.Ring as machine;
 ghost use Rattle.topo_reader.specs.Document as document;
-ghost use Rattle.walk_faults.specs.Common.{rings_seen};
 
 use grid_geometry::Pos;
 use std::alloc::{AllocError, Allocator};

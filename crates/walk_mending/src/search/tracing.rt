@@ -29,7 +29,7 @@ fn way_from<A: Allocator + Copy>(
     Ok(way)
 }
 
-/// Takes off what stands behind this position: a closed way that begins there.
+/// Takes off what follows this position: a closed way that begins there.
 fn cut_off<A: Allocator + Copy>(
     alloc: A,
     stack: &mut Vec<Pos, A>,

@@ -3,7 +3,7 @@ use Rattle.clap.specs.Simple.{app_of_fields}
 use Rattle.clap.specs.Words.{Rule, app_of, new_app, new_rule, rule_of, with_rule}
 use Rattle.clap.specs.declared.builder.action.ArgAction.TheVariants.{Set}
 use Rattle.clap.specs.declared.builder.arg.Arg.{Arg}
-use Rattle.border_mend.specs.Common.{map_rule, option_rule}
+use Rattle.border_mend.specs.Common.{map_argument, option_rule}
 use Rattle.program_ends.specs.Common.{with_version}
 use Rattle.border_mend.proofs.command_line.command.Goals as goal
 
@@ -20,7 +20,7 @@ is_global a = a.global
 pub returns : goal.returns
 returns c =
     let map_new : rule_of c.new.result ≡ new_rule (codes "MAP") = search rules in
-    let map_is : rule_of c.action-map.result ≡ map_rule =
+    let map_is : rule_of c.action-map.result ≡ map_argument =
     ap rule_of c.action-map.ensures ∙ ap taken (ap rule_of c.required.ensures ∙ ap wanted (ap rule_of c.help.ensures ∙ map_new)) in
     let map_local : c.action-map.result.global ≡ false =
     ap is_global c.action-map.ensures ∙ (ap is_global c.required.ensures ∙ (ap is_global c.help.ensures ∙ c.new.ensures.optional.1)) in

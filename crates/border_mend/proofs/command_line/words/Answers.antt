@@ -1,12 +1,12 @@
 use Rattle.kit_words.proofs.Common.{rules, codes, refl}
 use Rattle.program_ends.proofs.Common.{copies_apart, copy_is, word_is}
-use Rattle.border_mend.specs.Common.{program}
+use Rattle.border_mend.specs.Common.{mend_program}
 use Rattle.border_mend.proofs.WordLemmas.{asked_is, files_apart}
 use Rattle.border_mend.proofs.command_line.words.Goals as goal
 
 pub returns-clause-map : goal.returns-clause-map
 returns-clause-map c =
-    word_is program refl _ c.in_ok-matches.matches _ (codes "MAP") _ c.get_str-5.result _ c.unwrap_or-map.result _
+    word_is mend_program refl _ c.in_ok-matches.matches _ (codes "MAP") _ c.get_str-5.result _ c.unwrap_or-map.result _
     c.in_ok-command.ensures c.in_ok-matches.ensures.ok.2 (search rules) c.get_str-5.ensures (search rules) c.unwrap_or-map.ensures c.in_ok-from_str.ensures.ok
 
 pub returns-clause-asked : goal.returns-clause-asked
@@ -18,7 +18,7 @@ returns-clause-asked c =
 
 pub returns-clause-places : goal.returns-clause-places
 returns-clause-places c =
-    copy_is program refl _ c.in_ok-matches.matches _ (codes "places") _ c.get_str-places.result _
+    copy_is mend_program refl _ c.in_ok-matches.matches _ (codes "places") _ c.get_str-places.result _
     c.in_ok-command.ensures c.in_ok-matches.ensures.ok.2 (search rules) c.get_str-places.ensures c.in_ok-copied.ensures
 
 pub returns-clause-apart : goal.returns-clause-apart
@@ -28,7 +28,7 @@ returns-clause-apart c =
 
 pub returns-clause-out : goal.returns-clause-out
 returns-clause-out c =
-    copy_is program refl _ c.in_ok-matches.matches _ (codes "out") _ c.get_str-out.result _
+    copy_is mend_program refl _ c.in_ok-matches.matches _ (codes "out") _ c.get_str-out.result _
     c.in_ok-command.ensures c.in_ok-matches.ensures.ok.2 (search rules) c.get_str-out.ensures c.in_ok-copied-2.ensures
 
 pub returns-clause-files : goal.returns-clause-files

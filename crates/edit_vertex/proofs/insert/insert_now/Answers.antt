@@ -3,7 +3,7 @@ use Rattle.grid_geometry.specs.Common.{segment}
 use Rattle.ring_machine.specs.Common.{size, is_segment, first_of, insert_refusals}
 use Rattle.arc_store.specs.Common.{Refuses, users}
 use Rattle.arc_store.proofs.Common.{is_refused}
-use Rattle.edit_vertex.specs.Common.{is_early}
+use Rattle.edit_vertex.specs.Common.{needs_no_pairs}
 use Rattle.edit_vertex.proofs.Late.{not_early}
 use Rattle.edit_vertex.proofs.Inserting.{used_times, used_border, unused_border, no_loop, size_fits}
 use Rattle.edit_vertex.proofs.Inserting.{insert_no_segment, insert_occupied, insert_too_large, insert_late}
@@ -47,6 +47,6 @@ returns-clause-untested g c =
     let used = used_times c.args.map.now.doc (segment c.args.a c.args.b) c.in-Some.s c.uses-rings.result c.in-Some.ensures.some c.uses-rings.ensures in
     let fits : length (users c.args.map.now.doc (segment c.args.a c.args.b)) ≤ 4000000 - size c.args.map.now.doc = omega (arith, used, c.saturating_sub.ensures, c.position_count.ensures, c.if-saturating_sub-rings.false) in
     let some : 0 < length (users c.args.map.now.doc (segment c.args.a c.args.b)) = omega (arith, used, c.if-rings-eq0.false) in
-    IfErr-weaker c.raw_insert.result (λ fault. Refuses fault (first_of (insert_refusals c.args.map.now.doc c.args.a c.args.b c.args.q))) (λ fault. is_early fault ≡ true → c.raw_insert.new.self.tests ≡ c.args.map.now.tests)
+    IfErr-weaker c.raw_insert.result (λ fault. Refuses fault (first_of (insert_refusals c.args.map.now.doc c.args.a c.args.b c.args.q))) (λ fault. needs_no_pairs fault ≡ true → c.raw_insert.new.self.tests ≡ c.args.map.now.tests)
     (λ fault r. not_early fault (insert_late c.args.map.now.doc c.args.a c.args.b c.args.q (used_border c.args.map.now.doc (segment c.args.a c.args.b) c.uses-rings.result used c.if-rings-eq0.false) (sym c.has_vertex.ensures ∙ c.if-has_vertex.false) (size_fits c.args.map.now.doc c.args.a c.args.b c.args.q c.requires.proper fits some) fault r))
     c.raw_insert.ensures.edits.refused

@@ -5,7 +5,7 @@ use Rattle.segment_index.specs.Common.{times_by}
 use Rattle.local_planarity.specs.Common.{most_for_move}
 use Rattle.arc_store.specs.Common.{Edits, IsRecorded, State}
 use Rattle.arc_store.proofs.Common.{holds_made, keeps_last}
-use Rattle.edit_vertex.specs.Common.{is_early}
+use Rattle.edit_vertex.specs.Common.{needs_no_pairs}
 use Rattle.edit_records.specs.Common.{Moved}
 use Rattle.edit_records.proofs.Common.{move-recorded}
 use Rattle.edit_vertex.proofs.moved.move_vertex.Goals as goal
@@ -30,7 +30,7 @@ returns-clause-recorded g c =
 
 pub returns-clause-untested : goal.returns-clause-untested
 returns-clause-untested g c =
-    subst (λ n. IfErr c.move_now.result (λ fault. is_early fault ≡ true → c.move_now.new.map.tests ≡ n)) (ap (λ (s : State). s.tests) c.begin_edit.ensures.begun) c.move_now.ensures.untested
+    subst (λ n. IfErr c.move_now.result (λ fault. needs_no_pairs fault ≡ true → c.move_now.new.map.tests ≡ n)) (ap (λ (s : State). s.tests) c.begin_edit.ensures.begun) c.move_now.ensures.untested
 
 pub returns-clause-few : goal.returns-clause-few
 returns-clause-few g c =

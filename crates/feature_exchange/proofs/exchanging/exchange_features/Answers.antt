@@ -1,9 +1,9 @@
 use Rattle.kit_words.proofs.Common.{◌++◌, ◌∙◌, sym, ap, subst, length, flat_map, length-map}
 use Rattle.ring_machine.specs.Common.{feature_at}
 use Rattle.ring_parts.specs.Common.{polygons_seen}
-use Rattle.feature_exchange.specs.Common.{numbers_of, AreThere, seen, all_had, stored, ring_under, document_of}
+use Rattle.feature_exchange.specs.Common.{numbers_of, AreThere, seen, all_had, stored, ring_under, stored_document}
 use Rattle.feature_exchange.specs.Common.{rings_under}
-use Rattle.ring_store.specs.Common.{ring_at}
+use Rattle.ring_store.specs.Common.{keyed_ring}
 use Rattle.feature_exchange.proofs.Series.{there_still, back_again}
 use Rattle.map_frame.specs.Common.{Framed}
 use Rattle.feature_exchange.proofs.Asked.{for_length, had_seen}
@@ -43,11 +43,11 @@ exchange_each-requires-clause-ready g c =
 pub exchange_each-requires-clause-polygons : goal.exchange_each-requires-clause-polygons
 exchange_each-requires-clause-polygons g c =
     sym (length-map c.in_ok-read.read.items (λ p. polygons_seen p.items)) ∙ ap length c.in_ok-read.ensures
-    ∙ length-map c.args.changes.now (λ k. (feature_at (document_of (stored c.args.frame.now c.args.tables.now.borders c.args.tables.now.vertices)) k.number).polygons)
+    ∙ length-map c.args.changes.now (λ k. (feature_at (stored_document (stored c.args.frame.now c.args.tables.now.borders c.args.tables.now.vertices)) k.number).polygons)
 
 pub exchange_each-requires-clause-numbers : goal.exchange_each-requires-clause-numbers
 exchange_each-requires-clause-numbers g c =
-    for_length (ring_at c.lay_ready.new.tables.vertices c.lay_ready.new.tables.borders) c.args.changes.now c.in-Ok.came.items c.in-Ok.ensures.at
+    for_length (keyed_ring c.lay_ready.new.tables.vertices c.lay_ready.new.tables.borders) c.args.changes.now c.in-Ok.came.items c.in-Ok.ensures.at
 
 pub take_out_rings-requires-clause-there : goal.take_out_rings-requires-clause-there
 take_out_rings-requires-clause-there g c =

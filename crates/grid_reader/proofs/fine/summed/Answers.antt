@@ -1,4 +1,4 @@
-use Rattle.exact_decimals.specs.Common.{parts, fine}
+use Rattle.decimal_texts.specs.Common.{parts, fine}
 use Rattle.grid_reader.proofs.Reach.{beyond_reach}
 use Rattle.grid_reader.proofs.fine.summed.Goals as goal
 

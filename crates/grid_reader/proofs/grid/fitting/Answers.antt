@@ -1,5 +1,5 @@
 use Rattle.kit_words.proofs.Common.{◌-◌, sym, ◌∙◌, arith}
-use Rattle.exact_decimals.proofs.Common.{power_mono}
+use Rattle.decimal_texts.proofs.Common.{power_mono}
 use Rattle.grid_reader.proofs.Scaled.{keeps, drops, none}
 use Rattle.grid_reader.proofs.grid.fitting.Goals as goal
 

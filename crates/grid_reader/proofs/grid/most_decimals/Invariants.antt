@@ -1,5 +1,5 @@
 use Rattle.kit_words.proofs.Common.{◌≡◌, drop}
-use Rattle.exact_decimals.specs.Common.{decimals}
+use Rattle.decimal_texts.specs.Common.{decimals}
 use Rattle.grid_reader.proofs.Greatest.{greatest_in}
 use Rattle.grid_reader.proofs.grid.most_decimals.Given as goal
 

@@ -1,5 +1,5 @@
 use Rattle.kit_words.proofs.Common.{◌≡◌, drop, map}
-use Rattle.exact_decimals.specs.Common.{decimals}
+use Rattle.decimal_texts.specs.Common.{decimals}
 use Rattle.grid_reader.specs.Common.{greatest_from, fine_seen}
 use Rattle.grid_reader.proofs.grid.most_in_arc.Given as goal
 

@@ -1,6 +1,6 @@
 use Rattle.kit_words.proofs.Common.{◌≡◌, ◌≤◌, ◌^◌, ap₂, ◌∙◌, arith, ℤ, pos, ◌*ℤ◌, unsigned_abs, to_z-of_z}
-use Rattle.exact_decimals.specs.Common.{rounded}
-use Rattle.exact_decimals.proofs.Common.{small_fits, scale_fits}
+use Rattle.decimal_texts.specs.Common.{rounded}
+use Rattle.decimal_texts.proofs.Common.{small_fits, scale_fits}
 use Rattle.grid_reader.proofs.Reach.{power_fits}
 use Rattle.grid_reader.proofs.Scaled.{axis_within, product_is}
 use Rattle.grid_reader.proofs.grid.on_axis.Goals as goal

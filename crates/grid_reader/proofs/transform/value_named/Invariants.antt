@@ -1,7 +1,7 @@
 use Rattle.kit_words.proofs.Common.{◌≡◌}
 use Rattle.json_spans.specs.Common.{node, members, members_left}
-use Rattle.grid_reader.specs.Common.{value_named}
+use Rattle.grid_reader.specs.Common.{member_value}
 use Rattle.grid_reader.proofs.transform.value_named.Given as goal
 
 abbrev pub invariant-loop-member : goal.invariant-loop-member
-invariant-loop-member l = value_named l.name (members_left l.member-iterator) ≡ value_named l.name (members (node l.fn.object))
+invariant-loop-member l = member_value l.name (members_left l.member-iterator) ≡ member_value l.name (members (node l.fn.object))

@@ -1,6 +1,6 @@
 use Rattle.kit_words.proofs.Common.{◌≡◌, ◌∙◌, ◌&&◌, ap, arith, length, not, rules, subst, sym, take, true, take_all}
 use Rattle.grid_geometry.specs.Common.{box_of, boxes_meet}
-use Rattle.local_planarity.specs.Common.{leaves, is_tried, tests_to_conflict, tried}
+use Rattle.local_planarity.specs.Common.{goes_away, is_tried, tests_to_conflict, tried}
 use Rattle.local_planarity.proofs.Counts.{any_found, all_tested, tested_up_to}
 use Rattle.local_planarity.proofs.pairs.conflicts_with.Goals as goal
 
@@ -11,7 +11,7 @@ returns-then-test c =
     let leaving = c.args.leaving.now in
     let t = c.t-item.result in
     let passes : is_tried leaving s t ≡ true =
-    ap (λ r. boxes_meet (box_of t) r && not (leaves leaving t)) (sym c.rect-rect.ensures) ∙ sym c.is_tried.ensures ∙ c.if-is_tried.true in
+    ap (λ r. boxes_meet (box_of t) r && not (goes_away leaving t)) (sym c.rect-rect.ensures) ∙ sym c.is_tried.ensures ∙ c.if-is_tried.true in
     let hit = sym c.if-test.ensures.conflict in
     let tested = tested_up_to (is_tried leaving s) s c.args.others.now c.loop-t.t-index t c.loop-t-test.true c.t-item.is passes c.loop-t.invariant.none hit in
     record {

@@ -1,5 +1,5 @@
 use Rattle.kit_words.proofs.Common.{◌≤◌, ◌*ℤ◌, w64, to_z, of_z, unsigned_abs, arith, ints}
-use Rattle.map_drawing.proofs.QuotientLemmas.{product_is, product_small}
+use Rattle.map_drawing.proofs.ProductLemmas.{product_is, product_small}
 use Rattle.map_drawing.proofs.layout.share.Goals as goal
 
 pub returns : goal.returns

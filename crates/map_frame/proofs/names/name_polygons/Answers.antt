@@ -1,5 +1,5 @@
 use Rattle.kit_words.proofs.Common.{◌∙◌, arith, map, refl, subst, length-map}
-use Rattle.map_frame.specs.Common.{polygon_numbers, IsOf}
+use Rattle.map_frame.specs.Common.{polygon_numbers, IsNumberOf}
 use Rattle.map_frame.proofs.BuiltNames.{polygon_named, polygons_named}
 use Rattle.map_frame.proofs.NamedRoom.{of_part}
 use Rattle.map_frame.proofs.ReadLists.{got, mapped_got}
@@ -11,7 +11,7 @@ name_polygon-requires g c r i =
     let polygon = c.index-polygons-polygon in
     let n = c.loop-polygon.polygon in
     let room = c.requires r (of_part polygon_numbers polygons n polygon.result r
-    (got polygons polygons n refl polygon.result c.loop-polygon-test.true polygon.is) (subst (λ z. IsOf z r) c.as_slice.ensures.value i)) in
+    (got polygons polygons n refl polygon.result c.loop-polygon-test.true polygon.is) (subst (λ z. IsNumberOf z r) c.as_slice.ensures.value i)) in
     omega (arith, room, c.loop-polygon.invariant.1)
 
 pub loop-polygon-preserved : goal.loop-polygon-preserved

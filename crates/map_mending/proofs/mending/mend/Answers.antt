@@ -6,7 +6,7 @@ use Rattle.walk_faults.specs.Common.{ListsAll}
 use Rattle.segment_paths.specs.Common.{IsPathFault, paths_seen}
 use Rattle.walk_mending.specs.Common.{is_bounding_in}
 use Rattle.map_mending.specs.Common.{MendedBy, IsMendFault, AreUnparted, OnlyUnparted, without_paths, Mended}
-use Rattle.map_mending.specs.Common.{TellsParted, Parts}
+use Rattle.map_mending.specs.Common.{TellsParted, TellsPartedIn}
 use Rattle.map_mending.proofs.Pieces.{document_mended}
 use Rattle.map_mending.proofs.Whole.{mended_of_rings, mended_parts, are_bounding, polygons_read}
 use Rattle.map_mending.proofs.Failing.{handed, no_paths, in_document, mended_by, does_not_fit}
@@ -45,7 +45,7 @@ returns-clause-parted g c =
     let tells : TellsParted paths o.polygons made c.in_ok-polygons.parted.items =
     subst (λ ps. TellsParted (paths_seen ps) o.polygons made c.in_ok-polygons.parted.items) c.as_slice-3.ensures.value
     (subst (λ fs. TellsParted (paths_seen c.as_slice-3.result.now) (map feature_positions fs) made c.in_ok-polygons.parted.items) c.as_slice-4.ensures.value c.in_ok-polygons.ensures.tells) in
-    subst (λ (p : Opened). Parts paths (document_of o) (document_of p) c.in_ok-polygons.parted.items) (sym c.with_polygons.ensures)
+    subst (λ (p : Opened). TellsPartedIn paths (document_of o) (document_of p) c.in_ok-polygons.parted.items) (sym c.with_polygons.ensures)
     (mended_parts paths o made c.in_ok-polygons.parted.items tells c.requires.counted)
 
 pub returns-clause-paths : goal.returns-clause-paths

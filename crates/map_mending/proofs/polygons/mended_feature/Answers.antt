@@ -2,7 +2,7 @@ use Rattle.kit_words.proofs.Common.{◌≡◌, ℕ, Bool, cond, ◌+◌, [], ◌
 use Rattle.kit_words.proofs.Common.{arith, false, true, list_all, length-map, map-append, append-nil}
 use Rattle.topo_reader.specs.Common.{Polygons, is_simple, positions_of, polygon_positions}
 use Rattle.segment_paths.specs.Common.{paths_seen}
-use Rattle.walk_mending.specs.Common.{laid, AreApart, IsMended}
+use Rattle.walk_mending.specs.Common.{laid, BoundWithoutRings, IsMended}
 use Rattle.map_mending.specs.Common.{MendsPolygon, StandsFor, told_of}
 use Rattle.map_mending.proofs.Failing.{apart_if, seen_at}
 use Rattle.map_mending.proofs.Stands.{stands_step}
@@ -51,6 +51,6 @@ returns-in_default-clause-fault g c =
       record {
         walks = polygon_positions x;
         polygon = seen_at polygon_positions c.args.polygons.now c.loop-polygon.polygon x c.loop-polygon-test.true c.index-polygons-polygon.is;
-        apart = subst AreApart (ap (map positions_of) c.as_slice-in-loop-polygon.ensures.value ∙ led) (apart_if _ _ _ c.in_default.not-Some c.in_ok-mended.ensures.mended);
+        apart = subst BoundWithoutRings (ap (map positions_of) c.as_slice-in-loop-polygon.ensures.value ∙ led) (apart_if _ _ _ c.in_default.not-Some c.in_ok-mended.ensures.mended);
       },
     )

@@ -1,12 +1,12 @@
 use Rattle.kit_words.proofs.Common.{◌+◌, ◌++◌, ◌∷◌, [], ◌∙◌, sym, ap, ap₂, map, length, drop, get_or, arith, sum}
 use Rattle.kit_words.proofs.Common.{map_push, take_all, take_more, sum_by_more, sum_by_more_le}
-use Rattle.map_opening.specs.Common.{joined, lists_seen}
+use Rattle.map_opening.specs.Common.{in_lists, lists_seen}
 use Rattle.map_opening.proofs.FlatLists.{joined_next, length-range}
 use Rattle.map_opening.proofs.flat.next_lists.Goals as goal
 
 pub loop-count-init : goal.loop-count-init
 loop-count-init g c = record {
-  lists = ap (λ z. joined (lists_seen z) ++ drop c.args.next.now c.args.numbers.now) c.new-lists.ensures.items;
+  lists = ap (λ z. in_lists (lists_seen z) ++ drop c.args.next.now c.args.numbers.now) c.new-lists.ensures.items;
   counts = ap (λ z. map length (lists_seen z)) c.new-lists.ensures.items;
   next = omega arith;
 }

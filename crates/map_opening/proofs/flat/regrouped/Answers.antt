@@ -1,13 +1,13 @@
 use Rattle.kit_words.proofs.Common.{◌+◌, ◌++◌, ◌∷◌, [], ◌∙◌, refl, sym, ap, ap₂, map, length, take, drop, arith, sum}
 use Rattle.kit_words.proofs.Common.{map_push, take_all, drop_all, sum_by_more, sum_by_more_le, mapped_more}
 use Rattle.ring_store.proofs.Common.{sum_by-map}
-use Rattle.map_opening.specs.Common.{all_rings, shape_of, ring_count, lists_seen, numbers_seen}
+use Rattle.map_opening.specs.Common.{rings_of_features, shape_of, ring_count, lists_seen, numbers_seen}
 use Rattle.map_opening.proofs.FlatLists.{all_moved, all_next}
 use Rattle.map_opening.proofs.flat.regrouped.Goals as goal
 
 pub loop-counts-init : goal.loop-counts-init
 loop-counts-init g c = record {
-  all = ap (λ z. all_rings (numbers_seen z) ++ c.args.numbers.now) c.new-features.ensures.items;
+  all = ap (λ z. rings_of_features (numbers_seen z) ++ c.args.numbers.now) c.new-features.ensures.items;
   alike = ap (λ z. shape_of (numbers_seen z)) c.new-features.ensures.items;
   next = refl;
 }
@@ -51,7 +51,7 @@ pub returns : goal.returns
 returns g c =
     let shape = ap lists_seen (take_all c.loop-counts.counts-index c.args.shape.now c.loop-counts-test.false) in
     record {
-      all = all_moved (all_rings (numbers_seen c.loop-counts.features.items)) (drop c.loop-counts.next c.args.numbers.now) c.args.numbers.now
+      all = all_moved (rings_of_features (numbers_seen c.loop-counts.features.items)) (drop c.loop-counts.next c.args.numbers.now) c.args.numbers.now
           (drop_all c.loop-counts.next c.args.numbers.now (omega (arith, c.requires, c.loop-counts.invariant.next, ap ring_count shape)))
           c.loop-counts.invariant.all;
       alike = c.loop-counts.invariant.alike ∙ shape;

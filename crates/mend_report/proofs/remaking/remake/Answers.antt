@@ -2,7 +2,7 @@ use Rattle.kit_words.proofs.Common.{◌≡◌, ◌≤◌, map, length, sym, ap, 
 use Rattle.std.specs.Prelude.{sum_by}
 use Rattle.topo_reader.specs.Common.{document_of, view_raw, feature_positions}
 use Rattle.segment_paths.specs.Common.{paths_seen}
-use Rattle.area_changes.specs.Common.{changes_from}
+use Rattle.map_mending.specs.Common.{changes_from}
 use Rattle.mend_report.proofs.AreaLemmas.{opened_small, read_as_many, areas_read}
 use Rattle.mend_report.proofs.remaking.remake.Goals as goal
 

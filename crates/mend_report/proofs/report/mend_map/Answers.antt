@@ -4,10 +4,12 @@ use Rattle.segment_paths.specs.Common.{paths_seen}
 use Rattle.walk_faults.specs.Common.{Found, features_seen}
 use Rattle.mend_report.specs.Common.{under, IsRemade}
 use Rattle.mend_report.specs.SeenView.{opened_of}
+use Rattle.mend_report.specs.Remaking.{EndsMending}
 use Rattle.mend_report.proofs.CopiedWalks.{walks_copied}
 use Rattle.mend_report.proofs.PlaceLemmas.{remade_placed, placed_same}
 use Rattle.mend_report.proofs.ReportLemmas.{told_as_asked}
 use Rattle.mend_report.proofs.WholeLemmas.{answer_whole}
+use Rattle.mend_report.proofs.MendEnds.{ends_mending}
 use Rattle.mend_report.proofs.report.mend_map.Goals as goal
 
 pub remake-requires-clause-walks : goal.remake-requires-clause-walks
@@ -26,8 +28,8 @@ put_places-requires g c =
 
 pub returns-clause-whole : goal.returns-clause-whole
 returns-clause-whole g c =
-    answer_whole c.args.asked.grid c.args.bytes.now (opened_of c.in-Ok.seen) (Ok c.in-Ok-remake.remade) c.in-Ok.ensures.opened
-    (subst (λ o. IsRemade (document_of o) c.in-Ok-remake.remade)
+    answer_whole c.args.asked.grid c.args.bytes.now (opened_of c.in-Ok.seen) (Ok c.in-Ok-remake.value) c.in-Ok.ensures.opened
+    (subst (λ o. IsRemade (document_of o) c.in-Ok-remake.value)
     (c.with_transform-map.ensures ∙ ap (λ t. under t (view_raw c.in-Ok.seen.map)) c.text-transform.ensures) c.in-Ok-remake.ensures.remade)
 
 pub returns-clause-told : goal.returns-clause-told
@@ -36,7 +38,7 @@ returns-clause-told g c = (
   c.in-Ok.seen.report.grid,
   c.in-Ok.ensures.opened,
   c.in-Ok.ensures.told,
-  told_as_asked c.args.asked.most c.in-Ok.seen.report.dropped c.args.asked.dropped (opened_of c.in-Ok.seen) c.in-Ok.seen.report.grid c.in-Ok-remake.remade _ _
+  told_as_asked c.args.asked.most c.in-Ok.seen.report.dropped c.args.asked.dropped (opened_of c.in-Ok.seen) c.in-Ok.seen.report.grid c.in-Ok-remake.value _ _
       c.in-Ok.ensures.dropped (c.in-Ok.seen.report.findings, c.in-Ok.ensures.found, c.in_ok-push_mended.ensures),
 )
 
@@ -46,8 +48,15 @@ returns-clause-placed g c =
     let found = c.in-Ok.seen.report.findings in (
       o,
       c.in-Ok.ensures.opened,
-      remade_placed o found c.in-Ok-remake.remade c.put_places.new.places c.in-Ok.ensures.found
+      remade_placed o found c.in-Ok-remake.value c.put_places.new.places c.in-Ok.ensures.found
           (placed_same o found _ _ _ _ c.put_places.new.places c.text-transform.ensures
           (ap features_seen c.as_slice-walks.ensures.value ∙ walks_copied _ _ c.in_ok-walks.ensures.cases.0)
           (ap (λ ps. Some (paths_seen ps)) c.as_slice-2.ensures.value) c.in_ok-put_places.ensures.placed),
     )
+
+-- the fault of the map that was read is one of the bytes
+pub returns-in-Err-remake-clause-refused : goal.returns-in-Err-remake-clause-refused
+returns-in-Err-remake-clause-refused g c =
+    ends_mending c.in-Err-remake.fault c.args.asked.grid c.args.bytes.now (opened_of c.in-Ok.seen) c.in-Ok.ensures.opened c.in-Ok.ensures.reads
+    (subst (λ o. EndsMending c.in-Err-remake.fault o)
+    (c.with_transform-map.ensures ∙ ap (λ t. under t (view_raw c.in-Ok.seen.map)) c.text-transform.ensures) c.in-Err-remake.ensures.refused)

@@ -1,5 +1,5 @@
 use Rattle.kit_words.proofs.Common.{◌&&◌, ◌==◌, appended_six}
-use Rattle.mend_report.specs.Common.{is_plain, is_clear, opens_line, grid_text, short_line, repeat_line, touch_line}
+use Rattle.mend_report.specs.Common.{reads_unchanged, is_clear, opens_line, grid_text, short_line, repeat_line, touch_line}
 use Rattle.mend_report.specs.Common.{crossing_line, lines}
 use Rattle.mend_report.proofs.ReportLemmas.{opened, told}
 use Rattle.mend_report.proofs.report.push_findings.Goals as goal
@@ -13,7 +13,7 @@ returns g c =
     let repeats = c.args.report.now.findings.repeats.items in
     let touches = c.args.report.now.findings.touches.items in
     let crossings = c.args.report.now.findings.crossings.items in
-    appended_six c.args.text.now.items (opens_line (is_plain grid && dropped == 0 && is_clear short repeats touches crossings)) (grid_text grid dropped)
+    appended_six c.args.text.now.items (opens_line (reads_unchanged grid && dropped == 0 && is_clear short repeats touches crossings)) (grid_text grid dropped)
     (lines most short_line short) (lines most repeat_line repeats)
     (lines most touch_line touches) (lines most crossing_line crossings)
     c.push_opens.new.text.items c.push_grid.new.text.items c.push_first.new.text.items c.push_first-2.new.text.items c.push_first-3.new.text.items

@@ -1,5 +1,5 @@
 use Rattle.kit_words.proofs.Common.{◌∙◌, sym, length, length-map, codes, decimal, appended_five}
-use Rattle.segment_paths.specs.Common.{path_seen, paths_seen}
+use Rattle.segment_paths.specs.Common.{path_of_segment, paths_seen}
 use Rattle.mend_report.specs.Common.{findings_text, lines, path_line, parts_line, area_line, found_text, all_counts_line}
 use Rattle.mend_report.proofs.Appending.{eight}
 use Rattle.mend_report.proofs.ReportLemmas.{told, led, numbered}
@@ -28,7 +28,7 @@ returns g c =
     c.push_number-2.new.text.items c.extend_from_slice-3.new.self.items c.push_number-3.new.text.items c.extend_from_slice-4.new.self.items
     c.in_ok-push_found.ensures
     c.in_ok-extend_from_slice.ensures.items
-    (numbered _ _ _ _ (c.len.ensures ∙ c.args.remade.now.paths.ok.0 ∙ sym (length-map paths path_seen)) c.in_ok-push_number.ensures)
+    (numbered _ _ _ _ (c.len.ensures ∙ c.args.remade.now.paths.ok.0 ∙ sym (length-map paths path_of_segment)) c.in_ok-push_number.ensures)
     c.in_ok-extend_from_slice-2.ensures.items (numbered _ _ _ _ (c.len-2.ensures ∙ c.args.remade.now.parted.ok.0) c.in_ok-push_number-2.ensures)
     c.in_ok-extend_from_slice-3.ensures.items (numbered _ _ _ _ (c.len-3.ensures ∙ c.args.remade.now.areas.ok.0) c.in_ok-push_number-3.ensures)
     c.in_ok-extend_from_slice-4.ensures.items)

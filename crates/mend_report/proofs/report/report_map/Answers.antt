@@ -6,7 +6,7 @@ use Rattle.mend_report.proofs.PlaceLemmas.{placed_same, placed_at}
 use Rattle.mend_report.proofs.WholeLemmas.{answer_editor}
 use Rattle.mend_report.proofs.report.report_map.Goals as goal
 
--- the walks that are told are those of the map
+-- the walks that are reported are those of the map
 pub put_places-requires : goal.put_places-requires
 put_places-requires g c = subst (λ ps. Found (features_seen ps) c.in-Ok.value.report.findings) (sym c.as_slice-walks.ensures.value) c.in-Ok.ensures.found
 

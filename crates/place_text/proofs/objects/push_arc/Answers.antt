@@ -1,7 +1,7 @@
 use Rattle.kit_words.proofs.Common.{ap, ◌∙◌, ◌++◌, codes, appended_five}
 use Rattle.grid_geometry.specs.Common.{Segment}
 use Rattle.map_text.specs.Common.{arc_text, pair_text}
-use Rattle.place_text.specs.Common.{ends, pair_behind}
+use Rattle.place_text.specs.Common.{segment_ends, pair_behind}
 use Rattle.place_text.proofs.Assembled.{arc_is}
 use Rattle.place_text.proofs.objects.push_arc.Goals as goal
 
@@ -14,4 +14,4 @@ returns g c =
     c.extend_from_slice-3.new.self.items
     c.in_ok-extend_from_slice.ensures.items c.in_ok-push_position.ensures c.in_ok-extend_from_slice-2.ensures.items c.in_ok-push_behind.ensures
     c.in_ok-extend_from_slice-3.ensures.items
-    ∙ ap (λ z. old ++ z) (arc_is c.args.delta s) ∙ ap (λ t. old ++ arc_text c.args.delta (ends t)) c.segment.view_is
+    ∙ ap (λ z. old ++ z) (arc_is c.args.delta s) ∙ ap (λ t. old ++ arc_text c.args.delta (segment_ends t)) c.segment.view_is

@@ -3,7 +3,7 @@ use Rattle.std.specs.Prelude.{All}
 use Rattle.grid_geometry.specs.Common.{segment_cmp}
 use Rattle.segment_paths.specs.Common.{paths_seen}
 use Rattle.walk_faults.specs.Common.{features_seen}
-use Rattle.place_text.specs.Common.{segment_features, pair_features, numbers_at, numbers_of, told_paths, Answers, AnswersBoth}
+use Rattle.place_text.specs.Common.{segment_features, pair_features, numbers_at, numbers_held, told_paths, Answers, AnswersBoth}
 use Rattle.place_text.proofs.Asking.{answers, empty_yet, pairs_among}
 use Rattle.place_text.proofs.owners.owners_of.Goals as goal
 
@@ -30,5 +30,5 @@ returns-clause-pairs g c =
     c.in_ok-ask_vertices.ensures c.in_ok-ask_sides.ensures c.in_ok-ask_paths.ensures c.in_ok-tell_all.ensures in
     let answered =
     pairs_among (λ s. numbers_at segment_cmp segments s ≡ segment_features features s) c.args.findings.now c.args.sides.now c.requires told.at_sides in
-    subst (λ cs. map numbers_of c.in_ok-pairs.pairs.items ≡ map (pair_features features) cs) c.as_slice-2.ensures.value
+    subst (λ cs. map numbers_held c.in_ok-pairs.pairs.items ≡ map (pair_features features) cs) c.as_slice-2.ensures.value
     (c.in_ok-pairs.ensures features (subst (All (AnswersBoth features segments)) (sym c.as_slice-2.ensures.value) answered))

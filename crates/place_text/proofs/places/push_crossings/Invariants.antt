@@ -1,8 +1,8 @@
 use Rattle.kit_words.proofs.Common.{◌≡◌, ◌++◌, take}
-use Rattle.walk_faults.specs.Common.{each_at}
+use Rattle.walk_faults.specs.Common.{flat_map_at}
 use Rattle.place_text.specs.Common.{crossing_place}
 use Rattle.place_text.proofs.places.push_crossings.Given as goal
 
 -- the places so far
 abbrev pub invariant-loop-number : goal.invariant-loop-number
-invariant-loop-number g l = l.places.items ≡ l.fn.places.items ++ each_at crossing_place 0 (take l.number l.crossings)
+invariant-loop-number g l = l.places.items ≡ l.fn.places.items ++ flat_map_at crossing_place 0 (take l.number l.crossings)

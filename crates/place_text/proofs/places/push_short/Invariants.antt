@@ -1,8 +1,8 @@
 use Rattle.kit_words.proofs.Common.{◌≡◌, ◌++◌, take}
-use Rattle.walk_faults.specs.Common.{each_at, features_seen}
+use Rattle.walk_faults.specs.Common.{flat_map_at, features_seen}
 use Rattle.place_text.specs.Common.{short_place}
 use Rattle.place_text.proofs.places.push_short.Given as goal
 
 -- the places so far
 abbrev pub invariant-loop-number : goal.invariant-loop-number
-invariant-loop-number g l = l.places.items ≡ l.fn.places.items ++ each_at (short_place (features_seen l.walks)) 0 (take l.number l.short)
+invariant-loop-number g l = l.places.items ≡ l.fn.places.items ++ flat_map_at (short_place (features_seen l.walks)) 0 (take l.number l.short)

@@ -1,8 +1,8 @@
 use Rattle.kit_words.proofs.Common.{◌≡◌, ◌++◌, take}
-use Rattle.walk_faults.specs.Common.{each_at}
+use Rattle.walk_faults.specs.Common.{flat_map_at}
 use Rattle.place_text.specs.Common.{touch_side}
 use Rattle.place_text.proofs.sides.push_touched.Given as goal
 
 -- the segments so far
 abbrev pub invariant-loop-number : goal.invariant-loop-number
-invariant-loop-number g l = l.sides.items ≡ l.fn.sides.items ++ each_at touch_side 0 (take l.number l.touches)
+invariant-loop-number g l = l.sides.items ≡ l.fn.sides.items ++ flat_map_at touch_side 0 (take l.number l.touches)

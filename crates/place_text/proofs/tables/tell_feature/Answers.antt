@@ -1,7 +1,8 @@
 use Rattle.kit_words.proofs.Common.{subst, flat_map}
-use Rattle.walk_faults.specs.Common.{walk_segments, rings_seen}
+use Rattle.walk_faults.specs.Common.{walk_segments}
 use Rattle.place_text.specs.Common.{Tells}
 use Rattle.place_text.proofs.Telling.{level_step}
+use Rattle.ring_parts.specs.Common.{rings_seen}
 use Rattle.place_text.proofs.tables.tell_feature.Goals as goal
 
 pub loop-rings-preserved : goal.loop-rings-preserved

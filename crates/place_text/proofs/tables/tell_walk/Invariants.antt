@@ -4,7 +4,7 @@ use Rattle.walk_faults.specs.Common.{segment_at}
 use Rattle.place_text.specs.Common.{Tables, Tells}
 use Rattle.place_text.proofs.tables.tell_walk.Given as goal
 
--- once what is left is told, the whole walk is
+-- once what is left is reported, the whole walk is
 abbrev pub invariant-loop-to : goal.invariant-loop-to
 invariant-loop-to g l =
     (end : Tables _)

@@ -1,6 +1,6 @@
 use Rattle.kit_words.proofs.Common.{◌≡◌, ◌+◌, [], ◌∷◌, ◌++◌, take, codes}
 use Rattle.map_text.specs.Common.{commas}
-use Rattle.walk_faults.specs.Common.{each_at}
+use Rattle.walk_faults.specs.Common.{flat_map_at}
 use Rattle.place_text.specs.Common.{told_by}
 use Rattle.place_text.proofs.topology.push_collection.Given as goal
 
@@ -8,4 +8,4 @@ use Rattle.place_text.proofs.topology.push_collection.Given as goal
 abbrev pub invariant-loop-number : goal.invariant-loop-number
 invariant-loop-number g l =
     l.text.items ≡ (l.fn.text.items ++ codes "{\"type\":\"GeometryCollection\",\"geometries\":[")
-    ++ commas (each_at (λ n x. g.G.Geometry.geometry (told_by l.owners) n (l.others + n) x ∷ []) 0 (take l.number l.listed))
+    ++ commas (flat_map_at (λ n x. g.G.Geometry.geometry (told_by l.owners) n (l.others + n) x ∷ []) 0 (take l.number l.listed))

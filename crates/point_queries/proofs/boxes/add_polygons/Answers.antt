@@ -1,6 +1,6 @@
 use Rattle.kit_words.proofs.Common.{subst, sym, arith}
 use Rattle.ring_parts.specs.Common.{rings_seen}
-use Rattle.ring_boxes.specs.Common.{Covers}
+use Rattle.ring_boxes.specs.Common.{CoversRings}
 use Rattle.point_queries.proofs.RingsCovered.{AreRings, rings_at, next_polygon, all_polygons}
 use Rattle.point_queries.proofs.boxes.add_polygons.Goals as goal
 
@@ -13,7 +13,7 @@ pub loop-polygon-preserved : goal.loop-polygon-preserved
 loop-polygon-preserved g c = record {
   covered = next_polygon c.args.polygons.now c.loop-polygon.polygon-index c.polygon-item.result c.loop-polygon.boxes c.add_rings.new.boxes
       c.loop-polygon-test.true c.polygon-item.is c.add_rings.ensures.keeps
-      (subst (λ z. Covers c.add_rings.new.boxes (rings_seen z)) c.as_slice.ensures.value c.in_ok-add_rings.ensures.covered)
+      (subst (λ z. CoversRings c.add_rings.new.boxes (rings_seen z)) c.as_slice.ensures.value c.in_ok-add_rings.ensures.covered)
       c.loop-polygon.invariant.covered;
   keeps = λ r h. c.add_rings.ensures.keeps r (c.loop-polygon.invariant.keeps r h);
 }

@@ -1,6 +1,6 @@
 use Rattle.kit_words.proofs.Common.{inl, inr, refl, subst, Contains, on_ok_weaker}
 use Rattle.grid_geometry.specs.Common.{Segment}
-use Rattle.point_queries.specs.Common.{SeesMore}
+use Rattle.point_queries.specs.Common.{ListsUnseen}
 use Rattle.point_queries.proofs.near.push_unseen.Goals as goal
 
 pub returns-then-has_each : goal.returns-then-has_each

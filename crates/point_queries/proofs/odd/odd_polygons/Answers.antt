@@ -1,7 +1,7 @@
 use Rattle.kit_words.proofs.Common.{◌<◌, ◌∙◌, sym, ap, length, get_or, arith}
 use Rattle.grid_geometry.specs.Common.{xor}
 use Rattle.map_frame.specs.declared.names.RingName.{RingName}
-use Rattle.point_queries.specs.Common.{is_polygon, polygon_of}
+use Rattle.point_queries.specs.Common.{is_polygon, polygon_name}
 use Rattle.point_queries.proofs.Odds.{odd_more}
 use Rattle.point_queries.proofs.odd.odd_polygons.Goals as goal
 
@@ -15,5 +15,5 @@ loop-ring-preserved g c =
     let within : i < length rings = omega (arith, c.loop-ring-test.true) in
     λ x.
     c.in_ok-toggle.ensures x
-    ∙ ap (xor (is_polygon x (polygon_of (get_or rings i none)))) (c.loop-ring.invariant x)
-    ∙ sym (odd_more (λ name. is_polygon x (polygon_of name)) rings i none within)
+    ∙ ap (xor (is_polygon x (polygon_name (get_or rings i none)))) (c.loop-ring.invariant x)
+    ∙ sym (odd_more (λ name. is_polygon x (polygon_name name)) rings i none within)

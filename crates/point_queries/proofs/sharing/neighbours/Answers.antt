@@ -3,7 +3,7 @@ use Rattle.kit_words.proofs.Common.{not, ◌==◌, filter, flat_map, err_from_is
 use Rattle.std.proofs.Common.{take_all}
 use Rattle.grid_geometry.specs.Common.{edges}
 use Rattle.ring_machine.specs.Common.{has_feature, feature_at}
-use Rattle.point_queries.specs.Common.{Tells}
+use Rattle.point_queries.specs.Common.{IsFaultOf}
 use Rattle.arc_store.specs.Common.{ListsUsers}
 use Rattle.point_queries.proofs.SharedBorders.{edges_of, shown_number, neighbours_are}
 use Rattle.point_queries.proofs.Sharers.{users_more}
@@ -23,7 +23,7 @@ returns-in_err-push_polygon-clause-fault g c =
     let d = c.args.map.now.doc in
     let there : has_feature d c.args.f ≡ true = is_shown d c.args.f ∙ ap is_some (sym c.feature.ensures.shown ∙ c.in-Some.is) in
     let p = err_from_is_err_and c.from_residual.result c.from_residual.ensures.1 in
-    subst (λ r. IfErr r (λ fault. Tells d c.args.f fault)) (sym p.1) (subst (Tells d c.args.f) (sym p.2) there)
+    subst (λ r. IfErr r (λ fault. IsFaultOf d c.args.f fault)) (sym p.1) (subst (IsFaultOf d c.args.f) (sym p.2) there)
 
 pub loop-polygon-preserved : goal.loop-polygon-preserved
 loop-polygon-preserved g c =
@@ -39,7 +39,7 @@ returns-in_err-found-clause-fault g c =
     let d = c.args.map.now.doc in
     let there : has_feature d c.args.f ≡ true = is_shown d c.args.f ∙ ap is_some (sym c.feature.ensures.shown ∙ c.in-Some.is) in
     let p = err_from_is_err_and c.from_residual-in_err-found.result c.from_residual-in_err-found.ensures.1 in
-    subst (λ r. IfErr r (λ fault. Tells d c.args.f fault)) (sym p.1) (subst (Tells d c.args.f) (sym p.2) there)
+    subst (λ r. IfErr r (λ fault. IsFaultOf d c.args.f fault)) (sym p.1) (subst (IsFaultOf d c.args.f) (sym p.2) there)
 
 pub returns-clause-found : goal.returns-clause-found
 returns-clause-found g c =

@@ -1,6 +1,6 @@
 use Rattle.kit_words.proofs.Common.{◌∙◌, refl, subst, take, sym, take_all}
 use Rattle.segment_index.specs.Common.{AreAmong}
-use Rattle.ring_store.specs.Common.{Gains}
+use Rattle.ring_store.specs.Common.{GainsSegments}
 use Rattle.ring_store.proofs.Planned.{gains_none, next_new, gained_more, gained_among, single_take, new_taken, came_and_went}
 use Rattle.ring_store.proofs.changes.add_all.Goals as goal
 
@@ -19,7 +19,7 @@ loop-at-preserved g c = record {
 
 pub returns : goal.returns
 returns g c = record {
-  gained = subst (λ z. Gains (g.I.SegIndex.held c.args.index.now) z (g.I.SegIndex.held c.loop-at.index)) (take_all c.loop-at.at c.args.segments.now c.loop-at-test.false) c.loop-at.invariant.gained;
+  gained = subst (λ z. GainsSegments (g.I.SegIndex.held c.args.index.now) z (g.I.SegIndex.held c.loop-at.index)) (take_all c.loop-at.at c.args.segments.now c.loop-at-test.false) c.loop-at.invariant.gained;
   unchanged = tt;
   cells = c.loop-at.invariant.cells;
 }

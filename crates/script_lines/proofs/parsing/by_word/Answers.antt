@@ -1,5 +1,5 @@
 use Rattle.kit_words.proofs.Common.{refl, codes, rules}
-use Rattle.undo_ring.specs.declared.command.Command.TheVariants as command
+use Rattle.edit_records.specs.declared.command.Command.TheVariants as command
 use Rattle.script_lines.specs.declared.lines.Line.TheVariants as said
 use Rattle.script_lines.proofs.CommandLemmas.{arm, row_move, row_insert, row_remove, row_thin, row_split, row_merge, row_rename, row_delete, row_area, row_at, row_neighbours, row_rings}
 use Rattle.script_lines.proofs.parsing.by_word.Goals as goal

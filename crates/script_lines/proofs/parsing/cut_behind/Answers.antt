@@ -1,5 +1,5 @@
 use Rattle.kit_words.proofs.Common.{rules, subst}
-use Rattle.map_text.specs.Common.{string_text}
+use Rattle.edit_records.specs.Common.{string_text}
 use Rattle.script_lines.specs.Common.{Finds, spaced_path, IsPathTail}
 use Rattle.script_lines.proofs.TokenLemmas.{path_unmarked}
 use Rattle.script_lines.proofs.CommandLemmas.{naming_none, naming_no_token, naming_rest, naming_no_name}

@@ -1,5 +1,5 @@
 use Rattle.kit_words.proofs.Common.{sym, ◌∙◌, [], rules}
-use Rattle.map_text.specs.Common.{string_text}
+use Rattle.edit_records.specs.Common.{string_text}
 use Rattle.script_lines.proofs.CommandLemmas.{not_empty, naming_none, naming_no_token, naming_rest, naming_no_name}
 use Rattle.script_lines.proofs.parsing.naming_behind.Goals as goal
 

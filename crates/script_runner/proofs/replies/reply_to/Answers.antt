@@ -1,4 +1,4 @@
-use Rattle.undo_ring.specs.Common.{command_of}
+use Rattle.edit_records.specs.Common.{command_of}
 use Rattle.script_runner.proofs.ReplyLemmas.{applied, failed}
 use Rattle.script_runner.proofs.replies.reply_to.Goals as goal
 

@@ -1,7 +1,7 @@
 use Rattle.kit_words.proofs.Common.{◌≡◌, ◌++◌, [], map, drop, get_or, codes, nat_lt}
 use Rattle.ring_machine.specs.Common.{feature_at}
 use Rattle.map_text.specs.Common.{commas}
-use Rattle.script_runner.specs.Common.{ring_text}
+use Rattle.script_runner.specs.Common.{ring_list_text}
 use Rattle.script_runner.proofs.ListLemmas.{left_text}
 use Rattle.script_runner.proofs.ring_lists.push_polygon.Given as goal
 
@@ -9,4 +9,4 @@ use Rattle.script_runner.proofs.ring_lists.push_polygon.Given as goal
 abbrev pub invariant-loop-ring : goal.invariant-loop-ring
 invariant-loop-ring g l =
     let rings = get_or (feature_at l.map.doc l.f).polygons l.polygon [] in
-    l.text.items ++ left_text (nat_lt 0 l.ring) (map ring_text (drop l.ring rings)) ≡ (l.fn.text.items ++ codes "[") ++ commas (map ring_text rings)
+    l.text.items ++ left_text (nat_lt 0 l.ring) (map ring_list_text (drop l.ring rings)) ≡ (l.fn.text.items ++ codes "[") ++ commas (map ring_list_text rings)

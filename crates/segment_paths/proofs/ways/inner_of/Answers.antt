@@ -1,5 +1,5 @@
 use Rattle.kit_words.proofs.Common.{◌<◌, ◌<ℤ◌, length, sym, ap, subst, ◌∙◌, arith, All-same, All-nil, All-push}
-use Rattle.snap_geometry.specs.Common.{along}
+use Rattle.segment_paths.specs.Near.{along}
 use Rattle.segment_paths.specs.Common.{IsKnown, IsStop}
 use Rattle.segment_paths.proofs.Led.{IsLed, led_none, led_more, led_same, led_way, at_place}
 use Rattle.segment_paths.proofs.ways.inner_of.Goals as goal

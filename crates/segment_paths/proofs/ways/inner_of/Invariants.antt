@@ -1,6 +1,6 @@
 use Rattle.kit_words.proofs.Common.{List, ◌<◌, ◌<ℤ◌, length, All}
 use Rattle.grid_geometry.specs.Common.{Segment}
-use Rattle.snap_geometry.specs.Common.{along}
+use Rattle.segment_paths.specs.Near.{along}
 use Rattle.segment_paths.specs.Common.{IsKnown, IsStop}
 use Rattle.segment_paths.proofs.Led.{IsLed}
 use Rattle.segment_paths.proofs.ways.inner_of.Given as goal

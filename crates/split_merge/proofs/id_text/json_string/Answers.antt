@@ -4,7 +4,7 @@ use Rattle.std.proofs.Common.{append-nil}
 use Rattle.json.specs.Print.{print, print_from, quoted}
 use Rattle.json.specs.Token.{string}
 use Rattle.topo_outline.specs.Common.{IsJson}
-use Rattle.map_text.specs.Common.{string_text}
+use Rattle.edit_records.specs.Common.{string_text}
 use Rattle.map_text.proofs.StringTexts.{string_is_json}
 use Rattle.split_merge.proofs.id_text.json_string.Goals as goal
 

@@ -5,8 +5,8 @@ use Rattle.segment_index.specs.Common.{times_by}
 use Rattle.local_planarity.specs.Common.{most_for}
 use Rattle.arc_store.specs.Common.{edit_begun, IsRecorded, State}
 use Rattle.arc_store.proofs.Common.{keeps_last}
-use Rattle.map_text.specs.Common.{string_text}
-use Rattle.split_merge.specs.Common.{is_early}
+use Rattle.edit_records.specs.Common.{string_text}
+use Rattle.split_merge.specs.Common.{comes_before_pairs}
 use Rattle.split_merge.proofs.SplitConditions.{areas_add_up}
 use Rattle.split_merge.proofs.Recording.{SplitsAlong, split_recorded}
 use Rattle.split_merge.proofs.splitting.split.Goals as goal
@@ -32,7 +32,7 @@ returns-clause-edits g c =
 
 pub returns-clause-untested : goal.returns-clause-untested
 returns-clause-untested g c =
-    subst (λ n. IfErr c.split_now.result (λ fault. is_early fault ≡ true → c.split_now.new.map.tests ≡ n)) (ap (λ (s : State). s.tests) c.begin_edit.ensures.begun) c.split_now.ensures.untested
+    subst (λ n. IfErr c.split_now.result (λ fault. comes_before_pairs fault ≡ true → c.split_now.new.map.tests ≡ n)) (ap (λ (s : State). s.tests) c.begin_edit.ensures.begun) c.split_now.ensures.untested
 
 pub returns-clause-few : goal.returns-clause-few
 returns-clause-few g c =

@@ -4,8 +4,8 @@ use Rattle.segment_index.specs.Common.{times_by}
 use Rattle.local_planarity.specs.Common.{most_for}
 use Rattle.arc_store.specs.Common.{Refuses}
 use Rattle.arc_store.proofs.Common.{is_refused}
-use Rattle.split_merge.specs.Common.{early_refusals, is_early}
-use Rattle.map_text.specs.Common.{string_text}
+use Rattle.split_merge.specs.Common.{early_refusals, comes_before_pairs}
+use Rattle.edit_records.specs.Common.{string_text}
 use Rattle.split_merge.proofs.FirstRefusal.{refuses_first}
 use Rattle.split_merge.proofs.Recording.{SplitsAlong}
 use Rattle.split_merge.proofs.Late.{split_late, not_early}
@@ -61,6 +61,6 @@ returns-clause-untested g c =
     let s = c.args.map.now in
     let id = string_text c.args.id.now in
     let path = path_of c.args.positions.now in
-    IfErr-weaker c.raw_split.result (λ fault. Refuses fault (first_of (split_refusals s.doc s.next c.args.f id path))) (λ fault. is_early fault ≡ true → c.raw_split.new.self.tests ≡ s.tests)
+    IfErr-weaker c.raw_split.result (λ fault. Refuses fault (first_of (split_refusals s.doc s.next c.args.f id path))) (λ fault. comes_before_pairs fault ≡ true → c.raw_split.new.self.tests ≡ s.tests)
     (λ fault h. not_early fault (split_late s.doc s.next c.args.f id path c.in_default.ensures.accepted fault h))
     (returns-clause-edits g c).refused

@@ -1,7 +1,7 @@
 use Rattle.kit_words.proofs.Common.{ap, ◌∙◌, ◌++◌}
 use Rattle.ring_machine.specs.Common.{in_feature, is_junction}
 use Rattle.map_text.specs.Common.{arcs_of, indexes, feature_text}
-use Rattle.topo_writer.specs.Common.{feature_at, arcs_in}
+use Rattle.topo_writer.specs.Common.{feature_or_bare, arcs_in}
 use Rattle.topo_writer.proofs.InDocument.{rings_there, form_fits}
 use Rattle.topo_writer.proofs.ItemSteps.{after_comma}
 use Rattle.topo_writer.proofs.Leading.{feature_whole, leaf_rings, leaf_few}
@@ -19,7 +19,7 @@ push_feature-requires-clause-few g c = leaf_few c.args.map.now (arcs_in c.args.m
 pub returns-clause-text : goal.returns-clause-text
 returns-clause-text g c =
     let d = c.args.map.now in
-    let f = feature_at d c.args.n in
+    let f = feature_or_bare d c.args.n in
     after_comma c.args.text.now.items c.args.more (feature_text (in_feature (indexes (is_junction d) (arcs_of d)) f)) c.push_comma.new.text.items c.push_feature.new.text.items
     c.in_ok-push_comma.ensures
     (c.in_ok-push_feature.ensures.text f c.requires.there

@@ -2,7 +2,7 @@ use Rattle.kit_words.proofs.Common.{arith, ◌≡◌, ◌∷◌, [], ◌++◌, a
 use Rattle.ring_machine.specs.Common.{is_junction}
 use Rattle.map_text.specs.Common.{pieces, ring_text}
 use Rattle.map_text.proofs.Common.{pieces_length}
-use Rattle.topo_writer.specs.Common.{found, arcs_along, listed_arcs, named_ring}
+use Rattle.topo_writer.specs.Common.{arc_found, arcs_along, listed_arcs, named_ring}
 use Rattle.topo_writer.proofs.NamedRings.{named_fits, named_found, named_indexes, named_long}
 use Rattle.topo_writer.proofs.rings.push_ring_of.Goals as goal
 
@@ -37,7 +37,7 @@ returns-clause-table g c =
     record {
       finds = record {
         has = record {
-          mirrors = λ e. finds.has.mirrors e ∙ ap (λ z. found z e) all;
+          mirrors = λ e. finds.has.mirrors e ∙ ap (λ z. arc_found z e) all;
           counts = finds.has.counts ∙ ap length all;
         };
         listed = finds.listed ∙ ap (λ z. listed_arcs c.index_all.new.self.delta z) all;

@@ -1,6 +1,6 @@
 use Rattle.kit_words.proofs.Common.{sym, subst}
 use Rattle.ring_machine.specs.Common.{Split}
-use Rattle.map_text.specs.Common.{string_text}
+use Rattle.edit_records.specs.Common.{string_text}
 use Rattle.undo_ring.specs.Common.{AnswersMap}
 use Rattle.undo_ring.proofs.MapAnswers.{split_answered}
 use Rattle.undo_ring.proofs.answering.cut.Goals as goal

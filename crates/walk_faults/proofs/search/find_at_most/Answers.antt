@@ -2,8 +2,8 @@ use Rattle.kit_words.proofs.Common.{◌≡◌, ◌<◌, ◌∙◌, List, map, le
 use Rattle.kit_words.proofs.Common.{err_from_is_err_and}
 use Rattle.grid_geometry.specs.Common.{Position, position_cmp, Segment, segment_cmp}
 use Rattle.walk_faults.specs.Common.{Placed, walks_of, walk_seen, features_seen, ListsAll, IsTouch, IsCrossing}
-use Rattle.walk_faults.specs.Common.{touch_cmp, crossing_cmp, all_positions, all_segments, short_walks, all_repeats}
-use Rattle.walk_faults.specs.Common.{HasMore, Tells, touches_among, crossings_among}
+use Rattle.walk_faults.specs.Common.{touch_cmp, crossing_cmp, all_positions, segments_of_walks, short_walks, all_repeats}
+use Rattle.walk_faults.specs.Common.{HasMore, IsFindFault, touches_among, crossings_among}
 use Rattle.walk_faults.proofs.Pairs.{touches_all, crossings_all}
 use Rattle.walk_faults.proofs.Walking.{only_where}
 use Rattle.walk_faults.proofs.search.find_at_most.Goals as goal
@@ -15,9 +15,9 @@ vertices_in seen walks ps items e f h =
     subst (ListsAll position_cmp (Contains (all_positions walks))) (sym f) (subst (λ ws. ListsAll position_cmp (Contains (all_positions ws)) items) e h)
 
 segments_in : (seen walks : List Placed) (ss items : List Segment) → seen ≡ walks → ss ≡ items
-    → ListsAll segment_cmp (Contains (all_segments seen)) items → ListsAll segment_cmp (Contains (all_segments walks)) ss
+    → ListsAll segment_cmp (Contains (segments_of_walks seen)) items → ListsAll segment_cmp (Contains (segments_of_walks walks)) ss
 segments_in seen walks ss items e f h =
-    subst (ListsAll segment_cmp (Contains (all_segments walks))) (sym f) (subst (λ ws. ListsAll segment_cmp (Contains (all_segments ws)) items) e h)
+    subst (ListsAll segment_cmp (Contains (segments_of_walks walks))) (sym f) (subst (λ ws. ListsAll segment_cmp (Contains (segments_of_walks ws)) items) e h)
 
 pub returns-clause-found : goal.returns-clause-found
 returns-clause-found g c =
@@ -53,7 +53,7 @@ returns-in_err-touches-clause-fault g c =
     (λ more. inr (inr (inl (record { list = touches_among ps ss; all = touches_all walks ps ss vertices segments; more = more }))))
     (c.in_err-touches.ensures.fault ss c.in_ok-fill.ensures) in
     let r = err_from_is_err_and c.from_residual-in_err-touches.result c.from_residual-in_err-touches.ensures.1 in
-    subst (λ z. IfErr z (Tells most polygons)) (sym r.1) (subst (Tells most polygons) (sym r.2) k)
+    subst (λ z. IfErr z (IsFindFault most polygons)) (sym r.1) (subst (IsFindFault most polygons) (sym r.2) k)
 
 pub returns-in_err-crossings-clause-fault : goal.returns-in_err-crossings-clause-fault
 returns-in_err-crossings-clause-fault g c =
@@ -67,4 +67,4 @@ returns-in_err-crossings-clause-fault g c =
     (λ more. inr (inr (inr (record { list = crossings_among ss ss; all = crossings_all walks ss segments; more = more }))))
     c.in_err-crossings.ensures.fault in
     let r = err_from_is_err_and c.from_residual-in_err-crossings.result c.from_residual-in_err-crossings.ensures.1 in
-    subst (λ z. IfErr z (Tells most polygons)) (sym r.1) (subst (Tells most polygons) (sym r.2) k)
+    subst (λ z. IfErr z (IsFindFault most polygons)) (sym r.1) (subst (IsFindFault most polygons) (sym r.2) k)

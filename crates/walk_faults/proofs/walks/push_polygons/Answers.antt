@@ -1,6 +1,7 @@
 use Rattle.kit_words.proofs.Common.{◌++◌, ap, ◌∙◌, map}
-use Rattle.walk_faults.specs.Common.{walks_in_polygon, walk_seen, rings_seen}
+use Rattle.walk_faults.specs.Common.{walks_in_polygon, walk_seen}
 use Rattle.walk_faults.proofs.Walking.{one_appended}
+use Rattle.ring_parts.specs.Common.{rings_seen}
 use Rattle.walk_faults.proofs.walks.push_polygons.Goals as goal
 
 pub loop-polygon-preserved : goal.loop-polygon-preserved

@@ -1,5 +1,6 @@
 use Rattle.kit_words.proofs.Common.{◌≡◌, ◌++◌, map, take}
-use Rattle.walk_faults.specs.Common.{walks_in_feature, walk_seen, polygons_seen}
+use Rattle.walk_faults.specs.Common.{walks_in_feature, walk_seen}
+use Rattle.ring_parts.specs.Common.{polygons_seen}
 use Rattle.walk_faults.proofs.walks.push_polygons.Given as goal
 
 -- the walks of the polygons so far are appended

@@ -1,5 +1,6 @@
 use Rattle.kit_words.proofs.Common.{◌≡◌, ◌++◌, map, take}
-use Rattle.walk_faults.specs.Common.{walks_in_polygon, walk_seen, rings_seen}
+use Rattle.walk_faults.specs.Common.{walks_in_polygon, walk_seen}
+use Rattle.ring_parts.specs.Common.{rings_seen}
 use Rattle.walk_faults.proofs.walks.push_rings.Given as goal
 
 -- the walks so far are appended

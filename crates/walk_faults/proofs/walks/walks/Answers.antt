@@ -1,6 +1,7 @@
 use Rattle.kit_words.proofs.Common.{◌++◌, [], ap, ◌∙◌, map}
-use Rattle.walk_faults.specs.Common.{walks_in_feature, walk_seen, polygons_seen}
+use Rattle.walk_faults.specs.Common.{walks_in_feature, walk_seen}
 use Rattle.walk_faults.proofs.Walking.{one_appended}
+use Rattle.ring_parts.specs.Common.{polygons_seen}
 use Rattle.walk_faults.proofs.walks.walks.Goals as goal
 
 pub loop-feature-preserved : goal.loop-feature-preserved

@@ -1,9 +1,9 @@
 use Rattle.kit_words.proofs.Common.{◌≡◌, ap, sym, ◌∙◌, IfOk-weaker}
 use Rattle.grid_geometry.specs.Common.{Segment}
-use Rattle.walk_faults.specs.Common.{rings_seen}
 use Rattle.walk_mending.specs.Common.{is_among, is_bounding}
 use Rattle.walk_mending.proofs.Bounds.{all_bound, odd_bound}
 use Rattle.walk_mending.proofs.Cancelling.{is_odd, times}
+use Rattle.ring_parts.specs.Common.{rings_seen}
 use Rattle.walk_mending.proofs.bounding.bounding_in.Goals as goal
 
 pub returns-then-branch : goal.returns-then-branch

@@ -1,7 +1,7 @@
 use Rattle.kit_words.proofs.Common.{◌≡◌, ◌||◌, take, list_any}
 use Rattle.grid_geometry.specs.Common.{Segment}
-use Rattle.walk_faults.specs.Common.{polygons_seen}
 use Rattle.walk_mending.specs.Common.{is_among, is_bounding}
+use Rattle.ring_parts.specs.Common.{polygons_seen}
 use Rattle.walk_mending.proofs.bounding.push_bounding.Given as goal
 
 -- those of the polygons so far

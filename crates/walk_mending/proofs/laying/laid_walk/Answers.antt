@@ -1,5 +1,5 @@
 use Rattle.kit_words.proofs.Common.{◌≡◌, map, arith, common_steps}
-use Rattle.segment_paths.specs.Common.{path_seen}
+use Rattle.segment_paths.specs.Common.{path_of_segment}
 use Rattle.walk_mending.specs.Common.{laid}
 use Rattle.walk_mending.proofs.Along.{none_keeps, keeps_if}
 use Rattle.walk_mending.proofs.Going.{none_goes, goes_if}
@@ -10,13 +10,13 @@ returns-in_default-clause-kept g c = none_keeps c.args.walk.now c.new-found.resu
 
 pub returns-clause-kept : goal.returns-clause-kept
 returns-clause-kept g c =
-    let is : c.push_edge-2.new.found.items ≡ laid (map path_seen c.args.paths.now) c.args.walk.now = grind (arith, common_steps) in
-    keeps_if (map path_seen c.args.paths.now) c.args.walk.now c.push_edge-2.new.found.items is
+    let is : c.push_edge-2.new.found.items ≡ laid (map path_of_segment c.args.paths.now) c.args.walk.now = grind (arith, common_steps) in
+    keeps_if (map path_of_segment c.args.paths.now) c.args.walk.now c.push_edge-2.new.found.items is
 
 pub returns-in_default-clause-links : goal.returns-in_default-clause-links
-returns-in_default-clause-links g c = none_goes (map path_seen c.args.paths.now) c.args.walk.now c.new-found.result.items (omega arith)
+returns-in_default-clause-links g c = none_goes (map path_of_segment c.args.paths.now) c.args.walk.now c.new-found.result.items (omega arith)
 
 pub returns-clause-links : goal.returns-clause-links
 returns-clause-links g c =
-    let is : c.push_edge-2.new.found.items ≡ laid (map path_seen c.args.paths.now) c.args.walk.now = grind (arith, common_steps) in
-    goes_if (map path_seen c.args.paths.now) c.args.walk.now c.push_edge-2.new.found.items is
+    let is : c.push_edge-2.new.found.items ≡ laid (map path_of_segment c.args.paths.now) c.args.walk.now = grind (arith, common_steps) in
+    goes_if (map path_of_segment c.args.paths.now) c.args.walk.now c.push_edge-2.new.found.items is

@@ -1,6 +1,6 @@
 use Rattle.kit_words.proofs.Common.{◌≡◌, map, take}
 use Rattle.ring_machine.specs.Common.{canonical}
-use Rattle.walk_faults.specs.Common.{rings_seen}
+use Rattle.ring_parts.specs.Common.{rings_seen}
 use Rattle.walk_mending.proofs.mending.all_canonical.Given as goal
 
 -- the walks so far

@@ -1,7 +1,7 @@
 use Rattle.kit_words.proofs.Common.{◌≡◌, ◌++◌, ◌∷◌, [], ap, sym, ◌∙◌, map}
 use Rattle.ring_machine.specs.Common.{canonical}
-use Rattle.walk_faults.specs.Common.{rings_seen, polygons_seen}
 use Rattle.walk_mending.proofs.Laws.{stays_if, odd_ends, mended_if, ends_if}
+use Rattle.ring_parts.specs.Common.{rings_seen, polygons_seen}
 use Rattle.walk_mending.proofs.mending.mended_polygon.Goals as goal
 
 pub returns-then-not-branch-clause-mended : goal.returns-then-not-branch-clause-mended

@@ -1,8 +1,9 @@
 use Rattle.kit_words.proofs.Common.{ap, sym, ◌∙◌, subst, flat_map, list_all, IsPermutation}
-use Rattle.walk_faults.specs.Common.{walk_segments, rings_seen, polygons_seen}
+use Rattle.walk_faults.specs.Common.{walk_segments}
 use Rattle.segment_paths.proofs.Led.{some_left}
-use Rattle.walk_mending.specs.Common.{all_rings}
+use Rattle.walk_mending.specs.Common.{rings_of_parts}
 use Rattle.walk_mending.proofs.Parting.{are_parts, is_filled, none_left, no_parts, some_odd}
+use Rattle.ring_parts.specs.Common.{rings_seen, polygons_seen}
 use Rattle.walk_mending.proofs.mending.parted.Goals as goal
 
 pub returns-then-exact : goal.returns-then-exact
@@ -10,8 +11,8 @@ returns-then-exact g c =
     are_parts (rings_seen c.args.walks.now) (polygons_seen c.in_ok-parts.parts.items) c.in_ok-odd.odd.items
     (ap (λ z. list_all is_filled (polygons_seen z)) (sym c.as_slice-2.ensures.value) ∙ sym c.in_ok-filled.ensures ∙ c.if-filled.true)
     c.in_ok-odd.ensures.ascending c.in_ok-odd.ensures.odd
-    (subst (λ z. IsPermutation (flat_map walk_segments (all_rings (polygons_seen z))) c.in_ok-odd.odd.items) c.as_slice-3.ensures.value
-    (subst (IsPermutation (flat_map walk_segments (all_rings (polygons_seen c.as_slice-3.result.now)))) c.as_slice-4.ensures.value
+    (subst (λ z. IsPermutation (flat_map walk_segments (rings_of_parts (polygons_seen z))) c.in_ok-odd.odd.items) c.as_slice-3.ensures.value
+    (subst (IsPermutation (flat_map walk_segments (rings_of_parts (polygons_seen c.as_slice-3.result.now)))) c.as_slice-4.ensures.value
     (c.in_ok-exact.ensures c.if-exact.true)))
 
 pub returns-then-is_empty : goal.returns-then-is_empty

@@ -1,10 +1,10 @@
 use Rattle.kit_words.proofs.Common.{◌≡◌, true, false, ap, sym, ◌∙◌, list_all}
 use Rattle.ring_machine.specs.Common.{is_ring}
-use Rattle.walk_faults.specs.Common.{rings_seen}
 use Rattle.walk_mending.proofs.Bounds.{fails_at, passes_on}
 use Rattle.walk_mending.proofs.Parting.{is_filled, filled_if, unfilled_empty, unfilled_if}
 use Rattle.walk_mending.proofs.parts.all_filled.Goals as goal
 use Rattle.walk_mending.proofs.parts.all_filled.Goals.{then-is_empty-via-then-is_empty, then-is_empty-via-else-is_empty+in_ok-are_rings+then-not-branch}
+use Rattle.ring_parts.specs.Common.{rings_seen}
 
 pub returns-then-is_empty : goal.returns-then-is_empty
 returns-then-is_empty g c =

@@ -1,6 +1,6 @@
 use Rattle.kit_words.proofs.Common.{◌≡◌, true, take, list_all}
-use Rattle.walk_faults.specs.Common.{polygons_seen}
 use Rattle.walk_mending.proofs.Parting.{is_filled}
+use Rattle.ring_parts.specs.Common.{polygons_seen}
 use Rattle.walk_mending.proofs.parts.all_filled.Given as goal
 
 -- all so far

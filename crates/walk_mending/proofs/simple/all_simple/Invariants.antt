@@ -1,6 +1,6 @@
 use Rattle.kit_words.proofs.Common.{◌≡◌, true, take, list_all}
 use Rattle.topo_reader.specs.Common.{is_simple}
-use Rattle.walk_faults.specs.Common.{rings_seen}
+use Rattle.ring_parts.specs.Common.{rings_seen}
 use Rattle.walk_mending.proofs.simple.all_simple.Given as goal
 
 -- all so far

@@ -1,6 +1,6 @@
 use Rattle.kit_words.proofs.Common.{◌≡◌, true, take, list_all}
 use Rattle.ring_machine.specs.Common.{is_ring}
-use Rattle.walk_faults.specs.Common.{rings_seen}
+use Rattle.ring_parts.specs.Common.{rings_seen}
 use Rattle.walk_mending.proofs.simple.are_rings.Given as goal
 
 -- all so far

@@ -3,7 +3,7 @@ use Rattle.ring_machine.specs.Common.{first_polygon, second_polygon, feature, fe
 use Rattle.ring_parts.specs.Common.{path_seen, rings_seen}
 use Rattle.edit_records.specs.Common.{grown, Exchanged}
 use Rattle.feature_exchange.specs.Common.{seen}
-use Rattle.arc_store.specs.Common.{MayExchange, asked_document, with_polygons, part_of, State}
+use Rattle.arc_store.specs.Common.{MayExchange, asked_document, feature_with, part_of, State}
 use Rattle.arc_store.proofs.ChangesCounted.{seen_two}
 use Rattle.arc_store.proofs.ChangesRecorded.{record_kept, next_none}
 use Rattle.arc_store.proofs.SplitMade.{both_parts}
@@ -24,7 +24,7 @@ asked g c =
     let comes : rings_seen c.in_ok-first.second.items ≡ second_polygon p q =
     c.in_ok-first.ensures.second ∙ ap (λ z. second_polygon p (rings_seen z)) c.as_slice.ensures.value in
     seen_two c.in_ok-kept.kept c.in_ok-part.part _ _ c.as_mut_slice.result.now (c.as_mut_slice.ensures.value ∙ c.in_ok-changes.ensures)
-    (c.in_ok-kept.ensures ∙ ap (λ z. (c.args.n, Some (with_polygons d c.args.n z)) ∷ []) stays)
+    (c.in_ok-kept.ensures ∙ ap (λ z. (c.args.n, Some (feature_with d c.args.n z)) ∷ []) stays)
     (c.in_ok-part.ensures ∙ ap₂ (λ k z. (k, Some (part_of d c.args.n k c.args.id.items z)) ∷ []) c.next_number-number.ensures.next comes)
 
 pub exchange-requires : goal.exchange-requires

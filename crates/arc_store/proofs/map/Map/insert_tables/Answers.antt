@@ -1,6 +1,6 @@
 use Rattle.kit_words.proofs.Common.{sym, subst, ap, ◌∙◌, arith, err_from_is_err_and}
 use Rattle.ring_machine.specs.Common.{is_segment, ins}
-use Rattle.feature_exchange.specs.Common.{stored, document_of}
+use Rattle.feature_exchange.specs.Common.{stored, stored_document}
 use Rattle.arc_store.specs.Common.{IsPlaceable, State}
 use Rattle.arc_store.proofs.Around.{none_joined}
 use Rattle.arc_store.proofs.InsertPlan.{first_key, second_key, insert_off, insert_new, insert_single}
@@ -26,7 +26,7 @@ pub put_in-requires-clause-held : goal.put_in-requires-clause-held
 put_in-requires-clause-held g c =
     let m = c.self.inside in
     c.self.invariant.holds.indexed c.in_ok-parting.parting.before
-    ∙ ap (is_segment (document_of (stored m.frame m.rings.borders m.rings.vertices))) c.in_ok-parting.ensures.read.goes
+    ∙ ap (is_segment (stored_document (stored m.frame m.rings.borders m.rings.vertices))) c.in_ok-parting.ensures.read.goes
     ∙ rw (← c.self.view_is) at c.requires.placeable.border
 
 pub put_in-requires-clause-new : goal.put_in-requires-clause-new

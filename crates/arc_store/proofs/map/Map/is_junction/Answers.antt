@@ -1,6 +1,6 @@
 use Rattle.kit_words.proofs.Common.{sym, ap, ◌∙◌}
 use Rattle.ring_machine.specs.Common.{is_junction}
-use Rattle.feature_exchange.specs.Common.{stored, document_of}
+use Rattle.feature_exchange.specs.Common.{stored, stored_document}
 use Rattle.arc_store.proofs.NoJunction as without
 use Rattle.arc_store.proofs.Reading.{no_vertex}
 use Rattle.arc_store.proofs.SpotLemmas.{spot_junction, two_between}
@@ -10,7 +10,7 @@ pub returns-in_default : goal.returns-in_default
 returns-in_default g c =
     let m = c.self.inside in
     let s = stored m.frame m.rings.borders m.rings.vertices in
-    sym (without.no_vertex (document_of s) c.args.p (no_vertex s c.self.invariant.holds.whole c.args.p c.in_default.ensures.absent))
+    sym (without.no_vertex (stored_document s) c.args.p (no_vertex s c.self.invariant.holds.whole c.args.p c.in_default.ensures.absent))
     ∙ ap (λ z. is_junction z.doc c.args.p) c.self.view_is
 
 pub returns-in-Two : goal.returns-in-Two

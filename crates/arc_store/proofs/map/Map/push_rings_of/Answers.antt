@@ -3,7 +3,7 @@ use Rattle.grid_geometry.specs.Common.{Segment, segment}
 use Rattle.ring_machine.specs.Common.{is_segment}
 use Rattle.map_frame.specs.declared.names.RingName.{RingName}
 use Rattle.map_frame.specs.Common.{number_at}
-use Rattle.feature_exchange.specs.Common.{document_of, stored}
+use Rattle.feature_exchange.specs.Common.{stored_document, stored}
 use Rattle.arc_store.specs.Common.{ListsRings}
 use Rattle.arc_store.proofs.NamedRings.{listed_names, other_end, rings_listed, none_from}
 use Rattle.arc_store.proofs.map.Map.push_rings_of.Goals as goal
@@ -23,7 +23,7 @@ push_names-requires g c =
     let v = c.self.invariant in
     let a = c.in-Some.a in
     let s : Segment = record { lo = c.s.inside.lo; hi = c.s.inside.hi } in
-    let there : is_segment (document_of (stored m.frame m.rings.borders m.rings.vertices)) s ≡ true =
+    let there : is_segment (stored_document (stored m.frame m.rings.borders m.rings.vertices)) s ≡ true =
     subst (λ z. is_segment z.doc s ≡ true) (sym c.self.view_is) (subst (λ z. is_segment c.args.self.now.doc z ≡ true) (sym c.s.view_is) c.requires) in
     let e = other_end m.frame m.rings.borders m.rings.vertices v.holds.whole s there a c.in-Some.ensures.found in
     listed_names m.frame m.rings.borders m.rings.vertices v.holds.whole a e.0 s.lo s.hi c.in-Some.ensures.found e.2 v.holds.formed.numbers
@@ -37,7 +37,7 @@ returns-in-Some-users_around g c =
     let old = c.args.out.now.items in
     let new = c.push_names.new.out.items in
     let s : Segment = record { lo = c.s.inside.lo; hi = c.s.inside.hi } in
-    let there : is_segment (document_of (stored m.frame m.rings.borders m.rings.vertices)) s ≡ true =
+    let there : is_segment (stored_document (stored m.frame m.rings.borders m.rings.vertices)) s ≡ true =
     subst (λ z. is_segment z.doc s ≡ true) (sym c.self.view_is) (subst (λ z. is_segment c.args.self.now.doc z ≡ true) (sym c.s.view_is) c.requires) in
     let e = other_end m.frame m.rings.borders m.rings.vertices v.holds.whole s there a c.in-Some.ensures.found in
     on_ok_weaker c.push_names.result (λ names.

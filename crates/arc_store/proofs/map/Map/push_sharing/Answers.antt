@@ -2,8 +2,8 @@ use Rattle.kit_words.proofs.Common.{◌≡◌, ◌∙◌, ℕ, [], Some, None, s
 use Rattle.grid_geometry.specs.Common.{edges}
 use Rattle.arc_tables.specs.Common.{ListsSharing}
 use Rattle.map_frame.specs.declared.names.RingName.{RingName}
-use Rattle.map_frame.specs.Common.{number_at, ring_at}
-use Rattle.feature_exchange.specs.Common.{stored, document_of, ring_under}
+use Rattle.map_frame.specs.Common.{number_at, frame_ring}
+use Rattle.feature_exchange.specs.Common.{stored, stored_document, ring_under}
 use Rattle.arc_store.specs.Common.{ListsNames, ListsUsers}
 use Rattle.arc_store.proofs.NamedRings.{ring_by_name}
 use Rattle.arc_store.proofs.SharedNames.{users_none, sharing_named, sharing_listed}
@@ -32,10 +32,10 @@ returns g c =
     let is : number_at m.frame.doc own ≡ Some r = sym (sym c.in-Some.is ∙ c.ring.ensures) in
     let l : ListsSharing m.rings.borders r [] numbers = subst (λ z. ListsSharing m.rings.borders r z numbers) c.new-numbers.ensures.items c.in_ok-push_sharing.ensures in
     let names : ListsNames m.frame.doc numbers old new = subst (λ z. ListsNames m.frame.doc z old new) c.as_slice.ensures.value c.in_ok-push_names.ensures in
-    let there : ring_at (document_of s) own.feature own.polygon own.ring ≡ Some (ring_under s r) =
+    let there : frame_ring (stored_document s) own.feature own.polygon own.ring ≡ Some (ring_under s r) =
     ring_by_name m.frame m.rings.borders m.rings.vertices v.holds.whole own ∙ ap (option_map (ring_under s)) is in
-    subst (λ z. ListsUsers z.doc (edges (unwrap_or (ring_at z.doc c.args.feature c.args.polygon c.args.ring) [])) old new) c.self.view_is
-    (subst (λ o. ListsUsers (document_of s) (edges (unwrap_or o [])) old new) (sym there)
+    subst (λ z. ListsUsers z.doc (edges (unwrap_or (frame_ring z.doc c.args.feature c.args.polygon c.args.ring) [])) old new) c.self.view_is
+    (subst (λ o. ListsUsers (stored_document s) (edges (unwrap_or o [])) old new) (sym there)
     (sharing_listed m.frame m.rings.borders m.rings.vertices v.holds.whole own r is numbers l old new names))
 
 pub returns-in_default : goal.returns-in_default
@@ -46,7 +46,7 @@ returns-in_default g c =
     let s = stored m.frame m.rings.borders m.rings.vertices in
     let own : RingName = record { feature = c.args.feature; polygon = c.args.polygon; ring = c.args.ring } in
     let is : number_at m.frame.doc own ≡ None = sym (sym c.in_default.is ∙ c.ring.ensures) in
-    let there : ring_at (document_of s) own.feature own.polygon own.ring ≡ None =
+    let there : frame_ring (stored_document s) own.feature own.polygon own.ring ≡ None =
     ring_by_name m.frame m.rings.borders m.rings.vertices v.holds.whole own ∙ ap (option_map (ring_under s)) is in
-    subst (λ z. ListsUsers z.doc (edges (unwrap_or (ring_at z.doc c.args.feature c.args.polygon c.args.ring) [])) old old) c.self.view_is
-    (subst (λ o. ListsUsers (document_of s) (edges (unwrap_or o [])) old old) (sym there) (users_none (document_of s) old))
+    subst (λ z. ListsUsers z.doc (edges (unwrap_or (frame_ring z.doc c.args.feature c.args.polygon c.args.ring) [])) old old) c.self.view_is
+    (subst (λ o. ListsUsers (stored_document s) (edges (unwrap_or o [])) old old) (sym there) (users_none (stored_document s) old))

@@ -1,6 +1,6 @@
 use Rattle.kit_words.proofs.Common.{◌≡◌, refl, subst, ap, ◌∙◌, None, arith}
 use Rattle.ring_machine.specs.Common.{first_of, insert_refusals, ins}
-use Rattle.feature_exchange.specs.Common.{stored, document_of}
+use Rattle.feature_exchange.specs.Common.{stored, stored_document}
 use Rattle.arc_store.specs.Common.{Refuses, State}
 use Rattle.arc_store.proofs.Around.{none_joined}
 use Rattle.arc_store.proofs.Indexed.{indexed_apart}
@@ -23,7 +23,7 @@ read_parting-requires-clause-apart g c = insert_off c.self.invariant c.self.view
 pub test_insert-requires-clause-apart : goal.test_insert-requires-clause-apart
 test_insert-requires-clause-apart g c =
     let m = c.self.inside in
-    indexed_apart (document_of (stored m.frame m.rings.borders m.rings.vertices)) m.rings.index.held c.self.invariant.holds.indexed c.self.invariant.holds.proper
+    indexed_apart (stored_document (stored m.frame m.rings.borders m.rings.vertices)) m.rings.index.held c.self.invariant.holds.indexed c.self.invariant.holds.proper
 
 pub put_in-requires-clause-unjoined : goal.put_in-requires-clause-unjoined
 put_in-requires-clause-unjoined g c = λ k x e.
@@ -57,14 +57,14 @@ returns-in_err-test_insert-clause-edits g c =
     let m = c.self.inside in
     let asked = insertable c.self.invariant c.self.view_is c.args.a c.args.b c.args.q c.requires.segment c.requires.free c.requires.small in
     hands_on c.in_err-test_insert.field-0.0 c.from_residual-in_err-test_insert.result c.from_residual-in_err-test_insert.ensures.1
-    (subst (λ (z : State). Refuses c.in_err-test_insert.field-0.0 (first_of (insert_refusals z.doc c.args.a c.args.b c.args.q))) c.self.view_is (c.in_err-test_insert.ensures.refused (document_of (stored m.frame m.rings.borders m.rings.vertices)) asked))
+    (subst (λ (z : State). Refuses c.in_err-test_insert.field-0.0 (first_of (insert_refusals z.doc c.args.a c.args.b c.args.q))) c.self.view_is (c.in_err-test_insert.ensures.refused (stored_document (stored m.frame m.rings.borders m.rings.vertices)) asked))
     (tested c.self.invariant c.self.view_is m.rings.borders m.rings.vertices m.rings.index.cells c.test_insert.new.tests refl refl refl)
 
 pub returns-clause-edits : goal.returns-clause-edits
 returns-clause-edits g c =
     let m = c.self.inside in
     let asked = insertable c.self.invariant c.self.view_is c.args.a c.args.b c.args.q c.requires.segment c.requires.free c.requires.small in
-    let none = c.in_ok-test_insert.ensures.accepted (document_of (stored m.frame m.rings.borders m.rings.vertices)) asked in
+    let none = c.in_ok-test_insert.ensures.accepted (stored_document (stored m.frame m.rings.borders m.rings.vertices)) asked in
     let may = insert_passes c.self.invariant c.self.view_is c.args.a c.args.b c.args.q c.requires.segment c.requires.free c.requires.small c.requires.apart c.in_ok-test_insert.ensures.accepted in
     is_made (subst (λ (z : State). first_of (insert_refusals z.doc c.args.a c.args.b c.args.q) ≡ None) c.self.view_is none)
     (with_record c.self.invariant c.self.view_is c.put_in.new.tables.borders c.put_in.new.tables.vertices c.put_in.new.tables.index.cells

@@ -2,7 +2,7 @@ use Rattle.kit_words.proofs.Common.{◌≡◌, refl, sym, ap, ap₂, ◌∙◌, 
 use Rattle.ring_machine.specs.Common.{feature_at}
 use Rattle.ring_parts.specs.Common.{joined_rings, rings_seen, polygons_seen}
 use Rattle.feature_exchange.specs.Common.{seen}
-use Rattle.arc_store.specs.Common.{MayExchange, asked_document, with_polygons}
+use Rattle.arc_store.specs.Common.{MayExchange, asked_document, feature_with}
 use Rattle.arc_store.proofs.ChangesCounted.{seen_two}
 use Rattle.arc_store.proofs.ChangesRecorded.{record_kept}
 use Rattle.arc_store.proofs.MergePlan as plan
@@ -38,10 +38,10 @@ joined g c =
 
 -- what is asked for: one feature with them, and none in the place of the other
 asked : (g : Over) (c : After-as_mut_slice g) → seen c.as_mut_slice.result.now
-    ≡ (c.args.n, Some (with_polygons c.args.self.now.doc c.args.n (rings_seen c.in_ok-rings.rings.items ∷ []))) ∷ (c.args.g, None) ∷ []
+    ≡ (c.args.n, Some (feature_with c.args.self.now.doc c.args.n (rings_seen c.in_ok-rings.rings.items ∷ []))) ∷ (c.args.g, None) ∷ []
 asked g c =
     seen_two c.in_ok-joined.joined (record { number = c.args.g; was = None }) _ _ c.as_mut_slice.result.now (c.as_mut_slice.ensures.value ∙ c.in_ok-changes.ensures)
-    (c.in_ok-joined.ensures ∙ ap (λ z. (c.args.n, Some (with_polygons c.args.self.now.doc c.args.n (polygons_seen z))) ∷ []) c.in_ok-one_polygon.ensures) refl
+    (c.in_ok-joined.ensures ∙ ap (λ z. (c.args.n, Some (feature_with c.args.self.now.doc c.args.n (polygons_seen z))) ∷ []) c.in_ok-one_polygon.ensures) refl
 
 pub exchange-requires : goal.exchange-requires
 exchange-requires g c =

@@ -1,7 +1,7 @@
 use Rattle.kit_words.proofs.Common.{◌≡◌, ◌∙◌, refl, ap, arith, subst, sym, None}
 use Rattle.grid_geometry.specs.Common.{Segment}
 use Rattle.ring_machine.specs.Common.{is_vertex, first_of, remove_refusals, del, is_junction}
-use Rattle.feature_exchange.specs.Common.{stored, document_of}
+use Rattle.feature_exchange.specs.Common.{stored, stored_document}
 use Rattle.arc_store.specs.Common.{Refuses, IsLeftOut, State}
 use Rattle.arc_store.specs.declared.fault.EditFault.TheVariants as fault
 use Rattle.arc_store.proofs.Accepted.{remove_may}
@@ -23,7 +23,7 @@ read_bridging-requires g c =
 
 pub test_remove-requires : goal.test_remove-requires
 test_remove-requires g c = record {
-  apart = indexed_apart (document_of (stored c.self.inside.frame c.self.inside.rings.borders c.self.inside.rings.vertices)) c.self.inside.rings.index.held c.self.invariant.holds.indexed c.self.invariant.holds.proper;
+  apart = indexed_apart (stored_document (stored c.self.inside.frame c.self.inside.rings.borders c.self.inside.rings.vertices)) c.self.inside.rings.index.held c.self.invariant.holds.indexed c.self.invariant.holds.proper;
 }
 
 -- ---- the tables
@@ -52,7 +52,7 @@ pub overflow_sub-self : goal.overflow_sub-self
 overflow_sub-self g c =
     let f = found c.self.invariant c.self.view_is c.in_ok-bridging.ensures.read c.as_slice-before.ensures.value c.requires.inner c.requires.long c.requires.unjoined in
     let s = stored c.self.inside.frame c.self.inside.rings.borders c.self.inside.rings.vertices in
-    let may = remove_may (document_of s) c.args.p (c.in_ok-test_remove.ensures.accepted (document_of s) (planned f).removable) in
+    let may = remove_may (stored_document s) c.args.p (c.in_ok-test_remove.ensures.accepted (stored_document s) (planned f).removable) in
     let t = taken f may c.in_ok-rings.ensures.taken c.take_out.new.tables.index.held c.in_ok-rings.ensures.exchanged in
     omega (arith, t.positions_there, c.in_ok-rings.ensures.rings)
 
@@ -60,7 +60,7 @@ pub invariant_of-self-2 : goal.invariant_of-self-2
 invariant_of-self-2 g c =
     let f = found c.self.invariant c.self.view_is c.in_ok-bridging.ensures.read c.as_slice-before.ensures.value c.requires.inner c.requires.long c.requires.unjoined in
     let s = stored c.self.inside.frame c.self.inside.rings.borders c.self.inside.rings.vertices in
-    let may = remove_may (document_of s) c.args.p (c.in_ok-test_remove.ensures.accepted (document_of s) (planned f).removable) in
+    let may = remove_may (stored_document s) c.args.p (c.in_ok-test_remove.ensures.accepted (stored_document s) (planned f).removable) in
     rw c.in_ok-rings.ensures.rings (taken f may c.in_ok-rings.ensures.taken c.take_out.new.tables.index.held c.in_ok-rings.ensures.exchanged).kept
 
 -- ---- what the edit makes
@@ -70,7 +70,7 @@ returns-in_err-test_remove-clause-edits g c =
     let m = c.self.inside in
     let f = found c.self.invariant c.self.view_is c.in_ok-bridging.ensures.read c.as_slice-before.ensures.value c.requires.inner c.requires.long c.requires.unjoined in
     hands_on c.in_err-test_remove.field-0.0 c.from_residual-in_err-test_remove.result c.from_residual-in_err-test_remove.ensures.1
-    (subst (λ (z : State). Refuses c.in_err-test_remove.field-0.0 (first_of (remove_refusals z.doc c.args.p))) c.self.view_is (c.in_err-test_remove.ensures.refused (document_of (stored m.frame m.rings.borders m.rings.vertices)) (planned f).removable))
+    (subst (λ (z : State). Refuses c.in_err-test_remove.field-0.0 (first_of (remove_refusals z.doc c.args.p))) c.self.view_is (c.in_err-test_remove.ensures.refused (stored_document (stored m.frame m.rings.borders m.rings.vertices)) (planned f).removable))
     (tested c.self.invariant c.self.view_is m.rings.borders m.rings.vertices m.rings.index.cells c.test_remove.new.tests refl refl refl)
 
 pub returns-clause-edits : goal.returns-clause-edits
@@ -78,8 +78,8 @@ returns-clause-edits g c =
     let m = c.self.inside in
     let f = found c.self.invariant c.self.view_is c.in_ok-bridging.ensures.read c.as_slice-before.ensures.value c.requires.inner c.requires.long c.requires.unjoined in
     let s = stored m.frame m.rings.borders m.rings.vertices in
-    let none = c.in_ok-test_remove.ensures.accepted (document_of s) (planned f).removable in
-    let may = remove_may (document_of s) c.args.p none in
+    let none = c.in_ok-test_remove.ensures.accepted (stored_document s) (planned f).removable in
+    let may = remove_may (stored_document s) c.args.p none in
     is_made (subst (λ (z : State). first_of (remove_refusals z.doc c.args.p) ≡ None) c.self.view_is none)
     (with_document_tested c.self.invariant c.self.view_is c.take_out.new.tables.borders c.take_out.new.tables.vertices c.take_out.new.tables.index.cells c.test_remove.new.tests
     ((taken f may c.in_ok-rings.ensures.taken c.take_out.new.tables.index.held c.in_ok-rings.ensures.exchanged).doc

@@ -1,5 +1,5 @@
 use Rattle.kit_words.proofs.Common.{arith, sym, ap, ◌∙◌, ◌≡◌, [], Some, option_map}
-use Rattle.map_frame.specs.Common.{ring_at}
+use Rattle.map_frame.specs.Common.{frame_ring}
 use Rattle.feature_exchange.specs.Common.{stored, ring_under}
 use Rattle.arc_store.proofs.FrameNames.{number_there}
 use Rattle.arc_store.proofs.FrameReads.{ring-in_rings}
@@ -14,7 +14,7 @@ returns-in_err-number g c =
     c.from_residual.ensures
     ∙ ap (option_map at) c.in_err-number.ensures
     ∙ sym (ring-in_rings at m.frame.doc n c.args.polygon c.args.ring)
-    ∙ ap (λ s. ring_at s.doc n c.args.polygon c.args.ring) c.self.view_is
+    ∙ ap (λ s. frame_ring s.doc n c.args.polygon c.args.ring) c.self.view_is
 
 pub returns-in_err-keys : goal.returns-in_err-keys
 returns-in_err-keys g c =
@@ -50,4 +50,4 @@ returns g c =
     ∙ ap Some (keys_value s c.self.invariant.holds.whole number keys c.in_ok-keys.ensures)
     ∙ ap (option_map (ring_under s)) c.in_ok-number.ensures
     ∙ sym (ring-in_rings (ring_under s) m.frame.doc n c.args.polygon c.args.ring)
-    ∙ ap (λ s. ring_at s.doc n c.args.polygon c.args.ring) c.self.view_is
+    ∙ ap (λ s. frame_ring s.doc n c.args.polygon c.args.ring) c.self.view_is

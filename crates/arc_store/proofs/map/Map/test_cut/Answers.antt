@@ -2,7 +2,7 @@ use Rattle.kit_words.proofs.Common.{sym, ap, ◌∙◌, map, arith}
 use Rattle.grid_geometry.specs.Common.{links}
 use Rattle.ring_machine.specs.Common.{is_distinct, segment_of}
 use Rattle.ring_parts.specs.Common.{path_seen, rings_seen, outer_length}
-use Rattle.feature_exchange.specs.Common.{stored, document_of}
+use Rattle.feature_exchange.specs.Common.{stored, stored_document}
 use Rattle.arc_store.proofs.FeaturesKept.{seen_small}
 use Rattle.arc_store.proofs.Indexed.{indexed_apart}
 use Rattle.arc_store.proofs.SplitPlan.{inner_length, split_few, outer_few}
@@ -21,7 +21,7 @@ has_room-room-requires-clause-short g c =
 pub test_split-requires-clause-apart : goal.test_split-requires-clause-apart
 test_split-requires-clause-apart g c =
     let m = c.self.inside in
-    indexed_apart (document_of (stored m.frame m.rings.borders m.rings.vertices)) m.rings.index.held c.self.invariant.holds.indexed c.self.invariant.holds.proper
+    indexed_apart (stored_document (stored m.frame m.rings.borders m.rings.vertices)) m.rings.index.held c.self.invariant.holds.indexed c.self.invariant.holds.proper
 
 pub test_split-requires-clause-short : goal.test_split-requires-clause-short
 test_split-requires-clause-short g c =

@@ -32,7 +32,7 @@ insert_reserved-requires g c =
     let v : Arc g.row.A.Denot = record c.unwrap-arc-2.result.now { keys = c.truncate.new.self } in
     omega (arith, counts_same c.reserve.new.self.slots c.args.i v there, c.in_ok-reserve.ensures.room)
 
--- the growth changed no arc
+-- the allocation changed no arc
 same : (g : Over) (c : goal.After-put_uses g) (j : ℕ) → get c.reserve.new.self j ≡ get c.args.self.now.arcs j
 same g c j = ap (λ s. get s j) c.reserve.ensures.rest_kept
 

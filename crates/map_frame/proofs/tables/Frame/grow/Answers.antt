@@ -2,7 +2,7 @@ use Rattle.kit_words.proofs.Common.{◌≡◌, ◌+◌, ◌<◌, refl, sym, ap, 
 use Rattle.kit_words.proofs.Common.{true, false, with_item}
 use Rattle.edit_records.specs.Common.{grown}
 use Rattle.ring_machine.specs.Common.{has_feature, is_layer}
-use Rattle.map_frame.specs.Common.{Framed, doc_of, with_new, numbers_under}
+use Rattle.map_frame.specs.Common.{Framed, doc_of, with_number, numbers_under}
 use Rattle.map_frame.proofs.GrownFrames.{number_within, stand_got, layer_within, layer_got, grow_all, found}
 use Rattle.map_frame.proofs.GrownPlace.{slot_within}
 use Rattle.map_frame.proofs.PlacedFrames.{moved_kept}
@@ -64,8 +64,8 @@ invariant_of-self-2 g c =
     let old = c.index_mut.result.now in
     let at_layer = layer_got t k n there inside s at old c.index_mut.ensures.value in
     let number : c.len-number.result ≡ length t.features.items = omega (arith, c.len-number.ensures, t.features.ok) in
-    let numbers : c.in_ok-numbers.numbers.items ≡ with_new n (length t.features.items) (numbers_under (slice_get t.layers.items s.layer) s.slot) =
-    c.in_ok-numbers.ensures ∙ ap₂ (λ a z. with_new n a z) number (c.numbers_in-standing.ensures
+    let numbers : c.in_ok-numbers.numbers.items ≡ with_number n (length t.features.items) (numbers_under (slice_get t.layers.items s.layer) s.slot) =
+    c.in_ok-numbers.ensures ∙ ap₂ (λ a z. with_number n a z) number (c.numbers_in-standing.ensures
     ∙ ap (λ ls. numbers_under (slice_get ls s.layer) s.slot) c.as_slice.ensures.value) in
     let features : c.push_reserved.new.self.items ≡ t.features.items ++ None ∷ [] =
     c.push_reserved.ensures.items ∙ ap (λ z. z ++ None ∷ []) c.in_ok-reserve.ensures.items in
@@ -85,8 +85,8 @@ returns-clause-ok g c =
     let old = c.index_mut.result.now in
     let at_layer = layer_got t k n there inside s at old c.index_mut.ensures.value in
     let number : c.len-number.result ≡ length t.features.items = omega (arith, c.len-number.ensures, t.features.ok) in
-    let numbers : c.in_ok-numbers.numbers.items ≡ with_new n (length t.features.items) (numbers_under (slice_get t.layers.items s.layer) s.slot) =
-    c.in_ok-numbers.ensures ∙ ap₂ (λ a z. with_new n a z) number (c.numbers_in-standing.ensures
+    let numbers : c.in_ok-numbers.numbers.items ≡ with_number n (length t.features.items) (numbers_under (slice_get t.layers.items s.layer) s.slot) =
+    c.in_ok-numbers.ensures ∙ ap₂ (λ a z. with_number n a z) number (c.numbers_in-standing.ensures
     ∙ ap (λ ls. numbers_under (slice_get ls s.layer) s.slot) c.as_slice.ensures.value) in
     let features : c.push_reserved.new.self.items ≡ t.features.items ++ None ∷ [] =
     c.push_reserved.ensures.items ∙ ap (λ z. z ++ None ∷ []) c.in_ok-reserve.ensures.items in

@@ -1,5 +1,5 @@
 use Rattle.kit_words.proofs.Common.{ap, ◌∙◌, length, All-same}
-use Rattle.segment_paths.specs.Common.{IsPiece, IsOf, paths_seen}
+use Rattle.segment_paths.specs.Common.{IsPiece, IsLinkOf, paths_seen}
 use Rattle.segment_paths.proofs.Gathering.{still_none}
 use Rattle.segment_paths.proofs.Conflicting.{owners_conflict}
 use Rattle.segment_paths.proofs.round.Round.part_links.Goals as goal
@@ -20,7 +20,7 @@ returns g c was =
           owners_conflict ss paths c.args.one c.args.other c.as_slice.result.now c.as_slice-2.result.now _ _ c.requires
           (All-same (IsPiece ss paths) _ _ c.as_slice.ensures.value (c.in_ok-ones.ensures.pieces ss h))
           (All-same (IsPiece ss paths) _ _ c.as_slice-2.ensures.value (c.in_ok-others.ensures.pieces ss h))
-          (All-same (IsOf c.args.one) _ _ c.as_slice.ensures.value c.in_ok-ones.ensures.same)
-          (All-same (IsOf c.args.other) _ _ c.as_slice-2.ensures.value c.in_ok-others.ensures.same)
+          (All-same (IsLinkOf c.args.one) _ _ c.as_slice.ensures.value c.in_ok-ones.ensures.same)
+          (All-same (IsLinkOf c.args.other) _ _ c.as_slice-2.ensures.value c.in_ok-others.ensures.same)
           c.owners_of-self.ensures.owners (was.conflict ss h);
     }

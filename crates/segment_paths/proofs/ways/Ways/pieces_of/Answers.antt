@@ -1,5 +1,5 @@
 use Rattle.kit_words.proofs.Common.{Contains, ap, refl, subst, length, ◌∙◌, arith, All, All-same, All-nil, All-push}
-use Rattle.segment_paths.specs.Common.{paths_seen, IsPiece, IsOf}
+use Rattle.segment_paths.specs.Common.{paths_seen, IsPiece, IsLinkOf}
 use Rattle.segment_paths.proofs.Led.{whole_known}
 use Rattle.segment_paths.proofs.ways.Ways.pieces_of.Goals as goal
 use Rattle.segment_paths.proofs.ways.Ways.pieces_of.Goals.{then-is_whole+in_ok-push, else-is_whole}
@@ -29,7 +29,7 @@ pub returns-clause-same : goal.returns-clause-same
 returns-clause-same g c =
     c.in_ok-push_pieces.ensures.same (elim c.if-is_whole.branch [
       | then-is_whole+in_ok-push w ↦
-          All-same (IsOf c.args.link) _ _ (ap (λ v. v.items) w.found-is ∙ w.in_ok-push.ensures.items)
-          (All-push (IsOf c.args.link) _ _ (All-same (IsOf c.args.link) _ _ c.new-found.ensures.items (All-nil (IsOf c.args.link))) refl)
-      | else-is_whole w ↦ All-same (IsOf c.args.link) _ _ (ap (λ v. v.items) w.found-is ∙ c.new-found.ensures.items) (All-nil (IsOf c.args.link))
+          All-same (IsLinkOf c.args.link) _ _ (ap (λ v. v.items) w.found-is ∙ w.in_ok-push.ensures.items)
+          (All-push (IsLinkOf c.args.link) _ _ (All-same (IsLinkOf c.args.link) _ _ c.new-found.ensures.items (All-nil (IsLinkOf c.args.link))) refl)
+      | else-is_whole w ↦ All-same (IsLinkOf c.args.link) _ _ (ap (λ v. v.items) w.found-is ∙ c.new-found.ensures.items) (All-nil (IsLinkOf c.args.link))
     ])

@@ -2,7 +2,8 @@ use Rattle.kit_words.proofs.Common.{sym, subst, ap, ◌∙◌, map, is_some}
 use Rattle.edit_records.specs.Common.{documents}
 use Rattle.ring_machine.specs.Common.{KeepsSides}
 use Rattle.arc_store.specs.Common.{record_seen, State}
-use Rattle.undo_ring.specs.Common.{IsReady, touched_by, command_of, Edited}
+use Rattle.undo_ring.specs.Common.{IsReady, touched_by, Edited}
+use Rattle.edit_records.specs.Common.{command_of}
 use Rattle.undo_ring.proofs.BoxesKept.{editor_known, ready_at}
 use Rattle.undo_ring.proofs.Recording.{trail_after, applied_after, failed_after, newer_after}
 use Rattle.undo_ring.proofs.SidesKept.{answer_keeps}

@@ -1,0 +1,318 @@
+"""A second drawing of small maps, written from docs/FORMATS.md and the constants of the picture: what `border_show` has to
+write for a map on a grid without a transform, or for what an edit did to it, byte for byte.
+
+It draws whole maps alone, without `--at` and `--feature`, and no conflict. Numbers are Python's, so nothing overflows.
+"""
+import json
+from math import gcd
+from xml.sax.saxutils import escape
+
+WIDTH, MARGIN, ROW, ACROSS, DOWN = 1000, 20, 20, 960, 720
+LABEL, RISE, LETTER = 1300, 1000, 720
+QUOTES = {'"': "&quot;", "'": "&apos;", "\r": "&#13;"}
+
+STYLE = """<style>
+path{fill:#d9d4b8;fill-opacity:.5;stroke:#555;fill-rule:evenodd;stroke-linejoin:round}
+path.kept{stroke:#999}
+path.changed{fill:#f2b800;stroke:#999}
+path.gone,path.conflict{fill:none;stroke:#d55e00}
+path.new{fill:none;stroke:#0072b2}
+path.named{fill:none;stroke:#222}
+path.bar{fill:none;stroke:#222}
+rect.gap{fill:#dcecf5}
+circle{fill:none;stroke:#d55e00;stroke-width:2}
+text{font-family:sans-serif;font-size:13px;fill:#222}
+text.name{font-size:11px;text-anchor:middle;paint-order:stroke;stroke:#fff;stroke-width:3px}
+text.number{text-anchor:end;font-size:12px}
+text.head{font-weight:bold}
+text.gone{fill:#a84a00}
+text.new{fill:#005a8c}
+</style>
+<rect width="100%" height="100%" fill="#fff"/>
+"""
+
+
+def cut(part, whole):
+    """A quotient, rounded toward 0."""
+    return abs(part) // abs(whole) * (1 if (part < 0) == (whole < 0) else -1)
+
+
+def text(style, x, y, words):
+    return f'<text class="{style}" x="{x}" y="{y}">{escape(words, QUOTES)}</text>\n'
+
+
+# ---- maps
+
+def rings_of(topology, arcs):
+    """The positions of a ring of arc indexes (TopoJSON 1.0, 2.1.4), without the last one."""
+    ring = []
+    for index in arcs:
+        arc = topology["arcs"][index] if index >= 0 else topology["arcs"][~index][::-1]
+        ring += [tuple(position) for position in arc[:-1]]
+    return ring
+
+
+def features_of(topology, names=None):
+    """The features: number, what the id stands for, polygons. Names are given where the ids of the topology are not strings."""
+    leaves = []
+    for layer in topology["objects"].values():
+        leaves += layer["geometries"] if layer["type"] == "GeometryCollection" else [layer]
+    found = []
+    for number, leaf in enumerate(leaves):
+        polygons = {"Polygon": [leaf.get("arcs")], "MultiPolygon": leaf.get("arcs"), None: []}[leaf["type"]]
+        name = leaf.get("id") if names is None else names[number]
+        found.append((number, name, [[rings_of(topology, ring) for ring in rings] for rings in polygons]))
+    return found
+
+
+def twice_area(ring):
+    return sum(x * v - u * y for (x, y), (u, v) in zip(ring, ring[1:] + ring[:1]))
+
+
+def is_between(a, b, c):
+    """Whether b lies on the segment from a to c."""
+    turn = (b[0] - a[0]) * (c[1] - a[1]) - (b[1] - a[1]) * (c[0] - a[0])
+    return turn == 0 and all(min(a[i], c[i]) <= b[i] <= max(a[i], c[i]) for i in (0, 1))
+
+
+def corners(ring):
+    """The corners of a ring, counter-clockwise from the least."""
+    kept = [b for a, b, c in zip(ring[-2:] + ring, ring[-1:] + ring, ring) if not is_between(a, b, c)]
+    if twice_area(kept) < 0:
+        kept.reverse()
+    least = kept.index(min(kept))
+    return kept[least:] + kept[:least]
+
+
+def straight(feature):
+    number, name, polygons = feature
+    found = [[corners(rings[0]), *sorted(map(corners, rings[1:]))] for rings in polygons]
+    return number, name, sorted(found)
+
+
+def area_of(polygons):
+    return sum(abs(twice_area(rings[0])) - sum(abs(twice_area(hole)) for hole in rings[1:]) for rings in polygons)
+
+
+# ---- the place of the map in the picture
+
+class Layout:
+    def __init__(self, features):
+        points = [point for _, _, polygons in features for rings in polygons for ring in rings for point in ring]
+        (x0, x1), (y0, y1) = ((min(axis), max(axis)) for axis in zip(*points))
+        margin = max(x1 - x0, y1 - y0) // 40 + 1
+        self.x, self.y = x0 - margin, y0 - margin
+        self.across, self.up = x1 - x0 + 2 * margin, y1 - y0 + 2 * margin
+        high = self.up * ACROSS // self.across
+        self.width = ACROSS if high <= DOWN else max(1, self.across * DOWN // self.up)
+        self.height = max(1, min(high, DOWN))
+        self.left, self.top = MARGIN + (ACROSS - self.width) // 2, MARGIN + ROW
+
+    def point(self, position):
+        x, y = position
+        return (x - self.x) * self.width * 100 // self.across, (self.up - (y - self.y)) * self.height * 100 // self.up
+
+    def ring(self, ring):
+        points = [self.point(position) for position in ring]
+        return [point for index, point in enumerate(points) if index == 0 or point != points[index - 1]]
+
+
+def bar(layout):
+    """The scale bar: 1, 2 or 5 times a power of ten of grid units, at most a sixth of the width of the map."""
+    fine = 10 ** 24
+    span = layout.across * fine
+    length = max(digit * 10 ** zeros for digit in (1, 2, 5) for zeros in range(40) if digit * 10 ** zeros <= span // 6)
+    start = WIDTH - MARGIN - length // (span // layout.width)
+    whole = f"{length // fine:,}" if length >= fine else "0." + str(length).rjust(24, "0").rstrip("0")
+    return f'<path class="bar" d="M{start} 24v6H980v-6"/>\n' + text("number", start - 6, 30, whole + " grid units")
+
+
+def path(layout, look, feature):
+    number, name, polygons = feature
+    data = "".join("M" + "".join(f" {x} {y}" for x, y in layout.ring(ring)) + "z" for rings in polygons for ring in rings)
+    return f'<path class="{look}" d="{data}"><title>{escape(called(number, name), QUOTES)}</title></path>\n' if polygons else ""
+
+
+def called(number, name):
+    return f"#{number}" if name is None else f"#{number} {name}"
+
+
+# ---- labels
+
+def at(down, one, other):
+    """Where a line that is not level is at a distance from the top, or at its nearest end."""
+    down = min(max(down, min(one[1], other[1])), max(one[1], other[1]))
+    return one[0] + cut((other[0] - one[0]) * (down - one[1]), other[1] - one[1])
+
+
+def widest(rings, top, bottom, width):
+    """The widest stretch of a row that is inside the rings and that no line of theirs meets."""
+    passages, middle = [], top + cut(bottom - top, 2)
+    for ring in rings:
+        for one, other in zip(ring[-1:] + ring, ring):
+            if max(one[1], other[1]) < top or bottom < min(one[1], other[1]):
+                continue
+            ends = [one[0], other[0]] if one[1] == other[1] else [at(top, one, other), at(bottom, one, other)]
+            passages.append((min(ends), max(ends), (one[1] <= middle) != (other[1] <= middle)))
+    best, reach, inside = None, None, False
+    for left, right, passed in sorted(passages):
+        if inside:
+            start, end = max(reach, 0), min(left, width)
+            if end - start > (best[1] - best[0] if best else 0):
+                best = start, end
+        reach = right if reach is None else max(reach, right)
+        inside ^= passed
+    return best
+
+
+def place_of(layout, feature):
+    """The top of the row of nine in which a feature is widest, and where it is."""
+    rings = [layout.ring(ring) for rings in feature[2] for ring in rings]
+    heights = [y for ring in rings for _, y in ring]
+    top, room = min(heights), max(heights) - min(heights) - LABEL
+    best = None
+    for part in (4, 3, 5, 2, 6, 1, 7, 0, 8):
+        start = top + cut(room * part, 8)
+        if room >= 0:
+            stretch = widest(rings, start, start + LABEL, layout.width * 100)
+            if stretch and (best is None or stretch[1] - stretch[0] > best[2] - best[1]):
+                best = start, *stretch
+    return best
+
+
+def labels(layout, features):
+    drawn, taken = "", []
+    for feature in sorted(features, key=lambda each: (-area_of(each[2]), each[0])):
+        place = place_of(layout, feature) if feature[2] else None
+        for words in (called(*feature[:2]), f"#{feature[0]}"):
+            width = (len(words) + 1) * LETTER
+            if place and width <= place[2] - place[1]:
+                left, top = place[1] + (place[2] - place[1] - width) // 2, place[0]
+                if not any(top < b and t < top + LABEL and left < r and l < left + width for t, b, l, r in taken):
+                    taken.append((top, top + LABEL, left, left + width))
+                    drawn += text("name", layout.left + (left + width // 2) // 100, layout.top + (top + RISE) // 100, words)
+                break
+    return drawn
+
+
+# ---- what an edit did
+
+def runs_of(features):
+    """The longest runs along straight lines that the borders make up, by line."""
+    lines = {}
+    for _, _, polygons in features:
+        for rings in polygons:
+            for ring in rings:
+                for one, other in zip(ring[-1:] + ring, ring):
+                    low, high = min(one, other), max(one, other)
+                    right, up = high[0] - low[0], high[1] - low[1]
+                    step = gcd(right, up)
+                    right, up = right // step, up // step
+                    lines.setdefault((right, up, right * low[1] - up * low[0]), set()).add((low, high))
+    joined = {}
+    for line, parts in lines.items():
+        runs = []
+        for low, high in sorted(parts):
+            if runs and low <= runs[-1][1]:
+                runs[-1] = runs[-1][0], max(runs[-1][1], high)
+            else:
+                runs.append((low, high))
+        joined[line] = runs
+    return joined
+
+
+def borders(layout, look, these, others):
+    """The parts of borders that lie on none of the others, line by line."""
+    dashed = ' stroke-dasharray="700"' if look == "gone" else ""
+    these, others, data = runs_of(these), runs_of(others), ""
+    for line in sorted(these):
+        for low, high in these[line]:
+            for start, end in others.get(line, []):
+                if start < high and low < end:
+                    data += segment(layout, low, start) if low < start else ""
+                    low = max(low, end)
+            data += segment(layout, low, high) if low < high else ""
+    return f'<path class="{look}" stroke-width="300"{dashed} d="{data}"/>\n'
+
+
+def segment(layout, one, other):
+    (x, y), (u, v) = layout.point(one), layout.point(other)
+    return f"M {x} {y} {u} {v}"
+
+
+def changes_of(old, new):
+    """The changed features as pairs, by number."""
+    gone = [each for each in old if all(each[1:] != other[1:] for other in new)]
+    made = [each for each in new if all(each[1:] != other[1:] for other in old)]
+    pairs = []
+    for key in 2, 1:
+        for one in list(gone):
+            other = next((each for each in made if each[key] == one[key]), None)
+            if other:
+                pairs.append((one, other))
+                gone.remove(one)
+                made.remove(other)
+    pairs += [(one, None) for one in gone] + [(None, other) for other in made]
+    return sorted(pairs, key=lambda pair: ((pair[1] or pair[0])[0], pair[1] is not None))
+
+
+def grouped(twice):
+    return f"{abs(twice) // 2:,}" + (".5" if twice % 2 else "")
+
+
+def table(top, pairs):
+    drawn = text("gone", 20, top, "borders gone (dashed)") + text("new", 220, top, "borders new")
+    drawn += text("plain", 360, top, "changed features filled")
+    heads = [("head", 20, "edit"), ("head number", 130, "number"), ("head", 145, "feature"), ("head number", 560, "area before"),
+             ("head number", 730, "area after"), ("head number", 900, "difference"), ("head number", 980, "%")]
+    drawn += "".join(text(style, x, top + 20, words) for style, x, words in heads)
+    for y, (one, other) in enumerate(pairs[:100]):
+        y, (number, name, _) = top + 40 + 20 * y, other or one
+        edit = "new" if one is None else "gone" if other is None else "renamed" if one[2] == other[2] else "changed"
+        drawn += text(edit if edit in ("new", "gone") else "plain", 20, y, edit) + text("number", 130, y, f"#{number}")
+        drawn += text("plain", 145, y, name or "")
+        before, after = (area_of(each[2]) if each else None for each in (one, other))
+        drawn += "" if before is None else text("number", 560, y, grouped(before))
+        drawn += "" if after is None else text("number", 730, y, grouped(after))
+        if before is not None and after is not None and before != after:
+            sign = "-" if after < before else "+"
+            share = abs(cut((after - before) * 10000, before)) if before else None
+            drawn += text("number", 900, y, sign + grouped(after - before))
+            drawn += text("number", 980, y, "" if share is None else f"{sign}{share // 100}.{share % 100:02}%")
+    return drawn + (text("plain", 20, top + 40, "no feature") if not pairs else "")
+
+
+# ---- pages
+
+def page(title, layout, body, over, lines, rows):
+    height = layout.top + layout.height + ROW + ROW * rows + MARGIN
+    return (f'<svg xmlns="http://www.w3.org/2000/svg" width="{WIDTH}" height="{height}" viewBox="0 0 {WIDTH} {height}">\n' + STYLE
+            + text("head", 20, 30, title) + bar(layout) + f'<svg x="{layout.left}" y="{layout.top}" width="{layout.width}" '
+            f'height="{layout.height}" viewBox="0 0 {layout.width}00 {layout.height}00">\n'
+            '<rect class="gap" width="100%" height="100%"/>\n<g stroke-width="100">\n' + body + "</g>\n</svg>\n" + over + lines + "</svg>\n")
+
+
+def map_page(title, topology, ids, names=None):
+    features = features_of(topology, names)
+    layout = Layout(features)
+    body = "".join(path(layout, "plain", feature) for feature in features)
+    return page(title, layout, body, labels(layout, features) if ids else "", "", 0)
+
+
+def change_page(title, before, after, ids, names=(None, None)):
+    """The page of an edit in which each changed region changes by a pixel at least."""
+    old, new = (list(map(straight, features_of(*each))) for each in zip((before, after), names))
+    pairs, layout = changes_of(old, new), Layout(old + new)
+    seen = [(one, other) for one, other in pairs if not (one and other and one[2] == other[2])]
+    filled = {other[0] for _, other in seen if other}
+    body = "".join(path(layout, "changed" if each[0] in filled else "kept", each) for each in new)
+    body += borders(layout, "gone", [one for one, _ in seen if one], new)
+    body += borders(layout, "new", [other for _, other in seen if other], old)
+    rows = max(1, min(len(pairs), 100)) + 2 + (len(pairs) > 100)
+    top = layout.top + layout.height + 2 * ROW
+    return page(title, layout, body, labels(layout, new) if ids else "", table(top, pairs), rows + 1)
+
+
+def read(name):
+    with open(name, encoding="utf-8") as file:
+        return json.load(file)

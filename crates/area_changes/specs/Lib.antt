@@ -1,3 +1,0 @@
-pub mod Swept
-pub mod Areas
-pub mod Common

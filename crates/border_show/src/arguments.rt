@@ -1,0 +1,83 @@
+//! What the arguments of the program ask for.
+
+use map_drawing::Window;
+use program_ends::{FileArgument, Role};
+use std::alloc::{AllocError, Global};
+
+/// The part of a map that is drawn.
+#[derive(Debug, Drop)]
+pub enum Part {
+    /// All of it.
+    Whole,
+    /// A part of the grid.
+    Square(Window),
+    /// The surroundings of the feature that this text names.
+    Feature(String),
+}
+
+/// What the arguments of the program ask for.
+#[derive(Debug, Drop)]
+pub struct Arguments {
+    /// The path of the map, or of the map before an edit.
+    pub before: String,
+    /// The path of the map after an edit.
+    pub after: Option<String>,
+    /// The path of the file that the picture is written in.
+    pub out: String,
+    /// The part that is drawn.
+    pub part: Part,
+    /// Whether numbers and ids are written in the features.
+    pub has_ids: bool,
+}
+
+/// The last part of a path.
+fn file_name(path: &str) -> &str {
+    match path.rsplit_once('/') {
+        Some((_, name)) => name,
+        None => path,
+    }
+}
+
+impl Arguments {
+    /// The names of the file, or of those before and after an edit.
+    fn file_names(&self, alloc: Global) -> Result<String, AllocError> {
+        let before = file_name(self.before.as_str());
+        match &self.after {
+            Some(after) => {
+                let after = file_name(after.as_str());
+                format!(in alloc; "{before} \u{2192} {after}")
+            }
+            None => String::from_str(alloc, before),
+        }
+    }
+
+    /// The title of the picture: the names of the files, and what `--feature` names.
+    pub(crate) fn title(&self, alloc: Global) -> Result<String, AllocError> {
+        let files = self.file_names(alloc)?;
+        match &self.part {
+            Part::Feature(name) => format!(in alloc; "{files}: {name}"),
+            Part::Whole | Part::Square(_) => Ok(files),
+        }
+    }
+
+    /// The files that the arguments name, the one that is written first.
+    pub(crate) fn files(&self) -> [FileArgument<'_>; 3] {
+        [
+            FileArgument {
+                argument: "--out",
+                path: Some(self.out.as_str()),
+                role: Role::Written,
+            },
+            FileArgument {
+                argument: "MAP",
+                path: Some(self.before.as_str()),
+                role: Role::Read,
+            },
+            FileArgument {
+                argument: "AFTER",
+                path: self.after.as_ref().map(|path| path.as_str()),
+                role: Role::Read,
+            },
+        ]
+    }
+}

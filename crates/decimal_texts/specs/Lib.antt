@@ -1,0 +1,13 @@
+pub mod Decimal
+pub mod Fine
+pub mod Shifted
+pub mod Seen
+pub mod Exponent
+pub mod Geometries
+pub mod Dropped
+pub mod Found
+pub mod Points
+pub mod Rounded
+pub mod Changes
+pub mod Gives
+pub mod Common

@@ -1,9 +1,0 @@
-use Rattle.kit_words.proofs.Common.{arith}
-use Rattle.exact_decimals.proofs.Powers.{power_mono}
-use Rattle.exact_decimals.proofs.digits.power_of_ten.Goals as goal
-
-pub pow-requires : goal.pow-requires
-pow-requires c = omega (arith, power_mono c.args.exponent 24 c.requires)
-
-pub returns-clause-bound : goal.returns-clause-bound
-returns-clause-bound c = omega (arith, c.pow.ensures, power_mono c.args.exponent 24 c.requires)

@@ -1,5 +1,0 @@
-use Rattle.exact_decimals.proofs.Values.{front_digits}
-use Rattle.exact_decimals.proofs.reading.unsigned.Goals as goal
-
-pub behind_integer-requires : goal.behind_integer-requires
-behind_integer-requires c = front_digits _ _ _ c.split_at.ensures.front c.digits_len.ensures.value

@@ -1,5 +1,0 @@
-use Rattle.std.proofs.Common.{refl}
-use Rattle.frame_trials.proofs.frames.prepare.Goals as goal
-
-pub returns-clause-room : goal.returns-clause-room
-returns-clause-room g c = c.in_ok-reserve_names.ensures.room c.args.ring (0, refl)

@@ -1,8 +1,0 @@
--- A value that may be missing, as a list of at most one.
-use Rattle.std.specs.Prelude.{List, [], ◌∷◌, Option, Some, None}
-use Rattle.json_spans.specs.Common.{Node, node}
-use Rattle.json_spans.specs.declared.span.Span.{Span}
-
-abbrev pub found : Option Span → List Node
-found None = []
-found (Some s) = node s ∷ []

@@ -1,4 +1,0 @@
-pub mod Geometries
-pub mod Dropped
-pub mod Found
-pub mod Common

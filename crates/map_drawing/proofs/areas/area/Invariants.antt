@@ -1,8 +1,0 @@
-use Rattle.kit_words.proofs.Common.{◌≡◌, take, map}
-use Rattle.topo_reader.specs.Common.{polygon_positions}
-use Rattle.map_drawing.specs.Areas.{polygons_area}
-use Rattle.map_drawing.proofs.areas.area.Given as goal
-
--- the area of the polygons so far
-abbrev pub invariant-loop-rings : goal.invariant-loop-rings
-invariant-loop-rings g l = l.area ≡ polygons_area (map polygon_positions (take l.rings-index l.polygons))

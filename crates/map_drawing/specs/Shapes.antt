@@ -1,8 +1,0 @@
--- The positions of a feature, within bounds.
-use Rattle.std.specs.Prelude.{Option}
-use Rattle.map_drawing.specs.declared.bounds.Bounds.{Bounds}
-use Rattle.map_drawing.specs.declared.shapes.Shape.{Shape}
-use Rattle.map_drawing.specs.Windows.{AreWithin}
-
-abbrev pub ShapeIn : {A : Type 0} → Option Bounds → Shape A → Type 0
-ShapeIn bounds shape = AreWithin bounds shape.polygons.now

@@ -1,0 +1,4 @@
+pub mod LeastLemmas
+pub mod WithinLemmas
+pub mod QuotientLemmas
+pub mod WindowLemmas

@@ -1,0 +1,46 @@
+-- Sums and differences of the code, beside a window.
+use Rattle.kit_words.proofs.Common.{◌≡◌, ◌≤◌, ◌≤ℤ◌, ◌+ℤ◌, ◌-ℤ◌, ◌*ℤ◌, true, ℤ, pos, unsigned_abs, w64, to_z}
+use Rattle.kit_words.proofs.Common.{of_z, arith, ints, int_le, int_max, ◌∙◌}
+
+-- a side, a margin further out
+pub further_out : (side margin : ℤ) → unsigned_abs side ≤ 1000000000000 → pos 1 ≤ℤ margin → margin ≤ℤ pos 600000000000
+    → to_z w64 (of_z w64 (to_z w64 (of_z w64 side) -ℤ to_z w64 (of_z w64 margin))) ≡ side -ℤ margin
+further_out side margin h low high = omega (arith, ints, h, low, high)
+
+-- an extent with a margin on both sides
+pub extent_about : (least most margin : ℤ) → unsigned_abs least ≤ 1000000000000 → unsigned_abs most ≤ 1000000000000 → pos 1 ≤ℤ margin → margin ≤ℤ pos 600000000000
+    → to_z w64 (of_z w64 (to_z w64 (of_z w64 (to_z w64 (of_z w64 most) -ℤ to_z w64 (of_z w64 least))) +ℤ to_z w64 (of_z w64 (pos 2 *ℤ to_z w64 (of_z w64 margin)))))
+    ≡ most -ℤ least +ℤ pos 2 *ℤ margin
+extent_about least most margin h k low high = omega (arith, ints, h, k, low, high)
+
+pub starts_before : (least margin : ℤ) → pos 1 ≤ℤ margin → (least -ℤ margin) ≤ℤ least
+starts_before least margin low = omega (arith, ints, low)
+
+pub ends_behind : (least most margin : ℤ) → pos 1 ≤ℤ margin → most ≤ℤ (least -ℤ margin +ℤ (most -ℤ least +ℤ pos 2 *ℤ margin))
+ends_behind least most margin low = omega (arith, ints, low)
+
+-- a test of the code, as what it says
+pub passed : (a b : ℤ) → int_le a b ≡ true → a ≤ℤ b
+passed a b h = grind (arith, ints)
+
+pub passes : (a b : ℤ) → a ≤ℤ b → int_le a b ≡ true
+passes a b h = grind (arith, ints)
+
+extent_kept : (a : ℤ) → pos 0 ≤ℤ a → a ≤ℤ pos 2000000000000 → to_z w64 (of_z w64 a) ≡ a
+extent_kept a low high = omega (arith, ints, low, high)
+
+-- the greater of two extents
+pub record IsExtent (a : ℤ) : Type 0 where
+  pub least : pos 0 ≤ℤ a
+  pub most : a ≤ℤ pos 2000000000000
+  pub same : to_z w64 (of_z w64 a) ≡ a
+
+greater_of : (a b : ℤ) → (pos 0 ≤ℤ a) × (a ≤ℤ pos 2000000000000) → (pos 0 ≤ℤ b) × (b ≤ℤ pos 2000000000000)
+    → (pos 0 ≤ℤ int_max a b) × (int_max a b ≤ℤ pos 2000000000000)
+greater_of a b (h, i) (k, j) = (grind (arith, ints), grind (arith, ints))
+
+pub greater_extent : (r a b : ℤ) → r ≡ int_max (to_z w64 (of_z w64 a)) (to_z w64 (of_z w64 b)) → (pos 0 ≤ℤ a) × (a ≤ℤ pos 2000000000000)
+    → (pos 0 ≤ℤ b) × (b ≤ℤ pos 2000000000000) → IsExtent r
+greater_extent r a b e h k =
+    let both = greater_of a b h k in
+    rw (e ∙ (λ i. int_max (extent_kept a h.0 h.1 i) (extent_kept b k.0 k.1 i))) (record { least = both.0; most = both.1; same = extent_kept (int_max a b) both.0 both.1 })

@@ -1,3 +1,0 @@
-pub mod Opens
-pub mod Faults
-pub mod Common

@@ -1,5 +1,0 @@
-// Segments and their paths.
-mod drawn;
-mod refused;
-mod rows;
-mod told;

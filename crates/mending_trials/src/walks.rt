@@ -1,4 +1,0 @@
-// Walks laid, and polygons mended.
-mod drawn;
-mod given;
-mod rows;

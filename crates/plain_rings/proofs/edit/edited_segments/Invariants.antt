@@ -1,7 +1,0 @@
-use Rattle.kit_words.proofs.Common.{◌≡◌, map, take, flat_map}
-use Rattle.ring_machine.specs.Common.{segments}
-use Rattle.plain_rings.specs.Common.{edited_ring}
-use Rattle.plain_rings.proofs.edit.edited_segments.Given as goal
-
-abbrev pub invariant-loop-ring : goal.invariant-loop-ring
-invariant-loop-ring g l = l.found.items ≡ flat_map segments (map (edited_ring l.edit) (map (λ r. r.now) (take l.ring-index l.rings)))

@@ -1,6 +1,0 @@
-use Rattle.kit_words.proofs.Common.{◌≡◌, map, take, flat_map}
-use Rattle.ring_machine.specs.Common.{segments}
-use Rattle.plain_rings.proofs.segments.all_segments.Given as goal
-
-abbrev pub invariant-loop-ring : goal.invariant-loop-ring
-invariant-loop-ring g l = l.found.items ≡ flat_map segments (map (λ r. r.now) (take l.ring-index l.rings))

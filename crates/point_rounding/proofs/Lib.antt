@@ -1,5 +1,0 @@
-pub mod Fits
-pub mod Finding
-pub mod Changing
-pub mod NewTexts
-mod Examples

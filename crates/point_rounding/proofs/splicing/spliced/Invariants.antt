@@ -1,7 +1,0 @@
-use Rattle.kit_words.proofs.Common.{◌≡◌, ◌++◌, map, drop}
-use Rattle.point_rounding.specs.Common.{change, spliced}
-use Rattle.point_rounding.proofs.splicing.spliced.Given as goal
-
-abbrev pub invariant-loop-change : goal.invariant-loop-change
-invariant-loop-change g l =
-    l.text.items ++ spliced l.bytes l.from (map change (drop l.change-index l.changes)) ≡ spliced l.fn.bytes 0 (map change l.fn.changes)

@@ -1,7 +1,0 @@
--- Which growth an allocator refuses.
-use Rattle.std.specs.Prelude.{ℕ}
-use Rattle.refusing_allocator.specs.declared.Refusing.{Refusing}
-
--- the number of the growth that is refused, counted from 1; 0 where none is
-abbrev pub nth_refused : {B : Type 0} → Refusing B → ℕ
-nth_refused allocator = allocator.nth

@@ -1,4 +1,0 @@
-pub mod Crossings
-pub mod Rounding
-pub mod Widths
-mod Examples

@@ -1,9 +1,0 @@
-use Rattle.kit_words.proofs.Common.{◌*◌}
-use Rattle.snap_geometry.proofs.Rounding.{quotient_rounded, part_bound}
-use Rattle.snap_geometry.proofs.crossing.rounded_part.Goals as goal
-
-pub returns : goal.returns
-returns c = record {
-  rounded = quotient_rounded (c.args.length * c.args.part) c.args.whole c.requires.some;
-  bound = part_bound c.args.length c.args.part c.args.whole c.requires.some c.requires.within;
-}

@@ -1,0 +1,98 @@
+//! The text of a map as it is then, and whether the map is as if it had been opened from it.
+use crate::maps::map_of;
+use arc_store::Map;
+use device_io::ToWriter;
+use grid_geometry::{Pos, Seg};
+use segment_index::SegIndex;
+use std::alloc::{Allocator, Global};
+use std::process::Abort;
+use topo_writer::write;
+
+/// The text of the map, where there is memory for it.
+fn try_write<I: SegIndex, A: Allocator + Copy>(
+    alloc: Global,
+    calm: A,
+    map: &Map<'_, I, A>,
+) -> Option<Vec<u8>> {
+    let mut out = ToWriter::new(Vec::new(alloc));
+    match write(calm, map, &mut out) {
+        Ok(()) => Some(out.writer),
+        Err(_) => None,
+    }
+}
+
+/// The text of the map. Its own heap may refuse an allocation once; then it is written again.
+pub(crate) fn written<R: Abort, I: SegIndex, A: Allocator + Copy>(
+    rt: &R,
+    alloc: Global,
+    calm: A,
+    map: &Map<'_, I, A>,
+) -> Vec<u8> {
+    match try_write(alloc, calm, map) {
+        Some(text) => text,
+        None => try_write(alloc, calm, map).expect(rt, "the map is written"),
+    }
+}
+
+/// Whether the map is written so.
+pub(crate) fn is_written<R: Abort, I: SegIndex, A: Allocator + Copy>(
+    rt: &R,
+    alloc: Global,
+    calm: A,
+    map: &Map<'_, I, A>,
+    text: &[u8],
+) -> bool {
+    let found = written(rt, alloc, calm, map);
+    let is_same = found.as_slice() == text;
+    drop(found);
+    is_same
+}
+
+/// How many features, vertices, segments and positions a map has, and how many rings have each side of
+/// each outer ring, all added up.
+pub(crate) type Counts = (usize, usize, usize, usize, usize);
+
+/// How many rings have each side of the first outer ring of this feature but its last, added up.
+fn users_along<I: SegIndex, A: Allocator + Copy>(map: &Map<'_, I, A>, n: u32) -> usize {
+    let Some(positions) = map.ring(n, 0, 0) else {
+        return 0;
+    };
+    let (mut users, mut last): (usize, Option<Pos>) = (0, None);
+    for p in positions {
+        if let Some(side) = last.and_then(|before| Seg::new(before, p)) {
+            users = users.wrapping_add(map.uses(side));
+        }
+        last = Some(p);
+    }
+    users
+}
+
+/// The counts of the map.
+pub(crate) fn counts_of<I: SegIndex, A: Allocator + Copy>(map: &Map<'_, I, A>) -> Counts {
+    let mut users = 0usize;
+    for n in 0..map.next_number() {
+        users = users.wrapping_add(users_along(map, n));
+    }
+    (
+        map.feature_count(),
+        map.vertex_count(),
+        map.segment_count(),
+        map.position_count(),
+        users,
+    )
+}
+
+/// The map has the segments of the one that is opened from this text, in as many rings, and that one is
+/// written as the same text.
+pub(crate) fn is_as_opened<R: Abort, I: SegIndex, A: Allocator + Copy>(
+    rt: &R,
+    alloc: Global,
+    map: &Map<'_, I, A>,
+    text: &[u8],
+) {
+    let other = map_of(alloc, alloc, text).expect(rt, "what is written opens");
+    let counts = counts_of(&other);
+    let is_same = is_written(rt, alloc, alloc, &other, text);
+    drop(other);
+    assert!(rt; is_same && counts_of(map) == counts, "as opened");
+}
