@@ -575,6 +575,15 @@ class Script:
         self.lines.append(line_of(word, given))
         self.answers.append(answer_of(self.model, word, given))
 
+    def refused(self):
+        """How many of the lines were refused."""
+        return sum(answer.startswith("refused") for answer in self.answers)
+
+    def accepted(self):
+        """How often each word was accepted."""
+        rows = zip(self.lines, self.answers)
+        return collections.Counter(line.split()[0] for line, answer in rows if not answer.startswith("refused"))
+
     def ask_rings(self):
         for number in sorted(self.model.features):
             self.give("rings", number)
@@ -678,33 +687,38 @@ def sum_of(text):
     return total
 
 
-def stored_case(case, text):
-    """A case as stored_runs reads it, and the script."""
+def answered_script(case, text):
+    """A drawn script with the model's answers."""
     model = Model(text, case.depth)
     before = model.copy().features
     drawing, script = case.kind(model, random.Random(f"{case.map} {case.seed}"), case.words), Script(model)
+    is_small = case.kind is SmallDrawing
     for n in range(case.count):
-        script.give(*[it for part in [drawing.command()] for it in (part[0], *part[1])])
-        if case.kind is SmallDrawing and n % 20 == 19:
+        word, given = drawing.command()
+        script.give(word, *given)
+        if is_small and n % 20 == 19:
             script.ask_rings()
-    if case.kind is SmallDrawing:
+    if is_small:
         for _ in range(10):
             script.give("at", *drawing.at())
-    are_few = len(model.places) < LARGEST_THINNED
-    if are_few:
+    if len(model.places) < LARGEST_THINNED:
         script.ask_changed(before)
     if case.words is None:
         for _ in range(len(model.past) + 1):
             script.give("undo")
     script.give("count")
-    saved = model.document()
-    refused = sum(answer.startswith("refused") for answer in script.answers)
+    return script
+
+
+def stored_case(case, script):
+    """A case as stored_runs reads it."""
+    saved = script.model.document()
     rows = [f"# {case.map}, seed {case.seed}", f"map: {case.map}", f"keeps: {case.depth}"]
     rows += [f"{line} => {answer}" for line, answer in zip(script.lines, script.answers)]
     rows += [f"saved: {saved}"] if len(saved) <= LONGEST_STORED else []
     rows += [f"sum: {len(saved.encode())} bytes, {sum_of(saved):016x}"]
-    rows += [f"end: answered {len(script.answers)}, refused {refused}"]
-    return "".join(f"{row}\n" for row in rows), script
+    rows += [f"end: answered {len(script.answers)}, refused {script.refused()}"]
+    return "".join(f"{row}\n" for row in rows)
 
 
 def store(folder):
@@ -713,18 +727,14 @@ def store(folder):
     rows = (folder / "maps.txt").read_text(encoding="utf-8").splitlines()
     named = dict(row.split(" = ", 1) for row in rows if " = " in row)
     for name, cases in STORED.items():
-        texts, answers, counts = [], [], collections.Counter()
-        for case in cases:
-            text = named.get(case.map) or (folder / case.map).read_text(encoding="utf-8")
-            text, script = stored_case(case, text)
-            texts.append(text)
-            answers += script.answers
-            done = (line.split()[0] for line, answer in zip(script.lines, script.answers) if not answer.startswith("refused"))
-            counts.update(done)
-        (folder / name).write_text(HEADING + "\n".join(texts), encoding="utf-8")
-        refused = sum(answer.startswith("refused") for answer in answers)
-        told = ", ".join(f"{count} {word}" for word, count in sorted(counts.items()))
-        print(f"{name}: {len(cases)} cases, {len(answers)} answers, {refused} refused, {told}", flush=True)
+        texts = [named.get(case.map) or (folder / case.map).read_text(encoding="utf-8") for case in cases]
+        scripts = [answered_script(case, text) for case, text in zip(cases, texts)]
+        stored = "\n".join(map(stored_case, cases, scripts))
+        (folder / name).write_text(HEADING + stored, encoding="utf-8")
+        words = sum((script.accepted() for script in scripts), collections.Counter())
+        answers, refused = sum(len(script.answers) for script in scripts), sum(script.refused() for script in scripts)
+        told = ", ".join(f"{count} {word}" for word, count in sorted(words.items()))
+        print(f"{name}: {len(cases)} cases, {answers} answers, {refused} refused, {told}", flush=True)
 
 
 def main():
