@@ -44,12 +44,13 @@ def text(style, x, y, words):
 # ---- maps
 
 def rings_of(topology, arcs):
-    """The positions of a ring of arc indexes (TopoJSON 1.0, 2.1.4), without the last one."""
+    """The positions of a ring of arc indexes (TopoJSON 1.0, 2.1.4), from the least one on, without the last one."""
     ring = []
     for index in arcs:
         arc = topology["arcs"][index] if index >= 0 else topology["arcs"][~index][::-1]
         ring += [tuple(position) for position in arc[:-1]]
-    return ring
+    least = ring.index(min(ring))
+    return ring[least:] + ring[:least]
 
 
 def features_of(topology, names=None):
