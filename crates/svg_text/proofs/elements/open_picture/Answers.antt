@@ -15,5 +15,5 @@ returns g c =
     c.in_ok-extend_from_slice.ensures.items
     (whole (attribute_text (codes "width")) begun wide c.args.width c.ranges.width c.in_ok-push_attribute.ensures)
     (whole (attribute_text (codes "height")) wide high c.args.height c.ranges.height c.in_ok-push_attribute-2.ensures)
-    (both_whole view_box_text high boxed c.args.width c.args.height c.ranges.width c.ranges.height c.in_ok-push_box.ensures)
+    (both_whole view_box_text high boxed c.args.width c.args.height c.ranges.width c.ranges.height c.in_ok-push_view_box.ensures)
     c.in_ok-extend_from_slice-2.ensures.items

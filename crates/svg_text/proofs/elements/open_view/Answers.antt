@@ -9,6 +9,6 @@ returns g c =
     let boxed = c.push_view_box.new.text.items in
     appended_four c.args.text.now.items (codes "<svg") (box_attributes c.args.place) (view_box_text c.args.width c.args.height) (codes ">\n")
     c.extend_from_slice.new.self.items placed boxed c.extend_from_slice-2.new.self.items
-    c.in_ok-extend_from_slice.ensures.items c.in_ok-push_place.ensures
-    (both_whole view_box_text placed boxed c.args.width c.args.height c.ranges.width c.ranges.height c.in_ok-push_box.ensures)
+    c.in_ok-extend_from_slice.ensures.items c.in_ok-push_box_attributes.ensures
+    (both_whole view_box_text placed boxed c.args.width c.args.height c.ranges.width c.ranges.height c.in_ok-push_view_box.ensures)
     c.in_ok-extend_from_slice-2.ensures.items
