@@ -1,6 +1,6 @@
 -- Sums and differences of the code, beside a window.
 use Rattle.kit_words.proofs.Common.{◌≡◌, ◌≤◌, ◌≤ℤ◌, ◌+ℤ◌, ◌-ℤ◌, ◌*ℤ◌, true, ℤ, pos, unsigned_abs, w64, to_z}
-use Rattle.kit_words.proofs.Common.{of_z, arith, ints, int_le, int_max, ◌∙◌}
+use Rattle.kit_words.proofs.Common.{of_z, arith, ints, int_le, int_max, ◌∙◌, subst, sym}
 
 -- a side, a margin further out
 pub further_out : (side margin : ℤ) → unsigned_abs side ≤ 1000000000000 → pos 1 ≤ℤ margin → margin ≤ℤ pos 600000000000
@@ -44,3 +44,15 @@ pub greater_extent : (r a b : ℤ) → r ≡ int_max (to_z w64 (of_z w64 a)) (to
 greater_extent r a b e h k =
     let both = greater_of a b h k in
     rw (e ∙ (λ i. int_max (extent_kept a h.0 h.1 i) (extent_kept b k.0 k.1 i))) (record { least = both.0; most = both.1; same = extent_kept (int_max a b) both.0 both.1 })
+
+-- the greater of how wide and how high a box is, as the code answers it
+pub extent_answered : (r x0 x1 y0 y1 : ℤ)
+    → r ≡ int_max (to_z w64 (of_z w64 (to_z w64 (of_z w64 x1) -ℤ to_z w64 (of_z w64 x0)))) (to_z w64 (of_z w64 (to_z w64 (of_z w64 y1) -ℤ to_z w64 (of_z w64 y0))))
+    → unsigned_abs x0 ≤ 1000000000000 → unsigned_abs x1 ≤ 1000000000000 → x0 ≤ℤ x1
+    → unsigned_abs y0 ≤ 1000000000000 → unsigned_abs y1 ≤ 1000000000000 → y0 ≤ℤ y1
+    → (pos 0 ≤ℤ to_z w64 (of_z w64 r)) × (to_z w64 (of_z w64 r) ≤ℤ pos 2000000000000)
+extent_answered r x0 x1 y0 y1 e left right across lower upper upward =
+    let kept = greater_extent r (to_z w64 (of_z w64 x1) -ℤ to_z w64 (of_z w64 x0)) (to_z w64 (of_z w64 y1) -ℤ to_z w64 (of_z w64 y0)) e
+    (omega (arith, ints, left, right, across), omega (arith, ints, left, right, across))
+    (omega (arith, ints, lower, upper, upward), omega (arith, ints, lower, upper, upward)) in
+    subst (λ z. (pos 0 ≤ℤ z) × (z ≤ℤ pos 2000000000000)) (sym kept.same) (kept.least, kept.most)
