@@ -65,14 +65,14 @@ reads_on_grid wants bytes o short text h =
     subst (λ (p : Opened). ReadsOnGrid wants bytes (document_of p)) h.is (record {
       fine = h.fine;
       before = document_of (made h.shape h.polygons);
-      reads = walks_along_meant (AreOnGrid wants h.fine) bytes h.shape (arcs_on wants h.fine) h.polygons short text h.outlined (record { are = h.are; position_on_grid = refl }) h.along;
+      reads = walks_along_meant (AreOnGrid wants h.fine) bytes h.shape (arcs_on wants h.fine) h.polygons short text h.outlined (record { are = h.are; on_grid = refl }) h.along;
       transform = h.divides;
       same = refl;
     })
 
 pub on_grid_of_walks : (wants : Wants) (bytes : List ℕ) (o : Opened) → length bytes ≤ 67108864 → Json 100 bytes → IsOpenedOn wants (root_of bytes) o → IsOfWalks o
 on_grid_of_walks wants bytes o short text h =
-    let reads = walks_along_meant (AreOnGrid wants h.fine) bytes h.shape (arcs_on wants h.fine) h.polygons short text h.outlined (record { are = h.are; position_on_grid = refl }) h.along in
+    let reads = walks_along_meant (AreOnGrid wants h.fine) bytes h.shape (arcs_on wants h.fine) h.polygons short text h.outlined (record { are = h.are; on_grid = refl }) h.along in
     let before = along_of_walks (AreOnGrid wants h.fine) bytes h.shape (arcs_on wants h.fine) h.polygons reads h.outlined h.along in
     subst IsOfWalks h.is (record {
       counted = before.counted;
