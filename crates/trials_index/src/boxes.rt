@@ -1,5 +1,6 @@
 //! How far the boxes of a few rings reach.
 use crate::given::{MEMORY, Place, at};
+use grid_geometry::Pos;
 use ring_boxes::RingBoxes;
 use std::alloc::{AllocError, Global};
 use std::process::Abort;
@@ -40,15 +41,20 @@ const ROWS: &[Row] = &[
 ];
 
 /// The box of the triangle.
-fn boxes_of_triangle<R: Abort>(rt: &R, alloc: Global) -> Result<RingBoxes, AllocError> {
+fn boxes_of_triangle(alloc: Global) -> Result<RingBoxes, AllocError> {
     let mut boxes = RingBoxes::new(alloc);
-    boxes.add(&[at(rt, (0, 0)), at(rt, (10, 2)), at(rt, (4, 8))])?;
+    let ring = [
+        Pos::new(0, 0).unwrap(),
+        Pos::new(10, 2).unwrap(),
+        Pos::new(4, 8).unwrap(),
+    ];
+    boxes.add(&ring)?;
     Ok(boxes)
 }
 
 /// The greatest x of the box around the boxes of a row's position, also of a copy.
 fn reached<R: Abort>(rt: &R, alloc: Global, row: &Row) -> Result<(i64, i64), AllocError> {
-    let mut boxes = boxes_of_triangle(rt, alloc)?;
+    let mut boxes = boxes_of_triangle(alloc)?;
     if let Some((p, q)) = row.1 {
         boxes.grow(at(rt, p), at(rt, q))?;
     }
