@@ -1,4 +1,5 @@
 // Texts that were damaged: cut after each byte, and with a byte replaced by each value.
+use crate::pieces::put_scan_fault;
 use crate::runs::{Key, Runs};
 use json_spans::{ScanFault, scan};
 use std::alloc::{AllocError, Global};
@@ -30,7 +31,7 @@ fn put_scanned(
     match scan(alloc, text) {
         Ok(_) => out.push_str("json"),
         Err(ScanFault::NotJson { place }) => put_place(out, text, from, place),
-        Err(fault) => write!(out, "{}", OpenFault::from(fault)),
+        Err(fault) => put_scan_fault(out, &fault),
     }
 }
 

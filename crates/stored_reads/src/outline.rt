@@ -1,9 +1,9 @@
 // The outline of a topology: what stands in it, before its positions are read.
-use crate::pieces::put_bytes;
+use crate::pieces::{put_bytes, put_scan_fault};
 use json_spans::{Span, at, bytes, scan};
 use std::alloc::{AllocError, Global};
 use topo_outline::{
-    Form, Head, Item, KeptMember, OpenFault, Outline, Place, RawFeature, RawLayer, read_outline,
+    Form, Head, Item, KeptMember, Outline, Place, RawFeature, RawLayer, read_outline,
 };
 
 fn put_part(out: &mut String, name: &str, part: Option<&[u8]>) -> Result<(), AllocError> {
@@ -103,6 +103,6 @@ fn put_topology(out: &mut String, alloc: Global, root: Span<'_>) -> Result<(), A
 pub(crate) fn put_outlined(out: &mut String, alloc: Global, text: &[u8]) -> Result<(), AllocError> {
     match scan(alloc, text) {
         Ok(root) => put_topology(out, alloc, root.span()),
-        Err(fault) => write!(out, "{}", OpenFault::from(fault)),
+        Err(fault) => put_scan_fault(out, &fault),
     }
 }

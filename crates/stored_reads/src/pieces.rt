@@ -1,4 +1,5 @@
 // Texts as they stand in a file: a text with a gap, the piece that fills it, and bytes by their numbers.
+use json_spans::ScanFault;
 use std::alloc::{AllocError, Global};
 
 fn digit(byte: u8) -> Option<u8> {
@@ -60,5 +61,14 @@ pub(crate) fn put_bytes(out: &mut String, bytes: &[u8]) -> Result<(), AllocError
     match str::from_utf8(bytes) {
         Ok(text) => out.push_str(text),
         Err(_) => out.push_str("no UTF-8"),
+    }
+}
+
+/// Appends a fault of the scanner, as it is reported where a map is opened.
+pub(crate) fn put_scan_fault(out: &mut String, fault: &ScanFault) -> Result<(), AllocError> {
+    match fault {
+        ScanFault::NotJson { place } => write!(out, "not json at {place}"),
+        ScanFault::TooDeep { place } => write!(out, "too deep at {place}"),
+        ScanFault::OutOfMemory => out.push_str("out of memory"),
     }
 }

@@ -1,14 +1,13 @@
 // What the scanner answers: a fault, or the values of a text.
-use crate::pieces::put_bytes;
+use crate::pieces::{put_bytes, put_scan_fault};
 use json_spans::{Kind, Span, at, bytes, items, kind, members, scan, text, whole};
 use std::alloc::{AllocError, Global};
-use topo_outline::OpenFault;
 
 /// Appends whether a text is JSON, or its fault.
 pub(crate) fn put_scanned(out: &mut String, alloc: Global, text: &[u8]) -> Result<(), AllocError> {
     match scan(alloc, text) {
         Ok(_) => out.push_str("json"),
-        Err(fault) => write!(out, "{}", OpenFault::from(fault)),
+        Err(fault) => put_scan_fault(out, &fault),
     }
 }
 
@@ -127,6 +126,6 @@ fn put_value(
 pub(crate) fn put_spans(out: &mut String, alloc: Global, text: &[u8]) -> Result<(), AllocError> {
     match scan(alloc, text) {
         Ok(root) => put_value(out, alloc, root.span(), 100),
-        Err(fault) => write!(out, "{}", OpenFault::from(fault)),
+        Err(fault) => put_scan_fault(out, &fault),
     }
 }
