@@ -9,7 +9,7 @@ Everything is below /TOKEN/, on the loopback address alone.
 | `begin` | | `owner`, `name`, `out`, `proved`, `opens`; then either what is edited or what stops it |
 | of a map that opens | | `log`, `counts` (when it was opened), `undos` (how many are possible), `unsaved` |
 | of one that does not | | `fault`, `findings`, `mendable` |
-| `edit` | `owner`, `act`, `lines` | `answers` up to a refusal, `accepted`, `entries` of the log, `undos`, `unsaved` |
+| `edit` | `owner`, `act`, `lines` | `answers` up to a refusal, `accepted`, `entries` of the log, `counts` now, `undos`, `unsaved` |
 | `try` | `owner`, `line` | `answer` |
 | `ask` | `owner`, `lines` | `answers` |
 | `save` | `owner`, `force` | `file`, `bytes` |
@@ -31,7 +31,7 @@ import traceback
 
 from child import Ended
 from session import MOST_EDITS, MOST_LINE, Lost, Refusal
-from visits import Visits
+from visits import NoPage, Visits
 
 WEB = pathlib.Path(__file__).resolve().parent.parent / "web"
 KINDS = {".html": "text/html; charset=utf-8", ".css": "text/css; charset=utf-8",
@@ -58,10 +58,6 @@ class BadRequest(Exception):
     def __init__(self, status, reason):
         super().__init__(reason)
         self.status = status
-
-
-class NoPage(Exception):
-    """The last page is closed, and nothing is unsaved."""
 
 
 def static_files(folder):
@@ -128,6 +124,18 @@ class Server(http.server.ThreadingHTTPServer):
         self.has_warned = False
         # called when the first page has come
         self.on_first_page = lambda: None
+
+    def read_ahead(self):
+        """Has the text of the map read before the page asks for it; what is asked meanwhile waits for that."""
+        self.lock.acquire()
+
+        def read():
+            try:
+                self.session.read_ahead()
+            finally:
+                self.lock.release()
+
+        threading.Thread(target=read, daemon=True).start()
 
     @property
     def address(self):
