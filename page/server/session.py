@@ -151,9 +151,11 @@ class Session:
         with contextlib.suppress(Ended, Lost, Refusal):
             self.text = self.document()
 
-    def picture(self):
-        """A map that does not open as SVG; nothing where it opens, or can't be drawn."""
-        return mending.picture(self.programs.path("border_show"), self.base) if self.child is None else None
+    def picture(self, place=None):
+        """A map that does not open, or a place in it, as SVG; nothing where the map opens, or can't be drawn."""
+        if self.child is not None:
+            return None
+        return mending.picture(self.programs.path("border_show"), self.base, place)
 
     def script(self):
         """The log as a script: what was refused is a comment."""

@@ -153,6 +153,13 @@ export class Talk {
    */
   mend(digits) { return this.post("mend", digits === null ? {} : { digits }); }
 
+  /**
+   * The picture of a place in a map that does not open, as SVG.
+   * @param {{x: number, y: number, width: number}} place
+   * @returns {Promise<string>}
+   */
+  async picture(place) { return (await this.question("place", place)).picture; }
+
   alive() { return this.question("alive", {}); }
 
   leave() {
