@@ -239,5 +239,6 @@ def preloaded(checks):
     checks.same("modules", sorted(named), sorted(path.name for path in served.WEB.glob("*.js")))
 
 
-GROUPS = [preloaded, who_may_ask, what_the_browser_tells, what_is_served, bodies, silent_ones, other_machines, constant_time,
+GROUPS = [preloaded, who_may_ask, what_the_browser_tells,
+          what_is_served, bodies, silent_ones, other_machines, constant_time,
           hostile_texts]
