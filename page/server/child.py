@@ -78,7 +78,8 @@ class Child:
         while not (text.endswith(b"\n") and text.startswith(b"features ", last)):
             text += self._piece()
             last = text.rfind(b"\n", 0, -1) + 1 if text.endswith(b"\n") else 0
-        return bytes(text[:last - 1])
+        del text[last - 1:]
+        return bytes(text)
 
     def end(self):
         """Ends the program. It is not let read the end of the script, at which it would write FILE."""

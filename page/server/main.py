@@ -7,7 +7,6 @@ import signal
 import sys
 import tempfile
 import threading
-import webbrowser
 
 sys.path.append(str(pathlib.Path(__file__).resolve().parent.parent))
 
@@ -15,8 +14,8 @@ import saving
 from child import Ended
 from finding import Programs
 from programs import NotFound
-from server import NoPage, Server
 from session import Session, shown
+from visits import NoPage
 
 # Statuses, which are those of border_edit.
 FAULT, USAGE = 3, 64
@@ -79,15 +78,28 @@ def begun(given):
     """The server of a map, which waits for its page."""
     try:
         session = Session(Programs(), *checked(given))
+        try:
+            return served(session, given.port)
+        except BaseException:
+            session.end()
+            raise
     except (Ended, NotFound, RuntimeError) as fault:
         raise Stop(str(fault)) from None
     except OSError as fault:
         raise Stop(f"{shown(fault.filename or given.map)}: {fault.strerror}") from None
+
+
+def served(session, number):
+    """The server of a session whose map is being opened."""
+    # read here, while border_edit opens the map: this takes as long as that of a small one
+    from server import Server
+    session.open()
     try:
-        return Server(given.port, session)
+        server = Server(number, session)
     except OSError as fault:
-        session.end()
-        raise Stop(f"port {given.port}: {fault.strerror}") from None
+        raise Stop(f"port {number}: {fault.strerror}") from None
+    server.read_ahead()
+    return server
 
 
 def leading_file(address):
@@ -116,6 +128,7 @@ def open_browser(server, leave):
     leading = leading_file(server.address)
     if leading is None:
         return
+    import webbrowser  # which takes time, and is not needed without this
     leave.callback(remove, leading)
     server.on_first_page = lambda: remove(leading)
     # some browsers return only when they are closed

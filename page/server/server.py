@@ -9,11 +9,12 @@ Everything is below /TOKEN/, on the loopback address alone.
 | `begin` | | `owner`, `name`, `out`, `proved`, `opens`; then either what is edited or what stops it |
 | of a map that opens | | `log`, `counts` (when it was opened), `undos` (how many are possible), `unsaved` |
 | of one that does not | | `fault`, `findings`, `mendable` |
-| `edit` | `owner`, `act`, `lines` | `answers` up to a refusal, `accepted`, `entries` of the log, `undos`, `unsaved` |
+| `edit` | `owner`, `act`, `lines` | `answers` up to a refusal, `accepted`, `entries` of the log, `counts` now, `undos`, `unsaved` |
 | `try` | `owner`, `line` | `answer` |
 | `ask` | `owner`, `lines` | `answers` |
 | `save` | `owner`, `force` | `file`, `bytes` |
 | `mend` | `owner`, perhaps `digits` | `report`, `opens` |
+| `place` | `owner`, `x`, `y`, `width` | `picture`: that square of a map that does not open, as SVG |
 | `alive`, `leave` | `owner` | nothing |
 
 The others are POST with JSON. What is not done is answered with `reason`: 400 for what makes no sense, 403 for
@@ -31,7 +32,7 @@ import traceback
 
 from child import Ended
 from session import MOST_EDITS, MOST_LINE, Lost, Refusal
-from visits import Visits
+from visits import NoPage, Visits
 
 WEB = pathlib.Path(__file__).resolve().parent.parent / "web"
 KINDS = {".html": "text/html; charset=utf-8", ".css": "text/css; charset=utf-8",
@@ -50,6 +51,8 @@ MOST_BODY = 1 << 20
 MOST_LINES = 2000
 # Decimals that border_mend keeps, at most.
 MOST_DIGITS = 24
+# The greatest coordinate, and the greatest width of a picture, that border_show takes.
+MOST_COORDINATE, MOST_WIDTH = 10 ** 12, 4 * 10 ** 12
 
 
 class BadRequest(Exception):
@@ -58,10 +61,6 @@ class BadRequest(Exception):
     def __init__(self, status, reason):
         super().__init__(reason)
         self.status = status
-
-
-class NoPage(Exception):
-    """The last page is closed, and nothing is unsaved."""
 
 
 def static_files(folder):
@@ -101,10 +100,10 @@ def edits_in(given):
     return lines
 
 
-def number_in(given, name, most):
-    """A whole number of a request, from 0 on."""
+def number_in(given, name, most, least=0):
+    """A whole number of a request."""
     number = given.get(name)
-    if type(number) is not int or not 0 <= number <= most:
+    if type(number) is not int or not least <= number <= most:
         raise BadRequest(400, f"no number {name}")
     return number
 
@@ -128,6 +127,18 @@ class Server(http.server.ThreadingHTTPServer):
         self.has_warned = False
         # called when the first page has come
         self.on_first_page = lambda: None
+
+    def read_ahead(self):
+        """Has the text of the map read before the page asks for it; what is asked meanwhile waits for that."""
+        self.lock.acquire()
+
+        def read():
+            try:
+                self.session.read_ahead()
+            finally:
+                self.lock.release()
+
+        threading.Thread(target=read, daemon=True).start()
 
     @property
     def address(self):
@@ -363,10 +374,19 @@ def mend(session, given):
     return session.mend(None if given.get("digits") is None else number_in(given, "digits", MOST_DIGITS))
 
 
+def place(session, given):
+    """The picture of a place in a map that does not open."""
+    middle = [number_in(given, name, MOST_COORDINATE, -MOST_COORDINATE) for name in ("x", "y")]
+    drawn = session.picture([*middle, number_in(given, "width", MOST_WIDTH, 1)])
+    if drawn is None:
+        raise Refusal("there is no picture of this place")
+    return {"picture": drawn.decode()}
+
+
 def alive(session, given):
     """The page says that it is there."""
     return {}
 
 
 # What the page that has the map can ask by POST.
-ANSWERS = {"edit": edit, "try": attempt, "ask": ask, "save": save, "mend": mend, "alive": alive}
+ANSWERS = {"edit": edit, "try": attempt, "ask": ask, "save": save, "mend": mend, "place": place, "alive": alive}

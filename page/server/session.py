@@ -66,8 +66,10 @@ class Session:
         # numbers of the states that can be gone back to, the last one that of the map as it is
         self.states = collections.deque([0], maxlen=MOST_UNDOS + 1)
         self.newest_state = self.saved_state = 0
-        self.child = self.lost = self.fault = self.mended_by = None
+        self.child = self.opening = self.lost = self.fault = self.mended_by = None
         self.findings, self.is_mendable = [], False
+        # the text of the map, where it was had before it was asked for
+        self.text = None
         self.scratch = pathlib.Path(tempfile.mkdtemp(prefix="border_edit-"))
         try:
             # the map is copied, so that it may be saved over, and the log run again from it
@@ -76,7 +78,7 @@ class Session:
             # what FILE holds, as far as is known here, and what was written in it
             self.seen = digest if out == map_path else saving.fingerprint(out)
             self.written = None
-            self._open(self.base)
+            self.opening = self._child(self.base)
         except BaseException:
             self.end()
             raise
@@ -90,11 +92,18 @@ class Session:
                 file.write(piece)
         return digest.hexdigest()
 
-    def _open(self, base):
-        """Opens a map; where it does not open, tells what stops it."""
-        child = Child(self.programs.path("border_edit"), base)
+    def _child(self, base):
+        """border_edit, which begins to open a map."""
+        return Child(self.programs.path("border_edit"), base)
+
+    def open(self):
+        """Waits until the map is open, or known not to open."""
+        self._open(self.base, self.opening)
+
+    def _open(self, base, child):
+        """Takes a map that border_edit opens; where it does not open, tells what stops it."""
         try:
-            self.counts = child.ask(["count"])[0]
+            self.counts, = child.ask(["count"])
         except Ended as ended:
             if ended.status != 2:
                 raise
@@ -133,11 +142,20 @@ class Session:
 
     def document(self):
         """The text of the map."""
-        return self._with_child(lambda: self.child.document())
+        self._must_be_open()
+        text, self.text = self.text, None
+        return text or self._with_child(lambda: self.child.document())
 
-    def picture(self):
-        """A map that does not open as SVG; nothing where it opens, or can't be drawn."""
-        return mending.picture(self.programs.path("border_show"), self.base) if self.child is None else None
+    def read_ahead(self):
+        """Has the text of the map ready for the page, which asks for it first of all."""
+        with contextlib.suppress(Ended, Lost, Refusal):
+            self.text = self.document()
+
+    def picture(self, place=None):
+        """A map that does not open, or a place in it, as SVG; nothing where the map opens, or can't be drawn."""
+        if self.child is not None:
+            return None
+        return mending.picture(self.programs.path("border_show"), self.base, place)
 
     def script(self):
         """The log as a script: what was refused is a comment."""
@@ -156,9 +174,10 @@ class Session:
     def edit(self, act, lines):
         """Does edits one after the other, all of them or none, and puts them in the log."""
         self._must_be_open()
+        self.text = None
         if lines[0] == "undo":
             return self._take_back(act, lines)
-        answers, undone = self._with_child(lambda: self._all_or_none(lines))
+        answers, undone, counts = self._with_child(lambda: self._all_or_none(lines))
         accepted = is_accepted(answers[-1])
         entries = self._entries(act, lines, answers)
         if accepted:
@@ -168,20 +187,24 @@ class Session:
             entries += self._entries(act, ["undo"] * undone, ["ok"] * undone)
         else:
             entries = entries[-1:]
-        return self._logged(entries, answers, accepted)
+        return self._logged(entries, answers, accepted, counts)
 
     def _all_or_none(self, lines):
-        """The answers up to the first refusal, and how many changes were then taken back."""
+        """The answers up to the first refusal, how many changes were then taken back, and the counts of the map."""
         answers = []
         for line in lines:
             answers += self.child.ask([line])
             if not is_accepted(answers[-1]):
                 break
         else:
-            return answers, 0
+            return answers, 0, self._count_now()
         undone = sum(map(is_change, lines, answers))
         self._undo(undone)
-        return answers, undone
+        return answers, undone, self._count_now()
+
+    def _count_now(self):
+        """The answer to `count`."""
+        return self.child.ask(["count"])[0]
 
     def _count(self, changes):
         """Each change leads to a state that there was not yet."""
@@ -194,11 +217,12 @@ class Session:
         kept = min(len(lines), self.undos)
         if kept < len(lines):
             answers = ["ok"] * kept + ["refused nothing to undo"]
-            return self._logged(self._entries(act, lines[-1:], answers[-1:]), answers, False)
-        self._with_child(lambda: self._undo(kept))
+            counts = self._with_child(self._count_now)
+            return self._logged(self._entries(act, lines[-1:], answers[-1:]), answers, False, counts)
+        counts = self._with_child(lambda: self._undo(kept) or self._count_now())
         for _ in lines:
             self.states.pop()
-        return self._logged(self._entries(act, lines, ["ok"] * kept), ["ok"] * kept, True)
+        return self._logged(self._entries(act, lines, ["ok"] * kept), ["ok"] * kept, True, counts)
 
     def attempt(self, line):
         """What the answer to an edit of a vertex would be. It is taken back at once, and is not in the log."""
@@ -220,9 +244,9 @@ class Session:
     def _entries(act, lines, answers):
         return [{"line": line, "answer": answer, "act": act} for line, answer in zip(lines, answers)]
 
-    def _logged(self, entries, answers, accepted):
+    def _logged(self, entries, answers, accepted, counts):
         self.log += entries
-        return {"answers": answers, "accepted": accepted, "entries": entries, **self._state()}
+        return {"answers": answers, "accepted": accepted, "entries": entries, "counts": counts, **self._state()}
 
     # ---- after border_edit has ended
 
@@ -246,7 +270,7 @@ class Session:
     def _run_again(self):
         """Starts border_edit again, with the edits of the log."""
         self.child.end()
-        self.child = Child(self.programs.path("border_edit"), self.base)
+        self.child = self._child(self.base)
         done = [entry for entry in self.log if is_accepted(entry["answer"])]
         if self.child.ask([entry["line"] for entry in done]) != [entry["answer"] for entry in done]:
             raise self._lose("border_edit ended, and when it was started again its answers were other ones")
@@ -291,7 +315,7 @@ class Session:
         report, why = mending.mend(self.programs.path("border_mend"), self.base, mended, digits)
         if why:
             raise Refusal(f"the map can't be mended: {why}")
-        self._open(mended)
+        self._open(mended, self._child(mended))
         self.mended_by, self.saved_state = "" if digits is None else f" --digits {digits}", None
         return {"report": report, "opens": self.child is not None}
 
@@ -309,6 +333,7 @@ class Session:
 
     def end(self):
         """Ends border_edit, and removes what was kept meanwhile."""
-        if self.child is not None:
-            self.child.end()
+        for child in (self.child, self.opening):
+            if child is not None:
+                child.end()
         shutil.rmtree(self.scratch, ignore_errors=True)

@@ -8,6 +8,10 @@ LEAVING = 5
 SILENCE = 180
 
 
+class NoPage(Exception):
+    """The last page is closed, and nothing is unsaved."""
+
+
 class Visits:
     """The newest page has the map. Before the first one comes nothing is over."""
 

@@ -1,5 +1,7 @@
 // Cases of the model of the page, each a line of data with its answer: measures, names, colours, layers, counts, lines, acts.
 import { Model, linesOf, orderAfter, parsed, splitWords } from "../web/model.js";
+import { Reader } from "../web/reading.js";
+import { placeOfFinding } from "../web/words.js";
 import { areaOfFeature, lengthOfChain, lengthOfFeature } from "../web/measures.js";
 import { CATEGORIES, SEQUENCES, colouring } from "../web/colours.js";
 import { nameOf, propertyNames } from "../web/names.js";
@@ -154,7 +156,7 @@ const squares = () => new Model(structuredClone(SQUARES));
 
 /** @param {(what: string, found: any, expected: any) => void} check */
 export function checkAll(check) {
-  for (const cases of [checkMeasures, checkNames, checkColours, checkLayers, checkLines, checkChanges]) {
+  for (const cases of [checkMeasures, checkNames, checkColours, checkTexts, checkLayers, checkLines, checkChanges]) {
     let fault = "";
     try { cases(check); } catch (error) { fault = error.stack; }
     check(`${cases.name} comes to its end`, fault, "");
@@ -216,6 +218,31 @@ function luminance(colour) {
   const parts = [1, 3, 5].map(at => parseInt(colour.slice(at, at + 2), 16) / 255);
   const [red, green, blue] = parts.map(part => part <= 0.04045 ? part / 12.92 : ((part + 0.055) / 1.055) ** 2.4);
   return 0.2126 * red + 0.7152 * green + 0.0722 * blue;
+}
+
+// Texts, and the positions and ends of their arcs.
+const TEXTS = [
+  ["arcs last", '{"type":"Topology","objects":{},"arcs":[[[1,2],[3,4]],[[-5,60],[7,-8]]]}', "1 2 3 4 -5 60 7 -8", "4 8"],
+  ["arcs first, white space", ' { "arcs" : [ [ [1 , 2],\n[30,-4] ] ] , "objects" : { } } ', "1 2 30 -4", "4"],
+  ["differences", '{"transform":{},"arcs":[[[1,2],[3,4],[-10,0]],[[5,6],[0,-6]]],"objects":{}}', "1 2 4 6 -6 6 5 6 5 0", "6 10"],
+  ["no arcs, and an empty one", '{"objects":{},"arcs":[[],[[1,1]]]}', "1 1", "0 2"],
+  ["an empty list", '{"objects":{},"arcs":[]}', "", ""],
+  ["the word elsewhere", '{"arc":{"arcs":"arcs\\"arcs"},"objects":{"a":{"arcs":[[0]]}},"arcs":[[[9,8],[7,6]]],"x":"arcs"}', "9 8 7 6", "4"],
+  ["the greatest numbers", '{"objects":{},"arcs":[[[1000000000000,-1000000000000]]]}', "1000000000000 -1000000000000", "2"],
+];
+
+// A text comes in pieces, which may end anywhere.
+function checkTexts(check) {
+  for (const [what, text, positions, ends] of TEXTS) for (const size of [1, 2, 3, 7, 1000]) {
+    const reader = new Reader(), bytes = new TextEncoder().encode(text);
+    for (let at = 0; at < bytes.length; at += size) reader.take(bytes.subarray(at, at + size));
+    const { arcs, ...rest } = reader.end().topology, { arcs: _, ...others } = JSON.parse(text);
+    check(`${what}, by ${size}: arcs`, `${arcs.xy.join(" ")}; ${arcs.ends.join(" ")}`, `${positions}; ${ends}`);
+    check(`${what}, by ${size}: the rest`, JSON.stringify(rest), JSON.stringify(others));
+  }
+  check("the place of a crossing", JSON.stringify(placeOfFinding("cross 0 10 10 10 / 5 5 5 15")), '{"x":5,"y":10,"width":15}');
+  check("the place of a vertex on a border", JSON.stringify(placeOfFinding("on 0 -3 / -2 -4 2 -2")), '{"x":0,"y":-3,"width":6}');
+  check("a finding without a place", placeOfFinding("short 0 0 0"), null);
 }
 
 function checkLayers(check) {

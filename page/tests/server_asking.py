@@ -232,5 +232,13 @@ def hostile_texts(checks):
                         [{"line": f"rename 0 {HOSTILE[0]}", "answer": "ok", "act": 1}])
 
 
-GROUPS = [who_may_ask, what_the_browser_tells, what_is_served, bodies, silent_ones, other_machines, constant_time,
+def preloaded(checks):
+    """The page names each of its modules, so that the browser asks for all of them at once."""
+    text = (served.WEB / "index.html").read_text()
+    named = re.findall(r'<(?:link rel="modulepreload" href|script type="module" src)="([^"]*)">', text)
+    checks.same("modules", sorted(named), sorted(path.name for path in served.WEB.glob("*.js")))
+
+
+GROUPS = [preloaded, who_may_ask, what_the_browser_tells,
+          what_is_served, bodies, silent_ones, other_machines, constant_time,
           hostile_texts]

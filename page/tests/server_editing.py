@@ -97,6 +97,20 @@ def trials(checks):
             checks.same("the log then", (began["log"], began["unsaved"], began["undos"]), ([], False, 0))
 
 
+def counts(checks):
+    """The answer to an edit has the counts of the map after it."""
+    with folder() as files:
+        (files / "map.json").write_text(SQUARES)
+        with Served(files / "map.json") as page:
+            page.begin()
+            for lines, vertices in [(["insert 0 0 10 0 5 0"], 7), (["move 5 0 6 0", "move 1 1 2 2"], 7), (["undo"], 6),
+                                    (["undo"], 6)]:
+                said = page.post("edit", act=1, lines=lines)[1]
+                checks.same(f"after {lines}", said["counts"], f"features 2 vertices {vertices} segments {vertices + 1}")
+            page.edit("insert 0 0 10 0 5 0")
+            checks.same("the text is that of the edited map", b"[5,0]" in page.get("document")[1], True)
+
+
 def log_and_script(checks):
     """The log, of which a page that is loaded again makes all that it shows."""
     with folder() as files:
@@ -237,4 +251,4 @@ def unsaved(checks):
                 checks.same(f"unsaved after {lines}", page.begin()["unsaved"], is_unsaved)
 
 
-GROUPS = [requests, no_requests, trials, log_and_script, long_refusals, many_lines, undos, two_pages, unsaved]
+GROUPS = [requests, no_requests, trials, counts, log_and_script, long_refusals, many_lines, undos, two_pages, unsaved]

@@ -56,6 +56,25 @@ def do_not_open(checks):
                             (text, ["map.json"]))
 
 
+def places(checks):
+    """A place of a map that does not open is drawn."""
+    with folder() as files:
+        (files / "map.json").write_text(CROSSING)
+        with Served(files / "map.json") as page:
+            page.begin()
+            status, said = page.post("place", x=5, y=-10, width=15)
+            checks.same("a picture", (status, "<svg" in said["picture"]), (200, True))
+            for given in [{}, {"x": 1, "y": 2}, {"x": 1.5, "y": 0, "width": 9}, {"x": "--ids", "y": 0, "width": 9},
+                          {"x": 0, "y": 0, "width": 0}, {"x": 10 ** 12 + 1, "y": 0, "width": 9},
+                          {"x": 0, "y": -10 ** 12 - 1, "width": 9}, {"x": 0, "y": 0, "width": 4 * 10 ** 12 + 1}]:
+                checks.same(f"no place {given}", page.post("place", **given)[0], 400)
+    with folder() as files:
+        (files / "map.json").write_text(SQUARES)
+        with Served(files / "map.json") as page:
+            page.begin()
+            checks.same("not of a map that opens", page.post("place", x=0, y=0, width=9)[0], 409)
+
+
 def mended(checks):
     """A map is mended, edited and saved; the log is a script for the mended map."""
     with folder() as files:
@@ -148,4 +167,4 @@ def policy_of_pictures(checks):
             checks.same("none of a map that opens", page.get("picture")[0], 404)
 
 
-GROUPS = [do_not_open, mended, digits, dies_after_mending, policy_of_pictures]
+GROUPS = [do_not_open, places, mended, digits, dies_after_mending, policy_of_pictures]

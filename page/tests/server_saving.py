@@ -115,6 +115,7 @@ def too_large(checks):
         path = files / "map.json"
         path.write_text(SQUARES)
         edited = session.Session(finding.Programs(), path, path)
+        edited.open()
         edited.edit(1, ['rename 0 "x"'])
         checks.same("as large as may be", edited.save(False), len(SQUARES))
         edited.edit(2, ['rename 0 "xy"'])

@@ -37,7 +37,7 @@ export function changeBy(map, line, answer, rings) {
  * @param {number[]} numbers the old position of a vertex, and its new one
  */
 function move(map, [x, y, u, v]) {
-  for (const [i, k] of map.places(x, y)) map.setWay(i, put(map.pieces[i].xy, k, u, v));
+  for (const [i, k] of map.places(x, y)) map.setWay(i, put(map.way(i), k, u, v));
 }
 
 /**
@@ -59,7 +59,7 @@ function put(xy, k, x, y) {
  */
 function insert(map, [ax, ay, bx, by, x, y]) {
   for (const i of new Set(map.places(ax, ay).map(place => place[0]))) {
-    const { xy } = map.pieces[i];
+    const xy = map.way(i);
     for (let k = 2; k < xy.length; k += 2) {
       const isAlong = xy[k - 2] === ax && xy[k - 1] === ay && xy[k] === bx && xy[k + 1] === by;
       const isBack = xy[k - 2] === bx && xy[k - 1] === by && xy[k] === ax && xy[k + 1] === ay;
@@ -85,7 +85,7 @@ function remove(map, x, y) {
   const [[u, v]] = map.neighbours(x, y);
   // from the last place in a piece to the first one, so that the numbers of the others stay true
   for (const [i, k] of map.places(x, y).reverse()) {
-    const { xy } = map.pieces[i], last = xy.length / 2 - 1, next = k === 0 ? 2 : 2 * k - 2;
+    const xy = map.way(i), last = xy.length / 2 - 1, next = k === 0 ? 2 : 2 * k - 2;
     const isInside = k > 0 && k < last, hasNeighbour = last > 0 && xy[next] === u && xy[next + 1] === v;
     map.setWay(i, isInside || hasNeighbour ? without(xy, k) : put(xy, k, u, v));
   }
@@ -122,7 +122,7 @@ function removeFeature(map, num) {
 function cutAt(map, ring, x, y) {
   const own = piecesOf(ring);
   for (const [i, k] of map.places(x, y)) {
-    const { xy, users } = map.pieces[i];
+    const xy = map.way(i), { users } = map.pieces[i];
     if (!own.has(i) || k === 0 || 2 * k === xy.length - 2) continue;
     const rest = map.addPiece(xy.slice(2 * k));
     map.setWay(i, xy.slice(0, 2 * k + 2));
@@ -202,7 +202,7 @@ export function least(at) {
 function merge(map, num, other) {
   const one = map.feature(num), [ring, ...holes] = one.polygons[0], [ring2, ...holes2] = map.feature(other).polygons[0];
   // pieces of a single position stand in no run
-  const isLong = (/** @type {number} */ ref) => map.pieces[pieceOf(ref)].xy.length > 2;
+  const isLong = (/** @type {number} */ ref) => map.way(pieceOf(ref)).length > 2;
   const outer = ring.filter(isLong), outer2 = ring2.filter(isLong), of2 = piecesOf(outer2);
   const common = new Set(outer.map(pieceOf).filter(i => of2.has(i)));
   const left = restOf(outer, common);

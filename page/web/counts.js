@@ -13,24 +13,26 @@
  */
 export function countAll(map) {
   let inner = 0, segments = 0, used = 0;
-  for (const { xy, users } of map.pieces) {
-    if (!users.length) continue;
+  for (const piece of map.pieces) {
+    if (!piece.users.length) continue;
     used++;
-    inner += innerVertices(xy);
-    segments += xy.length / 2 - 1;
+    inner += innerVertices(piece);
+    segments += (piece.to - piece.from) / 2 - 1;
   }
   const ends = new Float64Array(4 * used);
   let at = 0;
-  for (const { xy, users } of map.pieces) {
+  for (const { xy, from, to, users } of map.pieces) {
     if (!users.length) continue;
-    ends.set([xy[0], xy[1], xy[xy.length - 2], xy[xy.length - 1]], at);
-    at += 4;
+    ends[at++] = xy[from];
+    ends[at++] = xy[from + 1];
+    ends[at++] = xy[to - 2];
+    ends[at++] = xy[to - 1];
   }
   return { features: map.features.size, vertices: inner + distinct(ends), segments };
 }
 
-/** @param {Float64Array} xy */
-const innerVertices = xy => Math.max(0, xy.length / 2 - 2);
+/** @param {Piece} piece */
+const innerVertices = ({ from, to }) => Math.max(0, (to - from) / 2 - 2);
 
 /**
  * How many different positions there are among some: a table of hashes, of which at most half is filled.
@@ -63,9 +65,9 @@ export function recounted(map, before) {
   for (const i of changed) {
     for (const [piece, sign] of /** @type {[Piece | undefined, number][]} */ ([[before.pieces.get(i), -1], [map.pieces[i], 1]])) {
       if (!piece || !piece.users.length) continue;
-      segments += sign * (piece.xy.length / 2 - 1);
-      vertices += sign * innerVertices(piece.xy);
-      for (const at of [0, piece.xy.length - 2]) noteEnd(ends, piece.xy[at], piece.xy[at + 1], sign);
+      segments += sign * ((piece.to - piece.from) / 2 - 1);
+      vertices += sign * innerVertices(piece);
+      for (const at of [piece.from, piece.to - 2]) noteEnd(ends, piece.xy[at], piece.xy[at + 1], sign);
     }
   }
   for (const { x, y, was, is } of ends.values()) {

@@ -55,7 +55,7 @@ export function* drawMap(ctx, frame, contents) {
   model.eachPiece(frame.box, (_, i) => { if (!without || !without.has(i)) pieces.push(i); });
   yield;
   yield* strokeBorders(ctx, frame, model, pieces);
-  const vertices = pieces.reduce((sum, i) => sum + model.pieces[i].xy.length / 2, 0), isRoom = vertices < MOST_VERTICES;
+  const vertices = pieces.reduce((sum, i) => sum + verticesOf(model.pieces[i]), 0), isRoom = vertices < MOST_VERTICES;
   if (isRoom) markVertices(ctx, frame, model, pieces);
   yield;
   if (contents.showNames && seen.length <= MOST_NAMES) yield* writeNames(ctx, frame, model, seen);
@@ -87,6 +87,9 @@ function* fillFeatures(ctx, frame, { model, colouring }, seen) {
   }
 }
 
+/** @param {import("./pieces.js").Piece} piece */
+const verticesOf = ({ from, to }) => (to - from) / 2;
+
 /**
  * Whether features have more positions than so many.
  * @param {Model} model
@@ -97,7 +100,7 @@ function isMore(model, seen, most) {
   let left = most;
   for (const num of seen) {
     for (const polygon of model.feature(num).polygons) for (const ring of polygon) for (const ref of ring) {
-      left -= model.pieces[pieceOf(ref)].xy.length / 2;
+      left -= verticesOf(model.pieces[pieceOf(ref)]);
     }
     if (left < 0) return true;
   }
@@ -119,9 +122,9 @@ export function tracePath(ctx, frame, model, feature, step, moved) {
   for (const polygon of feature.polygons) for (const ring of polygon) {
     let isFirst = true, lastX = 0, lastY = 0;
     for (const ref of ring) {
-      const { xy } = model.pieces[pieceOf(ref)], n = xy.length, by = ref < 0 ? -2 : 2;
+      const { xy, from, to } = model.pieces[pieceOf(ref)], n = to - from, by = ref < 0 ? -2 : 2;
       size += n / 2;
-      for (let k = 0, at = ref < 0 ? n - 2 : 0; k < n; k += 2, at += by) {
+      for (let k = 0, at = ref < 0 ? to - 2 : from; k < n; k += 2, at += by) {
         const isMoved = moved !== null && moved.x === xy[at] && moved.y === xy[at + 1];
         const sx = across(frame, isMoved ? moved.u : xy[at]), sy = down(frame, isMoved ? moved.v : xy[at + 1]);
         if (isFirst) { ctx.moveTo(sx, sy); isFirst = false; }
@@ -140,16 +143,16 @@ export function tracePath(ctx, frame, model, feature, step, moved) {
  * Puts positions in the path of a canvas.
  * @param {CanvasRenderingContext2D} ctx
  * @param {Frame} frame
- * @param {Float64Array} xy
+ * @param {{xy: Float64Array, from: number, to: number}} way
  * @param {number} step pixels: a position that is nearer to the last one is passed over, but the last one of all
  * @returns {number} how many segments are drawn
  */
-function traceWay(ctx, frame, xy, step) {
-  let lastX = across(frame, xy[0]), lastY = down(frame, xy[1]), drawn = 0;
+function traceWay(ctx, frame, { xy, from, to }, step) {
+  let lastX = across(frame, xy[from]), lastY = down(frame, xy[from + 1]), drawn = 0;
   ctx.moveTo(lastX, lastY);
-  for (let k = 2; k < xy.length; k += 2) {
+  for (let k = from + 2; k < to; k += 2) {
     const sx = across(frame, xy[k]), sy = down(frame, xy[k + 1]);
-    if (k + 2 < xy.length && Math.abs(sx - lastX) < step && Math.abs(sy - lastY) < step) continue;
+    if (k + 2 < to && Math.abs(sx - lastX) < step && Math.abs(sy - lastY) < step) continue;
     ctx.lineTo(sx, sy);
     lastX = sx;
     lastY = sy;
@@ -170,7 +173,7 @@ function* strokeUnderlay(ctx, frame, lines) {
   for (const { xy, box } of lines) {
     if (!meets(box, frame.box)) continue;
     ctx.beginPath();
-    traceWay(ctx, frame, xy, 0.7);
+    traceWay(ctx, frame, { xy, from: 0, to: xy.length }, 0.7);
     ctx.stroke();
     yield;
   }
@@ -192,7 +195,7 @@ function* strokeBorders(ctx, frame, model, pieces) {
   let drawn = 0;
   ctx.beginPath();
   for (const i of pieces) {
-    drawn += traceWay(ctx, frame, model.pieces[i].xy, step);
+    drawn += traceWay(ctx, frame, model.pieces[i], step);
     if (drawn < STROKE_STEP) continue;
     ctx.stroke();
     ctx.beginPath();
@@ -216,10 +219,10 @@ function markVertices(ctx, frame, model, pieces) {
   /** @type {Map<string, number>} */
   const ends = new Map();
   for (const i of pieces) {
-    const { xy } = model.pieces[i];
+    const { xy, from, to } = model.pieces[i];
     let lastX = NaN, lastY = NaN;
-    for (let k = 0; k < xy.length; k += 2) {
-      const sx = across(frame, xy[k]), sy = down(frame, xy[k + 1]), isEnd = k === 0 || k === xy.length - 2;
+    for (let k = from; k < to; k += 2) {
+      const sx = across(frame, xy[k]), sy = down(frame, xy[k + 1]), isEnd = k === from || k === to - 2;
       if (!isEnd && Math.abs(sx - lastX) <= 5 && Math.abs(sy - lastY) <= 5) continue;
       ctx.fillRect(sx - 1.5, sy - 1.5, 3, 3);
       lastX = sx;
@@ -293,8 +296,8 @@ function widestPlace(model, feature, box) {
 function crossingsOf(model, feature, y) {
   const found = [];
   for (const polygon of feature.polygons) for (const ring of polygon) for (const ref of ring) {
-    const { xy } = model.pieces[pieceOf(ref)];
-    for (let k = 2; k < xy.length; k += 2) {
+    const { xy, from, to } = model.pieces[pieceOf(ref)];
+    for (let k = from + 2; k < to; k += 2) {
       const ax = xy[k - 2], ay = xy[k - 1], bx = xy[k], by = xy[k + 1];
       if (ay > y !== by > y) found.push(ax + ((y - ay) * (bx - ax)) / (by - ay));
     }

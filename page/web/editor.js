@@ -59,6 +59,8 @@ export class Editor {
   /** features at the start of the session, and vertices now */
   count = 0;
   vertices = 0;
+  /** the answer to `count` after the newest edit */
+  counts = "";
   nextAct = 1;
   /**
    * the newest act under way, and how many there are
@@ -103,6 +105,7 @@ export class Editor {
     this.nextAct = 1 + this.log.reduce((most, entry) => Math.max(most, entry.act), 0);
     this.model = new Model(topology, this.order());
     this.history.read(this.log);
+    this.counts = this.log.length ? (await this.talk.ask("count"))[0] : began.counts;
     await this.recount();
     this.view.resize();
     this.view.setModel(this.model);
@@ -197,6 +200,7 @@ export class Editor {
    */
   enter(said) {
     this.isUnsaved = said.unsaved;
+    this.counts = said.counts;
     this.log.push(...said.entries);
     for (const entry of said.entries) this.changed(entry);
   }
@@ -244,9 +248,9 @@ export class Editor {
     this.view.change();
   }
 
-  /** Asks for the counts, and loads the text where they are not those of the model: a mistake of the page shows here. */
+  /** Loads the text where the counts of the map are not those of the model: a mistake of the page shows here. */
   async recount() {
-    const [features, vertices, segments] = (await this.talk.ask("count"))[0].split(" ").filter((_, i) => i % 2).map(Number);
+    const [features, vertices, segments] = this.counts.split(" ").filter((_, i) => i % 2).map(Number);
     this.vertices = vertices;
     if (features === this.model.features.size && segments === this.model.segments()) return;
     console.error("the page differed from the map");

@@ -2,7 +2,7 @@
 /** A map that does not open: its picture, what stops it, and mending it. */
 import { tell } from "./dialogs.js";
 import { by, make } from "./dom.js";
-import { faultText, findingText, TEXT } from "./words.js";
+import { faultText, findingText, placeOfFinding, TEXT } from "./words.js";
 
 /** how much larger the picture becomes with a step of the wheel, and at most */
 const STEP = 1.25, LARGEST = 40;
@@ -18,6 +18,7 @@ export class Mending {
     this.scale = 1;
     by("mendForm").addEventListener("submit", (/** @type {Event} */ e) => { e.preventDefault(); this.mend(); });
     by("picture").addEventListener("wheel", (/** @type {WheelEvent} */ e) => this.wheel(e), { passive: false });
+    by("pictureWhole").addEventListener("click", () => { this.showPicture("picture"); by("pictureWhole").hidden = true; });
     by("pictureImage").addEventListener("error", () => {
       by("pictureImage").hidden = true;
       by("pictureNone").hidden = false;
@@ -34,11 +35,41 @@ export class Mending {
     const findings = began.findings.filter(line => !line.startsWith("counts"));
     by("mendCount").textContent = findings.length ? TEXT.mendCount(findings.length) : "";
     by("findings").hidden = !findings.length;
-    const item = (/** @type {string} */ line) => make("li", [make("span", findingText(line)), make("code", line)]);
-    by("findings").replaceChildren(...findings.map(item));
+    by("findings").replaceChildren(...findings.map(line => make("li", this.finding(line))));
     by("mendForm").hidden = !began.mendable;
     by("mendNot").hidden = began.mendable;
     by("mend").focus();
+  }
+
+  /**
+   * What a finding says. Where it has a place, a click shows that.
+   * @param {string} line
+   */
+  finding(line) {
+    const said = [make("span", findingText(line)), make("code", line)], place = placeOfFinding(line);
+    if (!place) return said;
+    const button = make("button", said, "plain");
+    button.addEventListener("click", () => this.showPlace(place).catch(fault => {
+      by("mendState").textContent = TEXT.noPicture(fault.message);
+    }));
+    return [button];
+  }
+
+  /** @param {{x: number, y: number, width: number}} place */
+  async showPlace(place) {
+    const svg = await this.talk.picture(place);
+    this.showPicture(URL.createObjectURL(new Blob([svg], { type: "image/svg+xml" })));
+    by("pictureWhole").hidden = false;
+  }
+
+  /** @param {string} address */
+  showPicture(address) {
+    const image = by("pictureImage");
+    if (image.src.startsWith("blob:")) URL.revokeObjectURL(image.src);
+    image.src = address;
+    image.style.width = "";
+    this.scale = 1;
+    by("picture").classList.remove("near");
   }
 
   /** @param {WheelEvent} e */

@@ -61,7 +61,7 @@ function paintFeatures(ctx, { view, editor, feature, drag }) {
 function paintCarried(ctx, { view, editor }, { x, y, u, v, places, near, answer }) {
   const isRefused = answer.startsWith("refused"), style = isRefused ? RED : BLUE;
   for (const [piece] of places) {
-    const way = Array.from(editor.model.pieces[piece].xy);
+    const way = Array.from(editor.model.way(piece));
     for (let k = 0; k < way.length; k += 2) if (way[k] === x && way[k + 1] === y) { way[k] = u; way[k + 1] = v; }
     drawChain(ctx, view, way, LINE, 1);
   }

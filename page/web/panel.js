@@ -2,7 +2,7 @@
 /** What stands around the map: notes, the selection, the list of edits, and which buttons can be used. */
 import { Refusal, Stopped } from "./editor.js";
 import { by, make } from "./dom.js";
-import { answerText, TEXT } from "./words.js";
+import { answerText, grouped, TEXT } from "./words.js";
 
 /** @typedef {import("./editor.js").Editor} Editor */
 /** @typedef {import("./talk.js").LogEntry} LogEntry */
@@ -187,7 +187,7 @@ export class Panel {
       [TEXT.rowLayer, this.layers.list[this.layers.of(num)]?.name ?? ""],
       [TEXT.rowArea, this.measures.area(num, twice)],
       [TEXT.rowParts, String(feature.polygons.length)],
-      [TEXT.rowVertices, vertices.toLocaleString("en")],
+      [TEXT.rowVertices, grouped(vertices)],
       [TEXT.rowNeighbours, this.links(near)],
     ];
     const own = feature.properties && typeof feature.properties === "object" ? Object.entries(feature.properties) : [];

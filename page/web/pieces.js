@@ -4,16 +4,16 @@
  * all features that have it. Whatever changes notes first what was there, so that it can be taken back.
  */
 import { Boxes, NOTHING, boxOf, union } from "./boxes.js";
-import { eachFeature, layerNames, polygonsOf, waysOf } from "./topology.js";
+import { arcsOf, eachFeature, layerNames, polygonsOf } from "./topology.js";
 import { countAll, recounted } from "./counts.js";
 
 /** @typedef {import("./boxes.js").Box} Box */
 /** @typedef {import("./topology.js").Way} Way */
 /** @typedef {import("./counts.js").Counts} Counts */
 /**
- * A part of a border. `users` has the number of a feature once for each ring that takes the piece. Positions are never
- * written over: a change gives the piece another way.
- * @typedef {{xy: Way, users: number[]}} Piece
+ * A part of a border: the positions of `xy` from `from` up to `to`. `users` has the number of a feature once for each ring
+ * that takes the piece. Positions and users are never written over: a change gives the piece others.
+ * @typedef {{xy: Way, from: number, to: number, users: number[]}} Piece
  */
 /**
  * Pieces one after another; ~i is piece i from its end to its beginning.
@@ -33,6 +33,8 @@ import { countAll, recounted } from "./counts.js";
 
 /** the most segments of a piece */
 const PIECE = 64;
+/** @type {number[]} */
+const NOBODY = [];
 
 /**
  * The piece that a ring takes, whichever way it goes.
@@ -58,7 +60,7 @@ export class Pieces {
   /** @type {Counts} */
   counts = { features: 0, vertices: 0, segments: 0 };
   /** pieces by place */
-  index = new Boxes(0, () => NOTHING);
+  index = new Boxes(new Float64Array(0));
   /** features by place: `slots` has the number of the feature in each slot, `slotOf` the slot of each feature */
   areas = this.index;
   /** @type {number[]} */
@@ -106,37 +108,47 @@ export class Pieces {
   /**
    * Cuts the arcs into pieces.
    * @param {any} topology
-   * @returns {number[]} the first piece of each arc, and the end of the last one
+   * @returns {Int32Array} the first piece of each arc, and the end of the last one
    */
   loadPieces(topology) {
     this.pieces = [];
-    const firsts = [];
-    for (const way of waysOf(topology)) {
-      firsts.push(this.pieces.length);
-      const last = way.length / 2 - 1;
-      for (let i = 0; i < last; i += PIECE) {
-        this.pieces.push({ xy: way.subarray(2 * i, 2 * Math.min(i + PIECE, last) + 2), users: [] });
+    const { xy, ends } = arcsOf(topology), firsts = new Int32Array(ends.length + 1);
+    let first = 0;
+    ends.forEach((end, arc) => {
+      for (let from = first; from + 2 < end; from += 2 * PIECE) {
+        this.pieces.push({ xy, from, to: Math.min(from + 2 * PIECE + 2, end), users: NOBODY });
       }
-    }
-    firsts.push(this.pieces.length);
+      first = end;
+      firsts[arc + 1] = this.pieces.length;
+    });
     return firsts;
   }
 
   loadIndexes() {
-    const boxes = this.pieces.map(piece => boxOf(piece.xy));
-    this.index = new Boxes(boxes.length, i => boxes[i]);
-    for (const feature of this.features.values()) feature.box = boxOfRings(feature, i => boxes[i]);
+    const boxes = new Float64Array(4 * this.pieces.length);
+    this.pieces.forEach((piece, i) => putBox(boxes, i, piece));
+    this.index = new Boxes(boxes);
     const all = [...this.features.values()].filter(feature => feature.polygons.length);
     this.slots = all.map(feature => feature.num);
     this.slotOf = new Map(this.slots.map((num, slot) => [num, slot]));
-    this.areas = new Boxes(all.length, slot => all[slot].box);
+    const outlines = new Float64Array(4 * all.length);
+    all.forEach((feature, slot) => {
+      feature.box = boxOfRings(feature, boxes);
+      outlines.set(feature.box, 4 * slot);
+    });
+    this.areas = new Boxes(outlines);
   }
 
   /** @returns {Box} the box of all features, of hidden layers too */
   extent() {
-    let box = NOTHING;
-    for (const feature of this.features.values()) box = union(box, feature.box);
-    return box;
+    let [x0, y0, x1, y1] = NOTHING;
+    for (const { box } of this.features.values()) {
+      x0 = Math.min(x0, box[0]);
+      y0 = Math.min(y0, box[1]);
+      x1 = Math.max(x1, box[2]);
+      y1 = Math.max(y1, box[3]);
+    }
+    return [x0, y0, x1, y1];
   }
 
   /**
@@ -153,12 +165,22 @@ export class Pieces {
   // ---- rings and places
 
   /**
+   * The positions of a piece.
+   * @param {number} i
+   * @returns {Way}
+   */
+  way(i) {
+    const { xy, from, to } = this.pieces[i];
+    return xy.subarray(from, to);
+  }
+
+  /**
    * Where a piece begins, in the direction of a ring.
    * @param {number} ref
    * @returns {[number, number]}
    */
   start(ref) {
-    const { xy } = this.pieces[pieceOf(ref)], at = ref < 0 ? xy.length - 2 : 0;
+    const { xy, from, to } = this.pieces[pieceOf(ref)], at = ref < 0 ? to - 2 : from;
     return [xy[at], xy[at + 1]];
   }
 
@@ -171,8 +193,8 @@ export class Pieces {
     /** @type {number[]} */
     const out = [];
     for (const ref of ring) {
-      const { xy } = this.pieces[pieceOf(ref)], step = ref < 0 ? -2 : 2;
-      for (let at = ref < 0 ? xy.length - 2 : 0; at >= 0 && at < xy.length; at += step) {
+      const { xy, from, to } = this.pieces[pieceOf(ref)], step = ref < 0 ? -2 : 2;
+      for (let at = ref < 0 ? to - 2 : from; at >= from && at < to; at += step) {
         const end = out.length;
         if (end === 0 || out[end - 2] !== xy[at] || out[end - 1] !== xy[at + 1]) out.push(xy[at], xy[at + 1]);
       }
@@ -191,8 +213,9 @@ export class Pieces {
     /** @type {[number, number][]} */
     const found = [];
     this.index.search([x, y, x, y], i => {
-      const { xy, users } = this.pieces[i];
-      if (users.length) for (let k = 0; k < xy.length; k += 2) if (xy[k] === x && xy[k + 1] === y) found.push([i, k / 2]);
+      const { xy, from, to, users } = this.pieces[i];
+      if (!users.length) return;
+      for (let k = from; k < to; k += 2) if (xy[k] === x && xy[k + 1] === y) found.push([i, (k - from) / 2]);
     });
     return found;
   }
@@ -207,7 +230,7 @@ export class Pieces {
     /** @type {Map<string, [number, number]>} */
     const found = new Map();
     for (const [i, k] of this.places(x, y)) {
-      const { xy } = this.pieces[i];
+      const xy = this.way(i);
       for (const next of [2 * k - 2, 2 * k + 2]) {
         if (next >= 0 && next < xy.length) found.set(`${xy[next]} ${xy[next + 1]}`, [xy[next], xy[next + 1]]);
       }
@@ -221,7 +244,8 @@ export class Pieces {
   use(feature) {
     for (const polygon of feature.polygons) for (const ring of polygon) for (const ref of ring) {
       this.notePiece(pieceOf(ref));
-      this.pieces[pieceOf(ref)].users.push(feature.num);
+      const piece = this.pieces[pieceOf(ref)];
+      piece.users = piece.users.length ? [...piece.users, feature.num] : [feature.num];
     }
   }
 
@@ -229,8 +253,8 @@ export class Pieces {
   leave(feature) {
     for (const polygon of feature.polygons) for (const ring of polygon) for (const ref of ring) {
       this.notePiece(pieceOf(ref));
-      const { users } = this.pieces[pieceOf(ref)];
-      users.splice(users.indexOf(feature.num), 1);
+      const piece = this.pieces[pieceOf(ref)], at = piece.users.indexOf(feature.num);
+      piece.users = piece.users.filter((_, k) => k !== at);
     }
   }
 
@@ -238,7 +262,7 @@ export class Pieces {
   notePiece(i) {
     if (!this.before || this.before.pieces.has(i)) return;
     const piece = this.pieces[i];
-    this.before.pieces.set(i, piece && { xy: piece.xy, users: piece.users.slice() });
+    this.before.pieces.set(i, piece && { ...piece });
   }
 
   /** @param {number} num */
@@ -252,7 +276,7 @@ export class Pieces {
    */
   setWay(i, xy) {
     this.notePiece(i);
-    this.pieces[i].xy = xy;
+    Object.assign(this.pieces[i], { xy, from: 0, to: xy.length });
     this.index.put(i, boxOf(xy));
     this.widen(i);
   }
@@ -262,7 +286,7 @@ export class Pieces {
    * @param {number} i
    */
   widen(i) {
-    const box = boxOf(this.pieces[i].xy);
+    const box = boxOf(this.way(i));
     for (const num of this.pieces[i].users) {
       const feature = this.features.get(num);
       if (!feature) continue;
@@ -279,7 +303,7 @@ export class Pieces {
   addPiece(xy) {
     const i = this.pieces.length;
     this.notePiece(i);
-    this.pieces.push({ xy, users: [] });
+    this.pieces.push({ xy, from: 0, to: xy.length, users: NOBODY });
     this.index.put(i, boxOf(xy));
     return i;
   }
@@ -303,7 +327,8 @@ export class Pieces {
     this.dropFeature(feature.num);
     this.features.set(feature.num, feature);
     this.use(feature);
-    feature.box = boxOfRings(feature, i => boxOf(this.pieces[i].xy));
+    const outer = feature.polygons.flatMap(polygon => polygon[0] || []);
+    feature.box = outer.reduce((box, ref) => union(box, boxOf(this.way(pieceOf(ref)))), NOTHING);
     this.putArea(feature);
   }
 
@@ -348,8 +373,8 @@ export class Pieces {
   /** @param {Before} before */
   restore({ pieces, features, order, counts }) {
     for (const [i, piece] of pieces) {
-      this.pieces[i] = piece || { xy: new Float64Array(0), users: [] };
-      if (piece) this.index.put(i, boxOf(piece.xy));
+      this.pieces[i] = piece || { xy: new Float64Array(0), from: 0, to: 0, users: NOBODY };
+      if (piece) this.index.put(i, boxOf(this.way(i)));
     }
     for (const [num, feature] of features) {
       if (feature) this.features.set(num, feature); else this.features.delete(num);
@@ -361,19 +386,40 @@ export class Pieces {
 }
 
 /**
+ * Puts the box of a piece among the boxes of all pieces.
+ * @param {Float64Array} boxes four numbers for each
+ * @param {number} i
+ * @param {Piece} piece
+ */
+function putBox(boxes, i, { xy, from, to }) {
+  let x0 = Infinity, y0 = Infinity, x1 = -Infinity, y1 = -Infinity;
+  for (let k = from; k < to; k += 2) {
+    const x = xy[k], y = xy[k + 1];
+    if (x < x0) x0 = x;
+    if (x > x1) x1 = x;
+    if (y < y0) y0 = y;
+    if (y > y1) y1 = y;
+  }
+  boxes[4 * i] = x0;
+  boxes[4 * i + 1] = y0;
+  boxes[4 * i + 2] = x1;
+  boxes[4 * i + 3] = y1;
+}
+
+/**
  * The box of the outer rings of a feature.
  * @param {Feature} feature
- * @param {(i: number) => Box} boxOfPiece
+ * @param {Float64Array} boxes those of all pieces
  * @returns {Box}
  */
-function boxOfRings(feature, boxOfPiece) {
+function boxOfRings(feature, boxes) {
   let x0 = Infinity, y0 = Infinity, x1 = -Infinity, y1 = -Infinity;
   for (const [outer] of feature.polygons) for (const ref of outer || []) {
-    const box = boxOfPiece(pieceOf(ref));
-    x0 = Math.min(x0, box[0]);
-    y0 = Math.min(y0, box[1]);
-    x1 = Math.max(x1, box[2]);
-    y1 = Math.max(y1, box[3]);
+    const at = 4 * pieceOf(ref);
+    x0 = Math.min(x0, boxes[at]);
+    y0 = Math.min(y0, boxes[at + 1]);
+    x1 = Math.max(x1, boxes[at + 2]);
+    y1 = Math.max(y1, boxes[at + 3]);
   }
   return [x0, y0, x1, y1];
 }
@@ -381,15 +427,17 @@ function boxOfRings(feature, boxOfPiece) {
 /**
  * A ring of arc indexes as a ring of pieces.
  * @param {number[]} arcs
- * @param {number[]} firsts the first piece of each arc
+ * @param {Int32Array} firsts the first piece of each arc, and the end of the last one
  * @returns {Ring}
  */
 function refsOf(arcs, firsts) {
-  const refs = [];
+  const sizeOf = (/** @type {number} */ arc) => firsts[(arc < 0 ? ~arc : arc) + 1] - firsts[arc < 0 ? ~arc : arc];
+  const refs = new Array(arcs.reduce((size, arc) => size + sizeOf(arc), 0));
+  let at = 0;
   for (const arc of arcs) {
     const first = firsts[arc < 0 ? ~arc : arc], end = firsts[(arc < 0 ? ~arc : arc) + 1];
-    if (arc >= 0) for (let i = first; i < end; i++) refs.push(i);
-    else for (let i = end - 1; i >= first; i--) refs.push(~i);
+    if (arc >= 0) for (let i = first; i < end; i++) refs[at++] = i;
+    else for (let i = end - 1; i >= first; i--) refs[at++] = ~i;
   }
   return refs;
 }

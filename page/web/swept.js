@@ -18,8 +18,8 @@ export function sweptBy(model, line) {
   for (const triangle of triangles) {
     const box = boxOf(Float64Array.from(triangle));
     model.index.search(box, i => {
-      const { xy, users } = model.pieces[i];
-      for (let k = 0; users.length && k < xy.length; k += 2) {
+      const { xy, from, to, users } = model.pieces[i];
+      for (let k = from; users.length && k < to; k += 2) {
         const x = xy[k], y = xy[k + 1];
         if (isWithin(box, x, y) && holds(triangle, x, y)) found.set(`${x} ${y}`, [x, y]);
       }

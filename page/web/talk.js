@@ -1,6 +1,9 @@
 // @ts-check
-/** What the page asks of the server. One request after the other, so that lines keep their order. */
-import { parsed } from "./topology.js";
+/**
+ * What the page asks of the server. Edits go one after the other, so that lines keep their order; no edit waits for the answer
+ * to a question.
+ */
+import { parsedStream } from "./topology.js";
 
 /** @typedef {{line: string, answer: string, act: number}} LogEntry */
 /**
@@ -19,8 +22,8 @@ import { parsed } from "./topology.js";
  */
 
 /**
- * `entries`: what the server put in its log.
- * @typedef {{answers: string[], accepted: boolean, entries: LogEntry[], unsaved: boolean}} Edited
+ * `entries`: what the server put in its log. `counts`: the answer to `count` after it.
+ * @typedef {{answers: string[], accepted: boolean, entries: LogEntry[], unsaved: boolean, counts: string}} Edited
  */
 
 /** An answer of the server that is no answer to the question. */
@@ -42,20 +45,34 @@ export class Talk {
     this.owner = 0;
     /** how many requests are under way */
     this.waiting = 0;
-    /** @type {Promise<any>} */
+    /**
+     * the newest request that is no question
+     * @type {Promise<any>}
+     */
     this.last = Promise.resolve();
   }
 
   /**
+   * A request that may change something.
    * @param {string} name
    * @param {object} body
    * @returns {Promise<any>}
    */
   post(name, body) {
-    this.waiting++;
-    const turn = this.last.then(() => this.postNow(name, body)).finally(() => { this.waiting--; });
+    const turn = this.question(name, body);
     this.last = turn.catch(() => undefined);
     return turn;
+  }
+
+  /**
+   * A request that changes nothing, so that the next one need not wait for it.
+   * @param {string} name
+   * @param {object} body
+   * @returns {Promise<any>}
+   */
+  question(name, body) {
+    this.waiting++;
+    return this.last.then(() => this.postNow(name, body)).finally(() => { this.waiting--; });
   }
 
   /**
@@ -82,13 +99,19 @@ export class Talk {
     }
   }
 
-  /** @param {string} name */
-  async text(name) {
+  /**
+   * What is got by a name.
+   * @param {string} name
+   */
+  async get(name) {
     await this.last;
     const answer = await this.reach(name);
     if (!answer.ok) throw new TalkFault(answer.status, await answer.json().catch(() => ({})));
-    return answer.text();
+    return answer;
   }
+
+  /** @param {string} name */
+  async text(name) { return (await this.get(name)).text(); }
 
   /** @returns {Promise<Began>} */
   async begin() {
@@ -110,13 +133,13 @@ export class Talk {
    * @param {string} line
    * @returns {Promise<string>}
    */
-  async attempt(line) { return (await this.post("try", { line })).answer; }
+  async attempt(line) { return (await this.question("try", { line })).answer; }
 
   /**
    * @param {string[]} lines
    * @returns {Promise<string[]>}
    */
-  async ask(...lines) { return (await this.post("ask", { lines })).answers; }
+  async ask(...lines) { return (await this.question("ask", { lines })).answers; }
 
   /**
    * @param {boolean} force
@@ -130,11 +153,22 @@ export class Talk {
    */
   mend(digits) { return this.post("mend", digits === null ? {} : { digits }); }
 
-  alive() { return this.post("alive", {}); }
+  /**
+   * The picture of a place in a map that does not open, as SVG.
+   * @param {{x: number, y: number, width: number}} place
+   * @returns {Promise<string>}
+   */
+  async picture(place) { return (await this.question("place", place)).picture; }
+
+  alive() { return this.question("alive", {}); }
 
   leave() {
     navigator.sendBeacon("leave", new Blob([JSON.stringify({ owner: this.owner })], { type: "application/json" }));
   }
 
-  document() { return this.text("document").then(parsed); }
+  /** The map, which is read while it comes. */
+  async document() {
+    const { body } = await this.get("document");
+    return parsedStream(/** @type {ReadableStream<Uint8Array>} */ (body));
+  }
 }

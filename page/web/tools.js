@@ -182,7 +182,7 @@ export class Tools {
     this.panel.hideNote();
     this.drag = {
       kind: "vertex", x, y, u: x, v: y, places: model.places(x, y), near: model.neighbours(x, y),
-      from: { ...this.pointer }, isMoved: false, answer: "", isTrying: false,
+      from: { ...this.pointer }, isMoved: false, answer: "ok", isTrying: false,
     };
   }
 
@@ -239,8 +239,9 @@ export class Tools {
     try {
       while (this.drag === drag) {
         const { u, v } = drag, isBack = u === drag.x && v === drag.y;
-        drag.answer = isBack ? "ok" : await this.editor.talk.attempt(`move ${drag.x} ${drag.y} ${u} ${v}`);
-        this.view.redrawOver();
+        const answer = isBack ? "ok" : await this.editor.talk.attempt(`move ${drag.x} ${drag.y} ${u} ${v}`);
+        if (answer !== drag.answer) this.view.redrawOver();
+        drag.answer = answer;
         if (drag.u === u && drag.v === v) break;
       }
     } catch (fault) {
@@ -254,8 +255,8 @@ export class Tools {
   async up(e) {
     const { drag } = this;
     if (!drag) return;
+    // the cursor stays as it is until there is an answer: another one is a frame to draw, for which the answer would wait
     this.drag = null;
-    this.map.style.cursor = "default";
     if (drag.kind === "vertex" && drag.isMoved) await this.putDown(drag);
     else if (!drag.isMoved && e.button === 0) await this.click(e.shiftKey || e.ctrlKey || e.metaKey);
     this.look();

@@ -1,6 +1,8 @@
 // @ts-check
 /** Reads a topology (TopoJSON 1.0): its arcs, its layers in the order of the text, and its features. */
+import { Reader, addUp } from "./reading.js";
 
+/** @typedef {import("./reading.js").Arcs} Arcs */
 /**
  * Positions one after another: x, y, x, y, ..
  * @typedef {Float64Array} Way
@@ -12,15 +14,40 @@ const FEATURES = new Set(["Polygon", "MultiPolygon", null]);
 const LAYERS = Symbol("layers");
 
 /**
- * The topology of a text. An object of JavaScript lists names that are whole numbers first, whatever the text says. The
- * numbers of features hang on the order of the layers, so where a layer has such a name, the order is read from the text.
+ * The topology of a text that was read. An object of JavaScript lists names that are whole numbers first, whatever the text
+ * says. The numbers of features hang on the order of the layers, so where a layer has such a name, the order is read from the
+ * text.
+ * @param {Reader} reader
+ * @returns {any}
+ */
+function topologyOf(reader) {
+  const { topology, text } = reader.end();
+  if (Object.keys(topology.objects).some(name => /^\d+$/.test(name))) topology[LAYERS] = namesIn(text);
+  return topology;
+}
+
+/**
+ * The topology of a text.
  * @param {string} text
  * @returns {any}
  */
 export function parsed(text) {
-  const topology = JSON.parse(text);
-  if (Object.keys(topology.objects).some(name => /^\d+$/.test(name))) topology[LAYERS] = namesIn(text);
-  return topology;
+  const reader = new Reader();
+  reader.take(new TextEncoder().encode(text));
+  return topologyOf(reader);
+}
+
+/**
+ * The topology of a text that is on its way.
+ * @param {ReadableStream<Uint8Array>} stream
+ * @returns {Promise<any>}
+ */
+export async function parsedStream(stream) {
+  const reader = new Reader(), source = stream.getReader();
+  for (let { done, value } = await source.read(); !done; { done, value } = await source.read()) {
+    if (value) reader.take(value);
+  }
+  return topologyOf(reader);
 }
 
 /**
@@ -54,28 +81,17 @@ function namesIn(text) {
 export const layerNames = topology => topology[LAYERS] || Object.keys(topology.objects);
 
 /**
- * The arcs of a topology as positions of the grid. They are parts of one list, which is quicker than a list for each; nobody
- * writes into them.
- * @param {any} topology
- * @returns {Way[]}
+ * The arcs of a topology as positions of the grid; nobody writes into them.
+ * @param {any} topology as `parsed` gives it, or as JSON gives it
+ * @returns {Arcs}
  */
-export function waysOf(topology) {
-  const isRelative = topology.transform !== undefined, { arcs } = topology;
-  let size = 0;
-  for (const arc of arcs) size += 2 * arc.length;
-  const all = new Float64Array(size);
+export function arcsOf({ arcs, transform }) {
+  if (!Array.isArray(arcs)) return arcs;
+  const xy = Float64Array.from(arcs.flatMap(arc => arc.flatMap((/** @type {number[]} */ position) => position.slice(0, 2))));
   let end = 0;
-  return arcs.map((/** @type {number[][]} */ arc) => {
-    const first = end;
-    let x = 0, y = 0;
-    for (const [a, b] of arc) {
-      x = isRelative ? x + a : a;
-      y = isRelative ? y + b : b;
-      all[end++] = x;
-      all[end++] = y;
-    }
-    return all.subarray(first, end);
-  });
+  const found = { xy, ends: arcs.map(arc => { end += 2 * arc.length; return end; }) };
+  if (transform !== undefined) addUp(found);
+  return found;
 }
 
 /**

@@ -1,7 +1,7 @@
 // @ts-check
 /** Lines of another file, to be drawn below the map for comparison. */
 import { boxOf } from "./boxes.js";
-import { waysOf } from "./topology.js";
+import { arcsOf } from "./topology.js";
 
 /** @typedef {{xy: Float64Array, box: import("./boxes.js").Box}} Line */
 /** @typedef {{scale: number[], translate: number[]}} Transform */
@@ -34,7 +34,8 @@ export function linesOf(given, transform) {
     lines.push({ xy, box: boxOf(xy) });
   };
   if (given && given.type === "Topology") {
-    for (const way of waysOf(given)) add(pairsOf(way), given.transform || SAME);
+    const { xy, ends } = arcsOf(given);
+    ends.forEach((end, i) => add(pairsOf(xy.subarray(i ? ends[i - 1] : 0, end)), given.transform || SAME));
   } else eachLine(given, positions => add(positions, SAME));
   return lines;
 }

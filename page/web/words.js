@@ -1,8 +1,11 @@
 // @ts-check
 /** All that the page says, in plain words: what answers of border_edit mean, why a map does not open, notes and help. */
 
-/** @param {number} n */
-const grouped = n => n.toLocaleString("en");
+/**
+ * A whole number with commas. The browser's own way takes longer at first than a small map takes to be read.
+ * @param {number} n
+ */
+export const grouped = n => String(n).replace(/\B(?=(\d{3})+$)/g, ",");
 
 /**
  * A reason as a sentence of its own.
@@ -113,6 +116,19 @@ export const faultText = fault => fromTable(FAULTS, fault.trim().replace(/^open:
 export const findingText = line => fromTable(FINDINGS, line.trim()) ?? line;
 
 /**
+ * The square that a finding is about, where it names segments: its middle and its width, with some room.
+ * @param {string} line
+ * @returns {{x: number, y: number, width: number} | null}
+ */
+export function placeOfFinding(line) {
+  if (!/^(on|cross) /.test(line)) return null;
+  const numbers = line.split(" ").map(Number).filter(number => !isNaN(number));
+  const xs = numbers.filter((_, i) => i % 2 === 0), ys = numbers.filter((_, i) => i % 2);
+  const [x0, x1, y0, y1] = [Math.min(...xs), Math.max(...xs), Math.min(...ys), Math.max(...ys)];
+  return { x: Math.round((x0 + x1) / 2), y: Math.round((y0 + y1) / 2), width: Math.ceil(1.5 * Math.max(x1 - x0, y1 - y0, 4)) };
+}
+
+/**
  * The two segments of a conflict.
  * @param {string} answer
  * @returns {number[][] | null}
@@ -204,6 +220,7 @@ export const TEXT = {
   mendCount: (/** @type {number} */ count) => count === 1 ? "1 thing stops it:" : `${grouped(count)} things stop it:`,
   mendFailed: "Not mended.",
   mendReason: (/** @type {string} */ reason) => sentence(reason),
+  noPicture: (/** @type {string} */ reason) => `The place cannot be shown. ${sentence(reason)}`,
   mending: "Mending …",
   mended: "Mended. Nothing is saved yet.",
 };
