@@ -5,6 +5,33 @@
 //! and built again.
 #![tactic(auto)]
 
+// The value of a result, or a return of its fault: what `?` does where it converts nothing. The
+// checker has no rule for the conversion of a fault that holds a position.
+macro_rules! or_return {
+    ($result:expr) => {
+        match $result {
+            Ok(value) => value,
+            Err(fault) => return Err(fault),
+        }
+    };
+}
+
+// Appends words and what functions append in turn, as in
+// `append!(text; b"lines " push_number(dropped) b"\n")`.
+macro_rules! append {
+    ($text:expr;) => {
+        Ok(())
+    };
+    ($text:expr; $word:literal $($rest:tt)*) => {{
+        $text.extend_from_slice($word)?;
+        append!($text; $($rest)*)
+    }};
+    ($text:expr; $push:ident($($part:expr),+) $($rest:tt)*) => {{
+        $push($text, $($part),+)?;
+        append!($text; $($rest)*)
+    }};
+}
+
 mod asked;
 mod lines;
 mod looking;

@@ -10,7 +10,7 @@ use crate::texts::{push_position, push_ring, push_segment};
 use grid_geometry::Pos;
 use grid_reader::Told;
 use map_mending::{AreaChange, Parted};
-use place_text::{append, push_number};
+use place_text::push_number;
 use segment_paths::SegmentPath;
 use std::alloc::{AllocError, Allocator};
 use topo_outline::RingAt;

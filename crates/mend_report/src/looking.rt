@@ -7,7 +7,7 @@ ghost use Rattle.mend_report.specs.Looking.{OpensOn, IsEnd, EndsLook};
 ghost use Rattle.mend_report.specs.SeenView.{opened_of};
 
 use crate::asked::{Asked, Report};
-use grid_reader::{OnGrid, Transform, or_return, read_on_grid};
+use grid_reader::{OnGrid, Transform, read_on_grid};
 use segment_index::TreeIndex;
 use std::alloc::{AllocError, Allocator, Global};
 use topo_outline::OpenFault;

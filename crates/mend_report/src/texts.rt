@@ -4,7 +4,7 @@ ghost use Rattle.grid_geometry.specs.Common.{position_text, segment_text};
 ghost use Rattle.mend_report.specs.Report.{ring_numbers};
 
 use grid_geometry::{Pos, Seg};
-use place_text::{append, push_number};
+use place_text::push_number;
 use std::alloc::{AllocError, Allocator};
 use topo_outline::RingAt;
 
