@@ -1,5 +1,6 @@
 -- What part of a map is drawn, and why there is no picture.
-use Rattle.std.specs.Prelude.{◌≡◌, ◌⊎◌, ℕ, List, Option, Some, None, Bor, IsSomeAnd}
+use Rattle.std.specs.Prelude.{◌≡◌, ◌⊎◌, ℕ, List, Option, Some, None, IsSomeAnd}
+use Rattle.std.specs.Borrow.{Bor}
 use Rattle.topo_reader.specs.Common.{IsFault}
 use Rattle.map_features.specs.declared.window.Window.{Window}
 use Rattle.map_drawing.specs.declared.view.View.{View}

@@ -22,7 +22,11 @@ pub(crate) enum ShowFault<'a> {
 }
 
 impl<'a> From<AllocError> for ShowFault<'a> {
-    ghost from_gives = { λ _ e. e ≡ ShowFault.Open OpenFault.OutOfMemory };
+    ghost use Rattle.std.specs.Prelude.{◌≡◌};
+    ghost use Rattle.topo_outline.specs.declared.fault.OpenFault.TheVariants.{OutOfMemory};
+    ghost use Rattle.border_show.specs.declared.showing.ShowFault.TheVariants.{Open};
+
+    ghost from_gives = { λ _ e. e ≡ Open OutOfMemory };
 
     fn from(_error: AllocError) -> ShowFault<'a> {
         ShowFault::Open(OpenFault::OutOfMemory)
