@@ -127,6 +127,9 @@ const SQUARE: &[u8] = br#"]]}},"arcs":[[[0,0],[10,0],[10,10],[0,10],[0,0]]]}"#;
 const POLYGONS: &[u8] =
     br#"{"type":"Topology","objects":{"a":{"type":"MultiPolygon","arcs":[[[0]]"#;
 
+/// The end of the polygons, and an arc of five positions.
+const POLYGONS_SQUARE: &[u8] = br#"]}},"arcs":[[[0,0],[10,0],[10,10],[0,10],[0,0]]]}"#;
+
 /// The end of that ring, and an arc of 4,000 positions that goes to and fro, up to its second.
 const TO_AND_FRO: &[u8] = br#"]]}},"arcs":[[[0,0]"#;
 
@@ -162,12 +165,12 @@ const AT_LIMITS: &[Row] = &[
     ),
     (
         "800,000 polygons of five positions",
-        &[(POLYGONS, 1), (b",[[0]]", 799_999), (SQUARE, 1)],
+        &[(POLYGONS, 1), (b",[[0]]", 799_999), (POLYGONS_SQUARE, 1)],
         "opened 1",
     ),
     (
         "one polygon more",
-        &[(POLYGONS, 1), (b",[[0]]", 800_000), (SQUARE, 1)],
+        &[(POLYGONS, 1), (b",[[0]]", 800_000), (POLYGONS_SQUARE, 1)],
         "too large positions",
     ),
     (
