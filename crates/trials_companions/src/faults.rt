@@ -1,4 +1,4 @@
-//! A damaged text is told by the fault that reading tells.
+//! A damaged text is rejected with the fault that reading reports.
 use mend_report::{Asked, LookFault, Texts, report_map};
 use std::alloc::Global;
 use std::test::Fail;
