@@ -17,8 +17,8 @@ The program has to stand already (`rt ci` leaves it). There is one line a run; t
 nothing differs. A script that differs is left beside the maps that bench.py makes, in bench/out.
 
 With `--store FOLDER` no program is run. The model answers scripts that are drawn on the maps of
-FOLDER, which is crates/stored_runs/data: the files drawn_*.txt, real_maps.txt and squares.json there
-are written, the same bytes each time, for `stored_runs` to compare. There is one line a file. They
+FOLDER, which is crates/stored_runs/data, and histories that are fixed: the files drawn_*.txt,
+real_maps.txt, histories.txt and squares.json there are written, the same bytes each time, for `stored_runs` to compare. There is one line a file. They
 never come from the program; after a change of this script or of a map they are written anew, and
 `git diff` shows what changed.
 """
@@ -664,7 +664,34 @@ STORED = {
     "drawn_commands.txt": [Case(name, seed, 300, 10) for name in REAL_MAPS[:3] for seed in (3, 4)],
     "real_maps.txt": [Case(name, 5, 20, 1, QUESTIONS) for name in REAL_MAPS],
 }
-HEADING = "== Drawn commands. The answers are those of the model of bench/second_opinion.py, which writes this file.\n"
+
+# A history that is fixed: its name, the map, how many changes are kept, the edits, what is asked after each edit and undo,
+# and the edits after that.
+History = collections.namedtuple("History", "name map depth edits asked last", defaults=((),))
+EACH_KIND = [
+    ("move", (0, 0), (1, 1)), ("insert", (10, 0), (20, 0), (15, 0)), ("thin", 0), ("split", 0, "new", [(1, 1), (10, 10)]),
+    ("rename", 1, "Z"), ("merge", 0, 2), ("remove", (1, 1)), ("delete", 1),
+]
+TO_AND_FRO = [("move", (0, 0), (1, 1)), ("move", (1, 1), (0, 0))] * 26 + [("move", (0, 0), (1, 1))]
+# Features with holes, texts, no rings and no neighbours go one after another.
+ALL_FEATURES = [
+    ("split", 0, "new", [(0, 0), (3, 7), (10, 10)]), ("delete", 4), ("merge", 3, 0), ("delete", 1), ("rename", 3, "Z"),
+    ("delete", 3), ("delete", 5), ("delete", 2),
+]
+# What an undo puts back is found by a later change of the same border.
+BORDERS = [
+    ("thin", 0), ("insert", (10, 0), (10, 10), (11, 5)), ("split", 1, "new", [(11, 5), (15, 6), (20, 10)]),
+    ("move", (11, 5), (9, 5)), ("thin", 100), ("merge", 0, 1),
+]
+# A new feature has a number that no feature ever had.
+NEXT = [("split", 0, "last", [(0, 0), (10, 10)])]
+HISTORIES = [
+    *(History(f"one edit of each kind, {n} kept", "two squares", n, EACH_KIND, "document", NEXT) for n in (100, 8, 5, 1)),
+    History("a corner goes to and fro", "two squares", 50, TO_AND_FRO, "area 0"),
+    History("all features go", "kept texts", 100, ALL_FEATURES, "document"),
+    History("borders are thinned and cut", "kept texts", 100, BORDERS, "document"),
+]
+HEADING = "== {} The answers are those of the model of bench/second_opinion.py, which writes this file.\n"
 # A longer saved text is stored as its length and sum.
 LONGEST_STORED = 4000
 
@@ -710,10 +737,22 @@ def answered_script(case, text):
     return script
 
 
+def history_script(history, text):
+    """The edits, one undo more than changes are kept, and the last edits, each followed by a question."""
+    script = Script(Model(text, history.depth))
+    asked, *given = history.asked.split()
+    undos = [("undo",)] * (min(history.depth, len(history.edits)) + 1)
+    for word, *values in [*history.edits, *undos, *history.last]:
+        script.give(word, *values)
+        script.give(asked, *map(int, given))
+    return script
+
+
 def stored_case(case, script):
     """A case as stored_runs reads it."""
     saved = script.model.document()
-    rows = [f"# {case.map}, seed {case.seed}", f"map: {case.map}", f"keeps: {case.depth}"]
+    name = case.name if isinstance(case, History) else f"{case.map}, seed {case.seed}"
+    rows = [f"# {name}", f"map: {case.map}", f"keeps: {case.depth}"]
     rows += [f"{line} => {answer}" for line, answer in zip(script.lines, script.answers)]
     rows += [f"saved: {saved}"] if len(saved) <= LONGEST_STORED else []
     rows += [f"sum: {len(saved.encode())} bytes, {sum_of(saved):016x}"]
@@ -721,16 +760,22 @@ def stored_case(case, script):
     return "".join(f"{row}\n" for row in rows)
 
 
+def families():
+    """The files that are written: what each is about, how a case is answered, and the cases."""
+    drawn = {name: ("Drawn commands.", answered_script, cases) for name, cases in STORED.items()}
+    return {**drawn, "histories.txt": ("Edits, and then an undo of each.", history_script, HISTORIES)}
+
+
 def store(folder):
     """Writes the stored runs that the model answers."""
     (folder / "squares.json").write_text(squares_text(12, 10**6) + "\n", encoding="utf-8")
     rows = (folder / "maps.txt").read_text(encoding="utf-8").splitlines()
     named = dict(row.split(" = ", 1) for row in rows if " = " in row)
-    for name, cases in STORED.items():
+    for name, (about, answered, cases) in families().items():
         texts = [named.get(case.map) or (folder / case.map).read_text(encoding="utf-8") for case in cases]
-        scripts = [answered_script(case, text) for case, text in zip(cases, texts)]
+        scripts = [answered(case, text) for case, text in zip(cases, texts)]
         stored = "\n".join(map(stored_case, cases, scripts))
-        (folder / name).write_text(HEADING + stored, encoding="utf-8")
+        (folder / name).write_text(HEADING.format(about) + stored, encoding="utf-8")
         words = sum((script.accepted() for script in scripts), collections.Counter())
         answers, refused = sum(len(script.answers) for script in scripts), sum(script.refused() for script in scripts)
         told = ", ".join(f"{count} {word}" for word, count in sorted(words.items()))

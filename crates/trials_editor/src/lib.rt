@@ -1,5 +1,5 @@
-//! Tests of the editor: after each undo the map is written as it was before the change, an allocation
-//! that is refused changes neither map nor history, and few pairs of segments are tested.
+//! Tests of the editor: an allocation that is refused changes neither map nor history, a copy of a map
+//! is edited alone, and few pairs of segments are tested.
 #![tactic(auto)]
 
 #[cfg(test)]
@@ -12,9 +12,5 @@ mod edited;
 mod maps;
 #[cfg(test)]
 mod refused;
-#[cfg(test)]
-mod trail;
-#[cfg(test)]
-mod worked;
 #[cfg(test)]
 mod written;

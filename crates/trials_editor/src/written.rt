@@ -1,5 +1,4 @@
-//! The text of a map as it is then, and whether the map is as if it had been opened from it.
-use crate::maps::map_of;
+//! The text of a map as it is then, and its counts.
 use arc_store::Map;
 use device_io::ToWriter;
 use grid_geometry::{Pos, Seg};
@@ -80,19 +79,4 @@ pub(crate) fn counts_of<I: SegIndex, A: Allocator + Copy>(map: &Map<'_, I, A>) -
         map.position_count(),
         users,
     )
-}
-
-/// The map has the segments of the one that is opened from this text, in as many rings, and that one is
-/// written as the same text.
-pub(crate) fn is_as_opened<R: Abort, I: SegIndex, A: Allocator + Copy>(
-    rt: &R,
-    alloc: Global,
-    map: &Map<'_, I, A>,
-    text: &[u8],
-) {
-    let other = map_of(alloc, alloc, text).expect(rt, "what is written opens");
-    let counts = counts_of(&other);
-    let is_same = is_written(rt, alloc, alloc, &other, text);
-    drop(other);
-    assert!(rt; is_same && counts_of(map) == counts, "as opened");
 }
