@@ -11,6 +11,7 @@ import threading
 sys.path.append(str(pathlib.Path(__file__).resolve().parent.parent))
 
 import saving
+from address import Address
 from child import Ended
 from finding import Programs
 from programs import NotFound
@@ -74,32 +75,27 @@ def checked(given):
     return given.map.resolve(), out
 
 
-def begun(given):
-    """The server of a map, which waits for its page."""
+@contextlib.contextmanager
+def stops(given):
+    """What stops the program, in one line."""
     try:
-        session = Session(Programs(), *checked(given))
-        try:
-            return served(session, given.port)
-        except BaseException:
-            session.end()
-            raise
+        yield
     except (Ended, NotFound, RuntimeError) as fault:
         raise Stop(str(fault)) from None
     except OSError as fault:
         raise Stop(f"{shown(fault.filename or given.map)}: {fault.strerror}") from None
 
 
-def served(session, number):
-    """The server of a session whose map is being opened."""
-    # read here, while border_edit opens the map: this takes as long as that of a small one
-    from server import Server
-    session.open()
+def begun(given):
+    """Where the page will be, and the session of a map, which begins to be opened."""
+    files = checked(given)
     try:
-        server = Server(number, session)
+        address = Address(given.port)
     except OSError as fault:
-        raise Stop(f"port {number}: {fault.strerror}") from None
-    server.read_ahead()
-    return server
+        raise Stop(f"port {given.port}: {fault.strerror}") from None
+    programs = Programs()
+    programs.look_for("border_edit")
+    return address, Session(programs, *files)
 
 
 def leading_file(address):
@@ -123,16 +119,20 @@ def remove(path):
         path.unlink()
 
 
-def open_browser(server, leave):
-    """Opens the page. `leave` has what is done at the end at the latest."""
-    leading = leading_file(server.address)
+def open_browser(address, leave):
+    """Opens the page. `leave` has what is done at the end at the latest. What is done when the page has come."""
+    leading = leading_file(address)
     if leading is None:
-        return
-    import webbrowser  # which takes time, and is not needed without this
+        return lambda: None
     leave.callback(remove, leading)
-    server.on_first_page = lambda: remove(leading)
-    # some browsers return only when they are closed
-    threading.Thread(target=webbrowser.open, args=[leading.as_uri()], daemon=True).start()
+
+    def opens():
+        import webbrowser  # which takes time, and is not needed without this
+        # some browsers return only when they are closed
+        webbrowser.open(leading.as_uri())
+
+    threading.Thread(target=opens, daemon=True).start()
+    return lambda: remove(leading)
 
 
 def interrupt(*_):
@@ -145,34 +145,45 @@ def interrupt(*_):
 def finish(server):
     """Ends border_edit, and keeps what is not saved as a script."""
     server.server_close()
+    session = server.session
+    session.give_up()
     # a request may still be under way; its edits are not in the log yet
     server.lock.acquire(timeout=ENDING)
-    session = server.session
     if session.is_unsaved:
         left = session.leave_script()
         said = f"unsaved edits stand as a script in {shown(left)}" if left else "unsaved edits could not be kept"
         with contextlib.suppress(OSError):
             print(f"edit: {said}", file=sys.stderr, flush=True)
-    session.end()
+
+
+def serve(given):
+    """Serves the page of a map until it is closed, or the program is stopped."""
+    with contextlib.ExitStack() as leave:
+        address, session = begun(given)
+        leave.callback(session.end)
+        # the browser may begin: it waits until it is answered
+        print(address, flush=True)
+        with contextlib.suppress(KeyboardInterrupt, NoPage):
+            on_first_page = (lambda: None) if given.no_open else open_browser(address, leave)
+            from server import Server  # which takes time, that the browser and border_edit need too
+            server = Server(address, session)
+            server.on_first_page = on_first_page
+            leave.callback(finish, server)
+            server.open()
+            server.serve_forever()
 
 
 def main():
-    """Serves the page until it is closed, or the program is stopped."""
+    """Serves the page of a map."""
     given = options()
     for sign in SIGNALS:
         signal.signal(sign, interrupt)
     try:
-        server = begun(given)
+        with stops(given):
+            serve(given)
     except Stop as stop:
         print(f"edit: {stop}", file=sys.stderr)
         return FAULT
-    with contextlib.ExitStack() as leave:
-        leave.callback(finish, server)
-        print(server.address, flush=True)
-        if not given.no_open:
-            open_browser(server, leave)
-        with contextlib.suppress(KeyboardInterrupt, NoPage):
-            server.serve_forever()
     return 0
 
 

@@ -1,4 +1,5 @@
 """A page of ./edit in a headless Chromium, and what a user does there with mouse and keys."""
+import os
 import pathlib
 import shutil
 import subprocess
@@ -44,8 +45,10 @@ class Page:
 
     def __init__(self, driver, map_path, *words):
         self.driver = driver
-        command = [sys.executable, TOP / "page/server/main.py", str(map_path), "--no-open", *map(str, words)]
-        self.server = subprocess.Popen(command, stdout=subprocess.PIPE, stderr=subprocess.PIPE)
+        command = [TOP / "edit", str(map_path), "--no-open", *map(str, words)]
+        # with this Python, and not one that a name of the path leads to by a script
+        env = {**os.environ, "PATH": os.pathsep.join([os.path.dirname(sys.executable), os.environ["PATH"]])}
+        self.server = subprocess.Popen(command, stdout=subprocess.PIPE, stderr=subprocess.PIPE, env=env)
         self.url = self.server.stdout.readline().decode().strip()
         if not self.url:
             raise RuntimeError(self.server.stderr.read().decode())

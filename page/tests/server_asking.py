@@ -9,6 +9,7 @@ from server_maps import SQUARES, of_squares
 from server_runs import PAGE, Served, folder
 
 import server as served
+from address import Address
 
 # Paths without the token, with a part of it, or with another one. {token} is the real one.
 STRANGE_PATHS = ["/", "//", "/x/", "/{token}", "/{token}x/", "/{short}/", "/%C3%A9/", "/{token}%2F", "/./{token}/",
@@ -197,7 +198,7 @@ def other_machines(checks):
 def constant_time(checks):
     """The token is compared in constant time."""
     with mock.patch("secrets.compare_digest", return_value=False) as compared:
-        server = served.Server(0, mock.Mock(is_unsaved=False))
+        server = served.Server(Address(0), mock.Mock(is_unsaved=False))
         threading.Thread(target=server.serve_forever, args=[0.05], daemon=True).start()
         with socket.create_connection(("127.0.0.1", server.server_port)) as page:
             page.sendall(f"GET /guess/ HTTP/1.1\r\nHost: 127.0.0.1:{server.server_port}\r\n\r\n".encode())
@@ -235,7 +236,7 @@ def hostile_texts(checks):
 def preloaded(checks):
     """The page names each of its modules, so that the browser asks for all of them at once."""
     text = (served.WEB / "index.html").read_text()
-    named = re.findall(r'<(?:link rel="modulepreload" href|script type="module" src)="([^"]*)">', text)
+    named = re.findall(r'<(?:link rel="modulepreload" href|script (?:async )?type="module" src)="([^"]*)">', text)
     checks.same("modules", sorted(named), sorted(path.name for path in served.WEB.glob("*.js")))
 
 
