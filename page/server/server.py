@@ -5,7 +5,7 @@ Everything is below /TOKEN/, on the loopback address alone.
 | Request | Takes | Answers |
 |---|---|---|
 | GET, no name; each file of the page | | the page |
-| GET `map` | | MAP as it is in its file, also while it is opened, as long as nothing was edited |
+| GET `map` | | MAP as it is in its file, also while it is opened, nothing once it was edited |
 | GET `document`, `script`, `picture` | | the text of the map; the log as a script; a map that does not open as SVG |
 | `begin` | | `owner`, `name`, `out`, `proved`, `opens`; then either what is edited or what stops it |
 | of a map that opens | | `log`, `counts` (when it was opened), `undos` (how many are possible), `unsaved` |
@@ -30,10 +30,11 @@ import re
 import secrets
 import sys
 import threading
+import time
 import traceback
 
 from child import Ended
-from session import MOST_BYTES, MOST_EDITS, MOST_LINE, Lost, Refusal
+from session import MOST_EDITS, MOST_LINE, Lost, Refusal
 from visits import NoPage, Visits
 
 WEB = pathlib.Path(__file__).resolve().parent.parent / "web"
@@ -56,6 +57,8 @@ MOST_LINES = 2000
 MOST_DIGITS = 24
 # The greatest coordinate, and the greatest width of a picture, that border_show takes.
 MOST_COORDINATE, MOST_WIDTH = 10 ** 12, 4 * 10 ** 12
+# Seconds for which the page can ask why the map could not be opened.
+TELLING = 1
 
 
 class BadRequest(Exception):
@@ -130,8 +133,8 @@ class Server(http.server.ThreadingHTTPServer):
         self.has_warned = False
         # called when the first page has come
         self.on_first_page = lambda: None
-        # why the map could not be opened, though it may be a map that opens
-        self.fault = None
+        # why the map could not be opened, though it may be a map that opens, and when the server ends for that
+        self.fault, self.ends_at = None, None
 
     def open(self):
         """Has the map opened, while the page is loaded and draws it. What is asked about the map waits for that."""
@@ -143,7 +146,7 @@ class Server(http.server.ThreadingHTTPServer):
         try:
             self.session.open()
         except Exception as fault:
-            self.fault = fault
+            self.fault, self.ends_at = fault, time.monotonic() + TELLING
         finally:
             self.lock.release()
 
@@ -168,7 +171,7 @@ class Server(http.server.ThreadingHTTPServer):
 
     def _end_or_stay(self):
         """Ends the server, or says once why it stays, if its last page is closed. It ends too if the map can't be opened."""
-        if self.fault is not None:
+        if self.fault is not None and time.monotonic() > self.ends_at:
             raise self.fault
         if not self.visits.is_over():
             return
@@ -303,15 +306,13 @@ class Handler(http.server.BaseHTTPRequestHandler):
             raise BadRequest(404, "no such name")
 
     def _send_map(self):
-        """Sends MAP as it is in its file: it may still be opened meanwhile."""
+        """Sends MAP as it is in its file, which may still be opened meanwhile; nothing if it was edited or is too large."""
         path = self.server.session.unedited()
         if path is None:
-            raise Refusal("the map was edited")
+            self.send(200, b"")
+            return
         with open(path, "rb") as file:
-            size = os.fstat(file.fileno()).st_size
-            if size > MOST_BYTES:
-                raise Refusal("the map is too large")
-            self._send_head(200, size)
+            self._send_head(200, os.fstat(file.fileno()).st_size)
             self.wfile.flush()
             self.connection.sendfile(file)
 

@@ -156,8 +156,8 @@ class Session:
         return self._with_child(lambda: self.child.document())
 
     def unedited(self):
-        """The file of the map, also while it is opened; nothing where there are edits."""
-        return None if self.log else self.base
+        """The file of the map, also while it is opened; nothing where there are edits, or where it is too large."""
+        return None if self.log or self.base.stat().st_size > MOST_BYTES else self.base
 
     def picture(self, place=None):
         """A map that does not open, or a place in it, as SVG; nothing where the map opens, or can't be drawn."""

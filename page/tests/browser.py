@@ -1,4 +1,4 @@
-"""A page of ./edit in a headless Chromium, and what a user does there with mouse and keys."""
+"""A page of ./edit in a browser without a window, and what a user does there with mouse and keys."""
 import os
 import pathlib
 import shutil
@@ -25,8 +25,11 @@ STILL = ("!editor.pending && !editor.talk.waiting && !editor.view.wanted && !edi
 OPEN = "window.editor && document.getElementById('busy').hidden && document.getElementById('mending').hidden"
 
 
-def start_browser(downloads, size=(1280, 800)):
-    """A headless Chromium with a window of this size, that saves files in a folder."""
+def start_browser(downloads, size=(1280, 800), name="chromium"):
+    """A headless browser with a window of this size, that saves files in a folder."""
+    if name == "firefox":
+        from firefox import Firefox
+        return Firefox(downloads, size)
     options = webdriver.ChromeOptions()
     for word in ("--headless=new", "--no-sandbox", f"--window-size={size[0]},{size[1]}", "--disable-dev-shm-usage",
                  "--hide-scrollbars", "--disable-gpu", "--no-first-run", "--disable-background-networking",

@@ -85,6 +85,7 @@ def what_the_browser_tells(checks):
                 checks.same(f"the page, {site} {mode} {destination}", page.ask("GET", page.base, **told)[0], loaded)
                 checks.same(f"the map, {site} {mode} {destination}",
                             page.ask("GET", page.base + "document", **told)[0], read)
+                checks.same(f"its file, {site} {mode} {destination}", page.ask("GET", page.base + "map", **told)[0], read)
                 checks.same(f"an edit, {site} {mode} {destination}",
                             page.ask("POST", page.base + "begin", b"{}", **told)[0],
                             200 if site in ("none", "same-origin") else 403)
@@ -125,7 +126,7 @@ def what_is_served(checks):
             checks.same("the page", got, (200, True, "text/html; charset=utf-8"))
             for name in NO_NAMES:
                 checks.same(f"name {name}", page.get(name)[0], 404)
-            for name in ("", "document", "nothing", "main.js", "__class__", "../begin"):
+            for name in ("", "map", "document", "nothing", "main.js", "__class__", "../begin"):
                 checks.same(f"no request {name!r}", page.ask("POST", page.base + name, b"{}")[0], 404)
             check_headers(checks, page)
 
@@ -134,7 +135,7 @@ def check_headers(checks, page):
     """The headers of answers of each kind."""
     policy = ["default-src 'none'", "script-src 'self'", "style-src 'self'", "img-src 'self' blob: data:",
               "connect-src 'self'", "base-uri 'none'", "form-action 'none'", "frame-ancestors 'none'"]
-    for name in ("", "main.js", "document", "script", "nothing"):
+    for name in ("", "main.js", "map", "document", "script", "nothing"):
         _, _, answer = page.ask("GET", page.base + name)
         checks.same(f"policy of {name!r}", answer.getheader("Content-Security-Policy").split("; "), policy)
         checks.same(f"headers of {name!r}", {header: answer.getheader(header) for header in HEADERS}, HEADERS)

@@ -178,7 +178,7 @@ export class Talk {
 
   /** The map as its file has it, which need not be open for that; nothing where it was edited. */
   async file() {
-    const { ok, body } = await this.reach("map");
-    return ok ? parsedStream(/** @type {ReadableStream<Uint8Array>} */ (body)) : null;
+    const { ok, headers, body } = await this.reach("map");
+    return ok && headers.get("Content-Length") !== "0" ? parsedStream(/** @type {ReadableStream<Uint8Array>} */ (body)) : null;
   }
 }
