@@ -11,6 +11,7 @@ import time
 import mending
 import saving
 from child import DEPTH, Child, Ended
+from paths import shown, why_not_writable
 
 # Bytes of a map that opens.
 MOST_BYTES = 67_108_864
@@ -42,11 +43,6 @@ def is_accepted(answer):
 def is_change(line, answer):
     """Whether an edit can be taken back: a thinning that left nothing out can't."""
     return is_accepted(answer) and not (line.startswith("thin") and answer == "ok 0")
-
-
-def shown(name):
-    """A file name that may stand in a line of text."""
-    return "".join(letter if letter.isprintable() else "?" for letter in str(name))
 
 
 def comment(text):
@@ -305,7 +301,7 @@ class Session:
 
     def _look(self, force, size):
         """What FILE holds before it is written over. Refuses where the user should be asked first."""
-        if why := saving.why_not_writable(self.out):
+        if why := why_not_writable(self.out):
             raise Refusal(why)
         now = saving.fingerprint(self.out)
         if now != self.seen and not force:

@@ -54,6 +54,8 @@ class Marionette:
     def execute(self, command, given):
         """The answer to a command of selenium."""
         given = {name: value for name, value in (given or {}).items() if name != "sessionId"}
+        if command == "newSession":
+            given = {"capabilities": {"unhandledPromptBehavior": "ignore"}}
         result = self._ask(COMMANDS[command], {**given, **PARAMETERS.get(command, {})})
         return {"value": result["value"] if isinstance(result, dict) and list(result) == ["value"] else result}
 
@@ -122,9 +124,7 @@ class Firefox(webdriver.Remote):
         command = ["firefox-esr", "--headless", "--marionette", "--no-remote", "--profile", self.folder]
         with open(self.folder / "said.txt", "wb") as said:
             self.process = subprocess.Popen(command, stdin=subprocess.DEVNULL, stdout=said, stderr=said)
-        options = webdriver.FirefoxOptions()
-        options.set_capability("unhandledPromptBehavior", "ignore")
-        super().__init__(Marionette(port), options=options)
+        super().__init__(Marionette(port), options=webdriver.FirefoxOptions())
 
     def _resize(self, width, height):
         """Gives the window a size with which its page has the wanted one."""
