@@ -82,11 +82,11 @@ class Page:
         return self.driver.execute_async_script(
             f"const done = arguments[0]; Promise.resolve({promise}).then(done, fault => done('failed: ' + fault))")
 
-    def wait(self, test):
-        end = time.monotonic() + PATIENCE
+    def wait(self, test, seconds=PATIENCE):
+        end = time.monotonic() + seconds
         while not self.js(f"return Boolean({test})"):
             if time.monotonic() > end:
-                raise AssertionError(f"not so after {PATIENCE} s: {test}; {self.errors()}")
+                raise AssertionError(f"not so after {seconds} s: {test}; {self.errors()}")
             time.sleep(0.01)
 
     def settle(self):

@@ -4,6 +4,7 @@ answer `LENGTH:[1, NUMBER, FAULT, RESULT]`.
 """
 import json
 import pathlib
+import re
 import shutil
 import socket
 import subprocess
@@ -39,8 +40,8 @@ SETTINGS = {
     # what scripts write on the console goes to standard output
     "devtools.console.stdout.content": True,
 }
-# How faults of a script begin there.
-FAULTS = ("JavaScript error:", "console.error:")
+# What a fault of the page begins with there. Parts of Firefox write on the console too, with their name first.
+FAULT = re.compile(r"JavaScript error: http|console\.error: (?!\w+: )")
 
 
 class Marionette:
@@ -58,6 +59,10 @@ class Marionette:
             given = {"capabilities": {"unhandledPromptBehavior": "ignore"}}
         result = self._ask(COMMANDS[command], {**given, **PARAMETERS.get(command, {})})
         return {"value": result["value"] if isinstance(result, dict) and list(result) == ["value"] else result}
+
+    def close(self):
+        """Closes the connection."""
+        self.socket.close()
 
     def _ask(self, name, given):
         self.number += 1
@@ -137,7 +142,7 @@ class Firefox(webdriver.Remote):
         said = (self.folder / "said.txt").read_bytes()
         rows = said[self.read:].decode(errors="replace").splitlines()
         self.read = len(said)
-        return [{"level": "SEVERE", "message": row} for row in rows if row.startswith(FAULTS)]
+        return [{"level": "SEVERE", "message": row} for row in rows if FAULT.match(row)]
 
     def quit(self):
         try:
