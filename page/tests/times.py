@@ -43,7 +43,7 @@ SEGMENT, WAY = 100, (6, 4)
 # Twice an area in squares of the grid, greater than any triangle of three vertices in a row.
 GREAT = 10**18
 # Bytes of the largest map, and segments with which the rings of bricks have nearly as many positions as they may have.
-LARGEST, MOST_SEGMENTS = 66_800_000, 1_900_000
+LARGEST, MOST_SEGMENTS = 66_800_000, 1_750_000
 # Where a cell's ring of bricks has the middles of its lower and of its upper line, of 64 vertices.
 LOWER, UPPER = 8, 40
 
