@@ -10,11 +10,21 @@ class NotFound(Exception):
     """A program is not proved, and none could be built; standard error has the reason."""
 
 
-def find(name):
-    """The path of border_edit, border_show or border_mend, and whether that program is proved. Where there is none it is
+def look_for(name):
+    """Begins to look for border_edit, border_show or border_mend; `found` has what comes of it. Where there is none it is
     built without proof, which takes two minutes and is said on standard error."""
-    done = subprocess.run([FIND, name], stdin=subprocess.DEVNULL, stdout=subprocess.PIPE, text=True)
-    if done.returncode:
+    return subprocess.Popen([FIND, name], stdin=subprocess.DEVNULL, stdout=subprocess.PIPE, text=True)
+
+
+def found(name, looking):
+    """The path of a program that was looked for, and whether it is proved."""
+    said, _ = looking.communicate()
+    if looking.returncode:
         raise NotFound(f"{name} is not proved here, and can't be built without proof")
-    kind, _, path = done.stdout.rstrip("\n").partition(" ")
+    kind, _, path = said.rstrip("\n").partition(" ")
     return path, kind == "proved"
+
+
+def find(name):
+    """The path of a program, and whether it is proved."""
+    return found(name, look_for(name))

@@ -6,12 +6,17 @@ class Programs:
     """Paths of the programs, and whether they are proved."""
 
     def __init__(self):
-        self.found = {}
+        self.found, self.looked_for = {}, {}
+
+    def look_for(self, name):
+        """Begins to look for a program that is needed soon."""
+        self.looked_for[name] = programs.look_for(name)
 
     def path(self, name):
         """The path of a program."""
         if name not in self.found:
-            self.found[name] = programs.find(name)
+            looking = self.looked_for.pop(name, None) or programs.look_for(name)
+            self.found[name] = programs.found(name, looking)
         return self.found[name][0]
 
     @property

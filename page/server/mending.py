@@ -4,11 +4,27 @@ import subprocess
 from child import environment
 
 
+# The programs that run.
+RUNNING = set()
+
+
 def run(program, *arguments):
     """A program that has run to its end; its status, standard output, and what it left on standard error."""
     command = [program, *map(str, arguments)]
-    done = subprocess.run(command, stdin=subprocess.DEVNULL, capture_output=True, env=environment())
-    return done.returncode, done.stdout, done.stderr.decode(errors="replace").strip()
+    pipes = {"stdin": subprocess.DEVNULL, "stdout": subprocess.PIPE, "stderr": subprocess.PIPE}
+    with subprocess.Popen(command, **pipes, env=environment()) as process:
+        RUNNING.add(process)
+        try:
+            out, said = process.communicate()
+        finally:
+            RUNNING.discard(process)
+    return process.returncode, out, said.decode(errors="replace").strip()
+
+
+def end_all():
+    """Ends the programs that run."""
+    for process in list(RUNNING):
+        process.kill()
 
 
 def lines_of(report):

@@ -36,20 +36,6 @@ def fingerprint(path):
     return digest.hexdigest()
 
 
-def why_not_writable(path):
-    """Why a file can't be written, in a few words; nothing where it can."""
-    folder = path.parent
-    if not folder.is_dir():
-        return f"there is no folder {folder}"
-    if not os.access(folder, os.W_OK | os.X_OK):
-        return f"no file may be written in the folder {folder}"
-    if path.exists() and not path.is_file():
-        return f"{path} is no file"
-    if path.exists() and not os.access(path, os.W_OK):
-        return f"the file {path} may not be written"
-    return None
-
-
 def copy_rights(path, handle):
     """Gives a new file the mode and, where that is allowed, the owner of the file that it will replace."""
     try:

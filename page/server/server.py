@@ -5,6 +5,7 @@ Everything is below /TOKEN/, on the loopback address alone.
 | Request | Takes | Answers |
 |---|---|---|
 | GET, no name; each file of the page | | the page |
+| GET `map` | | MAP as it is in its file, also while it is opened, nothing once it was edited |
 | GET `document`, `script`, `picture` | | the text of the map; the log as a script; a map that does not open as SVG |
 | `begin` | | `owner`, `name`, `out`, `proved`, `opens`; then either what is edited or what stops it |
 | of a map that opens | | `log`, `counts` (when it was opened), `undos` (how many are possible), `unsaved` |
@@ -23,11 +24,13 @@ and `closed` if a newer page has the map, and 500 after border_edit has ended.
 """
 import http.server
 import json
+import os
 import pathlib
 import re
 import secrets
 import sys
 import threading
+import time
 import traceback
 
 from child import Ended
@@ -37,6 +40,7 @@ from visits import NoPage, Visits
 WEB = pathlib.Path(__file__).resolve().parent.parent / "web"
 KINDS = {".html": "text/html; charset=utf-8", ".css": "text/css; charset=utf-8",
          ".js": "text/javascript; charset=utf-8"}
+JSON = "application/json; charset=utf-8"
 POLICY = ("default-src 'none'; script-src 'self'; style-src 'self'; img-src 'self' blob: data:; "
           "connect-src 'self'; base-uri 'none'; form-action 'none'; frame-ancestors 'none'")
 HEADERS = {"Cache-Control": "no-store", "X-Content-Type-Options": "nosniff", "Referrer-Policy": "no-referrer",
@@ -53,6 +57,8 @@ MOST_LINES = 2000
 MOST_DIGITS = 24
 # The greatest coordinate, and the greatest width of a picture, that border_show takes.
 MOST_COORDINATE, MOST_WIDTH = 10 ** 12, 4 * 10 ** 12
+# Seconds for which the page can ask why the map could not be opened.
+TELLING = 1
 
 
 class BadRequest(Exception):
@@ -112,13 +118,13 @@ class Server(http.server.ThreadingHTTPServer):
     """The session, who may see it, and when it is over."""
 
     daemon_threads = True
-    # connections that may wait to be taken: a page loads its files by many at once
-    request_queue_size = 64
 
-    def __init__(self, port, session):
-        super().__init__(("127.0.0.1", port), Handler)
+    def __init__(self, address, session):
+        super().__init__(address.listening.getsockname(), Handler, bind_and_activate=False)
+        self.socket.close()
+        self.socket, self.server_port = address.listening, address.port
+        self.address, self.token = str(address), address.token
         self.session = session
-        self.token = secrets.token_urlsafe(24)
         self.files = static_files(WEB)
         self.hosts = tuple(f"{host}:{self.server_port}" for host in ("127.0.0.1", "localhost"))
         self.visits = Visits()
@@ -127,25 +133,27 @@ class Server(http.server.ThreadingHTTPServer):
         self.has_warned = False
         # called when the first page has come
         self.on_first_page = lambda: None
+        # why the map could not be opened, though it may be a map that opens, and when the server ends for that
+        self.fault, self.ends_at = None, None
 
-    def read_ahead(self):
-        """Has the text of the map read before the page asks for it; what is asked meanwhile waits for that."""
+    def open(self):
+        """Has the map opened, while the page is loaded and draws it. What is asked about the map waits for that."""
         self.lock.acquire()
+        threading.Thread(target=self._open, daemon=True).start()
 
-        def read():
-            try:
-                self.session.read_ahead()
-            finally:
-                self.lock.release()
-
-        threading.Thread(target=read, daemon=True).start()
-
-    @property
-    def address(self):
-        return f"http://127.0.0.1:{self.server_port}/{self.token}/"
+    def _open(self):
+        """Opens the map."""
+        try:
+            self.session.open()
+        except Exception as fault:
+            self.fault, self.ends_at = fault, time.monotonic() + TELLING
+        finally:
+            self.lock.release()
 
     def begin(self):
         """What a new page needs to know."""
+        if self.fault is not None:
+            raise Lost(str(self.fault))
         owner = self.visits.begin()
         self.has_warned = False
         if owner == 1:
@@ -162,7 +170,9 @@ class Server(http.server.ThreadingHTTPServer):
                 self.lock.release()
 
     def _end_or_stay(self):
-        """Ends the server, or says once why it stays, if its last page is closed."""
+        """Ends the server, or says once why it stays, if its last page is closed. It ends too if the map can't be opened."""
+        if self.fault is not None and time.monotonic() > self.ends_at:
+            raise self.fault
         if not self.visits.is_over():
             return
         if not self.session.is_unsaved:
@@ -195,19 +205,23 @@ class Handler(http.server.BaseHTTPRequestHandler):
     def log_message(self, *_):
         """Nothing is written for a request."""
 
-    def send(self, status, body, kind="application/json; charset=utf-8", policy=POLICY):
+    def send(self, status, body, kind=JSON, policy=POLICY):
         """Sends an answer: bytes, or what becomes JSON."""
         if not isinstance(body, bytes):
             body = json.dumps(body).encode()
+        self._send_head(status, len(body), kind, policy)
+        if self.command != "HEAD":
+            self.wfile.write(body)
+
+    def _send_head(self, status, size, kind=JSON, policy=POLICY):
+        """Sends the head of an answer, whose body has so many bytes."""
         self.send_response(status)
-        own = {"Content-Type": kind, "Content-Length": str(len(body)), "Content-Security-Policy": policy}
+        own = {"Content-Type": kind, "Content-Length": str(size), "Content-Security-Policy": policy}
         for name, value in {**own, **HEADERS}.items():
             self.send_header(name, value)
         if self.close_connection:
             self.send_header("Connection", "close")
         self.end_headers()
-        if self.command != "HEAD":
-            self.wfile.write(body)
 
     def send_error(self, code, message=None, explain=None):
         """What a request is answered of which nothing more is read."""
@@ -275,6 +289,8 @@ class Handler(http.server.BaseHTTPRequestHandler):
         if name in server.files:
             path = server.files[name]
             self.send(200, path.read_bytes(), KINDS[path.suffix])
+        elif name == "map":
+            self._send_map()
         elif name == "document":
             with server.lock:
                 text = server.session.document()
@@ -288,6 +304,17 @@ class Handler(http.server.BaseHTTPRequestHandler):
             self._send_picture()
         else:
             raise BadRequest(404, "no such name")
+
+    def _send_map(self):
+        """Sends MAP as it is in its file, which may still be opened meanwhile; nothing if it was edited or is too large."""
+        path = self.server.session.unedited()
+        if path is None:
+            self.send(200, b"")
+            return
+        with open(path, "rb") as file:
+            self._send_head(200, os.fstat(file.fileno()).st_size)
+            self.wfile.flush()
+            self.connection.sendfile(file)
 
     def _send_picture(self):
         """Sends the picture of a map that does not open."""

@@ -11,6 +11,7 @@ import time
 import mending
 import saving
 from child import DEPTH, Child, Ended
+from paths import shown, why_not_writable
 
 # Bytes of a map that opens.
 MOST_BYTES = 67_108_864
@@ -44,11 +45,6 @@ def is_change(line, answer):
     return is_accepted(answer) and not (line.startswith("thin") and answer == "ok 0")
 
 
-def shown(name):
-    """A file name that may stand in a line of text."""
-    return "".join(letter if letter.isprintable() else "?" for letter in str(name))
-
-
 def comment(text):
     """A line of a script that is skipped; a longer one than a script may have is cut off."""
     return f"# {text}".encode()[:MOST_LINE].decode(errors="ignore")
@@ -68,29 +64,25 @@ class Session:
         self.newest_state = self.saved_state = 0
         self.child = self.opening = self.lost = self.fault = self.mended_by = None
         self.findings, self.is_mendable = [], False
-        # the text of the map, where it was had before it was asked for
-        self.text = None
+        # what FILE holds, as far as is known here, and what was written in it; of MAP that is read while it is opened
+        self.is_saved_over = out == map_path
+        self.seen = None if self.is_saved_over else saving.fingerprint(out)
+        self.written = None
         self.scratch = pathlib.Path(tempfile.mkdtemp(prefix="border_edit-"))
         try:
             # the map is copied, so that it may be saved over, and the log run again from it
             self.base = self.scratch / "map.json"
-            digest = self._copy(map_path)
-            # what FILE holds, as far as is known here, and what was written in it
-            self.seen = digest if out == map_path else saving.fingerprint(out)
-            self.written = None
+            self._copy(map_path)
             self.opening = self._child(self.base)
         except BaseException:
             self.end()
             raise
 
     def _copy(self, map_path):
-        """Copies the map, or as much of it as shows that it is too large. What tells later whether it was changed."""
-        digest = hashlib.blake2b()
+        """Copies the map, or as much of it as shows that it is too large."""
         with open(self.base, "wb") as file:
             for piece in saving.pieces(map_path, MOST_BYTES + 1):
-                digest.update(piece)
                 file.write(piece)
-        return digest.hexdigest()
 
     def _child(self, base):
         """border_edit, which begins to open a map."""
@@ -98,7 +90,22 @@ class Session:
 
     def open(self):
         """Waits until the map is open, or known not to open."""
-        self._open(self.base, self.opening)
+        opening = self.opening
+        try:
+            if self.is_saved_over:
+                self.seen = saving.fingerprint(self.base)
+            self._open(self.base, opening)
+        finally:
+            self.opening = None
+            if self.child is not opening:
+                opening.end()
+
+    def give_up(self):
+        """Has a map not opened that is being opened."""
+        opening = self.opening
+        if opening is not None:
+            opening.process.kill()
+            mending.end_all()
 
     def _open(self, base, child):
         """Takes a map that border_edit opens; where it does not open, tells what stops it."""
@@ -142,14 +149,11 @@ class Session:
 
     def document(self):
         """The text of the map."""
-        self._must_be_open()
-        text, self.text = self.text, None
-        return text or self._with_child(lambda: self.child.document())
+        return self._with_child(lambda: self.child.document())
 
-    def read_ahead(self):
-        """Has the text of the map ready for the page, which asks for it first of all."""
-        with contextlib.suppress(Ended, Lost, Refusal):
-            self.text = self.document()
+    def unedited(self):
+        """The file of the map, also while it is opened; nothing where there are edits, or where it is too large."""
+        return None if self.log or self.base.stat().st_size > MOST_BYTES else self.base
 
     def picture(self, place=None):
         """A map that does not open, or a place in it, as SVG; nothing where the map opens, or can't be drawn."""
@@ -174,7 +178,6 @@ class Session:
     def edit(self, act, lines):
         """Does edits one after the other, all of them or none, and puts them in the log."""
         self._must_be_open()
-        self.text = None
         if lines[0] == "undo":
             return self._take_back(act, lines)
         answers, undone, counts = self._with_child(lambda: self._all_or_none(lines))
@@ -298,7 +301,7 @@ class Session:
 
     def _look(self, force, size):
         """What FILE holds before it is written over. Refuses where the user should be asked first."""
-        if why := saving.why_not_writable(self.out):
+        if why := why_not_writable(self.out):
             raise Refusal(why)
         now = saving.fingerprint(self.out)
         if now != self.seen and not force:

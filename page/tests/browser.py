@@ -1,4 +1,5 @@
-"""A page of ./edit in a headless Chromium, and what a user does there with mouse and keys."""
+"""A page of ./edit in a browser without a window, and what a user does there with mouse and keys."""
+import os
 import pathlib
 import shutil
 import subprocess
@@ -24,8 +25,11 @@ STILL = ("!editor.pending && !editor.talk.waiting && !editor.view.wanted && !edi
 OPEN = "window.editor && document.getElementById('busy').hidden && document.getElementById('mending').hidden"
 
 
-def start_browser(downloads, size=(1280, 800)):
-    """A headless Chromium with a window of this size, that saves files in a folder."""
+def start_browser(downloads, size=(1280, 800), name="chromium"):
+    """A headless browser with a window of this size, that saves files in a folder."""
+    if name == "firefox":
+        from firefox import Firefox
+        return Firefox(downloads, size)
     options = webdriver.ChromeOptions()
     for word in ("--headless=new", "--no-sandbox", f"--window-size={size[0]},{size[1]}", "--disable-dev-shm-usage",
                  "--hide-scrollbars", "--disable-gpu", "--no-first-run", "--disable-background-networking",
@@ -44,8 +48,10 @@ class Page:
 
     def __init__(self, driver, map_path, *words):
         self.driver = driver
-        command = [sys.executable, TOP / "page/server/main.py", str(map_path), "--no-open", *map(str, words)]
-        self.server = subprocess.Popen(command, stdout=subprocess.PIPE, stderr=subprocess.PIPE)
+        command = [TOP / "edit", str(map_path), "--no-open", *map(str, words)]
+        # with this Python, and not one that a name of the path leads to by a script
+        env = {**os.environ, "PATH": os.pathsep.join([os.path.dirname(sys.executable), os.environ["PATH"]])}
+        self.server = subprocess.Popen(command, stdout=subprocess.PIPE, stderr=subprocess.PIPE, env=env)
         self.url = self.server.stdout.readline().decode().strip()
         if not self.url:
             raise RuntimeError(self.server.stderr.read().decode())
@@ -76,11 +82,11 @@ class Page:
         return self.driver.execute_async_script(
             f"const done = arguments[0]; Promise.resolve({promise}).then(done, fault => done('failed: ' + fault))")
 
-    def wait(self, test):
-        end = time.monotonic() + PATIENCE
+    def wait(self, test, seconds=PATIENCE):
+        end = time.monotonic() + seconds
         while not self.js(f"return Boolean({test})"):
             if time.monotonic() > end:
-                raise AssertionError(f"not so after {PATIENCE} s: {test}; {self.errors()}")
+                raise AssertionError(f"not so after {seconds} s: {test}; {self.errors()}")
             time.sleep(0.01)
 
     def settle(self):

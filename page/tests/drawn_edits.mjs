@@ -1,6 +1,8 @@
 // Drawn edits of all kinds, given to border_edit and, where it accepts them, to the model of the page.
 import { spawn } from "node:child_process";
+import { readFileSync } from "node:fs";
 import { Model, orderAfter, parsed } from "../web/model.js";
+import { isCounted } from "../web/counts.js";
 import { areaOfFeature } from "../web/measures.js";
 
 /** A running border_edit: one answer for each line. */
@@ -115,14 +117,25 @@ function merges(model, rand, num, kind) {
 /** All that is done to one map. */
 class Run {
   constructor(program, map, { edits, every, seed }) {
-    Object.assign(this, { edits, every, rand: source(seed), child: new Child(program, map) });
-    Object.assign(this, { log: [], tally: {}, done: 0, compared: 0 });
+    Object.assign(this, { map, edits, every, rand: source(seed), child: new Child(program, map) });
+    Object.assign(this, { log: [], tally: {}, done: 0, compared: 0, isFile: false });
+  }
+
+  /** The map as the page has it first: as its file has it, where that counts nothing twice; else from the text. */
+  async begin() {
+    const { topology, count } = await this.child.document();
+    try {
+      this.model = new Model(parsed(readFileSync(this.map, "utf8")));
+      this.isFile = isCounted(this.model.counts, count);
+    } catch (fault) {
+      this.isFile = false;
+    }
+    if (!this.isFile) this.model = new Model(topology);
   }
 
   async go() {
     try {
-      const { topology } = await this.child.document();
-      this.model = new Model(topology);
+      await this.begin();
       this.first = this.model.order.length;
       await this.compare();
       while (this.done < this.edits) {
@@ -234,7 +247,8 @@ class Run {
 }
 
 /**
- * Draws edits of a map. Answers how many were made, how often all was compared, and what differed.
+ * Draws edits of a map. Answers how many were made, how often all was compared, whether the model began with the file, and
+ * what differed.
  * @param {string} program
  * @param {string} map
  * @param {{edits: number, every: number, seed: number}} given
@@ -243,5 +257,5 @@ export async function drawEdits(program, map, given) {
   const run = new Run(program, map, given);
   let fault = "";
   try { await run.go(); } catch (error) { fault = error.stack; }
-  return { done: run.done, compared: run.compared, tally: run.tally, fault };
+  return { done: run.done, compared: run.compared, isFile: run.isFile, tally: run.tally, fault };
 }

@@ -9,6 +9,7 @@ from server_maps import SQUARES, of_squares
 from server_runs import PAGE, Served, folder
 
 import server as served
+from address import Address
 
 # Paths without the token, with a part of it, or with another one. {token} is the real one.
 STRANGE_PATHS = ["/", "//", "/x/", "/{token}", "/{token}x/", "/{short}/", "/%C3%A9/", "/{token}%2F", "/./{token}/",
@@ -84,6 +85,7 @@ def what_the_browser_tells(checks):
                 checks.same(f"the page, {site} {mode} {destination}", page.ask("GET", page.base, **told)[0], loaded)
                 checks.same(f"the map, {site} {mode} {destination}",
                             page.ask("GET", page.base + "document", **told)[0], read)
+                checks.same(f"its file, {site} {mode} {destination}", page.ask("GET", page.base + "map", **told)[0], read)
                 checks.same(f"an edit, {site} {mode} {destination}",
                             page.ask("POST", page.base + "begin", b"{}", **told)[0],
                             200 if site in ("none", "same-origin") else 403)
@@ -124,7 +126,7 @@ def what_is_served(checks):
             checks.same("the page", got, (200, True, "text/html; charset=utf-8"))
             for name in NO_NAMES:
                 checks.same(f"name {name}", page.get(name)[0], 404)
-            for name in ("", "document", "nothing", "main.js", "__class__", "../begin"):
+            for name in ("", "map", "document", "nothing", "main.js", "__class__", "../begin"):
                 checks.same(f"no request {name!r}", page.ask("POST", page.base + name, b"{}")[0], 404)
             check_headers(checks, page)
 
@@ -133,7 +135,7 @@ def check_headers(checks, page):
     """The headers of answers of each kind."""
     policy = ["default-src 'none'", "script-src 'self'", "style-src 'self'", "img-src 'self' blob: data:",
               "connect-src 'self'", "base-uri 'none'", "form-action 'none'", "frame-ancestors 'none'"]
-    for name in ("", "main.js", "document", "script", "nothing"):
+    for name in ("", "main.js", "map", "document", "script", "nothing"):
         _, _, answer = page.ask("GET", page.base + name)
         checks.same(f"policy of {name!r}", answer.getheader("Content-Security-Policy").split("; "), policy)
         checks.same(f"headers of {name!r}", {header: answer.getheader(header) for header in HEADERS}, HEADERS)
@@ -197,7 +199,7 @@ def other_machines(checks):
 def constant_time(checks):
     """The token is compared in constant time."""
     with mock.patch("secrets.compare_digest", return_value=False) as compared:
-        server = served.Server(0, mock.Mock(is_unsaved=False))
+        server = served.Server(Address(0), mock.Mock(is_unsaved=False))
         threading.Thread(target=server.serve_forever, args=[0.05], daemon=True).start()
         with socket.create_connection(("127.0.0.1", server.server_port)) as page:
             page.sendall(f"GET /guess/ HTTP/1.1\r\nHost: 127.0.0.1:{server.server_port}\r\n\r\n".encode())
@@ -235,7 +237,7 @@ def hostile_texts(checks):
 def preloaded(checks):
     """The page names each of its modules, so that the browser asks for all of them at once."""
     text = (served.WEB / "index.html").read_text()
-    named = re.findall(r'<(?:link rel="modulepreload" href|script type="module" src)="([^"]*)">', text)
+    named = re.findall(r'<(?:link rel="modulepreload" href|script (?:async )?type="module" src)="([^"]*)">', text)
     checks.same("modules", sorted(named), sorted(path.name for path in served.WEB.glob("*.js")))
 
 

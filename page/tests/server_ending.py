@@ -10,6 +10,7 @@ from server_maps import SQUARES
 from server_runs import Served, folder, run, until
 
 import server as served
+from address import Address
 import visits
 
 # What happens at which second, and whether it is over right afterwards.
@@ -48,7 +49,7 @@ def when_to_end(checks):
     for is_over, is_unsaved, is_busy, ends in [(True, False, False, True), (False, False, False, False),
                                                (True, True, False, False),
                                                (True, False, True, False)]:
-        server = served.Server(0, mock.Mock(is_unsaved=is_unsaved))
+        server = served.Server(Address(0), mock.Mock(is_unsaved=is_unsaved))
         server.visits = mock.Mock(is_over=lambda: is_over)
         if is_busy:
             server.lock.acquire()

@@ -86,6 +86,9 @@ def mended(checks):
             report = [*CROSSES, *PATHS, "counts short 0 repeats 0 on 0 cross 2 paths 4 parts 0 areas 0"]
             checks.same("mended", (status, said), (200, {"report": report, "opens": True}))
             checks.same("the file is as it was", path.read_text(), CROSSING)
+            run("border_mend", path, "--out", files / "mended.json")
+            checks.same("what the page draws", page.get("map"), (200, (files / "mended.json").read_bytes()))
+            (files / "mended.json").unlink()
             began = page.begin()
             checks.same("it opens now", (began["opens"], began["log"], began["unsaved"], began["undos"],
                                          began["counts"]),

@@ -7,9 +7,12 @@ import signal
 import socket
 import stat
 import subprocess
+import time
 
 from server_maps import SQUARES
 from server_runs import EDIT, PATIENCE, Served, environment, folder, until
+
+from session import MOST_BYTES
 
 # Arguments, the status, and the last line on standard error. {here} is the folder, {port} a port that is taken.
 ENDS = [
@@ -80,13 +83,61 @@ def programs_fail(checks):
         (files / "silent").chmod(0o755)
         for name, line in [("starved", "edit: out of memory"), ("silent", "edit: border_edit ended with status 7")]:
             done = run_edit(files, "map.json", "--no-open", BORDER_EDIT=files / name)
-            checks.same(name, (done.returncode, done.stdout, done.stderr.decode().splitlines()), (3, b"", [line]))
+            checks.same(name, (done.returncode, done.stderr.decode().splitlines()), (3, [line]))
+            checks.same("the address alone, which is told while the map is opened",
+                        [row.startswith(b"http://127.0.0.1:") for row in done.stdout.splitlines()], [True])
         (files / "bin").mkdir()
         for name in ("sh", "dirname"):
             (files / "bin" / name).symlink_to(shutil.which(name))
         done = subprocess.run([EDIT, "map.json"], cwd=files, env={"PATH": str(files / "bin")}, capture_output=True)
         checks.same("no python3", (done.returncode, done.stderr),
                     (3, b"edit: python3 is not there, which serves the page\n"))
+
+
+def while_it_opens(checks):
+    """While border_edit opens the map the page is there, and has the file. Stopping does not wait until it is open, and
+    the page is told if it can't be."""
+    with folder() as files:
+        (files / "tmp").mkdir()
+        (files / "map.json").write_text(SQUARES)
+        (files / "slow").write_text("#!/bin/sh\nexec sleep 600\n")
+        (files / "starved").write_text("#!/bin/sh\nsleep 3\necho 'out of memory' >&2\nexit 3\n")
+        for name in ("slow", "starved"):
+            (files / name).chmod(0o755)
+        with Served(files / "map.json", TMPDIR=files / "tmp", BORDER_EDIT=files / "slow") as page:
+            checks.same("the page", page.get("")[0], 200)
+            checks.same("the file", page.get("map"), (200, SQUARES.encode()))
+            child, = page.children()
+            began = time.monotonic()
+            checks.same("stopped", page.stop(), (0, ""))
+            checks.same("at once", time.monotonic() - began < 20, True)
+            checks.same("border_edit has ended", until(lambda: not pathlib.Path(f"/proc/{child}").exists(), 5), True)
+            checks.same("nothing is left", list((files / "tmp").iterdir()), [])
+        with Served(files / "map.json", BORDER_EDIT=files / "starved") as page:
+            checks.same("why it can't be opened", page.post("begin"), (500, {"reason": "out of memory"}))
+            checks.same("then the server ends", (page.has_ended(20), page.process.returncode), (True, 3))
+            checks.same("and says so", page.process.stderr.read(), b"edit: out of memory\n")
+
+
+def file_of_the_map(checks):
+    """The file of the map is there until there are edits, also of a map that does not open, and if it is not too large."""
+    with folder() as files:
+        spaced = SQUARES.replace(",", " ,\n").encode()
+        (files / "map.json").write_bytes(spaced)
+        with Served(files / "map.json") as page:
+            checks.same("as it is", page.get("map"), (200, spaced))
+            checks.same("its kind", page.ask("GET", page.base + "map")[2].getheader("Content-Type"),
+                        "application/json; charset=utf-8")
+            page.begin()
+            page.edit("move 99 99 1 1")
+            checks.same("nothing once a line is in the log", page.get("map"), (200, b""))
+        (files / "map.json").write_text(SQUARES[:40])
+        with Served(files / "map.json") as page:
+            checks.same("of a map that does not open", page.get("map"), (200, SQUARES[:40].encode()))
+        with open(files / "map.json", "wb") as file:
+            file.truncate(MOST_BYTES + 1)
+        with Served(files / "map.json") as page:
+            checks.same("not of one that is too large", page.get("map"), (200, b""))
 
 
 def help_text(checks):
@@ -155,4 +206,4 @@ def scratch(checks):
             checks.same("its mode", stat.filemode(os.stat(kept).st_mode), "drwx------")
 
 
-GROUPS = [ends, programs_fail, help_text, browser, no_home, scratch]
+GROUPS = [ends, programs_fail, while_it_opens, file_of_the_map, help_text, browser, no_home, scratch]

@@ -3,6 +3,7 @@
 import { existsSync, readdirSync } from "node:fs";
 import { fileURLToPath } from "node:url";
 import { checkAll } from "./model_cases.mjs";
+import { checkFiles } from "./file_cases.mjs";
 import { drawEdits } from "./drawn_edits.mjs";
 
 const top = fileURLToPath(new URL("../..", import.meta.url));
@@ -27,13 +28,15 @@ function check(what, found, expected) {
 }
 
 checkAll(check);
+checkFiles(check);
 check(`${given.program} is there`, existsSync(given.program), true);
 let edits = 0;
 for (const map of existsSync(given.program) ? maps : []) {
-  const { done, compared, tally, fault } = await drawEdits(given.program, map, given);
+  const { done, compared, isFile, tally, fault } = await drawEdits(given.program, map, given);
   check(map, fault, "");
   edits += done;
-  console.log(`${map.split("/").pop()}: ${done} edits, compared ${compared} times; ${JSON.stringify(tally)}`);
+  console.log(`${map.split("/").pop()}: ${done} edits, compared ${compared} times, beginning with ${isFile ? "the file" : "the text"}; `
+    + JSON.stringify(tally));
 }
 console.log(`${edits} drawn edits`);
 console.log(`${passed} passed, ${failed} failed`);

@@ -1,5 +1,6 @@
 #!/usr/bin/env python3
 """The page in a real browser: each act by mouse and by keys, what is shown, and that the saved file is right."""
+import argparse
 import json
 import math
 import pathlib
@@ -719,10 +720,13 @@ def with_page(driver, map_path, words, tests):
 
 
 def main():
+    parser = argparse.ArgumentParser(description=__doc__, formatter_class=argparse.RawDescriptionHelpFormatter)
+    parser.add_argument("--browser", choices=["chromium", "firefox"], default="chromium")
+    given = parser.parse_args()
     folder = new_folder()
     downloads = folder / "downloads"
     downloads.mkdir()
-    driver = start_browser(str(downloads))
+    driver = start_browser(str(downloads), name=given.browser)
     try:
         run_all(driver, folder, downloads)
     finally:

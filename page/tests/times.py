@@ -1,12 +1,13 @@
 #!/usr/bin/env python3
 """Measures how long the page of ./edit takes for what a user does, in Chromium without a window.
 
-For examples/columbus.json there is the time from the start of ./edit until the map is drawn; the browser runs
-already. For maps that bench/maps.py makes there are also the memory of the page, of border_edit and of the
-server, then drags of vertices, splits, merges and undos, and a thinning that leaves out most vertices. Times
-of drags, splits, merges and undos are medians. An edit ends when the page has its answers and has changed its
-map; `request` is the part until the server has answered, and `drawn` is when the screen shows the edit, with
-some features in sight.
+For examples/columbus.json there is the time from the start of ./edit until the map is drawn and can be edited; the
+browser runs already. For maps that bench/maps.py makes there are also the memory of the page, of border_edit and of
+the server, then drags of vertices, splits, merges and undos, saving, which has to give what border_edit makes of the
+page's script, and a thinning that leaves out most vertices. Times of drags, splits, merges and undos are medians. An
+edit ends when the page has its answers and has changed its map; `request` is the part until the server has answered,
+and `drawn` is when the screen shows the edit, with some features in sight. With --largest there is also a map almost as
+large as one may be.
 
 Each figure stands beside what is wanted for a map of that size. The script fails where a figure is over three
 times what is wanted, since machines differ, where border_edit refuses an edit, or where the page reports an
@@ -19,6 +20,7 @@ import pathlib
 import shutil
 import signal
 import statistics
+import subprocess
 import sys
 import time
 import traceback
@@ -40,6 +42,8 @@ PATIENCE = 120
 SEGMENT, WAY = 100, (6, 4)
 # Twice an area in squares of the grid, greater than any triangle of three vertices in a row.
 GREAT = 10**18
+# Bytes of the largest map, and segments with which the rings of bricks have nearly as many positions as they may have.
+LARGEST, MOST_SEGMENTS = 66_800_000, 1_750_000
 # Where a cell's ring of bricks has the middles of its lower and of its upper line, of 64 vertices.
 LOWER, UPPER = 8, 40
 
@@ -48,7 +52,7 @@ Map = collections.namedtuple("Map", "path size")
 Figure = collections.namedtuple("Figure", "unit wanted")
 # What is wanted for a map of at most so many vertices; nothing where that is not fixed.
 FIGURES = {
-    "./edit started, to map drawn": Figure("s", {43_000: 0.5, 1_000_000: 3}),
+    "./edit started, to map drawn": Figure("s", {43_000: 0.5, 1_000_000: 3, 2_000_000: 8}),
     "vertex released, request": Figure("ms", {1_000_000: 5}),
     "vertex released, to answer": Figure("ms", {}),
     "vertex released, to drawn": Figure("ms", {}),
@@ -58,20 +62,23 @@ FIGURES = {
     "merge, drawn": Figure("s", {}),
     "undo": Figure("s", {1_000_000: 0.05}),
     "undo, drawn": Figure("s", {}),
+    "save": Figure("s", {}),
     "thin": Figure("s", {1_000_000: 3}),
     "thin, request": Figure("s", {}),
     "undo of thin": Figure("s", {1_000_000: 3}),
     "undo of thin, request": Figure("s", {}),
-    "memory, heap of the page": Figure("MB", {1_000_000: 152}),
-    "memory, border_edit": Figure("MB", {1_000_000: 311}),
-    "memory, server": Figure("MB", {1_000_000: 44}),
+    "memory, heap of the page": Figure("MB", {1_000_000: 152, 2_000_000: 340}),
+    "memory, border_edit": Figure("MB", {1_000_000: 311, 2_000_000: 531}),
+    "memory, server": Figure("MB", {2_000_000: 44}),
 }
 
-# The time of day, in milliseconds, at which the page has drawn its map.
-DRAWN = f"""const done = arguments[0], look = () => {{
-  if ({OPEN} && {STILL}) done(performance.timeOrigin + performance.now()); else requestAnimationFrame(look);
-}};
-look();"""
+# Notes in each new page the time of day, in milliseconds, at which it has drawn its map.
+DRAWN = f"""(() => {{
+  const look = () => {{
+    if ({OPEN} && {STILL}) window.drawnAt = performance.timeOrigin + performance.now(); else requestAnimationFrame(look);
+  }};
+  requestAnimationFrame(look);
+}})();"""
 # Notes in `times.newest` what the newest request of an edit and the newest drag took; `times.act` measures an
 # act of the editor.
 MEASURES = """
@@ -179,7 +186,8 @@ def measure_start(driver, figures, made, path):
     page = Page(driver, path)
     try:
         driver.get(page.url)
-        drawn = driver.execute_async_script(DRAWN) / 1000
+        page.wait("window.drawnAt", PATIENCE)
+        drawn = page.js("return drawnAt") / 1000
     except BaseException:
         page.end()
         raise
@@ -220,6 +228,19 @@ def measure_cuts(page, figures, made):
         undos += [undo(page, figures), undo(page, figures)]
     for name, found in (("split", splits), ("merge", merges), ("undo", undos)):
         medians(figures, made, name, found)
+
+
+def measure_saving(page, figures, made, path):
+    """Saves the map over itself, and looks whether that is what border_edit makes of the page's script."""
+    script, again = path.with_name("script.txt"), path.with_name("again.json")
+    script.write_text(page.later("editor.talk.text('script')"))
+    command = [os.environ["BORDER_EDIT"], path, script, "--out", again, "--undo", "1000"]
+    done = subprocess.run(command, stdout=subprocess.DEVNULL)
+    seconds = page.later("(async () => { const begun = performance.now(); await editor.save(false); "
+                         "return (performance.now() - begun) / 1000; })()")
+    figures.give(made, "save", seconds)
+    is_same = done.returncode == 0 and path.read_bytes() == again.read_bytes()
+    figures.check(f"{made.path.name}: what is saved is what border_edit makes of the script", is_same)
 
 
 def measure_thinning(page, figures, made):
@@ -269,8 +290,10 @@ def measure_page(driver, figures, made, path):
         if made.size:
             measure_memory(page, figures, made)
             page.js(MEASURES)
-            for measure in (measure_drags, measure_cuts, measure_thinning):
-                measure(page, figures, made)
+            measure_drags(page, figures, made)
+            measure_cuts(page, figures, made)
+            measure_saving(page, figures, made, path)
+            measure_thinning(page, figures, made)
         errors = page.errors()
         figures.check(f"{made.path.name}: errors {errors}", not errors)
     finally:
@@ -283,8 +306,9 @@ def measure_map(figures, made):
     folder = new_folder()
     driver = start_browser(str(folder))
     driver.set_script_timeout(PATIENCE)
+    driver.execute_cdp_cmd("Page.addScriptToEvaluateOnNewDocument", {"source": DRAWN})
     try:
-        measure_page(driver, figures, made, shutil.copy(made.path, folder))
+        measure_page(driver, figures, made, pathlib.Path(shutil.copy(made.path, folder)))
     except Exception:
         traceback.print_exc()
         figures.check(f"{made.path.name} is measured to the end", False)
@@ -293,17 +317,31 @@ def measure_map(figures, made):
         shutil.rmtree(folder, ignore_errors=True)
 
 
+def largest():
+    """A map of LARGEST bytes: the most vertices that fit, and properties that fill the rest."""
+    made = maps.made_map("bricks", MOST_SEGMENTS, 1).path
+    path = made.with_name("bricks-largest-seed1.json")
+    if not path.is_file():
+        text = made.read_text()
+        begin, (count, left) = '{"id":"', (text.count('{"id":"'), LARGEST - len(text))
+        note = '"properties":{"note":"%s"},' % ("x" * (left // count - len('"properties":{"note":""},')))
+        path.write_text(text.replace(begin, "{" + note + begin[1:]))
+    return Map(path, MOST_SEGMENTS)
+
+
 def main():
     form = argparse.RawDescriptionHelpFormatter
     parser = argparse.ArgumentParser(description=__doc__, formatter_class=form)
     parser.add_argument("--sizes", nargs="*", type=int, default=[43_000, 1_000_000],
                         help="vertices of the maps that are made")
+    parser.add_argument("--largest", action="store_true", help="a map almost as large as one may be, too")
     given = parser.parse_args()
     # so that the server and the browser end too
     signal.signal(signal.SIGTERM, lambda number, _: sys.exit(128 + number))
     # so that a program that has to be built is not built while time is taken
     os.environ.update({name.upper(): programs.find(name)[0] for name in PROGRAMS})
     made, figures = [Map(maps.made_map("bricks", size, 1).path, size) for size in given.sizes], Figures()
+    made += [largest()] if given.largest else []
     for one in [Map(TOP / "examples/columbus.json", 0), *made]:
         measure_map(figures, one)
     print(f"{figures.passed} passed, {figures.failed} failed")

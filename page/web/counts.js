@@ -31,6 +31,27 @@ export function countAll(map) {
   return { features: map.features.size, vertices: inner + distinct(ends), segments };
 }
 
+/**
+ * The counts in the answer to `count`.
+ * @param {string} said
+ * @returns {Counts}
+ */
+export function countsIn(said) {
+  const [features, vertices, segments] = said.split(" ").filter((_, i) => i % 2).map(Number);
+  return { features, vertices, segments };
+}
+
+/**
+ * Whether border_edit counts as much as a walk did. Then each border stands once in what was walked, and each vertex of
+ * several pieces is an end of them: else the walk counts something twice.
+ * @param {Counts} walked
+ * @param {string} said
+ */
+export function isCounted(walked, said) {
+  const { features, vertices, segments } = countsIn(said);
+  return walked.features === features && walked.vertices === vertices && walked.segments === segments;
+}
+
 /** @param {Piece} piece */
 const innerVertices = ({ from, to }) => Math.max(0, (to - from) / 2 - 2);
 

@@ -3,6 +3,7 @@
 import { History, renumbered, partOf } from "./history.js";
 import { isChange, orderAfter, splitWords } from "./lines.js";
 import { Model } from "./model.js";
+import { countsIn, isCounted } from "./counts.js";
 import { conflictOf } from "./words.js";
 import { TalkFault } from "./talk.js";
 
@@ -94,22 +95,35 @@ export class Editor {
   changed(entry) { for (const watch of this.watchers) watch(entry); }
 
   /**
-   * The map of a session that has begun.
-   * @param {import("./talk.js").Began} began
+   * Draws a text of the map; nothing where there is none.
+   * @param {any} topology
+   * @param {number[]=} numbers of its features
    */
-  async open(began) {
-    const topology = await this.talk.document();
+  draw(topology, numbers) {
+    if (!topology) return null;
+    const model = new Model(topology, numbers);
+    this.view.resize();
+    this.view.setModel(model);
+    this.view.fit(model.extent());
+    return model;
+  }
+
+  /**
+   * The map of a session that has begun. What its file says is drawn already. That is the map where nothing was edited, and
+   * where no vertex and no segment is counted twice; else the text of the map is drawn in its place.
+   * @param {import("./talk.js").Began} began
+   * @param {Model | null} drawn
+   */
+  async open(began, drawn) {
     this.log = began.log;
     this.isUnsaved = began.unsaved;
     this.count = Number(began.counts.split(" ")[1]);
     this.nextAct = 1 + this.log.reduce((most, entry) => Math.max(most, entry.act), 0);
-    this.model = new Model(topology, this.order());
     this.history.read(this.log);
     this.counts = this.log.length ? (await this.talk.ask("count"))[0] : began.counts;
+    const isMap = drawn && !this.log.length && isCounted(drawn.counts, this.counts);
+    this.model = isMap ? drawn : /** @type {Model} */ (this.draw(await this.talk.document(), this.order()));
     await this.recount();
-    this.view.resize();
-    this.view.setModel(this.model);
-    this.view.fit(this.model.extent());
   }
 
   order() { return orderAfter(this.count, this.log.map(({ line, answer }) => [line, answer])); }
@@ -250,7 +264,7 @@ export class Editor {
 
   /** Loads the text where the counts of the map are not those of the model: a mistake of the page shows here. */
   async recount() {
-    const [features, vertices, segments] = this.counts.split(" ").filter((_, i) => i % 2).map(Number);
+    const { features, vertices, segments } = countsIn(this.counts);
     this.vertices = vertices;
     if (features === this.model.features.size && segments === this.model.segments()) return;
     console.error("the page differed from the map");

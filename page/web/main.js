@@ -2,6 +2,7 @@
 /** Puts the parts of the page together. */
 import { isAsking, showHelp } from "./dialogs.js";
 import { by } from "./dom.js";
+import { early } from "./early.js";
 import { Editor } from "./editor.js";
 import { Features } from "./features.js";
 import { Files } from "./files.js";
@@ -23,22 +24,35 @@ import { TEXT } from "./words.js";
 /** milliseconds after which the page says again that it is there */
 const ALIVE = 20000;
 
-const talk = new Talk(), editor = new Editor(talk, new View(by("base"), by("over")));
+const talk = new Talk(early), editor = new Editor(talk, new View(by("base"), by("over")));
 const mending = new Mending(talk, start);
 
 async function start() {
-  const began = await talk.begin();
+  const drawing = draw(), began = await talk.begin();
   document.title = TEXT.title(began.name);
   by("name").textContent = by("name").title = began.name;
   by("save").title = TEXT.savesTo(began.out);
   by("unproved").hidden = began.proved;
   by("unproved").textContent = TEXT.unproved;
-  if (began.opens) await open(began); else mending.show(began);
+  const drawn = await drawing;
+  if (began.opens) await open(began, drawn); else mending.show(began);
 }
 
-/** @param {Began} began */
-async function open(began) {
-  await editor.open(began);
+/** Draws the map as its file has it, while border_edit opens it; where it can't be drawn, border_edit says what is wrong. */
+async function draw() {
+  try {
+    return editor.draw(await talk.file());
+  } catch (fault) {
+    return null;
+  }
+}
+
+/**
+ * @param {Began} began
+ * @param {import("./model.js").Model | null} drawn
+ */
+async function open(began, drawn) {
+  await editor.open(began, drawn);
   const units = new Units(editor.model.transform), layers = new Layers(editor);
   const panel = new Panel(editor, layers, units, new Measuring(editor.model, units));
   const features = new Features(editor, panel), tools = new Tools(editor, panel, features);

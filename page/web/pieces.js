@@ -33,6 +33,8 @@ import { countAll, recounted } from "./counts.js";
 
 /** the most segments of a piece */
 const PIECE = 64;
+/** the most features, and positions of all rings, of a map that border_edit opens: of a text with more nothing is made */
+const MOST_FEATURES = 200000, MOST_POSITIONS = 4000000;
 /** @type {number[]} */
 const NOBODY = [];
 
@@ -92,14 +94,15 @@ export class Pieces {
     this.order = [];
     const hidden = new Set(this.layers.filter(layer => !layer.isShown).map(layer => layer.name));
     this.layers = layerNames(topology).map(name => ({ name, isShown: !hidden.has(name) }));
-    const firsts = this.loadPieces(topology);
+    const firsts = this.loadPieces(topology), room = { left: MOST_POSITIONS };
     eachFeature(topology, (object, collection, layer) => {
+      if (this.order.length === MOST_FEATURES) throw new Error("too many features");
       const num = numbers ? numbers[this.order.length] : this.order.length;
-      const polygons = polygonsOf(object).map(polygon => polygon.map(ring => refsOf(ring, firsts)));
+      const polygons = polygonsOf(object).map(polygon => polygon.map(ring => refsOf(ring, firsts, room)));
       const feature = { num, id: object.id, properties: object.properties, polygons, collection, layer, box: NOTHING };
       this.features.set(num, feature);
       this.order.push(num);
-      this.use(feature);
+      this.useFirst(feature);
     });
     this.counts = countAll(this);
     this.loadIndexes();
@@ -246,6 +249,17 @@ export class Pieces {
       this.notePiece(pieceOf(ref));
       const piece = this.pieces[pieceOf(ref)];
       piece.users = piece.users.length ? [...piece.users, feature.num] : [feature.num];
+    }
+  }
+
+  /**
+   * As `use`, while a map is loaded: nobody keeps the lists of users yet, so they grow in place.
+   * @param {Feature} feature
+   */
+  useFirst({ num, polygons }) {
+    for (const polygon of polygons) for (const ring of polygon) for (const ref of ring) {
+      const piece = this.pieces[pieceOf(ref)];
+      if (piece.users === NOBODY) piece.users = [num]; else piece.users.push(num);
     }
   }
 
@@ -428,11 +442,16 @@ function boxOfRings(feature, boxes) {
  * A ring of arc indexes as a ring of pieces.
  * @param {number[]} arcs
  * @param {Int32Array} firsts the first piece of each arc, and the end of the last one
+ * @param {{left: number}} room how many pieces all further rings may have
  * @returns {Ring}
  */
-function refsOf(arcs, firsts) {
+function refsOf(arcs, firsts, room) {
   const sizeOf = (/** @type {number} */ arc) => firsts[(arc < 0 ? ~arc : arc) + 1] - firsts[arc < 0 ? ~arc : arc];
-  const refs = new Array(arcs.reduce((size, arc) => size + sizeOf(arc), 0));
+  const size = arcs.reduce((sum, arc) => sum + sizeOf(arc), 0);
+  room.left -= size;
+  // also where an index is none
+  if (!(room.left >= 0)) throw new Error("no such arc, or too many positions");
+  const refs = new Array(size);
   let at = 0;
   for (const arc of arcs) {
     const first = firsts[arc < 0 ? ~arc : arc], end = firsts[(arc < 0 ? ~arc : arc) + 1];

@@ -41,7 +41,9 @@ export class TalkFault extends Error {
 }
 
 export class Talk {
-  constructor() {
+  /** @param {Map<string, Promise<Response>>} early answers to requests that were sent before there was this class */
+  constructor(early) {
+    this.early = early;
     this.owner = 0;
     /** how many requests are under way */
     this.waiting = 0;
@@ -92,8 +94,10 @@ export class Talk {
    * @param {RequestInit=} request
    */
   async reach(name, request) {
+    const early = this.early.get(name);
+    this.early.delete(name);
     try {
-      return await fetch(name, request);
+      return await (early || fetch(name, request));
     } catch (fault) {
       throw new TalkFault(0, {});
     }
@@ -170,5 +174,11 @@ export class Talk {
   async document() {
     const { body } = await this.get("document");
     return parsedStream(/** @type {ReadableStream<Uint8Array>} */ (body));
+  }
+
+  /** The map as its file has it, which need not be open for that; nothing where it was edited. */
+  async file() {
+    const { ok, headers, body } = await this.reach("map");
+    return ok && headers.get("Content-Length") !== "0" ? parsedStream(/** @type {ReadableStream<Uint8Array>} */ (body)) : null;
   }
 }
