@@ -51,13 +51,14 @@ ADVICE = {
     "conflict": "`border_mend MAP` lists all that keeps it from opening; with `--out NEW` it mends the map",
     "read": "can it be read? Look at its name and its permissions",
     "write": "can it be written? Look at its folder, its permissions and the space on the disk",
+    "formats": "docs/FORMATS.md says what a map may have",
 }
 
 # What stands on standard error, or standard output, where its text is not fixed: something.
 SOME = object()
 
-FIELDS = "what words status answers said file output memory given listed terminal unseeded"
-Row = collections.namedtuple("Row", FIELDS, defaults=(None,) * 6)
+FIELDS = "what words status answers said file output memory given listed terminal unseeded program"
+Row = collections.namedtuple("Row", FIELDS, defaults=(*(None,) * 6, "edit"))
 
 FILES = {
     "squares.json": (DATA / "two_squares.json").read_text(),
@@ -67,6 +68,7 @@ FILES = {
     "cut.json": "{",
     "other.json": '{"type":"FeatureCollection"}',
     "halves.json": '{"type":"Topology","objects":{"a":{"type":"Polygon","arcs":[[0]]}},"arcs":[[[0,0.5],[1,0],[1,1],[0,0.5]]]}',
+    "no_number.json": '{"type":"Topology","objects":{"a":{"type":"Polygon","arcs":[[0]]}},"arcs":[[[0,"1"],[1,0],[1,1],[0,"1"]]]}',
     "crossing.json": '{"type":"Topology","objects":{"a":{"type":"Polygon","arcs":[[0]]}},'
                      '"arcs":[[[0,0],[10,10],[10,0],[0,10],[0,0]]]}',
     "long.txt": "document\n" * 100,
@@ -188,6 +190,23 @@ def advised_ends(words, listing):
         yield Row(f"advice, {said}", listing(script, list_file, out), 3, answered, told, kept, terminal=True)
     full = words("squares.json", "refused.txt")
     yield Row("no advice, full output", full, 3, None, "write fault\n", KEPT, output="/dev/full", terminal=True)
+    yield from mending_advised()
+
+
+def mending_advised():
+    """The same of border_mend, which advises nobody to mend; of two files it does not say which can't be written."""
+    opens = "opens\ncounts short 0 repeats 0 on 0 cross 0"
+    mended = f"{opens} paths 0 parts 0 areas 0\n"
+    for words, status, report, said, path, advice in (
+        (["cut.json"], 2, "", "open: not json at 1", "cut.json", "not json"),
+        (["no_number.json"], 2, "", "open: not whole at 79", "no_number.json", "formats"),
+        (["none.json", "--out", "saved.json"], 3, "", "map fault", "none.json", "read"),
+        (["squares.json", "--places", "."], 3, f"{opens}\n", "save fault", ".", "write"),
+        (["squares.json", "--out", "."], 3, mended, "save fault", ".", "write"),
+        (["squares.json", "--out", "saved.json", "--places", "."], 3, mended, "save fault", None, None),
+    ):
+        told = f"{said}\n" + (f"{path}: {ADVICE[advice]}\n" if path else "")
+        yield Row(f"border_mend {' '.join(words)}, advice", words, status, report, told, KEPT, terminal=True, program="mend")
 
 
 def strict_ends(words):
@@ -319,7 +338,7 @@ def main():
         if row.unseeded and not file_ends.compiler():
             continue
         count += 1
-        fault = faults(programs["edit"], row)
+        fault = faults(programs[row.program], row)
         if fault:
             wrong += 1
             print(f"{row.what}: {fault}")
