@@ -42,10 +42,13 @@ FILES = {
 }
 
 # A run: the program, its arguments, its status, what is on standard error, and the folder before and after.
-# Of standard output what it begins with is looked at, and what comes then; or it fails in one of these ways.
+# Of standard output what it begins with is looked at, and what comes then; or the run fails in one of these ways: standard
+# output does, or the operating system gives no seed.
 FIELDS = "what program words status said before after user output fails"
 Row = collections.namedtuple("Row", FIELDS, defaults=({}, {}, None, None, None))
-PIPE, FULL, MEMORY = "pipe", "full", "memory"
+PIPE, FULL, MEMORY, SEED = "pipe", "full", "memory", "seed"
+# The call by which the operating system gives random bytes, which gives none.
+UNSEEDED = "int getentropy(void *bytes, unsigned long count) { (void)bytes; (void)count; return -1; }\n"
 # The call by which a program writes, which has no memory for standard output.
 UNWRITTEN = """#include <errno.h>
 #include <sys/syscall.h>
@@ -56,6 +59,8 @@ long write(int to, const void *bytes, unsigned long count) {
     return -1;
 }
 """
+# What stands before the C library of a run that fails so.
+INSTEAD = {MEMORY: UNWRITTEN, SEED: UNSEEDED}
 
 # Each file that a program writes: the arguments with its path, the status, the line where it can't be written, what is
 # in it, and what else is written.
@@ -313,9 +318,15 @@ def compiler():
     return shutil.which("cc") or shutil.which("gcc")
 
 
+def compiled(text, library):
+    """A library of this text, which stands before the C library."""
+    subprocess.run([compiler(), "-shared", "-fPIC", "-x", "c", "-", "-o", library, "-ldl"], input=text.encode(), check=True)
+    return library
+
+
 @contextlib.contextmanager
 def output_of(fails):
-    """How a run is started so that its standard output is read, or fails."""
+    """How a run is started so that its standard output is read, or so that it fails."""
     with contextlib.ExitStack() as stack:
         if fails == PIPE:
             closed, output = os.pipe()
@@ -324,9 +335,9 @@ def output_of(fails):
             yield {"stdout": output}
         elif fails == FULL:
             yield {"stdout": stack.enter_context(open("/dev/full", "wb"))}
-        elif fails == MEMORY:
-            library = pathlib.Path(stack.enter_context(tempfile.TemporaryDirectory())) / "unwritten.so"
-            subprocess.run([compiler(), "-shared", "-fPIC", "-x", "c", "-", "-o", library], input=UNWRITTEN.encode(), check=True)
+        elif fails in INSTEAD:
+            library = pathlib.Path(stack.enter_context(tempfile.TemporaryDirectory())) / f"{fails}.so"
+            compiled(INSTEAD[fails], library)
             yield {"stdout": subprocess.PIPE, "env": {**os.environ, "LD_PRELOAD": str(library)}}
         else:
             yield {"stdout": subprocess.PIPE}
@@ -388,7 +399,7 @@ def told(programs, rows):
     count = wrong = 0
     with lent(programs) as copies:
         for row in rows:
-            if row.fails == MEMORY and not compiler():
+            if row.fails in INSTEAD and not compiler():
                 continue
             count += 1
             found = list(faults(copies[row.program], row))

@@ -10,8 +10,8 @@ undos, and questions. So it is with `--refused` and two lines more that are refu
 end so when FILE holds the map and FILE2 a front of the list. border_mend mends a map that has decimals, a line,
 points and sides that cross: such a run ends with the same statuses and lines, and FILE is as it was.
 
-It needs the C compiler `cc`, for the few lines that stand before the C library. The program has to stand
-already (`rt ci` leaves it); another one can be named. The status is 0 where each run ended so.
+It needs a C compiler, for the few lines that stand before the C library. The programs have to stand already
+(`rt ci` leaves them); others can be named. bench/program.py runs this too. The status is 0 where each run ended so.
 """
 import argparse
 import collections
@@ -23,6 +23,9 @@ import subprocess
 import sys
 import tempfile
 
+import file_ends
+import running
+
 TOP = pathlib.Path(__file__).resolve().parent.parent
 MAP = TOP / "crates/border_edit/data/two_squares.json"
 EDITS = [
@@ -33,7 +36,7 @@ QUESTIONS = ["at 5 5", "neighbours 0", "area 1", "rings 0", "count", "document"]
 SCRIPT = "\n".join(EDITS + ["undo"] * len(EDITS) + QUESTIONS)
 # Two lines that are refused, and what is listed of them behind that script.
 REFUSED = "\nmend\nmove 900 900 1 1"
-LISTED = "21\tbad line\tmend\n22\trefused no vertex\tmove 900 900 1 1\n"
+LISTED = "21\tbad line\tmend\tunknown word\n22\trefused no vertex\tmove 900 900 1 1\t900 900\n"
 BEFORE = "what was saved before\n"
 # A bow tie with decimals, beside a line and points.
 BROKEN = """{"type":"Topology","objects":{"land":{"type":"Polygon","arcs":[[0]]},"way":{"type":"LineString","arcs":[0]},
@@ -66,14 +69,6 @@ __attribute__((destructor)) static void tell(void) {
     if (nth && calls < strtoul(nth, 0, 10)) _exit(100);
 }
 """
-
-
-def compiled(folder):
-    """The library that refuses one growth."""
-    source, library = folder / "refusing.c", folder / "refusing.so"
-    source.write_text(REFUSING)
-    subprocess.run(["cc", "-shared", "-fPIC", "-O1", "-o", library, source, "-ldl"], check=True)
-    return library
 
 
 End = collections.namedtuple("End", "status answers said file listed")
@@ -162,24 +157,35 @@ def mended(program, folder, library):
     return nth - 1, wanting, wrong
 
 
-def main():
-    words = argparse.ArgumentParser(description=__doc__.split("\n", 1)[0])
-    words.add_argument("program", nargs="?", default=str(TOP / "crates/border_edit/out/border_edit"))
-    words.add_argument("--mend", default=str(TOP / "crates/border_mend/out/border_mend"))
-    given = words.parse_args()
-    program = os.path.abspath(given.program)
-    if not shutil.which("cc"):
-        print("cc is not there")
-        return 2
+def refused(edit, mend):
+    """The counts of each of the three runs."""
     with tempfile.TemporaryDirectory() as name:
         folder = pathlib.Path(name)
         shutil.copy(MAP, folder / "squares.json")
-        library = compiled(folder)
-        tries = [tried(program, folder, library, is_listed) for is_listed in (False, True)]
-        tries.append(mended(os.path.abspath(given.mend), folder, library))
-    growths, wanting, wrong = (sum(counts) for counts in zip(*tries))
-    print(f"{growths} growths refused, {wanting} runs ended for want of memory, {wrong} wrong")
-    return 1 if wrong or not all(wanting for _, wanting, _ in tries) else 0
+        library = file_ends.compiled(REFUSING, folder / "refusing.so")
+        for is_listed in (False, True):
+            yield tried(edit, folder, library, is_listed)
+        yield mended(mend, folder, library)
+
+
+def told(programs):
+    """Runs all, writes what differs, and counts the runs and those that differ."""
+    tries = list(refused(programs["edit"], programs["mend"]))
+    for what, (_, wanting, _) in zip(("border_edit", "border_edit --refused", "border_mend"), tries):
+        if not wanting:
+            print(f"{what}: no growth was wanting")
+    return sum(growths for growths, _, _ in tries), sum(wrong or int(not wanting) for _, wanting, wrong in tries)
+
+
+def main():
+    words = argparse.ArgumentParser(description=__doc__.split("\n", 1)[0])
+    running.add_programs(words, "edit", "mend")
+    if not file_ends.compiler():
+        print("no compiler")
+        return 2
+    growths, wrong = told(vars(words.parse_args()))
+    print(f"{growths - wrong} passed, {wrong} failed")
+    return 1 if wrong else 0
 
 
 if __name__ == "__main__":

@@ -14,6 +14,8 @@ HELP = TOP / "crates/border_mend/src/help.rt"
 VERSION = TOP / "crates/program_ends/src/lib.rt"
 # How many lines of one kind a report has without --most.
 USUAL = 1000
+# How often a ring goes to and fro so that two have more crossings than a report may: over 4,000,000.
+MANY = 2001
 
 
 def sorted_lines():
@@ -57,9 +59,26 @@ def many_findings():
         yield Row(f"border_mend {' '.join(words)}", MEND, words, 1, "", {"many.json": Text(text)}, output=[report, ""])
 
 
+def comb(count, at):
+    """A ring that goes to and fro so many times, each of its positions put where `at` says."""
+    length = 2 * count + 10
+    turns = [at(x, y) for y in range(count) for x in ((-10, length) if y % 2 else (length, -10))]
+    return [*turns, turns[0]]
+
+
+def too_many_findings():
+    """A map of two rings with more crossings than can be listed: each of some 2,000 sides of one crosses as many."""
+    rings = [comb(MANY, lambda x, y: [x, 2 * y]), comb(MANY, lambda x, y: [2 * y, x])]
+    text = json.dumps({"type": "Topology", "objects": {"land": {"type": "MultiPolygon", "arcs": [[[0]], [[1]]]}}, "arcs": rings})
+    for more in [], ["--most", "0"], ["--out", "many.json", "--places", "made.txt"]:
+        yield Row(f"border_mend many.json {' '.join(more)}", MEND, ["many.json", *more], 2, "open: too many findings\n",
+                  {"many.json": Text(text)}, output=["", ""])
+
+
 def rows():
     texts, runs = sorted_lines()
     for line in runs:
         yield row_of(line, texts)
     yield from told_without_map()
     yield from many_findings()
+    yield from too_many_findings()

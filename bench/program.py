@@ -1,13 +1,14 @@
 #!/usr/bin/env python3
 """Runs the built program border_edit to each of its ends, and looks at FILE before and after; and runs border_mend to each
-of its ends (bench/mend_ends.py), and all three programs on files of all kinds (bench/file_ends.py).
+of its ends (bench/mend_ends.py), all three programs on files of all kinds (bench/file_ends.py), and the first and the last
+with each growth of their memory refused in turn (bench/growths.py).
 
 Tests of the crates call what `main` calls. Here the program itself is called: with arguments, on files, on devices
 that are full, with little memory, and with a terminal as standard error. The rows of bench/edit_ends.txt are run, and
 those below, of which are compared the status, the answers, what is on standard error, and what FILE holds at the end,
 and FILE2 where one is named; and no other file may be left.
 
-Without a C compiler the ends without a seed, and those without memory for standard output, are left out, and that is said.
+Without a C compiler the ends without a seed, and those where an allocation is refused, are left out, and that is said.
 
 The programs have to stand already (`rt ci` leaves them); others can be named. There is one line for
 each end that differs, and a last one that counts them; the status is 0 where none does.
@@ -26,6 +27,7 @@ import tempfile
 
 import edit_ends
 import file_ends
+import growths
 import mend_ends
 import running
 
@@ -49,16 +51,14 @@ ADVICE = {
     "conflict": "`border_mend MAP` lists all that keeps it from opening; with `--out NEW` it mends the map",
     "read": "can it be read? Look at its name and its permissions",
     "write": "can it be written? Look at its folder, its permissions and the space on the disk",
+    "formats": "docs/FORMATS.md says what a map may have",
 }
 
 # What stands on standard error, or standard output, where its text is not fixed: something.
 SOME = object()
 
-FIELDS = "what words status answers said file output memory given listed terminal unseeded"
-Row = collections.namedtuple("Row", FIELDS, defaults=(None,) * 6)
-
-# The call by which the operating system gives random bytes, which gives none.
-UNSEEDED = "int getentropy(void *bytes, unsigned long count) { (void)bytes; (void)count; return -1; }\n"
+FIELDS = "what words status answers said file output memory given listed terminal unseeded program"
+Row = collections.namedtuple("Row", FIELDS, defaults=(*(None,) * 6, "edit"))
 
 FILES = {
     "squares.json": (DATA / "two_squares.json").read_text(),
@@ -68,6 +68,7 @@ FILES = {
     "cut.json": "{",
     "other.json": '{"type":"FeatureCollection"}',
     "halves.json": '{"type":"Topology","objects":{"a":{"type":"Polygon","arcs":[[0]]}},"arcs":[[[0,0.5],[1,0],[1,1],[0,0.5]]]}',
+    "no_number.json": '{"type":"Topology","objects":{"a":{"type":"Polygon","arcs":[[0]]}},"arcs":[[[0,"1"],[1,0],[1,1],[0,"1"]]]}',
     "crossing.json": '{"type":"Topology","objects":{"a":{"type":"Polygon","arcs":[[0]]}},'
                      '"arcs":[[[0,0],[10,10],[10,0],[0,10],[0,0]]]}',
     "long.txt": "document\n" * 100,
@@ -79,6 +80,10 @@ FILES = {
     "empty.txt": "",
     "mixed.txt": "# corners\r\n\nmove 1 1 2 2\r\ndocument\narea 0\n\r\n mend\narea 9",
 }
+# Scripts of 2 MB, which come through a pipe: a question, a refused and a bad line in turn; and one bad line after another.
+# And less memory than the list of the second one takes.
+LINES, BAD_LINES, LITTLE = 210_000, 1_000_000, 20_000_000
+LONG = {"three.txt": "area 0\nmove 900 900 1 1\nmend\n" * (LINES // 3), "many.txt": "x\n" * BAD_LINES}
 # What is listed of mixed.txt.
 LISTED = ("3\trefused no vertex\tmove 1 1 2 2\t1 1\n7\tbad line\t mend\tspace at the start\n"
           "8\trefused no feature\tarea 9\t9\n")
@@ -137,6 +142,7 @@ def ends():
             yield Row(f"{list_file}, {script}", listing(script, list_file), 3, SOME, "refused fault\n", SAVED)
     yield Row("a full list", listing("mixed.txt", "/dev/full"), 3, SOME, "refused fault\n", SAVED)
     yield Row("one FILE for both", listing("mixed.txt", "saved.json"), 64, "", SOME, KEPT)
+    yield from long_lists(listing)
 
     yield from strict_ends(words)
 
@@ -152,6 +158,17 @@ def ends():
 
     for map_file, script in ("squares.json", "accepted.txt"), ("none.json", "none.txt"):
         yield Row(f"no seed, {map_file}", words(map_file, script), 3, "", "no random seed\n", KEPT, unseeded=True)
+
+
+def long_lists(listing):
+    """Lists of scripts of 2 MB: one of lines of three kinds; and one of so many rows that there is no memory for them. A list
+    that lacks rows is written nowhere, and FILE stays; without the list the same script needs no more memory."""
+    answers = "200\nrefused no vertex\nbad line\n" * (LINES // 3)
+    rows = [f"{n + 1}\trefused no vertex\tmove 900 900 1 1\t900 900\n{n + 2}\tbad line\tmend\tunknown word\n" for n in range(1, LINES, 3)]
+    yield Row("a long script, listed", listing("-"), 1, answers, "", SAVED, given="three.txt", listed="".join(rows))
+    yield Row("many rows, little memory", listing("-"), 3, None, "out of memory\n", KEPT, given="many.txt", memory=LITTLE)
+    bad = "bad line\n" * BAD_LINES
+    yield Row("no rows, little memory", listing("-")[:-2], 1, bad, "", SAVED, given="many.txt", memory=LITTLE)
 
 
 def advised_ends(words, listing):
@@ -173,6 +190,23 @@ def advised_ends(words, listing):
         yield Row(f"advice, {said}", listing(script, list_file, out), 3, answered, told, kept, terminal=True)
     full = words("squares.json", "refused.txt")
     yield Row("no advice, full output", full, 3, None, "write fault\n", KEPT, output="/dev/full", terminal=True)
+    yield from mending_advised()
+
+
+def mending_advised():
+    """The same of border_mend, which advises nobody to mend; of two files it does not say which can't be written."""
+    opens = "opens\ncounts short 0 repeats 0 on 0 cross 0"
+    mended = f"{opens} paths 0 parts 0 areas 0\n"
+    for words, status, report, said, path, advice in (
+        (["cut.json"], 2, "", "open: not json at 1", "cut.json", "not json"),
+        (["no_number.json"], 2, "", "open: not whole at 79", "no_number.json", "formats"),
+        (["none.json", "--out", "saved.json"], 3, "", "map fault", "none.json", "read"),
+        (["squares.json", "--places", "."], 3, f"{opens}\n", "save fault", ".", "write"),
+        (["squares.json", "--out", "."], 3, mended, "save fault", ".", "write"),
+        (["squares.json", "--out", "saved.json", "--places", "."], 3, mended, "save fault", None, None),
+    ):
+        told = f"{said}\n" + (f"{path}: {ADVICE[advice]}\n" if path else "")
+        yield Row(f"border_mend {' '.join(words)}, advice", words, status, report, told, KEPT, terminal=True, program="mend")
 
 
 def strict_ends(words):
@@ -208,9 +242,7 @@ def strict_ends(words):
 
 def unseeded(folder):
     """A library with which a program is given no random bytes."""
-    library = folder / "unseeded.so"
-    subprocess.run([file_ends.compiler(), "-shared", "-fPIC", "-x", "c", "-", "-o", library], input=UNSEEDED.encode(), check=True)
-    return library
+    return file_ends.compiled(file_ends.UNSEEDED, folder / "unseeded.so")
 
 
 def put_files(folder):
@@ -255,7 +287,7 @@ def ran(program, row, folder):
             resource.setrlimit(resource.RLIMIT_AS, (row.memory, row.memory))
 
     env = {**os.environ, "LD_PRELOAD": str(unseeded(folder))} if row.unseeded else None
-    given = FILES[row.given].encode() if row.given else b""
+    given = {**FILES, **LONG}[row.given].encode() if row.given else b""
     how = {"input": given, "cwd": folder, "timeout": 60, "preexec_fn": limit, "env": env}
     with open(row.output or folder / "answers", "wb") as output:
         if not row.terminal:
@@ -296,15 +328,17 @@ def main():
     words = argparse.ArgumentParser(description=__doc__.split("\n", 1)[0])
     running.add_programs(words, "edit", "show", "mend")
     programs = vars(words.parse_args())
-    of_files = file_ends.told(programs, [*file_ends.rows(), *mend_ends.rows()])
-    count, wrong = map(sum, zip(of_files, edit_ends.told(programs["edit"])))
-    if not file_ends.compiler():
+    parts = [file_ends.told(programs, [*file_ends.rows(), *mend_ends.rows()]), edit_ends.told(programs["edit"])]
+    if file_ends.compiler():
+        parts.append(growths.told(programs))
+    else:
         print("no compiler: the ends without a seed or memory are left out")
+    count, wrong = map(sum, zip(*parts))
     for row in ends():
         if row.unseeded and not file_ends.compiler():
             continue
         count += 1
-        fault = faults(programs["edit"], row)
+        fault = faults(programs[row.program], row)
         if fault:
             wrong += 1
             print(f"{row.what}: {fault}")
