@@ -1,14 +1,19 @@
-"""A second drawing of small maps, written from docs/FORMATS.md and the constants of the picture: what `border_show` has to
-write for a map on a grid without a transform, or for what an edit did to it, byte for byte.
+"""A second drawing of maps, written from docs/FORMATS.md and the constants of the picture: what `border_show` has to write for a
+map, or for what an edit did to it, byte for byte.
 
 It draws whole maps alone, without `--at` and `--feature`, and no conflict. Numbers are Python's, so nothing overflows.
 """
+import collections
+import decimal
+import itertools
 import json
 from math import gcd
 from xml.sax.saxutils import escape
 
 WIDTH, MARGIN, ROW, ACROSS, DOWN = 1000, 20, 20, 960, 720
 LABEL, RISE, LETTER = 1300, 1000, 720
+# How many of the finest parts a unit of the map has, how many ten-thousandths a whole, and how many bytes of a name are shown.
+FINE, RATIO, MOST_BYTES = 10**24, 10_000, 48
 QUOTES = {'"': "&quot;", "'": "&apos;", "\r": "&#13;"}
 
 STYLE = """<style>
@@ -43,26 +48,58 @@ def text(style, x, y, words):
 
 # ---- maps
 
-def rings_of(topology, arcs):
+# A feature: its number, what is shown of its id, its polygons, and what it is called.
+Feature = collections.namedtuple("Feature", "number name polygons title")
+
+
+def rings_of(arcs, indexes):
     """The positions of a ring of arc indexes (TopoJSON 1.0, 2.1.4), from the least one on, without the last one."""
     ring = []
-    for index in arcs:
-        arc = topology["arcs"][index] if index >= 0 else topology["arcs"][~index][::-1]
-        ring += [tuple(position) for position in arc[:-1]]
+    for index in map(int, indexes):
+        ring += (arcs[index] if index >= 0 else arcs[~index][::-1])[:-1]
     least = ring.index(min(ring))
     return ring[least:] + ring[:least]
 
 
+def arcs_of(topology):
+    """The positions of the arcs on the grid: under a transform each position is a difference (TopoJSON 1.0, 2.1.2)."""
+    arcs = [[(int(x), int(y)) for x, y in arc] for arc in topology["arcs"]]
+    if topology.get("transform"):
+        arcs = [list(itertools.accumulate(arc, lambda one, other: (one[0] + other[0], one[1] + other[1]))) for arc in arcs]
+    return arcs
+
+
+def leaves_of(geometry):
+    """The geometries of a layer that are no collections, in the order of the text."""
+    if geometry["type"] != "GeometryCollection":
+        return [geometry]
+    return [leaf for item in geometry["geometries"] for leaf in leaves_of(item)]
+
+
+def first_bytes(words):
+    """What is shown of a text: at most 48 bytes, and three dots where these are not all."""
+    if len(words.encode()) <= MOST_BYTES:
+        return words
+    return words.encode()[:MOST_BYTES].decode(errors="ignore") + "\u2026"
+
+
+def title_of(leaf, name):
+    """What a feature is called: by the first string called `name` among its properties, or else by its id."""
+    named = [value for key, value in (leaf.get("properties") or {}).items()
+             if key in ("name", "Name", "NAME") and isinstance(value, str)]
+    return first_bytes(named[0]) if named else name
+
+
 def features_of(topology, names=None):
-    """The features: number, what the id stands for, polygons. Names are given where the ids of the topology are not strings."""
-    leaves = []
-    for layer in topology["objects"].values():
-        leaves += layer["geometries"] if layer["type"] == "GeometryCollection" else [layer]
-    found = []
+    """The features. Names are given where the ids of the topology are neither strings nor numbers."""
+    arcs, found = arcs_of(topology), []
+    leaves = [leaf for layer in topology["objects"].values() for leaf in leaves_of(layer)]
     for number, leaf in enumerate(leaves):
         polygons = {"Polygon": [leaf.get("arcs")], "MultiPolygon": leaf.get("arcs"), None: []}[leaf["type"]]
-        name = leaf.get("id") if names is None else names[number]
-        found.append((number, name, [[rings_of(topology, ring) for ring in rings] for rings in polygons]))
+        polygons = [[rings_of(arcs, ring) for ring in rings] for rings in polygons]
+        given = leaf.get("id") if names is None else names[number]
+        name = given if given is None or names else first_bytes(str(given))
+        found.append(Feature(number, name, polygons, title_of(leaf, name)))
     return found
 
 
@@ -86,9 +123,8 @@ def corners(ring):
 
 
 def straight(feature):
-    number, name, polygons = feature
-    found = [[corners(rings[0]), *sorted(map(corners, rings[1:]))] for rings in polygons]
-    return number, name, sorted(found)
+    found = [[corners(rings[0]), *sorted(map(corners, rings[1:]))] for rings in feature.polygons]
+    return feature._replace(polygons=sorted(found))
 
 
 def area_of(polygons):
@@ -97,15 +133,49 @@ def area_of(polygons):
 
 # ---- the place of the map in the picture
 
+def fine(number):
+    """A number in the finest parts, of which a unit has 10^24."""
+    with decimal.localcontext(decimal.Context(prec=1000)):
+        return int(decimal.Decimal(number) * FINE)
+
+
+def bounds_of(features):
+    """The least and the greatest x, and the least and the greatest y."""
+    points = [point for feature in features for rings in feature.polygons for ring in rings for point in ring]
+    return [(min(axis), max(axis)) for axis in zip(*points)]
+
+
+def cosine(thousandths):
+    """Near the cosine of so many thousandths of a degree, in ten-thousandths: (32400 - 4 d d) / (32400 + d d) of d degrees."""
+    square, half_turn = thousandths**2, 180_000**2
+    return min(max(cut((half_turn - 4 * square) * RATIO, half_turn + square), 500), RATIO)
+
+
+class Units:
+    """What a unit of the grid is on the map's own scale."""
+
+    def __init__(self, transform, bounds):
+        self.words, self.across, self.ratio = " grid units", FINE, RATIO
+        if transform:
+            scale, translate = (list(map(fine, transform[name])) for name in ("scale", "translate"))
+            ends = [[zero + unit * end for end in sides] for unit, zero, sides in zip(scale, translate, bounds)]
+            self.words, self.across = " units", max(1, abs(scale[0]))
+            if all(abs(end) <= most * FINE for most, sides in zip((180, 90), ends) for end in sides):
+                self.words = "\u00b0 of longitude"
+                self.ratio = cosine(cut(cut(sum(ends[1]), 2), FINE // 1000))
+
+
 class Layout:
-    def __init__(self, features):
-        points = [point for _, _, polygons in features for rings in polygons for ring in rings for point in ring]
-        (x0, x1), (y0, y1) = ((min(axis), max(axis)) for axis in zip(*points))
+    def __init__(self, features, transform):
+        bounds = bounds_of(features)
+        (x0, x1), (y0, y1) = bounds
         margin = max(x1 - x0, y1 - y0) // 40 + 1
+        self.units = Units(transform, bounds)
         self.x, self.y = x0 - margin, y0 - margin
         self.across, self.up = x1 - x0 + 2 * margin, y1 - y0 + 2 * margin
-        high = self.up * ACROSS // self.across
-        self.width = ACROSS if high <= DOWN else max(1, self.across * DOWN // self.up)
+        across = max(1, self.across * self.units.ratio // RATIO)
+        high = self.up * ACROSS // across
+        self.width = ACROSS if high <= DOWN else min(max(1, across * DOWN // self.up), ACROSS)
         self.height = max(1, min(high, DOWN))
         self.left, self.top = MARGIN + (ACROSS - self.width) // 2, MARGIN + ROW
 
@@ -119,23 +189,26 @@ class Layout:
 
 
 def bar(layout):
-    """The scale bar: 1, 2 or 5 times a power of ten of grid units, at most a sixth of the width of the map."""
-    fine = 10 ** 24
-    span = layout.across * fine
+    """The scale bar: 1, 2 or 5 times a power of ten of units, at most a sixth of the width of the map."""
+    span = layout.across * layout.units.across
     length = max(digit * 10 ** zeros for digit in (1, 2, 5) for zeros in range(40) if digit * 10 ** zeros <= span // 6)
     start = WIDTH - MARGIN - length // (span // layout.width)
-    whole = f"{length // fine:,}" if length >= fine else "0." + str(length).rjust(24, "0").rstrip("0")
-    return f'<path class="bar" d="M{start} 24v6H980v-6"/>\n' + text("number", start - 6, 30, whole + " grid units")
+    whole = f"{length // FINE:,}" if length >= FINE else "0." + str(length).rjust(24, "0").rstrip("0")
+    return f'<path class="bar" d="M{start} 24v6H980v-6"/>\n' + text("number", start - 6, 30, whole + layout.units.words)
+
+
+def outline(layout, feature):
+    return [layout.ring(ring) for rings in feature.polygons for ring in rings]
 
 
 def path(layout, look, feature):
-    number, name, polygons = feature
-    data = "".join("M" + "".join(f" {x} {y}" for x, y in layout.ring(ring)) + "z" for rings in polygons for ring in rings)
-    return f'<path class="{look}" d="{data}"><title>{escape(called(number, name), QUOTES)}</title></path>\n' if polygons else ""
+    data = "".join("M" + "".join(f" {x} {y}" for x, y in ring) + "z" for ring in outline(layout, feature))
+    title = f"<title>{escape(called(feature), QUOTES)}</title>"
+    return f'<path class="{look}" d="{data}">{title}</path>\n' if feature.polygons else ""
 
 
-def called(number, name):
-    return f"#{number}" if name is None else f"#{number} {name}"
+def called(feature):
+    return f"#{feature.number}" if feature.name is None else f"#{feature.number} {feature.name}"
 
 
 # ---- labels
@@ -168,7 +241,7 @@ def widest(rings, top, bottom, width):
 
 def place_of(layout, feature):
     """The top of the row of nine in which a feature is widest, and where it is."""
-    rings = [layout.ring(ring) for rings in feature[2] for ring in rings]
+    rings = outline(layout, feature)
     heights = [y for ring in rings for _, y in ring]
     top, room = min(heights), max(heights) - min(heights) - LABEL
     best = None
@@ -183,9 +256,9 @@ def place_of(layout, feature):
 
 def labels(layout, features):
     drawn, taken = "", []
-    for feature in sorted(features, key=lambda each: (-area_of(each[2]), each[0])):
-        place = place_of(layout, feature) if feature[2] else None
-        for words in (called(*feature[:2]), f"#{feature[0]}"):
+    for feature in sorted(features, key=lambda each: (-area_of(each.polygons), each.number)):
+        place = place_of(layout, feature) if feature.polygons else None
+        for words in (called(feature), f"#{feature.number}"):
             width = (len(words) + 1) * LETTER
             if place and width <= place[2] - place[1]:
                 left, top = place[1] + (place[2] - place[1] - width) // 2, place[0]
@@ -200,17 +273,14 @@ def labels(layout, features):
 
 def runs_of(features):
     """The longest runs along straight lines that the borders make up, by line."""
-    lines = {}
-    for _, _, polygons in features:
-        for rings in polygons:
-            for ring in rings:
-                for one, other in zip(ring[-1:] + ring, ring):
-                    low, high = min(one, other), max(one, other)
-                    right, up = high[0] - low[0], high[1] - low[1]
-                    step = gcd(right, up)
-                    right, up = right // step, up // step
-                    lines.setdefault((right, up, right * low[1] - up * low[0]), set()).add((low, high))
-    joined = {}
+    lines, joined = {}, {}
+    for ring in (ring for feature in features for rings in feature.polygons for ring in rings):
+        for one, other in zip(ring[-1:] + ring, ring):
+            low, high = min(one, other), max(one, other)
+            right, up = high[0] - low[0], high[1] - low[1]
+            step = gcd(right, up)
+            right, up = right // step, up // step
+            lines.setdefault((right, up, right * low[1] - up * low[0]), set()).add((low, high))
     for line, parts in lines.items():
         runs = []
         for low, high in sorted(parts):
@@ -243,18 +313,33 @@ def segment(layout, one, other):
 
 def changes_of(old, new):
     """The changed features as pairs, by number."""
-    gone = [each for each in old if all(each[1:] != other[1:] for other in new)]
-    made = [each for each in new if all(each[1:] != other[1:] for other in old)]
+    texts = [{(each.name, str(each.polygons)) for each in features} for features in (new, old)]
+    gone, made = ([each for each in features if (each.name, str(each.polygons)) not in others]
+                  for features, others in zip((old, new), texts))
     pairs = []
-    for key in 2, 1:
+    for key in "polygons", "name":
         for one in list(gone):
-            other = next((each for each in made if each[key] == one[key]), None)
+            other = next((each for each in made if getattr(each, key) == getattr(one, key)), None)
             if other:
                 pairs.append((one, other))
                 gone.remove(one)
                 made.remove(other)
     pairs += [(one, None) for one in gone] + [(None, other) for other in made]
-    return sorted(pairs, key=lambda pair: ((pair[1] or pair[0])[0], pair[1] is not None))
+    return sorted(pairs, key=lambda pair: ((pair[1] or pair[0]).number, pair[1] is not None))
+
+
+def is_seen(layout, one, other):
+    """Whether a change fills a pixel: where a row of a pixel's height has one that lies in one of both features alone."""
+    if one is None or other is None:
+        return True
+    rings = outline(layout, one) + outline(layout, other)
+    heights = [y for ring in rings for _, y in ring]
+    for top in range(0, DOWN * 100, 100):
+        if heights and min(heights) <= top + 100 and top < max(heights):
+            stretch = widest(rings, top, top + 100, layout.width * 100)
+            if stretch and stretch[1] - stretch[0] >= 100:
+                return True
+    return False
 
 
 def grouped(twice):
@@ -268,11 +353,11 @@ def table(top, pairs):
              ("head number", 730, "area after"), ("head number", 900, "difference"), ("head number", 980, "%")]
     drawn += "".join(text(style, x, top + 20, words) for style, x, words in heads)
     for y, (one, other) in enumerate(pairs[:100]):
-        y, (number, name, _) = top + 40 + 20 * y, other or one
-        edit = "new" if one is None else "gone" if other is None else "renamed" if one[2] == other[2] else "changed"
-        drawn += text(edit if edit in ("new", "gone") else "plain", 20, y, edit) + text("number", 130, y, f"#{number}")
-        drawn += text("plain", 145, y, name or "")
-        before, after = (area_of(each[2]) if each else None for each in (one, other))
+        y, shown = top + 40 + 20 * y, other or one
+        edit = "new" if one is None else "gone" if other is None else "renamed" if one.polygons == other.polygons else "changed"
+        drawn += text(edit if edit in ("new", "gone") else "plain", 20, y, edit) + text("number", 130, y, f"#{shown.number}")
+        drawn += text("plain", 145, y, shown.title or "")
+        before, after = (area_of(each.polygons) if each else None for each in (one, other))
         drawn += "" if before is None else text("number", 560, y, grouped(before))
         drawn += "" if after is None else text("number", 730, y, grouped(after))
         if before is not None and after is not None and before != after:
@@ -280,6 +365,8 @@ def table(top, pairs):
             share = abs(cut((after - before) * 10000, before)) if before else None
             drawn += text("number", 900, y, sign + grouped(after - before))
             drawn += text("number", 980, y, "" if share is None else f"{sign}{share // 100}.{share % 100:02}%")
+    if len(pairs) > 100:
+        drawn += text("plain", 20, top + 40 + 20 * 100, f"others: {len(pairs) - 100}")
     return drawn + (text("plain", 20, top + 40, "no feature") if not pairs else "")
 
 
@@ -295,18 +382,18 @@ def page(title, layout, body, over, lines, rows):
 
 def map_page(title, topology, ids, names=None):
     features = features_of(topology, names)
-    layout = Layout(features)
+    layout = Layout(features, topology.get("transform"))
     body = "".join(path(layout, "plain", feature) for feature in features)
     return page(title, layout, body, labels(layout, features) if ids else "", "", 0)
 
 
 def change_page(title, before, after, ids, names=(None, None)):
-    """The page of an edit in which each changed region changes by a pixel at least."""
+    """The page of an edit."""
     old, new = (list(map(straight, features_of(*each))) for each in zip((before, after), names))
-    pairs, layout = changes_of(old, new), Layout(old + new)
-    seen = [(one, other) for one, other in pairs if not (one and other and one[2] == other[2])]
-    filled = {other[0] for _, other in seen if other}
-    body = "".join(path(layout, "changed" if each[0] in filled else "kept", each) for each in new)
+    pairs, layout = changes_of(old, new), Layout(old + new, after.get("transform"))
+    seen = [pair for pair in pairs if is_seen(layout, *pair)]
+    filled = {other.number for _, other in seen if other}
+    body = "".join(path(layout, "changed" if each.number in filled else "kept", each) for each in new)
     body += borders(layout, "gone", [one for one, _ in seen if one], new)
     body += borders(layout, "new", [other for _, other in seen if other], old)
     rows = max(1, min(len(pairs), 100)) + 2 + (len(pairs) > 100)
@@ -315,5 +402,6 @@ def change_page(title, before, after, ids, names=(None, None)):
 
 
 def read(name):
+    """The topology in a file, with its numbers as the texts that they are."""
     with open(name, encoding="utf-8") as file:
-        return json.load(file)
+        return json.load(file, parse_int=str, parse_float=str)

@@ -8,6 +8,9 @@ and what a model here makes of its id, the page that the second drawing of drawn
 is drawn again. `--stored` prints the page of the stored run of border_show, as the second drawing makes it. Damaged, deep and huge
 maps have to end with the fault that border_edit has for them, or, where it names a conflict, with a
 picture that names it. There is one line for each that is wrong; the status is 0 where none is.
+
+`MAP..` and `--change BEFORE AFTER` compare the pictures of these files alone with the second drawing, byte for byte, and
+make no other: maps that open, whose ids are strings or numbers.
 """
 import argparse
 import json
@@ -172,6 +175,30 @@ def draw_maps(show, count, seed):
     return wrong
 
 
+def first_difference(one, other):
+    """Where two pages differ first, in words."""
+    lines = zip(one.decode().split("\n"), other.decode().split("\n"))
+    return next((f"line {n}: {a[:200]!r}, and not {b[:200]!r}" for n, (a, b) in enumerate(lines, 1) if a != b), "its end")
+
+
+def compare_files(show, drawings):
+    """How many of the pictures of these files, a map or one before and one after an edit each, are another page than the second
+    drawing's."""
+    wrong = 0
+    with tempfile.TemporaryDirectory() as name:
+        for files in drawings:
+            run(show, *files, "--ids", "--out", pathlib.Path(name) / "map.svg")
+            page, topologies = (pathlib.Path(name) / "map.svg").read_bytes(), [drawn.read(file) for file in files]
+            title = " \u2192 ".join(os.path.basename(file) for file in files)
+            make = drawn.map_page if len(files) == 1 else drawn.change_page
+            second = make(title, *topologies, True).encode()
+            wrong += page != second
+            features, paths = len(drawn.features_of(topologies[-1])), page.count(b"<title>")
+            print(f"{title}: {features} features, {paths} drawn, {len(page):,} bytes: "
+                  + ("the same page" if page == second else first_difference(page, second)), flush=True)
+    return wrong
+
+
 def hostile_maps(draw):
     """Maps that are damaged, deep or huge, and one with a conflict."""
     whole = (EXAMPLES / "squares.json").read_bytes()
@@ -215,6 +242,9 @@ def draw_hostile(edit, show, seed):
 
 def main():
     words = argparse.ArgumentParser(description=__doc__.split("\n", 1)[0])
+    words.add_argument("map", nargs="*", help="a map whose picture is compared with the second drawing")
+    words.add_argument("--change", nargs=2, action="append", default=[], metavar=("BEFORE", "AFTER"),
+                       help="maps before and after an edit whose picture is compared")
     words.add_argument("--edit", default=str(TOP / "crates/border_edit/out/border_edit"))
     words.add_argument("--show", default=str(TOP / "crates/border_show/out/border_show"))
     words.add_argument("--mend", default=str(TOP / "crates/border_mend/out/border_mend"))
@@ -227,6 +257,11 @@ def main():
         sys.stdout.buffer.write(stored_page())
         return 0
     edit, show = os.path.abspath(asked.edit), os.path.abspath(asked.show)
+    if asked.map or asked.change:
+        drawings = [[each] for each in asked.map] + asked.change
+        wrong = compare_files(show, drawings)
+        print(f"{len(drawings)} pictures, {wrong} faults")
+        return 1 if wrong else 0
     if not asked.no_pictures:
         make_pictures(edit, show, os.path.abspath(asked.mend))
     wrong = draw_maps(show, asked.maps, asked.seed) + (draw_hostile(edit, show, asked.seed) if asked.maps else 0)
