@@ -1,5 +1,5 @@
-"""A second drawing of maps, written from docs/FORMATS.md and the constants of the picture: what `border_show` has to write for a
-map, or for what an edit did to it, byte for byte.
+"""A second drawing of maps, written from docs/FORMATS.md and the constants of the picture: what `border_show` has to write
+for a map, or for what an edit did to it, byte for byte.
 
 It draws whole maps alone, without `--at` and `--feature`, and no conflict. Numbers are Python's, so nothing overflows.
 """
@@ -12,14 +12,16 @@ from xml.sax.saxutils import escape
 
 WIDTH, MARGIN, ROW, ACROSS, DOWN = 1000, 20, 20, 960, 720
 LABEL, RISE, LETTER = 1300, 1000, 720
-# How many of the finest parts a unit of the map has, how many ten-thousandths a whole, and how many bytes of a name are shown.
-FINE, RATIO, MOST_BYTES = 10**24, 10_000, 48
+# How many of the finest parts a unit of the map has, how many ten-thousandths a whole; how many bytes of a name and of a
+# title are shown.
+FINE, RATIO, MOST_BYTES, MOST_TITLE = 10**24, 10_000, 48, 76
 QUOTES = {'"': "&quot;", "'": "&apos;", "\r": "&#13;"}
 
 STYLE = """<style>
 path{fill:#d9d4b8;fill-opacity:.5;stroke:#555;fill-rule:evenodd;stroke-linejoin:round}
 path.kept{stroke:#999}
 path.changed{fill:#f2b800;stroke:#999}
+path.lost{fill:#d55e00;fill-opacity:.25;stroke:none}
 path.gone,path.conflict{fill:none;stroke:#d55e00}
 path.new{fill:none;stroke:#0072b2}
 path.named{fill:none;stroke:#222}
@@ -76,11 +78,11 @@ def leaves_of(geometry):
     return [leaf for item in geometry["geometries"] for leaf in leaves_of(item)]
 
 
-def first_bytes(words):
-    """What is shown of a text: at most 48 bytes, and three dots where these are not all."""
-    if len(words.encode()) <= MOST_BYTES:
+def first_bytes(words, most=MOST_BYTES):
+    """What is shown of a text: at most so many bytes, and three dots where these are not all."""
+    if len(words.encode()) <= most:
         return words
-    return words.encode()[:MOST_BYTES].decode(errors="ignore") + "\u2026"
+    return words.encode()[:most].decode(errors="ignore") + "\u2026"
 
 
 def title_of(leaf, name):
@@ -155,13 +157,15 @@ class Units:
     """What a unit of the grid is on the map's own scale."""
 
     def __init__(self, transform, bounds):
-        self.words, self.across, self.ratio = " grid units", FINE, RATIO
+        self.words, self.square, self.ratio = " grid units", "square grid units", RATIO
+        self.across = self.upward = FINE
         if transform:
             scale, translate = (list(map(fine, transform[name])) for name in ("scale", "translate"))
             ends = [[zero + unit * end for end in sides] for unit, zero, sides in zip(scale, translate, bounds)]
-            self.words, self.across = " units", max(1, abs(scale[0]))
+            self.words, self.square = " units", "square units"
+            self.across, self.upward = map(abs, scale)
             if all(abs(end) <= most * FINE for most, sides in zip((180, 90), ends) for end in sides):
-                self.words = "\u00b0 of longitude"
+                self.words, self.square = "\u00b0 of longitude", "square degrees"
                 self.ratio = cosine(cut(cut(sum(ends[1]), 2), FINE // 1000))
 
 
@@ -190,7 +194,7 @@ class Layout:
 
 def bar(layout):
     """The scale bar: 1, 2 or 5 times a power of ten of units, at most a sixth of the width of the map."""
-    span = layout.across * layout.units.across
+    span = layout.across * max(1, layout.units.across)
     length = max(digit * 10 ** zeros for digit in (1, 2, 5) for zeros in range(40) if digit * 10 ** zeros <= span // 6)
     start = WIDTH - MARGIN - length // (span // layout.width)
     whole = f"{length // FINE:,}" if length >= FINE else "0." + str(length).rjust(24, "0").rstrip("0")
@@ -239,29 +243,42 @@ def widest(rings, top, bottom, width):
     return best
 
 
-def place_of(layout, feature):
-    """The top of the row of nine in which a feature is widest, and where it is."""
-    rings = outline(layout, feature)
+def letters(words):
+    """How many characters a text has, each from U+0800 on twice."""
+    return sum(1 + (ord(letter) >= 0x800) for letter in words)
+
+
+def rows_of(layout, feature):
+    """The tops of the nine rows of a feature and where each is widest inside it, the nearest to the middle first."""
+    rings, rows = outline(layout, feature), []
     heights = [y for ring in rings for _, y in ring]
-    top, room = min(heights), max(heights) - min(heights) - LABEL
-    best = None
-    for part in (4, 3, 5, 2, 6, 1, 7, 0, 8):
-        start = top + cut(room * part, 8)
-        if room >= 0:
-            stretch = widest(rings, start, start + LABEL, layout.width * 100)
-            if stretch and (best is None or stretch[1] - stretch[0] > best[2] - best[1]):
-                best = start, *stretch
-    return best
+    room = max(heights, default=0) - min(heights, default=0) - LABEL
+    for part in (4, 3, 5, 2, 6, 1, 7, 0, 8) if room >= 0 else ():
+        top = min(heights) + cut(room * part, 8)
+        stretch = widest(rings, top, top + LABEL, layout.width * 100)
+        rows += [(top, *stretch)] if stretch else []
+    return rows
+
+
+def place_of(rows, width):
+    """The upper left corner of a label of this width: in the first row that has a quarter more room, or else in the widest, if
+    it fits there."""
+    roomy = [row for row in rows if row[2] - row[1] >= width + width // 4]
+    for top, left, right in roomy[:1] or sorted(rows, key=lambda row: row[1] - row[2])[:1]:
+        if width <= right - left:
+            return top, left + (right - left - width) // 2
+    return None
 
 
 def labels(layout, features):
     drawn, taken = "", []
     for feature in sorted(features, key=lambda each: (-area_of(each.polygons), each.number)):
-        place = place_of(layout, feature) if feature.polygons else None
+        rows = rows_of(layout, feature)
         for words in (called(feature), f"#{feature.number}"):
-            width = (len(words) + 1) * LETTER
-            if place and width <= place[2] - place[1]:
-                left, top = place[1] + (place[2] - place[1] - width) // 2, place[0]
+            width = (letters(words) + 1) * LETTER
+            place = place_of(rows, width)
+            if place:
+                top, left = place
                 if not any(top < b and t < top + LABEL and left < r and l < left + width for t, b, l, r in taken):
                     taken.append((top, top + LABEL, left, left + width))
                     drawn += text("name", layout.left + (left + width // 2) // 100, layout.top + (top + RISE) // 100, words)
@@ -342,29 +359,64 @@ def is_seen(layout, one, other):
     return False
 
 
-def grouped(twice):
-    return f"{abs(twice) // 2:,}" + (".5" if twice % 2 else "")
+def first_digits(number, count):
+    """The first digits of a number, and how many follow them."""
+    return int(str(number)[:count]), max(0, len(str(number)) - count)
 
 
-def table(top, pairs):
+def area_text(units, twice):
+    """An area in square units, to nine digits, of which twice as much on the grid is this; computed from the first twelve
+    digits of each factor."""
+    if units.square == "square grid units" and abs(twice) < 2 * 10**12:
+        return f"{abs(twice) // 2:,}" + (".5" if twice % 2 else "")
+    product, power = 5, -49
+    for factor in (abs(twice), units.across, units.upward):
+        digits, more = first_digits(factor, 12)
+        product, power = product * digits, power + more
+    digits, more = first_digits(product, 9)
+    if digits == 0:
+        return "0"
+    with decimal.localcontext(decimal.Context(prec=60)):
+        area = decimal.Decimal(digits).scaleb(power + more).normalize()
+    if -6 <= area.adjusted() < 12:
+        return f"{area:,f}"
+    digits = "".join(map(str, area.as_tuple().digits))
+    return digits[0] + "." * (len(digits) > 1) + digits[1:] + f"e{area.adjusted()}"
+
+
+def table_head(top, units):
     drawn = text("gone", 20, top, "borders gone (dashed)") + text("new", 220, top, "borders new")
-    drawn += text("plain", 360, top, "changed features filled")
-    heads = [("head", 20, "edit"), ("head number", 130, "number"), ("head", 145, "feature"), ("head number", 560, "area before"),
-             ("head number", 730, "area after"), ("head number", 900, "difference"), ("head number", 980, "%")]
-    drawn += "".join(text(style, x, top + 20, words) for style, x, words in heads)
+    drawn += text("plain", 360, top, "changed features filled, gone ones pale") + text("number", 980, top, "areas in " + units.square)
+    heads = [("head", 20, "edit"), ("head number", 130, "number"), ("head", 145, "feature"), ("head number", 600, "area before"),
+             ("head number", 740, "area after"), ("head number", 880, "difference"), ("head number", 980, "%")]
+    return drawn + "".join(text(style, x, top + 20, words) for style, x, words in heads)
+
+
+def areas(y, units, one, other):
+    """The areas of a feature before and after, and their difference."""
+    before, after = (area_of(each.polygons) if each else None for each in (one, other))
+    drawn = "" if before is None else text("number", 600, y, area_text(units, before))
+    drawn += "" if after is None else text("number", 740, y, area_text(units, after))
+    if before is None or after is None or before == after:
+        return drawn
+    sign = "-" if after < before else "+"
+    share = abs(cut((after - before) * 10000, before)) if before else None
+    drawn += text("number", 880, y, sign + area_text(units, after - before))
+    return drawn + text("number", 980, y, "" if share is None else f"{sign}{share // 100}.{share % 100:02}%")
+
+
+def table(top, units, pairs):
+    drawn = table_head(top, units)
     for y, (one, other) in enumerate(pairs[:100]):
         y, shown = top + 40 + 20 * y, other or one
-        edit = "new" if one is None else "gone" if other is None else "renamed" if one.polygons == other.polygons else "changed"
+        is_renamed = one and other and one.polygons == other.polygons
+        edit = "new" if one is None else "gone" if other is None else "renamed" if is_renamed else "changed"
         drawn += text(edit if edit in ("new", "gone") else "plain", 20, y, edit) + text("number", 130, y, f"#{shown.number}")
-        drawn += text("plain", 145, y, shown.title or "")
-        before, after = (area_of(each.polygons) if each else None for each in (one, other))
-        drawn += "" if before is None else text("number", 560, y, grouped(before))
-        drawn += "" if after is None else text("number", 730, y, grouped(after))
-        if before is not None and after is not None and before != after:
-            sign = "-" if after < before else "+"
-            share = abs(cut((after - before) * 10000, before)) if before else None
-            drawn += text("number", 900, y, sign + grouped(after - before))
-            drawn += text("number", 980, y, "" if share is None else f"{sign}{share // 100}.{share % 100:02}%")
+        if is_renamed:
+            ids = ("no id" if each.name is None else each.name for each in (one, other))
+            drawn += text("plain", 145, y, " \u2192 ".join(ids))
+        else:
+            drawn += text("plain", 145, y, shown.title or "") + areas(y, units, one, other)
     if len(pairs) > 100:
         drawn += text("plain", 20, top + 40 + 20 * 100, f"others: {len(pairs) - 100}")
     return drawn + (text("plain", 20, top + 40, "no feature") if not pairs else "")
@@ -375,7 +427,7 @@ def table(top, pairs):
 def page(title, layout, body, over, lines, rows):
     height = layout.top + layout.height + ROW + ROW * rows + MARGIN
     return (f'<svg xmlns="http://www.w3.org/2000/svg" width="{WIDTH}" height="{height}" viewBox="0 0 {WIDTH} {height}">\n' + STYLE
-            + text("head", 20, 30, title) + bar(layout) + f'<svg x="{layout.left}" y="{layout.top}" width="{layout.width}" '
+            + text("head", 20, 30, first_bytes(title, MOST_TITLE)) + bar(layout) + f'<svg x="{layout.left}" y="{layout.top}" width="{layout.width}" '
             f'height="{layout.height}" viewBox="0 0 {layout.width}00 {layout.height}00">\n'
             '<rect class="gap" width="100%" height="100%"/>\n<g stroke-width="100">\n' + body + "</g>\n</svg>\n" + over + lines + "</svg>\n")
 
@@ -393,12 +445,13 @@ def change_page(title, before, after, ids, names=(None, None)):
     pairs, layout = changes_of(old, new), Layout(old + new, after.get("transform"))
     seen = [pair for pair in pairs if is_seen(layout, *pair)]
     filled = {other.number for _, other in seen if other}
-    body = "".join(path(layout, "changed" if each.number in filled else "kept", each) for each in new)
+    body = "".join(path(layout, "lost", one) for one, other in pairs if other is None)
+    body += "".join(path(layout, "changed" if each.number in filled else "kept", each) for each in new)
     body += borders(layout, "gone", [one for one, _ in seen if one], new)
     body += borders(layout, "new", [other for _, other in seen if other], old)
     rows = max(1, min(len(pairs), 100)) + 2 + (len(pairs) > 100)
     top = layout.top + layout.height + 2 * ROW
-    return page(title, layout, body, labels(layout, new) if ids else "", table(top, pairs), rows + 1)
+    return page(title, layout, body, labels(layout, new) if ids else "", table(top, layout.units, pairs), rows + 1)
 
 
 def read(name):

@@ -443,7 +443,7 @@ def without(features):
 # An edit, the rows that it is listed by, and how many features are filled. Areas are on a grid of 1,000 units for each.
 EDITS = (
     ("a vertex in a straight side", with_vertex, [], 0),
-    ("a rename", renamed, [["renamed", "#1", "other", "12,000,000", "12,000,000"]], 0),
+    ("a rename", renamed, [["renamed", "#1", "lower \u2192 other"]], 0),
     ("a moved vertex", moved,
      [["changed", "#2", "upper", "15,000,000", "12,500,000", "-2,500,000", "-16.66%"]], 1),
     ("a deleted feature", without, [["gone", "#1", "lower", "12,000,000"]], 0),
