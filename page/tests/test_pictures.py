@@ -312,7 +312,7 @@ def check_no_feature(checks, show_map, folder):
 
 def inside_of(layout, feature):
     """A place inside a feature that is two pixels and more from its borders, in pixels of the picture, where there is one."""
-    rings = drawn.outline(layout, feature)
+    rings = layout.rings(feature)
     heights = sorted({y for ring in rings for _, y in ring})
     for part in (4, 2, 6, 3, 5):
         top = heights[0] + (heights[-1] - heights[0]) * part // 8 - 200
@@ -343,7 +343,7 @@ def is_over(layout, features, colours, found, place):
     if found not in colours:
         return False
     x, y = (place[0] - layout.left) * 100, (place[1] - layout.top) * 100
-    return is_in((x, y), drawn.outline(layout, features[colours.index(found)]))
+    return is_in((x, y), layout.rings(features[colours.index(found)]))
 
 
 def check_texts(checks, driver, what):
@@ -375,12 +375,11 @@ def check_parts(checks, driver, show_map, folder, place, features):
 def check_map(checks, driver, show_map, folder, place):
     """The picture of a file, and of parts of it."""
     subprocess.run([show_map, place, "--ids", "--out", folder / "map.svg"], check=True, timeout=120)
-    topology = drawn.read(place)
-    features = drawn.features_of(topology)
+    features, layout = drawn.whole(drawn.read(place))
     show(driver, folder / "map.svg")
     check_numbers(checks, driver, place.name)
     check_texts(checks, driver, place.name)
-    check_fills(checks, driver, drawn.Layout(features, topology.get("transform")), features, place.name)
+    check_fills(checks, driver, layout, features, place.name)
     check_parts(checks, driver, show_map, folder, place, features)
 
 
