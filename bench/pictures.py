@@ -5,9 +5,12 @@ The pictures are made by the built programs border_edit, border_show and border_
 them); others can be named. Then `--maps N` maps with drawn ids are drawn too, alone and as what an edit did. Each
 picture has to be well-formed XML with whole numbers alone, in which each feature's title is its number
 and what a model here makes of its id, the page that the second drawing of drawn.py makes, and the same bytes again when it
-is drawn again. `--stored` prints the page of the stored run of border_show, as the second drawing makes it. Damaged, deep and huge
-maps have to end with the fault that border_edit has for them, or, where it names a conflict, with a
-picture that names it. There is one line for each that is wrong; the status is 0 where none is.
+is drawn again. Of every third map a square is drawn. `--stored` prints the page of the stored run of border_show, as the
+second drawing makes it. Damaged, deep and huge maps have to end with the fault that border_edit has for them, or, where
+it names a conflict, with a picture that names it. There is one line for each that is wrong; the status is 0 where none is.
+
+`MAP..` and `--change BEFORE AFTER` compare the pictures of these files alone with the second drawing, byte for byte, and
+make no other: maps that open, whose ids are strings or numbers.
 """
 import argparse
 import json
@@ -135,13 +138,13 @@ def fault_of(bytes_, ids):
     return None if titles == wanted else f"titles {titles!r}, and not {wanted!r}"
 
 
-def second_page(folder, maps, ids):
-    """The page of a map, or of an edit, as the second drawing makes it."""
+def second_page(folder, maps, ids, at):
+    """The page of a map, or of an edit, or of a square of it, as the second drawing makes it."""
     topologies = [drawn.read(folder / each) for each in maps]
     names = [shown(token) for token in ids]
     if len(maps) == 1:
-        return drawn.map_page(maps[0], topologies[0], True, names).encode()
-    return drawn.change_page(" \u2192 ".join(maps), *topologies, True, (names[1:], names)).encode()
+        return drawn.map_page(maps[0], topologies[0], True, names, at).encode()
+    return drawn.change_page(" \u2192 ".join(maps), *topologies, True, (names[1:], names), at).encode()
 
 
 def stored_page():
@@ -160,15 +163,42 @@ def draw_maps(show, count, seed):
             (folder / "map.json").write_text(drawn_map(draw, ids), encoding="utf-8")
             (folder / "before.json").write_text(drawn_map(draw, ids[1:]), encoding="utf-8")
             maps = ["map.json"] if number % 2 else ["before.json", "map.json"]
+            at = (draw.randrange(-60, 80), draw.randrange(240), draw.randrange(1, 200)) if number % 3 == 0 else None
+            words = ["--at", *at] if at else []
             bytes_ = []
             for out in "one.svg", "two.svg":
-                run(show, *(folder / each for each in maps), "--ids", "--out", folder / out)
+                run(show, *(folder / each for each in maps), "--ids", *words, "--out", folder / out)
                 bytes_.append((folder / out).read_bytes())
-            fault = fault_of(bytes_[0], ids) or (None if bytes_[0] == bytes_[1] else "drawn again it differs")
-            fault = fault or (None if bytes_[0] == second_page(folder, maps, ids) else "the second drawing has another page")
+            fault = None if at else fault_of(bytes_[0], ids)
+            fault = fault or (None if bytes_[0] == bytes_[1] else "drawn again it differs")
+            fault = fault or (None if bytes_[0] == second_page(folder, maps, ids, at) else "the second drawing has another page")
             if fault:
                 wrong += 1
                 print(f"map {number}: {fault}")
+    return wrong
+
+
+def first_difference(one, other):
+    """Where two pages differ first, in words."""
+    lines = zip(one.decode().split("\n"), other.decode().split("\n"))
+    return next((f"line {n}: {a[:200]!r}, and not {b[:200]!r}" for n, (a, b) in enumerate(lines, 1) if a != b), "its end")
+
+
+def compare_files(show, drawings):
+    """How many of the pictures of these files, a map or one before and one after an edit each, are another page than the second
+    drawing's."""
+    wrong = 0
+    with tempfile.TemporaryDirectory() as name:
+        for files in drawings:
+            run(show, *files, "--ids", "--out", pathlib.Path(name) / "map.svg")
+            page, topologies = (pathlib.Path(name) / "map.svg").read_bytes(), [drawn.read(file) for file in files]
+            title = " \u2192 ".join(os.path.basename(file) for file in files)
+            make = drawn.map_page if len(files) == 1 else drawn.change_page
+            second = make(title, *topologies, True).encode()
+            wrong += page != second
+            features, paths = len(drawn.features_of(topologies[-1])), page.count(b"<title>")
+            print(f"{title}: {features} features, {paths} drawn, {len(page):,} bytes: "
+                  + ("the same page" if page == second else first_difference(page, second)), flush=True)
     return wrong
 
 
@@ -215,6 +245,9 @@ def draw_hostile(edit, show, seed):
 
 def main():
     words = argparse.ArgumentParser(description=__doc__.split("\n", 1)[0])
+    words.add_argument("map", nargs="*", help="a map whose picture is compared with the second drawing")
+    words.add_argument("--change", nargs=2, action="append", default=[], metavar=("BEFORE", "AFTER"),
+                       help="maps before and after an edit whose picture is compared")
     words.add_argument("--edit", default=str(TOP / "crates/border_edit/out/border_edit"))
     words.add_argument("--show", default=str(TOP / "crates/border_show/out/border_show"))
     words.add_argument("--mend", default=str(TOP / "crates/border_mend/out/border_mend"))
@@ -227,6 +260,11 @@ def main():
         sys.stdout.buffer.write(stored_page())
         return 0
     edit, show = os.path.abspath(asked.edit), os.path.abspath(asked.show)
+    if asked.map or asked.change:
+        drawings = [[each] for each in asked.map] + asked.change
+        wrong = compare_files(show, drawings)
+        print(f"{len(drawings)} pictures, {wrong} faults")
+        return 1 if wrong else 0
     if not asked.no_pictures:
         make_pictures(edit, show, os.path.abspath(asked.mend))
     wrong = draw_maps(show, asked.maps, asked.seed) + (draw_hostile(edit, show, asked.seed) if asked.maps else 0)

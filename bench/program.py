@@ -1,7 +1,7 @@
 #!/usr/bin/env python3
-"""Runs the built program border_edit to each of its ends, and looks at FILE before and after; and runs border_mend to each
-of its ends (bench/mend_ends.py), all three programs on files of all kinds (bench/file_ends.py), and the first and the last
-with each growth of their memory refused in turn (bench/growths.py).
+"""Runs the built program border_edit to each of its ends, and looks at FILE before and after; and runs border_mend and
+border_show to each of theirs (bench/mend_ends.py, bench/show_ends.py), all three programs on files of all kinds
+(bench/file_ends.py), and border_edit and border_mend with each growth of their memory refused in turn (bench/growths.py).
 
 Tests of the crates call what `main` calls. Here the program itself is called: with arguments, on files, on devices
 that are full, with little memory, and with a terminal as standard error. The rows of bench/edit_ends.txt are run, and
@@ -30,6 +30,7 @@ import file_ends
 import growths
 import mend_ends
 import running
+import show_ends
 
 TOP = pathlib.Path(__file__).resolve().parent.parent
 DATA = TOP / "crates/border_edit/data"
@@ -328,7 +329,8 @@ def main():
     words = argparse.ArgumentParser(description=__doc__.split("\n", 1)[0])
     running.add_programs(words, "edit", "show", "mend")
     programs = vars(words.parse_args())
-    parts = [file_ends.told(programs, [*file_ends.rows(), *mend_ends.rows()]), edit_ends.told(programs["edit"])]
+    rows = [*file_ends.rows(), *mend_ends.rows(), *show_ends.rows()]
+    parts = [file_ends.told(programs, rows), edit_ends.told(programs["edit"])]
     if file_ends.compiler():
         parts.append(growths.told(programs))
     else:

@@ -6,7 +6,12 @@ in pixels of the picture. On grids of 10 to 10^12 units the pixel at the middle 
 pixel in a gap has none, each label stands inside its polygon and none covers another. Needs Chromium, chromedriver and
 selenium. The program is the one that BORDER_SHOW names, or else the one that page/programs.py finds. There is a line for
 each check; the last one says how many passed and failed.
+
+With MAP.. it looks at pictures of these files alone, maps that open: the pixel at a place inside each feature, where
+bench/drawn.py draws it, has that feature's fill; each label lies in its feature and none covers another; no text of the
+picture covers another or is cut off; and features that are named are in the middle of the view.
 """
+import argparse
 import importlib.util
 import json
 import os
@@ -23,6 +28,9 @@ from selenium import webdriver
 from selenium.webdriver.chrome.service import Service
 
 TOP = pathlib.Path(__file__).resolve().parents[2]
+sys.path.insert(0, str(TOP / "bench"))
+import drawn  # noqa: E402
+
 GRIDS = (10, 10**6, 3 * 10**7, 10**9, 10**12)
 
 # The features of the drawn map, on a grid of ten units: a square with a hole, two that fill a column beside it with a gap
@@ -62,6 +70,38 @@ const [x, y, width, height] = ['x', 'y', 'width', 'height'].map(name => Number(v
 const path = document.elementFromPoint(x + width / 2, y + height / 2);
 const box = path.getBoundingClientRect();
 return [path.querySelector('title').textContent, Math.max(box.width / width, box.height / height)];
+"""
+# Of each label, whether its box lies in its feature: points along its sides are in the fill of one feature of that number,
+# or outside the view. Of each text, where it is; a label may cover no label, and another text no other text.
+LABELS_OUTSIDE = """
+const view = document.querySelector('svg > svg');
+const features = new Map();
+for (const path of document.querySelectorAll('path.plain'))
+    features.set(path.querySelector('title').textContent.split(' ')[0], path);
+const steps = [...Array(9).keys()].map(k => k / 8);
+return [...document.querySelectorAll('text.name')].filter(text => {
+    const box = text.getBBox(), path = features.get(text.textContent.split(' ')[0]);
+    const isIn = (x, y) => {
+        const point = view.createSVGPoint();
+        point.x = (x - Number(view.getAttribute('x'))) * 100;
+        point.y = (y - Number(view.getAttribute('y'))) * 100;
+        return path.isPointInFill(point);
+    };
+    return !steps.every(k => isIn(box.x + box.width * k, box.y + 2) && isIn(box.x + box.width * k, box.y + box.height - 2));
+}).map(text => text.textContent);
+"""
+TEXTS = """
+return [...document.querySelectorAll('svg > text')].map(text => {
+    const box = text.getBBox();
+    return [text.textContent, box.x, box.y + 2, box.x + box.width, box.y + box.height - 2];
+});
+"""
+# Where the middle of the outline of a named feature is, from the middle of the view in pixels.
+NAMED_FROM_MIDDLE = """
+const box = document.querySelector('path.named').getBoundingClientRect();
+const view = document.querySelector('svg > svg');
+const [x, y, width, height] = ['x', 'y', 'width', 'height'].map(name => Number(view.getAttribute(name)));
+return [box.x + box.width / 2 - x - width / 2, box.y + box.height / 2 - y - height / 2];
 """
 NUMBERS = """
 const found = [];
@@ -268,6 +308,93 @@ def check_no_feature(checks, show_map, folder):
         checks.that(found == (1, f"no feature: {reason}\n", False), f"--feature {text}: {found}")
 
 
+# ---- pictures of files
+
+def inside_of(layout, feature):
+    """A place inside a feature that is two pixels and more from its borders, in pixels of the picture, where there is one."""
+    rings = layout.rings(feature)
+    heights = sorted({y for ring in rings for _, y in ring})
+    for part in (4, 2, 6, 3, 5):
+        top = heights[0] + (heights[-1] - heights[0]) * part // 8 - 200
+        stretch = drawn.widest(rings, top, top + 400, layout.width * 100)
+        if stretch and stretch[1] - stretch[0] >= 400:
+            return layout.left + (stretch[0] + stretch[1]) / 200, layout.top + (top + 200) / 100
+    return None
+
+
+def check_fills(checks, driver, layout, features, what):
+    """The pixel inside each feature has a colour of its own, or that of another one that is over it there."""
+    with_rings = [feature for feature in features if feature.polygons]
+    colours = [(n % 251, n // 251, 77) for n in range(len(with_rings))]
+    driver.execute_script(PAINT, colours)
+    pixels, wrong, seen = pixels_of(driver.get_screenshot_as_png()), [], 0
+    for colour, feature in zip(colours, with_rings):
+        place = inside_of(layout, feature)
+        if place:
+            seen += 1
+            found = colour_at(pixels, *place)
+            if found != colour and not is_over(layout, with_rings, colours, found, place):
+                wrong.append(feature.number)
+    checks.that(seen and not wrong, f"{what}: {seen} of {len(with_rings)} features are where they are, but {wrong}")
+
+
+def is_over(layout, features, colours, found, place):
+    """Whether the feature of this colour has the place inside it too."""
+    if found not in colours:
+        return False
+    x, y = (place[0] - layout.left) * 100, (place[1] - layout.top) * 100
+    return is_in((x, y), layout.rings(features[colours.index(found)]))
+
+
+def check_texts(checks, driver, what):
+    """Labels lie in their features; no text covers another, or is cut off."""
+    outside = driver.execute_script(LABELS_OUTSIDE)
+    texts = driver.execute_script(TEXTS)
+    labels = len(driver.execute_script(LABELS))
+    checks.that(not outside, f"{what}: {labels} labels are in their features, but {outside}")
+    covered = [(a[0], b[0]) for n, a in enumerate(texts) for b in texts[:n] if do_meet(a[1:], b[1:])]
+    checks.that(not covered, f"{what}: no text covers another, but {covered[:5]}")
+    width, height = driver.execute_script("const svg = document.documentElement; return [svg.width, svg.height].map("
+                                          "length => length.baseVal.value)")
+    cut_off = [text for text, *box in texts if box[0] < 0 or box[1] < 0 or box[2] > width or box[3] > height]
+    checks.that(not cut_off, f"{what}: no text is cut off, but {cut_off[:5]}")
+
+
+def check_parts(checks, driver, show_map, folder, place, features):
+    """The largest feature, one in the middle and the smallest are each in the middle of the view where they are named."""
+    by_size = sorted((each for each in features if each.polygons), key=lambda each: drawn.area_of(each.polygons))
+    for feature in by_size[0], by_size[len(by_size) // 2], by_size[-1]:
+        subprocess.run([show_map, place, "--ids", "--feature", f"#{feature.number}", "--out", folder / "part.svg"], check=True,
+                       timeout=120)
+        show(driver, folder / "part.svg")
+        away = driver.execute_script(NAMED_FROM_MIDDLE)
+        checks.that(max(map(abs, away)) < 2, f"{place.name}: #{feature.number} is in the middle of its part, but {away}")
+        check_texts(checks, driver, f"{place.name}, about #{feature.number}")
+
+
+def check_map(checks, driver, show_map, folder, place):
+    """The picture of a file, and of parts of it."""
+    subprocess.run([show_map, place, "--ids", "--out", folder / "map.svg"], check=True, timeout=120)
+    features, layout = drawn.whole(drawn.read(place))
+    show(driver, folder / "map.svg")
+    check_numbers(checks, driver, place.name)
+    check_texts(checks, driver, place.name)
+    check_fills(checks, driver, layout, features, place.name)
+    check_parts(checks, driver, show_map, folder, place, features)
+
+
+def check_change(checks, driver, show_map, folder, before, after):
+    """No text of a picture of an edit covers another."""
+    subprocess.run([show_map, before, after, "--ids", "--out", folder / "edit.svg"], check=True, timeout=120)
+    show(driver, folder / "edit.svg")
+    check_numbers(checks, driver, f"{before.name}, {after.name}")
+    texts = driver.execute_script(TEXTS)
+    covered = [(a[0], b[0]) for n, a in enumerate(texts) for b in texts[:n] if do_meet(a[1:], b[1:])]
+    checks.that(not covered, f"{before.name}, {after.name}: no text covers another, but {covered[:5]}")
+
+
+# ---- edits
+
 def table(driver):
     """The rows of the list of changes, by the lines that the texts stand in."""
     rows = driver.execute_script("return [...document.querySelectorAll('svg > text')].map(text => "
@@ -315,26 +442,42 @@ def without(features):
 # An edit, the rows that it is listed by, and how many features are filled. Areas are on a grid of 1,000 units for each.
 EDITS = (
     ("a vertex in a straight side", with_vertex, [], 0),
-    ("a rename", renamed, [["renamed", "#1", "other", "12,000,000", "12,000,000"]], 0),
+    ("a rename", renamed, [["renamed", "#1", "lower \u2192 other"]], 0),
     ("a moved vertex", moved,
      [["changed", "#2", "upper", "15,000,000", "12,500,000", "-2,500,000", "-16.66%"]], 1),
     ("a deleted feature", without, [["gone", "#1", "lower", "12,000,000"]], 0),
 )
 
 
+def check_all(checks, driver, show_map, folder):
+    """The pictures of the map and the edits above, and of a map of degrees."""
+    for grid in GRIDS:
+        check_grid(checks, driver, show_map, folder, grid)
+        check_feature(checks, driver, show_map, folder, grid)
+    check_title(checks, driver, show_map, folder)
+    check_no_feature(checks, show_map, folder)
+    for what, edit, rows, filled in EDITS:
+        check_edit(checks, driver, show_map, folder, edit, rows, filled, what)
+    check_map(checks, driver, show_map, folder, TOP / "examples/columbus.json")
+
+
 def main():
+    words = argparse.ArgumentParser(description=__doc__, formatter_class=argparse.RawDescriptionHelpFormatter)
+    words.add_argument("map", nargs="*", type=pathlib.Path, help="a map whose picture is looked at")
+    words.add_argument("--change", nargs=2, type=pathlib.Path, action="append", default=[], metavar=("BEFORE", "AFTER"),
+                       help="maps before and after an edit whose picture is looked at")
+    asked = words.parse_args()
     checks, show_map = Checks(), program()
     driver = start_browser()
     try:
         with tempfile.TemporaryDirectory() as name:
             folder = pathlib.Path(name)
-            for grid in GRIDS:
-                check_grid(checks, driver, show_map, folder, grid)
-                check_feature(checks, driver, show_map, folder, grid)
-            check_title(checks, driver, show_map, folder)
-            check_no_feature(checks, show_map, folder)
-            for what, edit, rows, filled in EDITS:
-                check_edit(checks, driver, show_map, folder, edit, rows, filled, what)
+            for place in asked.map:
+                check_map(checks, driver, show_map, folder, place)
+            for before, after in asked.change:
+                check_change(checks, driver, show_map, folder, before, after)
+            if not asked.map and not asked.change:
+                check_all(checks, driver, show_map, folder)
     finally:
         driver.quit()
     print(f"{checks.passed} passed, {checks.failed} failed")

@@ -4,7 +4,7 @@ ghost use Rattle.std.specs.Prelude.{◌≤◌, ◌≤ℤ◌, pos};
 use crate::layout::ROW;
 use crate::map_picture::Picture;
 use map_features::{
-    FeatureChange, Shape, area, feature_name, feature_number, half, percent, signed_half,
+    FeatureChange, Shape, Units, area, feature_id, feature_name, feature_number, percent,
 };
 use std::alloc::{AllocError, Allocator};
 use svg_text::push_words;
@@ -19,11 +19,11 @@ const NUMBER: i64 = 130;
 
 const FEATURE: i64 = 145;
 
-const BEFORE: i64 = 560;
+const BEFORE: i64 = 600;
 
-const AFTER: i64 = 730;
+const AFTER: i64 = 740;
 
-const DIFFERENCE: i64 = 900;
+const DIFFERENCE: i64 = 880;
 
 const PERCENT: i64 = 980;
 
@@ -48,11 +48,19 @@ pub(crate) fn rows_of(changes: usize) -> i64
 }
 
 impl<A: Allocator + Copy> Picture<A> {
-    /// Appends a line that says what the colours mean.
-    fn push_legend(&mut self, y: i64) -> Result<(), AllocError> {
+    /// Appends a line that says what the colours mean, and what the areas are in.
+    fn push_legend(&mut self, y: i64, units: &Units) -> Result<(), AllocError> {
         push_words(&mut self.text, "gone", DONE, y, b"borders gone (dashed)")?;
         push_words(&mut self.text, "new", 220, y, b"borders new")?;
-        push_words(&mut self.text, "plain", 360, y, b"changed features filled")
+        push_words(
+            &mut self.text,
+            "plain",
+            360,
+            y,
+            b"changed features filled, gone ones pale",
+        )?;
+        let words = units.unit.square_words();
+        push_words(&mut self.text, "number", PERCENT, y, words.as_bytes())
     }
 
     /// Appends the heads of the columns.
@@ -67,19 +75,29 @@ impl<A: Allocator + Copy> Picture<A> {
     }
 
     /// Appends the area of a feature where it is known.
-    fn push_area(&mut self, x: i64, y: i64, twice: Option<i128>) -> Result<(), AllocError> {
+    fn push_area(
+        &mut self,
+        (x, y): (i64, i64),
+        units: &Units,
+        twice: Option<i128>,
+    ) -> Result<(), AllocError> {
         if let Some(twice) = twice {
-            let words = half(self.alloc, twice)?;
+            let words = units.area_text(self.alloc, twice)?;
             push_words(&mut self.text, "number", x, y, words.as_slice())?;
         }
         Ok(())
     }
 
     /// Appends how an area changed.
-    fn push_difference(&mut self, y: i64, before: i128, after: i128) -> Result<(), AllocError> {
+    fn push_difference(
+        &mut self,
+        y: i64,
+        units: &Units,
+        (before, after): (i128, i128),
+    ) -> Result<(), AllocError> {
         let difference = after.saturating_sub(before);
         if difference != 0 {
-            let words = signed_half(self.alloc, difference)?;
+            let words = units.signed_area_text(self.alloc, difference)?;
             push_words(&mut self.text, "number", DIFFERENCE, y, words.as_slice())?;
             let words = percent(self.alloc, difference, before)?;
             push_words(&mut self.text, "number", PERCENT, y, words.as_slice())?;
@@ -88,40 +106,82 @@ impl<A: Allocator + Copy> Picture<A> {
     }
 
     /// Appends the areas of a feature before and after.
-    fn push_areas(&mut self, y: i64, change: &FeatureChange<'_, A>) -> Result<(), AllocError> {
+    fn push_areas(
+        &mut self,
+        y: i64,
+        units: &Units,
+        change: &FeatureChange<'_, A>,
+    ) -> Result<(), AllocError> {
         let before = change.before.and_then(|shape| area(shape.polygons));
         let after = change.after.and_then(|shape| area(shape.polygons));
-        self.push_area(BEFORE, y, before)?;
-        self.push_area(AFTER, y, after)?;
+        self.push_area((BEFORE, y), units, before)?;
+        self.push_area((AFTER, y), units, after)?;
         match (before, after) {
-            (Some(before), Some(after)) => self.push_difference(y, before, after),
+            (Some(before), Some(after)) => self.push_difference(y, units, (before, after)),
             _ => Ok(()),
         }
     }
 
-    /// Appends the number of a feature and what it is called.
-    fn push_called(&mut self, y: i64, shape: &Shape<'_, A>) -> Result<(), AllocError> {
+    /// Appends what became of a feature, and its number.
+    fn push_done(
+        &mut self,
+        y: i64,
+        (class, done): (&str, &str),
+        shape: &Shape<'_, A>,
+    ) -> Result<(), AllocError> {
+        push_words(&mut self.text, class, DONE, y, done.as_bytes())?;
         let number = feature_number(self.alloc, shape)?;
-        push_words(&mut self.text, "number", NUMBER, y, number.as_slice())?;
+        push_words(&mut self.text, "number", NUMBER, y, number.as_slice())
+    }
+
+    /// Appends the line of a feature that has another id.
+    fn push_renamed(
+        &mut self,
+        y: i64,
+        before: &Shape<'_, A>,
+        after: &Shape<'_, A>,
+    ) -> Result<(), AllocError> {
+        self.push_done(y, ("plain", "renamed"), after)?;
+        let mut words = feature_id(self.alloc, self.heap, before)?;
+        words.extend_from_slice(" \u{2192} ".as_bytes())?;
+        let id = feature_id(self.alloc, self.heap, after)?;
+        words.extend_from_slice(id.as_slice())?;
+        push_words(&mut self.text, "plain", FEATURE, y, words.as_slice())
+    }
+
+    /// Appends what a feature is called, and its areas.
+    fn push_called(
+        &mut self,
+        y: i64,
+        units: &Units,
+        shape: &Shape<'_, A>,
+        change: &FeatureChange<'_, A>,
+    ) -> Result<(), AllocError> {
         let name = feature_name(self.alloc, self.heap, shape)?;
-        push_words(&mut self.text, "plain", FEATURE, y, name.as_slice())
+        push_words(&mut self.text, "plain", FEATURE, y, name.as_slice())?;
+        self.push_areas(y, units, change)
     }
 
     /// Appends the line of a change.
-    fn push_change(&mut self, y: i64, change: &FeatureChange<'_, A>) -> Result<(), AllocError> {
-        let (class, done, shape) = match (&change.before, &change.after) {
-            (Some(before), None) => ("gone", "gone", before),
-            (None, Some(after)) => ("new", "new", after),
-            (Some(before), Some(after)) => if before.polygons == after.polygons {
-                ("plain", "renamed", after)
-            } else {
-                ("plain", "changed", after)
-            },
+    fn push_change(
+        &mut self,
+        y: i64,
+        units: &Units,
+        change: &FeatureChange<'_, A>,
+    ) -> Result<(), AllocError> {
+        let (done, shape) = match (&change.before, &change.after) {
+            (Some(before), None) => (("gone", "gone"), before),
+            (None, Some(after)) => (("new", "new"), after),
+            (Some(before), Some(after)) => {
+                if before.polygons == after.polygons {
+                    return self.push_renamed(y, before, after);
+                }
+                (("plain", "changed"), after)
+            }
             (None, None) => return Ok(()),
         };
-        push_words(&mut self.text, class, DONE, y, done.as_bytes())?;
-        self.push_called(y, shape)?;
-        self.push_areas(y, change)
+        self.push_done(y, done, shape)?;
+        self.push_called(y, units, shape, change)
     }
 
     /// Appends how many changes are not listed, or that there is none.
@@ -137,13 +197,17 @@ impl<A: Allocator + Copy> Picture<A> {
     }
 
     /// Appends the list of changes, from the second line below the map down.
-    pub(crate) fn push_list(&mut self, changes: &[FeatureChange<'_, A>]) -> Result<(), AllocError> {
+    pub(crate) fn push_list(
+        &mut self,
+        units: &Units,
+        changes: &[FeatureChange<'_, A>],
+    ) -> Result<(), AllocError> {
         let top = self.layout.first_line() + ROW;
-        self.push_legend(top)?;
+        self.push_legend(top, units)?;
         self.push_head(top + ROW)?;
         let mut y = top + 2 * ROW;
         for change in &changes[..listed(changes.len())] {
-            self.push_change(y, change)?;
+            self.push_change(y, units, change)?;
             y = y.saturating_add(ROW);
         }
         self.push_others(y, changes.len())

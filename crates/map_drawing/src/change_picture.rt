@@ -103,8 +103,18 @@ impl<A: Allocator + Copy> Picture<A> {
         self.push_runs(look, runs.as_slice())
     }
 
-    /// Appends the map after the edit, with the features filled whose change is seen, and over it the borders
-    /// that are gone and new.
+    /// Appends the features that are gone.
+    fn push_lost(&mut self, changes: &[FeatureChange<'_, A>]) -> Result<(), AllocError> {
+        for change in changes {
+            if let (Some(before), None) = (&change.before, &change.after) {
+                self.push_shape(before, Look::Lost)?;
+            }
+        }
+        Ok(())
+    }
+
+    /// Appends the features that are gone, over them the map after the edit, with the features filled whose
+    /// change is seen, and over it the borders that are gone and new.
     fn push_edit(
         &mut self,
         old: &[Shape<'_, A>],
@@ -112,6 +122,7 @@ impl<A: Allocator + Copy> Picture<A> {
         changes: &[FeatureChange<'_, A>],
     ) -> Result<(), AllocError> {
         let seen = self.seen(changes)?;
+        self.push_lost(changes)?;
         for shape in new {
             let look = if seen.has(shape.number) {
                 Look::Changed
@@ -139,11 +150,11 @@ fn draw_features<A: Allocator + Copy>(
     picture.open(units, title, rows_of(list.len()) + 1)?;
     picture.push_edit(old, new, changes.as_slice())?;
     picture.close_map(new)?;
-    picture.push_list(list.as_slice())?;
+    picture.push_list(units, list.as_slice())?;
     picture.close()
 }
 
-/// The picture of what an edit did: the map after it, the borders that are gone and those that are
+/// The picture of what an edit did: the map after it, the features and borders that are gone and those that are
 /// new, the changed features filled, and a list of them. The two segments in conflict that the view
 /// names are marked.
 ///

@@ -25,20 +25,22 @@ pub(crate) struct Label {
     stretch: Stretch,
 }
 
-/// How many characters a text of UTF-8 has.
-fn characters(words: &[u8]) -> usize {
-    words.iter().filter(|byte| **byte & 0xC0 != 0x80).count()
+/// How many characters a text of UTF-8 has, each from U+0800 on twice: many of those are twice as wide.
+fn letters(words: &[u8]) -> usize {
+    let all = words.iter().filter(|byte| **byte & 0xC0 != 0x80).count();
+    let wide = words.iter().filter(|byte| 0xE0 <= **byte).count();
+    all.saturating_add(wide)
 }
 
 /// How wide a text is, in hundredths of a pixel.
 fn width_of(words: &[u8]) -> i64 {
-    let count = i64::try_from(characters(words)).unwrap_or(i64::MAX);
+    let count = i64::try_from(letters(words)).unwrap_or(i64::MAX);
     count.saturating_add(1).saturating_mul(LETTER)
 }
 
 impl Label {
     /// The place of these words in the middle of a stretch of a row, if they are no wider.
-    pub(crate) fn within(row: Row, stretch: Stretch, words: &[u8]) -> Option<Label> {
+    fn within(row: Row, stretch: Stretch, words: &[u8]) -> Option<Label> {
         let width = width_of(words);
         let left = stretch.width().saturating_sub(width);
         if left < 0 {
@@ -86,27 +88,44 @@ fn row_at(rows: Row, part: i64) -> Row {
     }
 }
 
-/// The row of the height of a label in which a feature is widest, and where it is so wide: among nine
-/// rows, the nearest to the middle where several are as wide. None where it is lower than a label.
-pub(crate) fn widest_row<A: Allocator + Copy>(
+/// The rows of the height of a label that are inside a feature, and where each is widest: nine at most, the
+/// nearest to the middle first. None where it is lower than a label.
+pub(crate) fn rows_inside<A: Allocator + Copy>(
     alloc: A,
     rings: &[Vec<Point, A>],
     ends: Stretch,
     height: i64,
-) -> Result<Option<(Row, Stretch)>, AllocError> {
+) -> Result<Vec<(Row, Stretch), A>, AllocError> {
     let rows = rows_of(rings, height);
-    let mut best = None;
-    let mut most: i64 = 0;
+    let mut inside = Vec::new(alloc);
     for part in [4, 3, 5, 2, 6, 1, 7, 0, 8] {
         let row = row_at(rows, part);
         if rows.top <= row.top
             && row.bottom <= rows.bottom
             && let Some(stretch) = row.widest(alloc, rings, ends)?
-            && most < stretch.width()
         {
-            best = Some((row, stretch));
+            inside.push((row, stretch))?;
+        }
+    }
+    Ok(inside)
+}
+
+/// The place of words in the first of these rows that has a quarter more room than they need, or else in the
+/// widest, if they fit there.
+pub(crate) fn place_in(rows: &[(Row, Stretch)], words: &[u8]) -> Option<Label> {
+    let width = width_of(words);
+    let room = width.saturating_add(width / 4);
+    let mut widest: Option<(Row, Stretch)> = None;
+    let mut most: i64 = 0;
+    for (row, stretch) in rows {
+        if room <= stretch.width() {
+            return Label::within(*row, *stretch, words);
+        }
+        if most < stretch.width() {
+            widest = Some((*row, *stretch));
             most = stretch.width();
         }
     }
-    Ok(best)
+    let (row, stretch) = widest?;
+    Label::within(row, stretch, words)
 }

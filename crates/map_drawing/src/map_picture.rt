@@ -1,7 +1,7 @@
 // The picture of a map.
 ghost use Rattle.std.specs.Prelude.{◌≤ℤ◌, pos};
 
-use crate::labels::{Label, widest_row};
+use crate::labels::{Label, place_in, rows_inside};
 use crate::layout::{Layout, MARGIN, PIXEL, ROW, WIDTH};
 use crate::outlines::push_outline;
 use crate::paths::push_rings;
@@ -11,6 +11,7 @@ use crate::styles::prelude;
 use crate::view::View;
 use map_features::{
     Bounds, Shape, Units, Window, bounds_of, by_size, feature_number, number_and_id, shapes_of,
+    shortened,
 };
 use std::alloc::{AllocError, Allocator, Global};
 use svg_text::{
@@ -21,6 +22,9 @@ use topo_reader::RawDoc;
 /// How far the line of the title is from the top.
 const TITLE: i64 = 30;
 
+/// The most bytes of a title that are shown, since the bar of length follows.
+const MOST_TITLE: usize = 76;
+
 /// How a feature or a border looks.
 #[derive(Clone, Copy, Debug, PartialEq, Eq)]
 pub(crate) enum Look {
@@ -30,6 +34,8 @@ pub(crate) enum Look {
     Kept,
     /// A feature that an edit changed.
     Changed,
+    /// A feature that an edit took away.
+    Lost,
     /// Borders that an edit took away.
     Gone,
     /// Borders that an edit made.
@@ -47,6 +53,7 @@ impl Look {
             Look::Plain => "plain",
             Look::Kept => "kept",
             Look::Changed => "changed",
+            Look::Lost => "lost",
             Look::Gone => "gone",
             Look::New => "new",
             Look::Named => "named",
@@ -96,7 +103,8 @@ impl<A: Allocator + Copy> Picture<A> {
         let height = self.layout.first_line() + ROW * rows + MARGIN;
         open_picture(&mut self.text, WIDTH, height)?;
         self.text.extend_from_slice(prelude().as_bytes())?;
-        push_words(&mut self.text, "head", MARGIN, TITLE, title.as_bytes())?;
+        let title = shortened(self.alloc, title.as_bytes(), MOST_TITLE)?;
+        push_words(&mut self.text, "head", MARGIN, TITLE, title.as_slice())?;
         self.push_bar(units)?;
         self.open_map()
     }
@@ -165,26 +173,26 @@ impl<A: Allocator + Copy> Picture<A> {
         Ok(())
     }
 
-    /// Appends the number and the `id` of a feature in a stretch of a row, or the number alone, if there is
-    /// room for it.
+    /// Appends the number and the `id` of a feature in one of these rows, or the number alone, if there is room
+    /// for it.
     fn push_within(
         &mut self,
         shape: &Shape<'_, A>,
-        (row, stretch): (Row, Stretch),
+        rows: &[(Row, Stretch)],
         labels: &mut Vec<Label, A>,
     ) -> Result<(), AllocError> {
         let whole = number_and_id(self.alloc, self.heap, shape)?;
-        if let Some(label) = Label::within(row, stretch, whole.as_slice()) {
+        if let Some(label) = place_in(rows, whole.as_slice()) {
             return self.push_at(label, whole.as_slice(), labels);
         }
         let short = feature_number(self.alloc, shape)?;
-        match Label::within(row, stretch, short.as_slice()) {
+        match place_in(rows, short.as_slice()) {
             Some(label) => self.push_at(label, short.as_slice(), labels),
             None => Ok(()),
         }
     }
 
-    /// Appends the label of a feature where it is widest.
+    /// Appends the label of a feature.
     fn push_label(
         &mut self,
         shape: &Shape<'_, A>,
@@ -196,10 +204,8 @@ impl<A: Allocator + Copy> Picture<A> {
             right: self.layout.width(),
         };
         let height = self.layout.height();
-        match widest_row(self.alloc, rings.as_slice(), ends, height)? {
-            Some(place) => self.push_within(shape, place, labels),
-            None => Ok(()),
-        }
+        let rows = rows_inside(self.alloc, rings.as_slice(), ends, height)?;
+        self.push_within(shape, rows.as_slice(), labels)
     }
 
     /// Appends the labels of features, the largest features first.

@@ -6,6 +6,7 @@ const COMMON: &str = "<style>
 path{fill:#d9d4b8;fill-opacity:.5;stroke:#555;fill-rule:evenodd;stroke-linejoin:round}
 path.kept{stroke:#999}
 path.changed{fill:#f2b800;stroke:#999}
+path.lost{fill:#d55e00;fill-opacity:.25;stroke:none}
 path.gone,path.conflict{fill:none;stroke:#d55e00}
 path.new{fill:none;stroke:#0072b2}
 path.named{fill:none;stroke:#222}

@@ -16,7 +16,7 @@ pub(crate) fn push_grouped<A: Allocator>(
 }
 
 /// The sign of a number: none of 0.
-fn sign(number: i128) -> &'static str {
+pub(crate) fn sign(number: i128) -> &'static str {
     if number < 0 {
         "-"
     } else if number == 0 {
@@ -27,7 +27,7 @@ fn sign(number: i128) -> &'static str {
 }
 
 /// Half of a number.
-pub fn half<A: Allocator + Copy>(alloc: A, twice: i128) -> Result<Vec<u8, A>, AllocError> {
+pub(crate) fn half<A: Allocator + Copy>(alloc: A, twice: i128) -> Result<Vec<u8, A>, AllocError> {
     let twice = twice.unsigned_abs();
     let digits = format!(in alloc; "{}", twice / 2)?;
     let mut text = Vec::new(alloc);
@@ -35,14 +35,6 @@ pub fn half<A: Allocator + Copy>(alloc: A, twice: i128) -> Result<Vec<u8, A>, Al
     if twice % 2 == 1 {
         text.extend_from_slice(b".5")?;
     }
-    Ok(text)
-}
-
-/// Half of a number with its sign, where it is not 0.
-pub fn signed_half<A: Allocator + Copy>(alloc: A, twice: i128) -> Result<Vec<u8, A>, AllocError> {
-    let mut text = Vec::from_slice(alloc, sign(twice).as_bytes())?;
-    let half = half(alloc, twice)?;
-    text.extend_from_slice(half.as_slice())?;
     Ok(text)
 }
 

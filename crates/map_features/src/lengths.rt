@@ -40,7 +40,10 @@ pub fn round_length(most: i128) -> Length {
 }
 
 /// Appends so many zeros.
-fn push_zeros<A: Allocator>(text: &mut Vec<u8, A>, count: u32) -> Result<(), AllocError> {
+pub(crate) fn push_zeros<A: Allocator>(
+    text: &mut Vec<u8, A>,
+    count: u64,
+) -> Result<(), AllocError> {
     for _zero in 0..count {
         text.push(b'0')?;
     }
@@ -65,11 +68,11 @@ impl Length {
         let digit = b'0'.saturating_add(self.digit);
         if FINE_ZEROS <= self.zeros {
             let mut digits = Vec::from_slice(alloc, &[digit])?;
-            push_zeros(&mut digits, self.zeros - FINE_ZEROS)?;
+            push_zeros(&mut digits, u64::from(self.zeros - FINE_ZEROS))?;
             push_grouped(&mut text, digits.as_slice())?;
         } else {
             text.extend_from_slice(b"0.")?;
-            push_zeros(&mut text, FINE_ZEROS - self.zeros - 1)?;
+            push_zeros(&mut text, u64::from(FINE_ZEROS - self.zeros - 1))?;
             text.push(digit)?;
         }
         text.extend_from_slice(unit.words().as_bytes())?;

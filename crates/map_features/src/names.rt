@@ -15,9 +15,9 @@ fn goes_on(byte: u8) -> bool {
     byte & 0xC0 == 0x80
 }
 
-/// The first bytes of a text, at most 48, with no character cut.
-fn first_bytes(words: &[u8]) -> &[u8] {
-    let mut end = words.len().min(MOST_BYTES);
+/// The first bytes of a text, at most so many, with no character cut.
+fn first_bytes(words: &[u8], most: usize) -> &[u8] {
+    let mut end = words.len().min(most);
     while 0 < end && end < words.len() && goes_on(words[end]) {
         end -= 1;
     }
@@ -52,9 +52,13 @@ fn without_quotes(token: &[u8]) -> &[u8]
     }
 }
 
-/// What is shown of a text: its first bytes, and three dots where these are not all.
-fn shown<A: Allocator>(alloc: A, words: &[u8]) -> Result<Vec<u8, A>, AllocError> {
-    let first = first_bytes(words);
+/// The first bytes of a text, at most so many, and three dots where these are not all.
+pub fn shortened<A: Allocator>(
+    alloc: A,
+    words: &[u8],
+    most: usize,
+) -> Result<Vec<u8, A>, AllocError> {
+    let first = first_bytes(words, most);
     let mut name = Vec::from_slice(alloc, first)?;
     if first.len() < words.len() {
         name.extend_from_slice("\u{2026}".as_bytes())?;
@@ -70,8 +74,8 @@ fn value_text<A: Allocator>(
     value: &[u8],
 ) -> Result<Vec<u8, A>, AllocError> {
     match text(heap, Span { text: value, at: 0 }) {
-        Ok(words) => shown(alloc, words.as_bytes()),
-        Err(TextFault::BadText) => shown(alloc, without_quotes(value)),
+        Ok(words) => shortened(alloc, words.as_bytes(), MOST_BYTES),
+        Err(TextFault::BadText) => shortened(alloc, without_quotes(value), MOST_BYTES),
         Err(TextFault::OutOfMemory) => Err(AllocError),
     }
 }
@@ -153,5 +157,17 @@ pub fn feature_name<A: Allocator + Copy>(
     match shape.properties.and_then(name_of).or(shape.id) {
         Some(value) => value_text(alloc, heap, value),
         None => Ok(Vec::new(alloc)),
+    }
+}
+
+/// What the `id` of a feature stands for, or that it has none.
+pub fn feature_id<A: Allocator + Copy>(
+    alloc: A,
+    heap: Global,
+    shape: &Shape<'_, A>,
+) -> Result<Vec<u8, A>, AllocError> {
+    match shape.id {
+        Some(id) => value_text(alloc, heap, id),
+        None => Vec::from_slice(alloc, b"no id"),
     }
 }

@@ -39,6 +39,8 @@ pub struct Units {
     pub unit: Unit,
     /// How long a unit of the grid is across, in the finest parts of that.
     pub across: i128,
+    /// How long a unit of the grid is upward, in the finest parts of that.
+    pub upward: i128,
     /// How many ten-thousandths of a unit upward are as long as a unit across.
     pub ratio: i64,
     pub ghost ratio_range: { (pos 0 ≤ℤ ratio) × (ratio ≤ℤ pos 10000) },
@@ -130,6 +132,7 @@ impl Units {
         Units {
             unit: Unit::Grid,
             across: FINE,
+            upward: FINE,
             ratio: 10_000,
         }
     }
@@ -142,6 +145,7 @@ impl Units {
         Units {
             unit: Unit::Degree,
             across: x.scale,
+            upward: y.scale,
             ratio: cosine(thousandths),
         }
     }
@@ -161,6 +165,7 @@ impl Units {
         Units {
             unit: Unit::Map,
             across: x.scale,
+            upward: y.scale,
             ratio: 10_000,
         }
     }

@@ -42,7 +42,7 @@ const EDITS: &[Edit] = &[
     ),
     (
         RENAMED,
-        &[">renamed</text>", ">E</text>"],
+        &[">renamed</text>", ">A \u{2192} E</text>"],
         &[r#"<path class="changed""#, ">gone</text>", ">new</text>"],
     ),
 ];
