@@ -1,2 +1,3 @@
 pub mod WordLemmas
+pub mod RuleLemmas
 pub mod ListingLemmas

@@ -5,52 +5,36 @@ use Rattle.clap.specs.Words.{App, Rule, new_app, new_rule, with_rule, first_of, 
 use Rattle.program_ends.specs.Common.{with_version}
 use Rattle.clap.specs.declared.builder.action.ArgAction.TheVariants.{Set, SetTrue}
 
+-- an argument that stands in its place and is required
+abbrev pub placed_rule : List ℕ → Rule
+placed_rule name = record (new_rule name) { required = true; action = Some Set }
+
+-- an argument that need not be there, and takes a value after its name
+abbrev pub option_rule : List ℕ → Rule
+option_rule name = record (new_rule name) {
+  long = Some name;
+  value_names = 1;
+  action = Some Set;
+}
+
+-- an argument that need not be there, and has no value
+abbrev pub flag_rule : List ℕ → Rule
+flag_rule name = record (new_rule name) {
+  long = Some name;
+  action = Some SetTrue;
+}
+
+-- one that takes a value after its name, and is required
+abbrev pub out_rule : Rule
+out_rule = record (option_rule (codes "out")) { required = true }
+
 -- MAP and SCRIPT stand in their places, and --out FILE is required too; --undo N, --refused FILE2,
 -- --progress and --strict are not
-abbrev pub map_rule : Rule
-map_rule = record (new_rule (codes "MAP")) { required = true; action = Some Set }
-
-abbrev pub script_rule : Rule
-script_rule = record (new_rule (codes "SCRIPT")) { required = true; action = Some Set }
-
-abbrev pub out_rule : Rule
-out_rule = record (new_rule (codes "out")) {
-  long = Some (codes "out");
-  value_names = 1;
-  required = true;
-  action = Some Set;
-}
-
-abbrev pub undo_rule : Rule
-undo_rule = record (new_rule (codes "undo")) {
-  long = Some (codes "undo");
-  value_names = 1;
-  action = Some Set;
-}
-
-abbrev pub refused_rule : Rule
-refused_rule = record (new_rule (codes "refused")) {
-  long = Some (codes "refused");
-  value_names = 1;
-  action = Some Set;
-}
-
-abbrev pub progress_rule : Rule
-progress_rule = record (new_rule (codes "progress")) {
-  long = Some (codes "progress");
-  action = Some SetTrue;
-}
-
-abbrev pub strict_rule : Rule
-strict_rule = record (new_rule (codes "strict")) {
-  long = Some (codes "strict");
-  action = Some SetTrue;
-}
-
 abbrev pub program : App
 program =
     with_rule (with_rule (with_rule (with_rule (with_rule (with_rule (with_rule (with_version (new_app (codes "border_edit")))
-    map_rule) script_rule) out_rule) undo_rule) refused_rule) progress_rule) strict_rule
+    (placed_rule (codes "MAP"))) (placed_rule (codes "SCRIPT"))) out_rule) (option_rule (codes "undo")))
+    (option_rule (codes "refused"))) (flag_rule (codes "progress"))) (flag_rule (codes "strict"))
 
 -- the value that clap finds for an argument among the words, the program's name first
 abbrev pub argument_of : List ℕ → List (List ℕ) → Option (List ℕ)

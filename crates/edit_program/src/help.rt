@@ -33,3 +33,20 @@ does not open; 3 a file, a device or memory failed; 64 the arguments are wrong.
 Examples:
   border_edit map.json script.txt --out saved.json
   printf 'move 10 10 12 12\\narea 0\\n' | border_edit map.json - --out map.json --strict";
+
+// What each argument asks for.
+pub(crate) const MAP: &str = "The TopoJSON map to open";
+
+pub(crate) const SCRIPT: &str = "The script, one command a line; - is standard input";
+
+pub(crate) const OUT: &str = "Save the edited map in this file; it may be MAP";
+
+pub(crate) const UNDO: &str = "How many changes undo can revert, from 1 to 1000; 100 by default";
+
+pub(crate) const REFUSED: &str =
+    "Write each refused or bad line to this file, with its number, answer and reason";
+
+pub(crate) const PROGRESS: &str = "Report progress on standard error if it is a terminal";
+
+pub(crate) const STRICT: &str =
+    "Save FILE only if no line was refused or bad and the last one ends with a line feed";

@@ -3,6 +3,7 @@ ghost use Rattle.std.specs.Prelude.{◌≡◌, ◌||◌, true, false, OnOk, OnEr
 ghost use Rattle.std.specs.Io.KnownBytes.{Keeps};
 
 use crate::refused_lines::RefusedLines;
+use crate::taken::{Taken, passed};
 use device_io::{Failed, Sink};
 use std::cell::RefCell;
 
@@ -56,11 +57,14 @@ impl<'a, W> NotedAnswers<'a, W> {
         Ok(())
     }
 
-    /// Notes a piece, or that it could not be noted.
-    fn note(&mut self, piece: &[u8])
+    /// Notes the bytes that the sink has taken, or that they could not be noted. What was not noted once stays
+    /// so.
+    fn note(&mut self, taken: Taken<'_>)
         ensures sink { sink_of self.new ≡ sink_of self.old }
         ensures works { fails_alone self.new ≡ fails_alone self.old }
+        ensures short { is_cut self.old ≡ true → is_cut self.new ≡ true }
     {
+        let piece = taken.bytes();
         let noted = match self.list.try_borrow_mut() {
             Ok(mut list) => list.take_answers(piece).is_ok(),
             Err(_) => false,
@@ -80,8 +84,9 @@ impl<W: Sink> Sink for NotedAnswers<'_, W> {
 
     fn put(&mut self, piece: &[u8]) -> Result<usize, Failed> {
         self.pass()?;
-        let n = self.sink.put(piece)?;
-        self.note(&piece[..n]);
+        let taken = passed(&mut self.sink, piece)?;
+        let n = taken.count();
+        self.note(taken);
         Ok(n)
     }
 

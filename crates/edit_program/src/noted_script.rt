@@ -63,10 +63,12 @@ impl<'a, R> NotedScript<'a, R> {
         Ok(())
     }
 
-    /// Notes a piece, or the end of the script, or that it could not be noted.
+    /// Notes a piece, or the end of the script, or that it could not be noted. What was not noted once stays
+    /// so.
     fn note(&mut self, piece: &[u8], is_end: bool)
         ensures source { source_of self.new ≡ source_of self.old }
         ensures works { fails_noted self.new ≡ fails_noted self.old }
+        ensures short { is_short self.old ≡ true → is_short self.new ≡ true }
     {
         let noted = match self.list.try_borrow_mut() {
             Ok(mut list) if is_end => list.end_script().is_ok(),
