@@ -13,9 +13,11 @@ sys.path.insert(0, str(pathlib.Path(__file__).resolve().parent))
 sys.path.insert(1, str(pathlib.Path(__file__).resolve().parents[1]))
 
 from browser import By, Keys, Page, new_folder, start_browser
+from page_checks import COUNTS, act_of, document, is_map, same, true, verbs
 import programs
 
 EXAMPLES = pathlib.Path(__file__).resolve().parents[2] / "examples"
+TOUCHING = pathlib.Path(__file__).resolve().parent / "maps/touching.json"
 BORDER_EDIT = programs.find("border_edit")[0]
 # Two layers over the same borders: two zones of one feature, and two fields that make up the first one.
 TWO_LAYERS = {
@@ -40,39 +42,6 @@ HOSTILE = {
     "arcs": [[[100, 100], [0, 100], [0, 0], [100, 0]], [[100, 0], [100, 100]],
              [[100, 0], [200, 0], [200, 100], [100, 100]]],
 }
-COUNTS = {"passed": 0, "failed": 0}
-
-
-def same(name, found, expected):
-    """A check: what was found is what is expected."""
-    is_same = found == expected
-    COUNTS["passed" if is_same else "failed"] += 1
-    print(f"ok      {name}" if is_same else f"FAILED  {name}: {found!r} is not {expected!r}", flush=True)
-
-
-def true(name, found, why=""):
-    """A check: something holds."""
-    COUNTS["passed" if found else "failed"] += 1
-    print(f"ok      {name}" if found else f"FAILED  {name} {why}", flush=True)
-
-
-def act_of(page):
-    """The lines of the newest act."""
-    log = page.js("return editor.log")
-    return [entry["line"] for entry in log if entry["act"] == log[-1]["act"]]
-
-
-def verbs(lines):
-    return [line.split(" ")[0] for line in lines]
-
-
-def is_map(page, name):
-    """A check: what is drawn is the map of border_edit."""
-    same(f"{name}: the drawing is the map", page.check(), None)
-
-
-def document(page):
-    return page.later("editor.talk.text('document')")
 
 
 def saved_by_program(page, map_path, folder):
@@ -83,6 +52,14 @@ def saved_by_program(page, map_path, folder):
     command = [BORDER_EDIT, map_path, script, "--out", out, "--undo", "1000"]
     done = subprocess.run(command, capture_output=True, text=True)
     return done, out.read_bytes() if out.exists() else None
+
+
+def test_first_drawing(page, asked):
+    """The file of the map is drawn, and the text of the map in its place where the file has a vertex twice."""
+    found = page.js("return performance.getEntriesByType('resource').map(entry => entry.name.split('/').pop())"
+                    ".filter(name => name === 'map' || name === 'document')")
+    same("what is asked for to draw the map", found, asked)
+    is_map(page, "opening")
 
 
 # ---- by mouse
@@ -758,10 +735,18 @@ def run_all(driver, folder, downloads):
     wards = shutil.copy(EXAMPLES / "wards.json", folder / "wards.json")
     with_page(driver, wards, ["--out", mended], lambda page: test_mending(page, mended))
     with_page(driver, put(folder, "broken.json", '{"type":"Topology",'), [], test_not_mendable)
+    with_page(driver, shutil.copy(TOUCHING, folder / "touching.json"), [], test_touching)
+
+
+def test_touching(page):
+    """A map whose borders touch within arcs of its file."""
+    page.load()
+    test_first_drawing(page, ["map", "document"])
 
 
 def edits_by_mouse(page):
     page.load()
+    test_first_drawing(page, ["map"])
     test_refused(page, *test_dragging(page))
     test_vertices(page)
     test_split_and_merge(page)
