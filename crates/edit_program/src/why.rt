@@ -51,17 +51,53 @@ fn repeated(path: &[Pos]) -> Option<Pos> {
     None
 }
 
+/// The refusals of which a line tells what they are about.
+#[derive(Clone, Copy)]
+enum Refusal {
+    NoVertex,
+    /// A junction, or a vertex of a ring of three.
+    Needed,
+    Occupied,
+    NoSegment,
+    Repeated,
+    /// The feature is not there, or is itself a layer.
+    Feature,
+    SameFeature,
+}
+
+/// How they are answered, after the word `refused`.
+const REFUSALS: &[(&str, Refusal)] = &[
+    ("no vertex", Refusal::NoVertex),
+    ("junction", Refusal::Needed),
+    ("ring short", Refusal::Needed),
+    ("occupied", Refusal::Occupied),
+    ("no segment", Refusal::NoSegment),
+    ("repeated point", Refusal::Repeated),
+    ("no feature", Refusal::Feature),
+    ("no collection", Refusal::Feature),
+    ("same feature", Refusal::SameFeature),
+];
+
+/// The refusal with this answer, if it is one of these.
+fn refusal_of(answer: &[u8]) -> Option<Refusal> {
+    for (text, refusal) in REFUSALS {
+        if text.as_bytes() == answer {
+            return Some(*refusal);
+        }
+    }
+    None
+}
+
 /// What the refusal of an edit or a query is about.
-fn subject_of_command(command: &Command, refusal: &[u8]) -> Why
+fn subject_of_command(command: &Command, refusal: Refusal) -> Why
     ensures { IsNoReason result }
 {
     match (command, refusal) {
-        (Command::Move(p, _), b"no vertex") => Why::Position(*p),
-        (Command::Move(_, q), b"occupied") => Why::Position(*q),
-        (Command::Insert(a, b, _), b"no segment") => Why::Segment(*a, *b),
-        (Command::Insert(_, _, q), b"occupied") => Why::Position(*q),
-        (Command::Remove(p), b"no vertex" | b"junction" | b"ring short") => Why::Position(*p),
-        (Command::Split(_, _, path), b"repeated point") => {
+        (Command::Move(p, _) | Command::Remove(p), Refusal::NoVertex) => Why::Position(*p),
+        (Command::Remove(p), Refusal::Needed) => Why::Position(*p),
+        (Command::Move(_, q) | Command::Insert(_, _, q), Refusal::Occupied) => Why::Position(*q),
+        (Command::Insert(a, b, _), Refusal::NoSegment) => Why::Segment(*a, *b),
+        (Command::Split(_, _, path), Refusal::Repeated) => {
             repeated(path.0.as_slice()).map_or(Why::Unsaid, Why::Position)
         }
         (
@@ -70,20 +106,25 @@ fn subject_of_command(command: &Command, refusal: &[u8]) -> Why
             | Command::Delete(f)
             | Command::Area(f)
             | Command::Neighbours(f),
-            b"no feature" | b"no collection",
+            Refusal::Feature,
         ) => Why::Feature(*f),
-        (Command::Merge(f, _), b"same feature") => Why::Feature(*f),
+        (Command::Merge(f, _), Refusal::SameFeature) => Why::Feature(*f),
         _ => Why::Unsaid,
     }
+}
+
+/// The refusal that an answer tells, if it is one of these.
+fn answered_refusal(answer: &[u8]) -> Option<Refusal> {
+    refusal_of(answer.strip_prefix(b"refused ")?)
 }
 
 /// What the refusal of a line is about.
 fn subject_of(said: &Line, answer: &[u8]) -> Why
     ensures { IsNoReason result }
 {
-    match (said, answer.strip_prefix(b"refused ")) {
+    match (said, answered_refusal(answer)) {
         (Line::Edit(command), Some(refusal)) => subject_of_command(command, refusal),
-        (Line::Rings(f), Some(b"no feature")) => Why::Feature(*f),
+        (Line::Rings(f), Some(Refusal::Feature)) => Why::Feature(*f),
         _ => Why::Unsaid,
     }
 }
