@@ -51,28 +51,85 @@ fn repeated(path: &[Pos]) -> Option<Pos> {
     None
 }
 
+/// What the refusal of a move is about.
+fn subject_of_move(p: Pos, q: Pos, refusal: &[u8]) -> Why
+    ensures { IsNoReason result }
+{
+    match refusal {
+        b"no vertex" => Why::Position(p),
+        b"occupied" => Why::Position(q),
+        _ => Why::Unsaid,
+    }
+}
+
+/// What the refusal of an insertion is about.
+fn subject_of_insertion(a: Pos, b: Pos, q: Pos, refusal: &[u8]) -> Why
+    ensures { IsNoReason result }
+{
+    match refusal {
+        b"no segment" => Why::Segment(a, b),
+        b"occupied" => Why::Position(q),
+        _ => Why::Unsaid,
+    }
+}
+
+/// What the refusal of a removal is about.
+fn subject_of_removal(p: Pos, refusal: &[u8]) -> Why
+    ensures { IsNoReason result }
+{
+    match refusal {
+        b"no vertex" | b"junction" | b"ring short" => Why::Position(p),
+        _ => Why::Unsaid,
+    }
+}
+
+/// What the refusal of a merge is about.
+fn subject_of_merge(f: u32, refusal: &[u8]) -> Why
+    ensures { IsNoReason result }
+{
+    match refusal {
+        b"same feature" => Why::Feature(f),
+        _ => Why::Unsaid,
+    }
+}
+
+/// What the refusal of a line that names one feature is about.
+fn subject_of_feature(f: u32, refusal: &[u8]) -> Why
+    ensures { IsNoReason result }
+{
+    match refusal {
+        b"no feature" | b"no collection" => Why::Feature(f),
+        _ => Why::Unsaid,
+    }
+}
+
+/// What the refusal of a split is about.
+fn subject_of_split(f: u32, path: &[Pos], refusal: &[u8]) -> Why
+    ensures { IsNoReason result }
+{
+    match refusal {
+        b"repeated point" => match repeated(path) {
+            Some(at) => Why::Position(at),
+            None => Why::Unsaid,
+        },
+        _ => subject_of_feature(f, refusal),
+    }
+}
+
 /// What the refusal of an edit or a query is about.
 fn subject_of_command(command: &Command, refusal: &[u8]) -> Why
     ensures { IsNoReason result }
 {
-    match (command, refusal) {
-        (Command::Move(p, _), b"no vertex") => Why::Position(*p),
-        (Command::Move(_, q), b"occupied") => Why::Position(*q),
-        (Command::Insert(a, b, _), b"no segment") => Why::Segment(*a, *b),
-        (Command::Insert(_, _, q), b"occupied") => Why::Position(*q),
-        (Command::Remove(p), b"no vertex" | b"junction" | b"ring short") => Why::Position(*p),
-        (Command::Split(_, _, path), b"repeated point") => {
-            repeated(path.0.as_slice()).map_or(Why::Unsaid, Why::Position)
-        }
-        (
-            Command::Split(f, _, _)
-            | Command::Rename(f, _)
-            | Command::Delete(f)
-            | Command::Area(f)
-            | Command::Neighbours(f),
-            b"no feature" | b"no collection",
-        ) => Why::Feature(*f),
-        (Command::Merge(f, _), b"same feature") => Why::Feature(*f),
+    match command {
+        Command::Move(p, q) => subject_of_move(*p, *q, refusal),
+        Command::Insert(a, b, q) => subject_of_insertion(*a, *b, *q, refusal),
+        Command::Remove(p) => subject_of_removal(*p, refusal),
+        Command::Split(f, _, path) => subject_of_split(*f, path.0.as_slice(), refusal),
+        Command::Merge(f, _) => subject_of_merge(*f, refusal),
+        Command::Rename(f, _)
+        | Command::Delete(f)
+        | Command::Area(f)
+        | Command::Neighbours(f) => subject_of_feature(*f, refusal),
         _ => Why::Unsaid,
     }
 }
