@@ -51,80 +51,96 @@ fn repeated(path: &[Pos]) -> Option<Pos> {
     None
 }
 
-/// The refusals of which a line tells what they are about.
-#[derive(Clone, Copy)]
-enum Refusal {
-    NoVertex,
-    /// A junction, or a vertex of a ring of three.
-    Needed,
-    Occupied,
-    NoSegment,
-    Repeated,
-    /// The feature is not there, or is itself a layer.
-    Feature,
-    SameFeature,
-}
-
-/// How they are answered, after the word `refused`.
-const REFUSALS: &[(&str, Refusal)] = &[
-    ("no vertex", Refusal::NoVertex),
-    ("junction", Refusal::Needed),
-    ("ring short", Refusal::Needed),
-    ("occupied", Refusal::Occupied),
-    ("no segment", Refusal::NoSegment),
-    ("repeated point", Refusal::Repeated),
-    ("no feature", Refusal::Feature),
-    ("no collection", Refusal::Feature),
-    ("same feature", Refusal::SameFeature),
-];
-
-/// The refusal with this answer, if it is one of these.
-fn refusal_of(answer: &[u8]) -> Option<Refusal> {
-    for (text, refusal) in REFUSALS {
-        if text.as_bytes() == answer {
-            return Some(*refusal);
-        }
-    }
-    None
-}
-
-/// What the refusal of an edit or a query is about.
-fn subject_of_command(command: &Command, refusal: Refusal) -> Why
+/// What the refusal of a move is about.
+fn subject_of_move(p: Pos, q: Pos, refusal: &[u8]) -> Why
     ensures { IsNoReason result }
 {
-    match (command, refusal) {
-        (Command::Move(p, _) | Command::Remove(p), Refusal::NoVertex) => Why::Position(*p),
-        (Command::Remove(p), Refusal::Needed) => Why::Position(*p),
-        (Command::Move(_, q) | Command::Insert(_, _, q), Refusal::Occupied) => Why::Position(*q),
-        (Command::Insert(a, b, _), Refusal::NoSegment) => Why::Segment(*a, *b),
-        (Command::Split(_, _, path), Refusal::Repeated) => {
-            repeated(path.0.as_slice()).map_or(Why::Unsaid, Why::Position)
-        }
-        (
-            Command::Split(f, _, _)
-            | Command::Rename(f, _)
-            | Command::Delete(f)
-            | Command::Area(f)
-            | Command::Neighbours(f),
-            Refusal::Feature,
-        ) => Why::Feature(*f),
-        (Command::Merge(f, _), Refusal::SameFeature) => Why::Feature(*f),
+    match refusal {
+        b"no vertex" => Why::Position(p),
+        b"occupied" => Why::Position(q),
         _ => Why::Unsaid,
     }
 }
 
-/// The refusal that an answer tells, if it is one of these.
-fn answered_refusal(answer: &[u8]) -> Option<Refusal> {
-    refusal_of(answer.strip_prefix(b"refused ")?)
+/// What the refusal of an insertion is about.
+fn subject_of_insertion(a: Pos, b: Pos, q: Pos, refusal: &[u8]) -> Why
+    ensures { IsNoReason result }
+{
+    match refusal {
+        b"no segment" => Why::Segment(a, b),
+        b"occupied" => Why::Position(q),
+        _ => Why::Unsaid,
+    }
+}
+
+/// What the refusal of a removal is about.
+fn subject_of_removal(p: Pos, refusal: &[u8]) -> Why
+    ensures { IsNoReason result }
+{
+    match refusal {
+        b"no vertex" | b"junction" | b"ring short" => Why::Position(p),
+        _ => Why::Unsaid,
+    }
+}
+
+/// What the refusal of a merge is about.
+fn subject_of_merge(f: u32, refusal: &[u8]) -> Why
+    ensures { IsNoReason result }
+{
+    match refusal {
+        b"same feature" => Why::Feature(f),
+        _ => Why::Unsaid,
+    }
+}
+
+/// What the refusal of a line that names one feature is about.
+fn subject_of_feature(f: u32, refusal: &[u8]) -> Why
+    ensures { IsNoReason result }
+{
+    match refusal {
+        b"no feature" | b"no collection" => Why::Feature(f),
+        _ => Why::Unsaid,
+    }
+}
+
+/// What the refusal of a split is about.
+fn subject_of_split(f: u32, path: &[Pos], refusal: &[u8]) -> Why
+    ensures { IsNoReason result }
+{
+    match refusal {
+        b"repeated point" => match repeated(path) {
+            Some(at) => Why::Position(at),
+            None => Why::Unsaid,
+        },
+        _ => subject_of_feature(f, refusal),
+    }
+}
+
+/// What the refusal of an edit or a query is about.
+fn subject_of_command(command: &Command, refusal: &[u8]) -> Why
+    ensures { IsNoReason result }
+{
+    match command {
+        Command::Move(p, q) => subject_of_move(*p, *q, refusal),
+        Command::Insert(a, b, q) => subject_of_insertion(*a, *b, *q, refusal),
+        Command::Remove(p) => subject_of_removal(*p, refusal),
+        Command::Split(f, _, path) => subject_of_split(*f, path.0.as_slice(), refusal),
+        Command::Merge(f, _) => subject_of_merge(*f, refusal),
+        Command::Rename(f, _)
+        | Command::Delete(f)
+        | Command::Area(f)
+        | Command::Neighbours(f) => subject_of_feature(*f, refusal),
+        _ => Why::Unsaid,
+    }
 }
 
 /// What the refusal of a line is about.
 fn subject_of(said: &Line, answer: &[u8]) -> Why
     ensures { IsNoReason result }
 {
-    match (said, answered_refusal(answer)) {
+    match (said, answer.strip_prefix(b"refused ")) {
         (Line::Edit(command), Some(refusal)) => subject_of_command(command, refusal),
-        (Line::Rings(f), Some(Refusal::Feature)) => Why::Feature(*f),
+        (Line::Rings(f), Some(b"no feature")) => Why::Feature(*f),
         _ => Why::Unsaid,
     }
 }
