@@ -126,10 +126,8 @@ fn subject_of_command(command: &Command, refusal: &[u8]) -> Why
         Command::Remove(p) => subject_of_removal(*p, refusal),
         Command::Split(f, _, path) => subject_of_split(*f, path.0.as_slice(), refusal),
         Command::Merge(f, _) => subject_of_merge(*f, refusal),
-        Command::Rename(f, _)
-        | Command::Delete(f)
-        | Command::Area(f)
-        | Command::Neighbours(f) => subject_of_feature(*f, refusal),
+        Command::Rename(f, _) | Command::Delete(f) | Command::Area(f) | Command::Neighbours(f) =>
+            subject_of_feature(*f, refusal),
         _ => Why::Unsaid,
     }
 }
