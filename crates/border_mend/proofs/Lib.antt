@@ -1,1 +1,2 @@
 pub mod WordLemmas
+mod EndingExamples

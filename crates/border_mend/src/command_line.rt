@@ -12,7 +12,7 @@ use clap::{Arg, ArgAction, Command};
 use grid_reader::Wants;
 use mend_report::Asked;
 use program_ends::{VERSION, copied, is_file};
-use std::alloc::Global;
+use std::alloc::{AllocError, Global};
 
 /// An argument that takes a value after its name.
 fn option<'a>(alloc: Global, name: &'static str, value: &'static str, help: &'static str) -> Arg<'a>
@@ -133,6 +133,83 @@ fn asked_of(
     Ok((asked, drop_lines))
 }
 
+/// What the words say for each argument.
+#[derive(Clone, Copy)]
+struct Said<'m> {
+    map: &'m str,
+    most: Option<&'m str>,
+    digits: Option<&'m str>,
+    refine: Option<&'m str>,
+    drop: Option<&'m str>,
+    places: Option<&'m str>,
+    out: Option<&'m str>,
+}
+
+/// What is wrong with words that parse.
+#[derive(Clone, Copy, Debug)]
+enum Wrong {
+    /// A value is none that its argument takes.
+    Value(&'static str),
+    /// Two arguments name one file.
+    Files(&'static str),
+    /// An allocation failed.
+    NoMemory,
+}
+
+impl From<AllocError> for Wrong {
+    fn from(_error: AllocError) -> Wrong {
+        Wrong::NoMemory
+    }
+}
+
+/// What these words ask for, or what is wrong with them.
+fn words_of(alloc: Global, said: &Said<'_>) -> Result<Words, Wrong>
+    ensures map { IfOk result (λ words. string_bytes words.map ≡ said.now.map.now) }
+    ensures asked { IfOk result (λ words. IsAsked (option_map (λ text. text.now) said.now.most)
+        (option_map (λ text. text.now) said.now.digits)
+        (option_map (λ text. text.now) said.now.refine)
+        (option_map (λ text. text.now) said.now.drop) words.asked words.drop_lines) }
+    ensures places { IfOk result (λ words.
+        option_map string_bytes words.places ≡ option_map (λ text. text.now) said.now.places) }
+    ensures apart { IfOk result (λ words.
+        option_map string_bytes words.places ≢ Some (string_bytes words.map)) }
+    ensures out { IfOk result (λ words.
+        option_map string_bytes words.out ≡ option_map (λ text. text.now) said.now.out) }
+    ensures files { IfOk result (λ words. AreDifferent (option_map string_bytes words.places)
+        (option_map string_bytes words.out)) }
+{
+    let (asked, drop_lines) = match asked_of(said.most, said.digits, said.refine, said.drop) {
+        Ok(pair) => pair,
+        Err(message) => return Err(Wrong::Value(message)),
+    };
+    if is_file(said.places, said.map) {
+        return Err(Wrong::Files("--places names the map"));
+    }
+    if is_both(said.places, said.out) {
+        return Err(Wrong::Files("--places and --out name the same file"));
+    }
+    Ok(Words {
+        map: String::from_str(alloc, said.map)?,
+        asked,
+        drop_lines,
+        places: copied(alloc, said.places)?,
+        out: copied(alloc, said.out)?,
+    })
+}
+
+/// What clap says of what is wrong.
+fn error_of(command: &mut Command<'_>, wrong: Wrong) -> clap::Error {
+    let (kind, message) = match wrong {
+        Wrong::Value(message) => (ErrorKind::ValueValidation, message),
+        Wrong::Files(message) => (ErrorKind::ArgumentConflict, message),
+        Wrong::NoMemory => return clap::Error::from(AllocError),
+    };
+    match command.error(kind, message) {
+        Ok(error) => error,
+        Err(error) => clap::Error::from(error),
+    }
+}
+
 /// Reads the words, the program's name first. A request for help, or for the version, is an error
 /// here too, and so are words that name one path for the places and for MAP or FILE.
 pub(crate) fn words(alloc: Global, given: &[String]) -> Result<Words, clap::Error>
@@ -154,32 +231,18 @@ pub(crate) fn words(alloc: Global, given: &[String]) -> Result<Words, clap::Erro
 {
     let mut command = command(alloc)?;
     let matches = command.try_get_matches_from_mut(given)?;
-    let (asked, drop_lines) = match asked_of(
-        matches.get_str("most"),
-        matches.get_str("digits"),
-        matches.get_str("refine"),
-        matches.get_str("drop"),
-    ) {
-        Ok(pair) => pair,
-        Err(message) => return Err(command.error(ErrorKind::ValueValidation, message)?),
+    let said = Said {
+        // A parse gives MAP, since it is required.
+        map: matches.get_str("MAP").unwrap_or(""),
+        most: matches.get_str("most"),
+        digits: matches.get_str("digits"),
+        refine: matches.get_str("refine"),
+        drop: matches.get_str("drop"),
+        places: matches.get_str("places"),
+        out: matches.get_str("out"),
     };
-    // A parse gives MAP, since it is required.
-    let map = matches.get_str("MAP").unwrap_or("");
-    let places = matches.get_str("places");
-    if is_file(places, map) {
-        let message = "--places names the map";
-        return Err(command.error(ErrorKind::ArgumentConflict, message)?);
+    match words_of(alloc, &said) {
+        Ok(words) => Ok(words),
+        Err(wrong) => Err(error_of(&mut command, wrong)),
     }
-    let out = matches.get_str("out");
-    if is_both(places, out) {
-        let message = "--places and --out name the same file";
-        return Err(command.error(ErrorKind::ArgumentConflict, message)?);
-    }
-    Ok(Words {
-        map: String::from_str(alloc, map)?,
-        asked,
-        drop_lines,
-        places: copied(alloc, places)?,
-        out: copied(alloc, out)?,
-    })
 }

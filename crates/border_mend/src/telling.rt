@@ -1,4 +1,6 @@
 //! The files of the program: what is read, what is written, and in which order.
+ghost use Rattle.std.specs.Prelude.{◌≡◌, None, IsSome};
+
 use crate::asked::Words;
 use crate::ending::{ending_of_mending, ending_of_report};
 use crate::points::{unread, with_points_on_grid};
@@ -15,12 +17,21 @@ fn print<W: Write>(text: &[u8], output: &mut W) -> IoResult<()> {
     output.flush()
 }
 
-/// Writes a file where nothing has failed before.
-fn save<'a>(rt: &HostRuntime, ending: Ending<'a>, path: &str, text: &[u8]) -> Ending<'a> {
+/// Writes a file. Nothing has failed before.
+fn write_file<'a>(rt: &HostRuntime, ending: Ending<'a>, path: &str, text: &[u8]) -> Ending<'a>
+    requires { ending.line ≡ None }
+{
+    ending.once_written(replace_file(rt, path, text))
+}
+
+/// Writes a file where nothing has failed before, and none after a fault.
+fn save<'a>(rt: &HostRuntime, ending: Ending<'a>, path: &str, text: &[u8]) -> Ending<'a>
+    ensures { IsSome ending.entry.line → result ≡ ending.entry }
+{
     if ending.line.is_some() {
         return ending;
     }
-    ending.once_written(replace_file(rt, path, text))
+    write_file(rt, ending, path, text)
 }
 
 /// Writes the report on standard output, and the places in their file where they are asked for.
