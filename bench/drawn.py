@@ -1,14 +1,17 @@
 """A second drawing of small maps, written from docs/FORMATS.md and the constants of the picture: what `border_show` has to
 write for a map on a grid without a transform, or for what an edit did to it, byte for byte.
 
-It draws whole maps alone, without `--at` and `--feature`, and no conflict. Numbers are Python's, so nothing overflows.
+Numbers are Python's, so nothing overflows. What a conflict is it takes from the model of second_opinion.py.
 """
 import json
+from itertools import combinations
 from math import gcd
 from xml.sax.saxutils import escape
 
+from second_opinion import conflict_text, do_conflict, segments_of
+
 WIDTH, MARGIN, ROW, ACROSS, DOWN = 1000, 20, 20, 960, 720
-LABEL, RISE, LETTER = 1300, 1000, 720
+LABEL, RISE, LETTER, PIXEL, BEYOND, RADIUS = 1300, 1000, 720, 100, 1000, 14
 QUOTES = {'"': "&quot;", "'": "&apos;", "\r": "&#13;"}
 
 STYLE = """<style>
@@ -53,15 +56,22 @@ def rings_of(topology, arcs):
     return ring[least:] + ring[:least]
 
 
+def called_by(leaf):
+    """What the id of a geometry stands for: a string for itself, anything else for its text."""
+    name = leaf.get("id")
+    return name if name is None or isinstance(name, str) else json.dumps(name, separators=(",", ":"))
+
+
 def features_of(topology, names=None):
-    """The features: number, what the id stands for, polygons. Names are given where the ids of the topology are not strings."""
+    """The features: number, what the id stands for, polygons. Names are given where the ids of the topology are written otherwise
+    than Python writes them."""
     leaves = []
     for layer in topology["objects"].values():
         leaves += layer["geometries"] if layer["type"] == "GeometryCollection" else [layer]
     found = []
     for number, leaf in enumerate(leaves):
         polygons = {"Polygon": [leaf.get("arcs")], "MultiPolygon": leaf.get("arcs"), None: []}[leaf["type"]]
-        name = leaf.get("id") if names is None else names[number]
+        name = called_by(leaf) if names is None else names[number]
         found.append((number, name, [[rings_of(topology, ring) for ring in rings] for rings in polygons]))
     return found
 
@@ -95,27 +105,105 @@ def area_of(polygons):
     return sum(abs(twice_area(rings[0])) - sum(abs(twice_area(hole)) for hole in rings[1:]) for rings in polygons)
 
 
+# ---- the part of the grid that is drawn
+
+def box_of(features):
+    """The least and the greatest coordinates of features, or None without a ring."""
+    points = [point for _, _, polygons in features for rings in polygons for ring in rings for point in ring]
+    (x0, x1), (y0, y1) = ((min(axis), max(axis)) for axis in zip(*points)) if points else ((0, 0), (0, 0))
+    return (x0, y0, x1, y1) if points else None
+
+
+def about(box, share):
+    """The part about a box, with a margin of a share of its greater extent, and a unit: its least corner, width and height."""
+    x0, y0, x1, y1 = box
+    margin = max(x1 - x0, y1 - y0) // share + 1
+    return x0 - margin, y0 - margin, x1 - x0 + 2 * margin, y1 - y0 + 2 * margin
+
+
+def square(x, y, width):
+    """The square of this width about a position: of an odd width the greater half is right of it and above."""
+    return x - width // 2, y - width // 2, width, width
+
+
+def named(features, before, text):
+    """The feature that a text names, and its number in the map that is drawn: by an id there, by one before the edit, or by a
+    number."""
+    for numbered, among in (True, features), (False, before or []):
+        found = [each for each in among if each[1] == text]
+        if found:
+            return found[0], found[0][0] if numbered else None
+    number = int(text.removeprefix("#"))
+    return features[number], number
+
+
 # ---- the place of the map in the picture
 
 class Layout:
-    def __init__(self, features):
-        points = [point for _, _, polygons in features for rings in polygons for ring in rings for point in ring]
-        (x0, x1), (y0, y1) = ((min(axis), max(axis)) for axis in zip(*points))
-        margin = max(x1 - x0, y1 - y0) // 40 + 1
-        self.x, self.y = x0 - margin, y0 - margin
-        self.across, self.up = x1 - x0 + 2 * margin, y1 - y0 + 2 * margin
+    def __init__(self, part):
+        self.x, self.y, self.across, self.up = part
         high = self.up * ACROSS // self.across
-        self.width = ACROSS if high <= DOWN else max(1, self.across * DOWN // self.up)
+        self.width = ACROSS if high <= DOWN else max(1, min(self.across * DOWN // self.up, ACROSS))
         self.height = max(1, min(high, DOWN))
         self.left, self.top = MARGIN + (ACROSS - self.width) // 2, MARGIN + ROW
 
     def point(self, position):
         x, y = position
-        return (x - self.x) * self.width * 100 // self.across, (self.up - (y - self.y)) * self.height * 100 // self.up
+        down = self.up - (y - self.y)
+        return cut((x - self.x) * self.width * PIXEL, self.across), cut(down * self.height * PIXEL, self.up)
+
+    def pixel(self, point):
+        return self.left + cut(point[0], PIXEL), self.top + cut(point[1], PIXEL)
+
+    def has(self, position):
+        return self.x <= position[0] <= self.x + self.across and self.y <= position[1] <= self.y + self.up
+
+    def meets(self, feature):
+        """Whether the part has a common point with the box of a feature."""
+        box = feature and box_of([feature])
+        return bool(box) and box[0] <= self.x + self.across and self.x <= box[2] and box[1] <= self.y + self.up and self.y <= box[3]
+
+    def depths(self):
+        """How far inside each side of the box a point is outside which nothing is drawn: ten pixels beyond the view."""
+        right, bottom = self.width * PIXEL + BEYOND, self.height * PIXEL + BEYOND
+        return (lambda p: p[0] + BEYOND), (lambda p: right - p[0]), (lambda p: p[1] + BEYOND), (lambda p: bottom - p[1])
 
     def ring(self, ring):
+        """The points of a ring, without what is beyond that box; along its sides where something was cut off."""
         points = [self.point(position) for position in ring]
-        return [point for index, point in enumerate(points) if index == 0 or point != points[index - 1]]
+        points = [point for index, point in enumerate(points) if index == 0 or point != points[index - 1]]
+        if all(depth(point) >= 0 for depth in self.depths() for point in points):
+            return points
+        for depth in self.depths():
+            kept = []
+            for one, other in zip(points[-1:] + points, points):
+                kept += [crossing(depth, one, other)] if (depth(one) < 0) != (depth(other) < 0) else []
+                kept += [other] if depth(other) >= 0 else []
+            points = kept
+        return points
+
+    def rings(self, feature):
+        """The rings of a feature that are not all beyond it."""
+        return [points for rings in feature[2] for ring in rings if (points := self.ring(ring))]
+
+    def line(self, one, other):
+        """A line as far as it is not beyond that box."""
+        ends = self.point(one), self.point(other)
+        for depth in self.depths():
+            inside = [depth(end) >= 0 for end in ends]
+            if not any(inside):
+                return ""
+            if not all(inside):
+                met = crossing(depth, *ends)
+                ends = (ends[0], met) if inside[0] else (met, ends[1])
+        (x, y), (u, v) = ends
+        return f"M {x} {y} {u} {v}"
+
+
+def crossing(depth, one, other):
+    """Where the line between two points on different sides meets a side, rounded toward the first."""
+    part, whole = depth(one), depth(one) - depth(other)
+    return tuple(start + cut((end - start) * part, whole) for start, end in zip(one, other))
 
 
 def bar(layout):
@@ -128,10 +216,20 @@ def bar(layout):
     return f'<path class="bar" d="M{start} 24v6H980v-6"/>\n' + text("number", start - 6, 30, whole + " grid units")
 
 
+def data_of(rings):
+    return "".join("M" + "".join(f" {x} {y}" for x, y in points) + "z" for points in rings)
+
+
 def path(layout, look, feature):
-    number, name, polygons = feature
-    data = "".join("M" + "".join(f" {x} {y}" for x, y in layout.ring(ring)) + "z" for rings in polygons for ring in rings)
-    return f'<path class="{look}" d="{data}"><title>{escape(called(number, name), QUOTES)}</title></path>\n' if polygons else ""
+    number, name, _ = feature
+    title = f"<title>{escape(called(number, name), QUOTES)}</title>"
+    return f'<path class="{look}" d="{data_of(layout.rings(feature))}">{title}</path>\n' if layout.meets(feature) else ""
+
+
+def lines(look, data):
+    """A path that is no feature: thick lines, dashed where they are gone."""
+    dashed = ' stroke-dasharray="700"' if look == "gone" else ""
+    return f'<path class="{look}" stroke-width="300"{dashed} d="{data}"/>\n'
 
 
 def called(number, name):
@@ -166,16 +264,22 @@ def widest(rings, top, bottom, width):
     return best
 
 
+def rows_of(layout, rings):
+    """From where to where, from the top, rings are as far as they are shown."""
+    heights, most = [y for ring in rings for _, y in ring], layout.height * PIXEL
+    return min((max(y, 0) for y in heights), default=most), max((min(y, most) for y in heights), default=0)
+
+
 def place_of(layout, feature):
     """The top of the row of nine in which a feature is widest, and where it is."""
-    rings = [layout.ring(ring) for rings in feature[2] for ring in rings]
-    heights = [y for ring in rings for _, y in ring]
-    top, room = min(heights), max(heights) - min(heights) - LABEL
+    rings = layout.rings(feature)
+    top, bottom = rows_of(layout, rings)
+    room = bottom - top - LABEL
     best = None
     for part in (4, 3, 5, 2, 6, 1, 7, 0, 8):
         start = top + cut(room * part, 8)
         if room >= 0:
-            stretch = widest(rings, start, start + LABEL, layout.width * 100)
+            stretch = widest(rings, start, start + LABEL, layout.width * PIXEL)
             if stretch and (best is None or stretch[1] - stretch[0] > best[2] - best[1]):
                 best = start, *stretch
     return best
@@ -191,7 +295,7 @@ def labels(layout, features):
                 left, top = place[1] + (place[2] - place[1] - width) // 2, place[0]
                 if not any(top < b and t < top + LABEL and left < r and l < left + width for t, b, l, r in taken):
                     taken.append((top, top + LABEL, left, left + width))
-                    drawn += text("name", layout.left + (left + width // 2) // 100, layout.top + (top + RISE) // 100, words)
+                    drawn += text("name", *layout.pixel((left + width // 2, top + RISE)), words)
                 break
     return drawn
 
@@ -224,21 +328,26 @@ def runs_of(features):
 
 def borders(layout, look, these, others):
     """The parts of borders that lie on none of the others, line by line."""
-    dashed = ' stroke-dasharray="700"' if look == "gone" else ""
     these, others, data = runs_of(these), runs_of(others), ""
     for line in sorted(these):
         for low, high in these[line]:
             for start, end in others.get(line, []):
                 if start < high and low < end:
-                    data += segment(layout, low, start) if low < start else ""
+                    data += layout.line(low, start) if low < start else ""
                     low = max(low, end)
-            data += segment(layout, low, high) if low < high else ""
-    return f'<path class="{look}" stroke-width="300"{dashed} d="{data}"/>\n'
+            data += layout.line(low, high) if low < high else ""
+    return lines(look, data)
 
 
-def segment(layout, one, other):
-    (x, y), (u, v) = layout.point(one), layout.point(other)
-    return f"M {x} {y} {u} {v}"
+def is_seen(layout, one, other):
+    """Whether what a feature gained or lost fills a pixel at least: it lies in an odd number of the rings of both."""
+    rings = layout.rings(one) + layout.rings(other)
+    top, bottom = rows_of(layout, rings)
+    for down in range(0, DOWN * PIXEL, PIXEL):
+        stretch = widest(rings, down, down + PIXEL, layout.width * PIXEL) if top <= down + PIXEL and down < bottom else None
+        if stretch and stretch[1] - stretch[0] >= PIXEL:
+            return True
+    return False
 
 
 def changes_of(old, new):
@@ -285,33 +394,79 @@ def table(top, pairs):
 
 # ---- pages
 
-def page(title, layout, body, over, lines, rows):
+def first_conflict(features):
+    """The least pair of segments in conflict, or None."""
+    segments = sorted({each for _, _, polygons in features for rings in polygons for ring in rings for each in segments_of(ring)})
+    return next((pair for pair in combinations(segments, 2) if do_conflict(*pair)), None)
+
+
+def marks(layout, outlined, conflict):
+    """What is drawn over the borders: the outline of the feature that is named, and the segments in conflict."""
+    drawn = lines("named", data_of(layout.rings(outlined))) if outlined else ""
+    return drawn + (lines("conflict", "".join(layout.line(*each) for each in conflict)) if conflict else "")
+
+
+def fault(layout, conflict):
+    """A circle about the middle of what the boxes of two segments share, where it is shown, and the line that names them."""
+    if not conflict:
+        return ""
+    ends = [[sorted(end[axis] for end in each) for each in conflict] for axis in (0, 1)]
+    middle = tuple(cut(max(least for least, _ in axis) + min(most for _, most in axis), 2) for axis in ends)
+    x, y = layout.pixel(layout.point(middle))
+    circle = f'<circle cx="{x}" cy="{y}" r="{RADIUS}"/>\n' if layout.has(middle) else ""
+    return circle + text("gone", 20, layout.top + layout.height + ROW, conflict_text(conflict))
+
+
+def page(title, layout, body, over, rest, rows):
     height = layout.top + layout.height + ROW + ROW * rows + MARGIN
     return (f'<svg xmlns="http://www.w3.org/2000/svg" width="{WIDTH}" height="{height}" viewBox="0 0 {WIDTH} {height}">\n' + STYLE
             + text("head", 20, 30, title) + bar(layout) + f'<svg x="{layout.left}" y="{layout.top}" width="{layout.width}" '
             f'height="{layout.height}" viewBox="0 0 {layout.width}00 {layout.height}00">\n'
-            '<rect class="gap" width="100%" height="100%"/>\n<g stroke-width="100">\n' + body + "</g>\n</svg>\n" + over + lines + "</svg>\n")
+            '<rect class="gap" width="100%" height="100%"/>\n<g stroke-width="100">\n' + body + "</g>\n</svg>\n" + over + rest + "</svg>\n")
 
 
-def map_page(title, topology, ids, names=None):
+def part_of(features, before, at, feature):
+    """The part that is drawn, and the number of the feature that is outlined."""
+    if at:
+        return square(*at), None
+    if feature:
+        found, number = named(features, before, feature)
+        return about(box_of([found]), 4), number
+    return about(box_of(features + (before or [])), 40), None
+
+
+def map_page(title, topology, ids, names=None, at=None, feature=None):
+    """The page of a map: of its square `at` (x, y, width), or of the surroundings of a feature that a text names."""
     features = features_of(topology, names)
-    layout = Layout(features)
-    body = "".join(path(layout, "plain", feature) for feature in features)
-    return page(title, layout, body, labels(layout, features) if ids else "", "", 0)
+    conflict = first_conflict(features)
+    part, number = part_of(features, None, at, feature)
+    layout = Layout(part)
+    body = "".join(path(layout, "plain", each) for each in features)
+    body += marks(layout, None if number is None else features[number], conflict)
+    title += f": {feature}" if feature else ""
+    return page(title, layout, body, labels(layout, features) if ids else "", fault(layout, conflict), 0)
 
 
-def change_page(title, before, after, ids, names=(None, None)):
-    """The page of an edit in which each changed region changes by a pixel at least."""
-    old, new = (list(map(straight, features_of(*each))) for each in zip((before, after), names))
-    pairs, layout = changes_of(old, new), Layout(old + new)
-    seen = [(one, other) for one, other in pairs if not (one and other and one[2] == other[2])]
+def change_page(title, before, after, ids, names=(None, None), at=None, feature=None):
+    """The page of an edit, of a part of it as of a map. The list has the changes of which the part shows some,
+    and all where it is the whole map."""
+    old, new = (features_of(*each) for each in zip((before, after), names))
+    conflict, (part, number) = first_conflict(new), part_of(new, old, at, feature)
+    old, new, layout = list(map(straight, old)), list(map(straight, new)), Layout(part)
+    pairs = changes_of(old, new)
+    seen = [(one, other) for one, other in pairs if not (one and other) or is_seen(layout, one, other)]
     filled = {other[0] for _, other in seen if other}
     body = "".join(path(layout, "changed" if each[0] in filled else "kept", each) for each in new)
     body += borders(layout, "gone", [one for one, _ in seen if one], new)
     body += borders(layout, "new", [other for _, other in seen if other], old)
-    rows = max(1, min(len(pairs), 100)) + 2 + (len(pairs) > 100)
+    body += marks(layout, None if number is None else new[number], conflict)
+    is_whole = not (at or feature)
+    listed = [pair for pair in pairs if is_whole or any(layout.meets(each) for each in pair)]
+    rows = max(1, min(len(listed), 100)) + 2 + (len(listed) > 100)
     top = layout.top + layout.height + 2 * ROW
-    return page(title, layout, body, labels(layout, new) if ids else "", table(top, pairs), rows + 1)
+    over = (labels(layout, new) if ids else "") + fault(layout, conflict)
+    title += f": {feature}" if feature else ""
+    return page(title, layout, body, over, table(top, listed), rows + 1)
 
 
 def read(name):

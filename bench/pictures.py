@@ -5,7 +5,7 @@ The pictures are made by the built programs border_edit, border_show and border_
 them); others can be named. Then `--maps N` maps with drawn ids are drawn too, alone and as what an edit did. Each
 picture has to be well-formed XML with whole numbers alone, in which each feature's title is its number
 and what a model here makes of its id, the page that the second drawing of drawn.py makes, and the same bytes again when it
-is drawn again. `--stored` prints the page of the stored run of border_show, as the second drawing makes it. Damaged, deep and huge
+is drawn again. Of every third map a square is drawn. `--stored` prints the page of the stored run of border_show, as the second drawing makes it. Damaged, deep and huge
 maps have to end with the fault that border_edit has for them, or, where it names a conflict, with a
 picture that names it. There is one line for each that is wrong; the status is 0 where none is.
 """
@@ -135,13 +135,13 @@ def fault_of(bytes_, ids):
     return None if titles == wanted else f"titles {titles!r}, and not {wanted!r}"
 
 
-def second_page(folder, maps, ids):
-    """The page of a map, or of an edit, as the second drawing makes it."""
+def second_page(folder, maps, ids, at):
+    """The page of a map, or of an edit, or of a square of it, as the second drawing makes it."""
     topologies = [drawn.read(folder / each) for each in maps]
     names = [shown(token) for token in ids]
     if len(maps) == 1:
-        return drawn.map_page(maps[0], topologies[0], True, names).encode()
-    return drawn.change_page(" \u2192 ".join(maps), *topologies, True, (names[1:], names)).encode()
+        return drawn.map_page(maps[0], topologies[0], True, names, at).encode()
+    return drawn.change_page(" \u2192 ".join(maps), *topologies, True, (names[1:], names), at).encode()
 
 
 def stored_page():
@@ -160,12 +160,15 @@ def draw_maps(show, count, seed):
             (folder / "map.json").write_text(drawn_map(draw, ids), encoding="utf-8")
             (folder / "before.json").write_text(drawn_map(draw, ids[1:]), encoding="utf-8")
             maps = ["map.json"] if number % 2 else ["before.json", "map.json"]
+            at = (draw.randrange(-60, 80), draw.randrange(240), draw.randrange(1, 200)) if number % 3 == 0 else None
+            words = ["--at", *at] if at else []
             bytes_ = []
             for out in "one.svg", "two.svg":
-                run(show, *(folder / each for each in maps), "--ids", "--out", folder / out)
+                run(show, *(folder / each for each in maps), "--ids", *words, "--out", folder / out)
                 bytes_.append((folder / out).read_bytes())
-            fault = fault_of(bytes_[0], ids) or (None if bytes_[0] == bytes_[1] else "drawn again it differs")
-            fault = fault or (None if bytes_[0] == second_page(folder, maps, ids) else "the second drawing has another page")
+            fault = None if at else fault_of(bytes_[0], ids)
+            fault = fault or (None if bytes_[0] == bytes_[1] else "drawn again it differs")
+            fault = fault or (None if bytes_[0] == second_page(folder, maps, ids, at) else "the second drawing has another page")
             if fault:
                 wrong += 1
                 print(f"map {number}: {fault}")

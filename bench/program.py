@@ -1,6 +1,7 @@
 #!/usr/bin/env python3
-"""Runs the built program border_edit to each of its ends, and looks at FILE before and after; and runs border_mend to each
-of its ends (bench/mend_ends.py), and all three programs on files of all kinds (bench/file_ends.py).
+"""Runs the built program border_edit to each of its ends, and looks at FILE before and after; and runs border_mend and
+border_show to each of theirs (bench/mend_ends.py, bench/show_ends.py), and all three programs on files of all kinds
+(bench/file_ends.py).
 
 Tests of the crates call what `main` calls. Here the program itself is called: with arguments, on files, on devices
 that are full, with little memory, and with a terminal as standard error. The rows of bench/edit_ends.txt are run, and
@@ -28,6 +29,7 @@ import edit_ends
 import file_ends
 import mend_ends
 import running
+import show_ends
 
 TOP = pathlib.Path(__file__).resolve().parent.parent
 DATA = TOP / "crates/border_edit/data"
@@ -296,7 +298,7 @@ def main():
     words = argparse.ArgumentParser(description=__doc__.split("\n", 1)[0])
     running.add_programs(words, "edit", "show", "mend")
     programs = vars(words.parse_args())
-    of_files = file_ends.told(programs, [*file_ends.rows(), *mend_ends.rows()])
+    of_files = file_ends.told(programs, [*file_ends.rows(), *mend_ends.rows(), *show_ends.rows()])
     count, wrong = map(sum, zip(of_files, edit_ends.told(programs["edit"])))
     if not file_ends.compiler():
         print("no compiler: the ends without a seed or memory are left out")
