@@ -5,9 +5,9 @@ The pictures are made by the built programs border_edit, border_show and border_
 them); others can be named. Then `--maps N` maps with drawn ids are drawn too, alone and as what an edit did. Each
 picture has to be well-formed XML with whole numbers alone, in which each feature's title is its number
 and what a model here makes of its id, the page that the second drawing of drawn.py makes, and the same bytes again when it
-is drawn again. Of every third map a square is drawn. `--stored` prints the page of the stored run of border_show, as the second drawing makes it. Damaged, deep and huge
-maps have to end with the fault that border_edit has for them, or, where it names a conflict, with a
-picture that names it. There is one line for each that is wrong; the status is 0 where none is.
+is drawn again. Of every third map a square is drawn. `--stored` prints the page of the stored run of border_show, as the
+second drawing makes it. Damaged, deep and huge maps have to end with the fault that border_edit has for them, or, where it
+names a conflict, with a picture that names it. There is one line for each that is wrong; the status is 0 where none is.
 """
 import argparse
 import json

@@ -1,20 +1,26 @@
 //! The feature that `--feature` names.
-ghost use Rattle.std.specs.Prelude.{◌≡◌, map, IfOk};
-ghost use Rattle.border_show.specs.Found.{is_shape_called, IsShownFeature};
+ghost use Rattle.std.specs.Prelude.{◌≡◌, ◌++◌, ◌∷◌, [], if◌then◌else◌, option_map, IfOk, OnOk};
+ghost use Rattle.std.specs.List.{filter};
+ghost use Rattle.border_show.specs.Found.{is_shape_called, IsNamed, IsShownEarlier, IsShownFeature};
 
 use map_features::{Shape, Window, has_id, shapes_of};
 use std::alloc::{AllocError, Global};
 use topo_reader::RawDoc;
 
-/// By feature, whether its `id` stands for this text.
-fn are_called(heap: Global, shapes: &[Shape<'_, Global>], id: &str) -> Result<Vec<bool>, AllocError>
-    ensures { IfOk result (λ flags. flags.items ≡ map (is_shape_called id.now) shapes.now) }
+/// Appends a feature if its `id` stands for this text.
+fn push_called<'r>(
+    heap: Global,
+    found: &mut Vec<Shape<'r, Global>>,
+    shape: &Shape<'r, Global>,
+    id: &str,
+) -> Result<(), AllocError>
+    ensures { OnOk result (found.new.items
+        ≡ found.old.items ++ (if is_shape_called id.now shape.now then shape.now ∷ [] else [])) }
 {
-    let mut flags = Vec::new(heap);
-    for shape in shapes {
-        flags.push(has_id(heap, shape, id)?)?;
+    if has_id(heap, shape, id)? {
+        found.push(*shape)?;
     }
-    Ok(flags)
+    Ok(())
 }
 
 /// The features whose `id` stands for this text, in their order.
@@ -22,13 +28,12 @@ fn features_called<'r>(
     heap: Global,
     shapes: &[Shape<'r, Global>],
     id: &str,
-) -> Result<Vec<Shape<'r, Global>>, AllocError> {
-    let flags = are_called(heap, shapes, id)?;
+) -> Result<Vec<Shape<'r, Global>>, AllocError>
+    ensures { IfOk result (λ found. found.items ≡ filter (is_shape_called id.now) shapes.now) }
+{
     let mut found = Vec::new(heap);
-    for (shape, flag) in shapes.iter().zip(flags.as_slice()) {
-        if *flag {
-            found.push(*shape)?;
-        }
+    for shape in shapes {
+        push_called(heap, &mut found, shape, id)?;
     }
     Ok(found)
 }
@@ -94,7 +99,9 @@ fn single_feature(found: &[Shape<'_, Global>]) -> Result<Shown, NoFeature>
 }
 
 /// The same, of a map before an edit.
-fn earlier_feature(found: &[Shape<'_, Global>]) -> Result<Shown, NoFeature> {
+fn earlier_feature(found: &[Shape<'_, Global>]) -> Result<Shown, NoFeature>
+    ensures { IfOk result (IsShownEarlier found.now) }
+{
     let shown = single_feature(found)?;
     Ok(Shown {
         number: None,
@@ -109,7 +116,10 @@ pub(crate) fn named_feature(
     before: Option<&RawDoc<'_, Global>>,
     map: &RawDoc<'_, Global>,
     name: &str,
-) -> Result<Result<Shown, NoFeature>, AllocError> {
+) -> Result<Result<Shown, NoFeature>, AllocError>
+    ensures { IfOk result (λ shown. IfOk shown
+        (IsNamed (option_map (λ b. b.now) before.entry) map.now name.now)) }
+{
     let shapes = shapes_of(heap, map, map.polygons.as_slice())?;
     let found = features_called(heap, shapes.as_slice(), name)?;
     if !found.is_empty() {

@@ -1,7 +1,8 @@
 //! From the bytes of maps to the bytes of a picture.
-ghost use Rattle.std.specs.Prelude.{◌≡◌, IfErr, IfOk, OnErr};
+ghost use Rattle.std.specs.Prelude.{◌≡◌, option_map, IfErr, IfOk, IsSomeAnd, OnErr};
 ghost use Rattle.topo_reader.specs.Common.{IsFault};
-ghost use Rattle.border_show.specs.Shown.{IsFeaturePart, IsShowFault, IsViewAsked};
+ghost use Rattle.border_show.specs.Conflicts.{IsFirstConflict};
+ghost use Rattle.border_show.specs.Shown.{IsDrawing, IsFeaturePart, IsReadBefore, IsShowFault, IsViewAsked};
 
 use crate::arguments::{Arguments, Part};
 use crate::conflicts::first_conflict;
@@ -40,7 +41,8 @@ fn conflict_of<'a>(
     seed: RandomState,
     bytes: &'a [u8],
 ) -> Result<Option<Conflict>, OpenFault<'a>>
-    ensures { IfErr result (λ fault. IsFault bytes.now fault) }
+    ensures first { IfOk result (IsFirstConflict bytes.now) }
+    ensures refused { IfErr result (λ fault. IsFault bytes.now fault) }
 {
     let map = match read(heap, heap, bytes) {
         Ok(map) => map,
@@ -56,7 +58,8 @@ fn view_of(
     map: &RawDoc<'_, Global>,
     arguments: &Arguments,
 ) -> Result<Result<View, NoFeature>, AllocError>
-    ensures shown { IfOk result (λ view. IfOk view (IsViewAsked arguments.now)) }
+    ensures shown { IfOk result (λ view. IfOk view
+        (IsViewAsked (option_map (λ b. b.now) before.entry) map.now arguments.now)) }
     ensures named { IfOk result (λ view. OnErr view (IsFeaturePart arguments.now.part)) }
 {
     let all = View {
@@ -82,8 +85,67 @@ fn view_of(
     }
 }
 
-/// The picture of a map, or, where there is one before it, of what an edit did. The map before it is
-/// read first.
+/// The map before an edit, where there is one.
+fn read_before<'a>(
+    heap: Global,
+    bytes: Option<&'a [u8]>,
+) -> Result<Option<RawDoc<'a, Global>>, OpenFault<'a>>
+    ensures before { IfOk result (IsReadBefore bytes.entry) }
+    ensures refused { IfErr result (λ fault. IsSomeAnd bytes.entry (λ b. IsFault b.now fault)) }
+{
+    match bytes {
+        Some(bytes) => match read(heap, heap, bytes) {
+            Ok(map) => Ok(Some(map)),
+            Err(fault) => Err(fault),
+        },
+        None => Ok(None),
+    }
+}
+
+/// What is drawn: a map, the map before it where there is an edit, and how.
+#[derive(Drop)]
+struct Drawing<'a> {
+    before: Option<RawDoc<'a, Global>>,
+    map: RawDoc<'a, Global>,
+    view: View,
+}
+
+/// What is drawn as the arguments ask, of the bytes of a map and perhaps of the one before it, which is read
+/// first. The first conflict of the map is to be marked.
+fn drawing_of<'a>(
+    heap: Global,
+    seed: RandomState,
+    before: Option<&'a [u8]>,
+    bytes: &'a [u8],
+    arguments: &Arguments,
+) -> Result<Drawing<'a>, ShowFault<'a>>
+    ensures drawn { IfOk result (IsDrawing before.entry bytes.now arguments.now) }
+    ensures fault { IfErr result (IsShowFault before.entry bytes.now arguments.now.part) }
+{
+    let before = or_return!(read_before(heap, before));
+    let conflict = or_return!(conflict_of(heap, seed, bytes));
+    let map = or_return!(read(heap, heap, bytes));
+    match view_of(heap, before.as_ref(), &map, arguments)? {
+        Ok(view) => Ok(Drawing {
+            before,
+            map,
+            view: View { conflict, ..view },
+        }),
+        Err(fault) => Err(ShowFault::Feature(fault)),
+    }
+}
+
+impl Drawing<'_> {
+    /// The picture of the map, or of what an edit made of the map before it.
+    fn picture(&self, heap: Global, title: &str) -> Result<Vec<u8>, AllocError> {
+        match &self.before {
+            Some(before) => draw_change(heap, heap, before, &self.map, self.view, title),
+            None => draw_map(heap, heap, &self.map, self.view, title),
+        }
+    }
+}
+
+/// The picture of a map, or, where there is one before it, of what an edit did.
 pub(crate) fn show<'a>(
     heap: Global,
     seed: RandomState,
@@ -94,18 +156,8 @@ pub(crate) fn show<'a>(
 ) -> Result<Vec<u8>, ShowFault<'a>>
     ensures { IfErr result (IsShowFault before.entry bytes.now arguments.now.part) }
 {
-    let before = match before {
-        Some(before) => Some(or_return!(read(heap, heap, before))),
-        None => None,
-    };
-    let conflict = or_return!(conflict_of(heap, seed, bytes));
-    let map = or_return!(read(heap, heap, bytes));
-    let view = match view_of(heap, before.as_ref(), &map, arguments)? {
-        Ok(view) => View { conflict, ..view },
-        Err(fault) => return Err(ShowFault::Feature(fault)),
-    };
-    match &before {
-        Some(before) => Ok(draw_change(heap, heap, before, &map, view, title)?),
-        None => Ok(draw_map(heap, heap, &map, view, title)?),
+    match drawing_of(heap, seed, before, bytes, arguments) {
+        Ok(drawing) => Ok(drawing.picture(heap, title)?),
+        Err(fault) => Err(fault),
     }
 }

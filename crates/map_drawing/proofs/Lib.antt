@@ -1,2 +1,3 @@
 pub mod MappedLists
 pub mod ProductLemmas
+mod Examples

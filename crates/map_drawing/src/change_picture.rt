@@ -134,11 +134,12 @@ fn draw_features<A: Allocator + Copy>(
     new: &[Shape<'_, A>],
 ) -> Result<Vec<u8, A>, AllocError> {
     let mut picture = picture;
+    let view = picture.view;
     let changes = changes_between(picture.alloc, old, new)?;
     let list = picture.in_sight(changes.as_slice())?;
     picture.open(units, title, rows_of(list.len()) + 1)?;
     picture.push_edit(old, new, changes.as_slice())?;
-    picture.close_map(new)?;
+    picture.close_map(view, new)?;
     picture.push_list(list.as_slice())?;
     picture.close()
 }

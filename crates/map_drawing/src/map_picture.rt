@@ -1,5 +1,6 @@
 // The picture of a map.
-ghost use Rattle.std.specs.Prelude.{◌≤ℤ◌, pos};
+ghost use Rattle.std.specs.Prelude.{◌≡◌, ◌≤ℤ◌, ◌++◌, codes, pos, IfOk, IfSome, OnOk};
+ghost use Rattle.map_drawing.specs.Marks.{IsNamedAtEnd, NamesConflict};
 
 use crate::labels::{Label, widest_row};
 use crate::layout::{Layout, MARGIN, PIXEL, ROW, WIDTH};
@@ -214,26 +215,34 @@ impl<A: Allocator + Copy> Picture<A> {
 
     /// Ends the map, and appends what is written over it: the names of features where the view has
     /// them. What is in conflict is marked, and named in the first line below the map.
-    pub(crate) fn close_map(&mut self, shapes: &[Shape<'_, A>]) -> Result<(), AllocError> {
-        if let Some(number) = self.view.feature {
+    pub(crate) fn close_map(
+        &mut self,
+        view: View,
+        shapes: &[Shape<'_, A>],
+    ) -> Result<(), AllocError>
+        ensures { OnOk result (IfSome view.conflict (λ c. NamesConflict c self.new.text.items)) }
+    {
+        if let Some(number) = view.feature {
             self.push_named(shapes.get(number))?;
         }
-        if let Some(conflict) = self.view.conflict {
+        if let Some(conflict) = view.conflict {
             self.push_conflict(conflict)?;
         }
         close_group(&mut self.text)?;
         close_picture(&mut self.text)?;
-        if self.view.has_ids {
+        if view.has_ids {
             self.push_labels(shapes)?;
         }
-        if let Some(conflict) = self.view.conflict {
+        if let Some(conflict) = view.conflict {
             self.push_fault(conflict)?;
         }
         Ok(())
     }
 
     /// Ends the picture, and answers its text.
-    pub(crate) fn close(self) -> Result<Vec<u8, A>, AllocError> {
+    pub(crate) fn close(self) -> Result<Vec<u8, A>, AllocError>
+        ensures { IfOk result (λ text. text.items ≡ self.text.items ++ codes "</svg>\n") }
+    {
         let Picture { mut text, .. } = self;
         close_picture(&mut text)?;
         Ok(text)
@@ -249,7 +258,9 @@ pub fn draw_map<A: Allocator + Copy>(
     map: &RawDoc<'_, A>,
     view: View,
     title: &str,
-) -> Result<Vec<u8, A>, AllocError> {
+) -> Result<Vec<u8, A>, AllocError>
+    ensures { IfOk result (λ picture. IfSome view.conflict (IsNamedAtEnd picture.items)) }
+{
     let shapes = shapes_of(alloc, map, map.polygons.as_slice())?;
     let bounds = bounds_of(None, shapes.as_slice());
     let units = Units::of(map.transform, bounds, view.part);
@@ -258,6 +269,6 @@ pub fn draw_map<A: Allocator + Copy>(
     for shape in &shapes {
         picture.push_shape(shape, Look::Plain)?;
     }
-    picture.close_map(shapes.as_slice())?;
+    picture.close_map(view, shapes.as_slice())?;
     picture.close()
 }

@@ -1,4 +1,7 @@
 // What is drawn over the borders.
+ghost use Rattle.std.specs.Prelude.{OnOk};
+ghost use Rattle.map_drawing.specs.Marks.{NamesConflict};
+
 use crate::cutting::{Side, cut_line};
 use crate::layout::PIXEL;
 use crate::map_picture::{Look, Picture};
@@ -53,7 +56,9 @@ impl<A: Allocator + Copy> Picture<A> {
 
     /// Appends a ring round the place of a conflict, where it is shown, and the line that says which
     /// segments are in conflict.
-    pub(crate) fn push_fault(&mut self, conflict: Conflict) -> Result<(), AllocError> {
+    pub(crate) fn push_fault(&mut self, conflict: Conflict) -> Result<(), AllocError>
+        ensures { OnOk result (NamesConflict conflict self.new.text.items) }
+    {
         if let Some(middle) = conflict.middle()
             && self.layout.window.has(middle)
         {
@@ -65,12 +70,8 @@ impl<A: Allocator + Copy> Picture<A> {
             self.text.extend_from_slice(b"/>\n")?;
         }
         let words = format!(in self.alloc; "conflict {} / {}", conflict.first, conflict.second)?;
-        push_words(
-            &mut self.text,
-            "gone",
-            20,
-            self.layout.first_line(),
-            words.as_bytes(),
-        )
+        let down = self.layout.first_line();
+        push_words(&mut self.text, "gone", 20, down, words.as_bytes())?;
+        Ok(())
     }
 }

@@ -1,0 +1,4 @@
+mod RuleLemmas
+mod WordLemmas
+mod Examples
+mod FoundLemmas
