@@ -2,3 +2,5 @@ mod RuleLemmas
 mod WordLemmas
 mod Examples
 mod FoundLemmas
+mod MarkLemmas
+mod NumberLemmas

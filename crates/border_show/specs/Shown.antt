@@ -1,7 +1,9 @@
 -- What part of a map is drawn, and why there is no picture.
-use Rattle.std.specs.Prelude.{◌≡◌, ◌⊎◌, ℕ, List, Option, Some, None, IsSomeAnd, string_bytes}
+use Rattle.std.specs.Prelude.{◌≡◌, ◌⊎◌, ℕ, List, Option, Some, None, IfSome, IsSomeAnd, string_bytes}
 use Rattle.std.specs.Borrow.{Bor}
 use Rattle.std.specs.declared.alloc.Global.{Global}
+use Rattle.ring_machine.specs.Common.{Document, first_pair}
+use Rattle.map_drawing.specs.Marks.{IsNamedAtEnd}
 use Rattle.topo_reader.specs.Common.{IsFault, Reads, document_of, view_raw}
 use Rattle.topo_reader.specs.declared.document.RawDoc.{RawDoc}
 use Rattle.map_drawing.specs.declared.view.View.{View}
@@ -50,6 +52,11 @@ pub record IsDrawing (before : Option (Bor (List ℕ))) (bytes : List ℕ) (aske
   pub map : IsRead bytes drawn.map
   pub view : IsViewAsked drawn.before drawn.map asked drawn.view
   pub conflict : IsFirstConflict bytes drawn.view.conflict
+
+-- the picture ends behind a line that names the first pair in conflict of the map that the bytes mean, if there is one
+abbrev pub IsMarked : List ℕ → List ℕ → Type 0
+IsMarked bytes picture = (d : Document) → Reads bytes d
+    → IfSome (first_pair d) (λ pair. IsNamedAtEnd picture (record { first = pair.0; second = pair.1 }))
 
 -- the surroundings of a feature are asked for
 abbrev pub IsFeaturePart : Part → Type 0

@@ -2,7 +2,7 @@
 ghost use Rattle.std.specs.Prelude.{◌≡◌, IfOk, IfSome, false, map, option_map, string_bytes};
 ghost use Rattle.std.specs.List.{list_any};
 ghost use Rattle.clap.specs.Words.{app_of, found_of, rows_of, rule_of};
-ghost use Rattle.border_show.specs.Asked.{AreAsked, IsPartAsked, IsSquareAsked, begins_short};
+ghost use Rattle.border_show.specs.Asked.{AreAsked, IsPartAsked, IsSquareAsked, Writes, begins_short};
 ghost use Rattle.border_show.specs.Asked.{at_rule, ids_rule, is_short, option_rule, positional_rule, show_program, texts_of};
 ghost use Rattle.border_show.specs.Given.{AsksFor};
 
@@ -84,7 +84,7 @@ fn flag<'a>(alloc: Global) -> Arg<'a>
 fn command<'a>(alloc: Global, is_signed: bool) -> Result<Command<'a>, AllocError>
     ensures { IfOk result (λ command. app_of command ≡ show_program is_signed) }
 {
-    Command::new(alloc, "border_show")
+    let command = Command::new(alloc, "border_show")
         .about(help::ABOUT)
         .version(VERSION)
         .after_help(help::LINES)
@@ -93,7 +93,8 @@ fn command<'a>(alloc: Global, is_signed: bool) -> Result<Command<'a>, AllocError
         .arg(option(alloc, "out", "FILE", help::OUT, true))?
         .arg(square(alloc, is_signed))?
         .arg(option(alloc, "feature", "ID", help::FEATURE, false))?
-        .arg(flag(alloc))
+        .arg(flag(alloc))?;
+    Ok(command)
 }
 
 /// Whether a word begins with one dash and goes on, as a negative number does.
@@ -108,11 +109,18 @@ fn begins_short(word: &str) -> bool
 fn is_some_short(given: &[String]) -> bool
     ensures { result ≡ list_any is_short given.now }
 {
-    let mut is_some = false;
+    let mut is_found = false;
     for word in given {
-        is_some = begins_short(word.as_str()) | is_some;
+        is_found = is_found | begins_short(word.as_str());
     }
-    is_some
+    is_found
+}
+
+/// The whole number that a text is.
+fn number_of(text: &str) -> Option<i64>
+    ensures { IfSome result (Writes text.now) }
+{
+    text.parse::<i64>().ok()
 }
 
 /// The square that three values say.
@@ -122,9 +130,9 @@ fn square_of(values: &[&str]) -> Option<Window>
     let [x, y, width] = values else {
         return None;
     };
-    let x = x.parse::<i64>().ok()?;
-    let y = y.parse::<i64>().ok()?;
-    let width = width.parse::<i64>().ok()?;
+    let x = number_of(x)?;
+    let y = number_of(y)?;
+    let width = number_of(width)?;
     let middle = Pos::new(x, y)?;
     if width < 1 || MOST_WIDTH < width {
         return None;

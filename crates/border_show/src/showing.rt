@@ -1,8 +1,9 @@
 //! From the bytes of maps to the bytes of a picture.
-ghost use Rattle.std.specs.Prelude.{◌≡◌, option_map, IfErr, IfOk, IsSomeAnd, OnErr};
+ghost use Rattle.std.specs.Prelude.{◌≡◌, None, option_map, IfErr, IfOk, IfSome, IsSomeAnd, OnErr};
+ghost use Rattle.map_drawing.specs.Marks.{IsNamedAtEnd};
 ghost use Rattle.topo_reader.specs.Common.{IsFault};
 ghost use Rattle.border_show.specs.Conflicts.{IsFirstConflict};
-ghost use Rattle.border_show.specs.Shown.{IsDrawing, IsFeaturePart, IsReadBefore, IsShowFault, IsViewAsked};
+ghost use Rattle.border_show.specs.Shown.{IsDrawing, IsFeaturePart, IsMarked, IsReadBefore, IsShowFault, IsViewAsked};
 
 use crate::arguments::{Arguments, Part};
 use crate::conflicts::first_conflict;
@@ -137,7 +138,10 @@ fn drawing_of<'a>(
 
 impl Drawing<'_> {
     /// The picture of the map, or of what an edit made of the map before it.
-    fn picture(&self, heap: Global, title: &str) -> Result<Vec<u8>, AllocError> {
+    fn picture(&self, heap: Global, title: &str) -> Result<Vec<u8>, AllocError>
+        ensures { self.now.before ≡ None → IfOk result (λ picture.
+            IfSome self.now.view.conflict (IsNamedAtEnd picture.items)) }
+    {
         match &self.before {
             Some(before) => draw_change(heap, heap, before, &self.map, self.view, title),
             None => draw_map(heap, heap, &self.map, self.view, title),
@@ -154,7 +158,8 @@ pub(crate) fn show<'a>(
     arguments: &Arguments,
     title: &str,
 ) -> Result<Vec<u8>, ShowFault<'a>>
-    ensures { IfErr result (IsShowFault before.entry bytes.now arguments.now.part) }
+    ensures marked { before.entry ≡ None → IfOk result (λ picture. IsMarked bytes.now picture.items) }
+    ensures fault { IfErr result (IsShowFault before.entry bytes.now arguments.now.part) }
 {
     match drawing_of(heap, seed, before, bytes, arguments) {
         Ok(drawing) => Ok(drawing.picture(heap, title)?),

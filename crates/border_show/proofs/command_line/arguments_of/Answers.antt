@@ -4,8 +4,8 @@ use Rattle.border_show.specs.Asked.{show_program}
 use Rattle.border_show.proofs.WordLemmas.{rows_found}
 use Rattle.border_show.proofs.command_line.arguments_of.Goals as goal
 
-pub returns-in_ok-matches-in-Ok : goal.returns-in_ok-matches-in-Ok
-returns-in_ok-matches-in-Ok c =
+pub returns-in-Ok : goal.returns-in-Ok
+returns-in-Ok c =
     record {
       found = rows_of (found_of c.in_ok-matches.matches);
       are_asked = c.in-Ok.ensures;
