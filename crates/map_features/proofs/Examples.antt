@@ -12,6 +12,6 @@ abbrev head : Option (List ℕ) → Head
 head id = record { id = id; properties = None; members = [] }
 
 -- two features with their polygons; a third one has none and is left out
-numbered : descriptions_from 0 (head (Some (codes "7")) ∷ head None ∷ head None ∷ []) (10 ∷ 20 ∷ [])
+numbered : descriptions_from {P = ℕ} 0 (head (Some (codes "7")) ∷ head None ∷ head None ∷ []) (10 ∷ 20 ∷ [])
     ≡ ((0, Some (codes "7"), None, 10) ∷ (1, None, None, 20) ∷ [])
 numbered = refl

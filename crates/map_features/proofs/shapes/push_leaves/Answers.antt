@@ -1,4 +1,4 @@
-use Rattle.kit_words.proofs.Common.{ap, sym, ◌∙◌, drop, drop_all, map, next_drop, refl}
+use Rattle.kit_words.proofs.Common.{◌+◌, ap, sym, ◌∙◌, drop, drop_all, map, next_drop, refl}
 use Rattle.std.specs.Prelude.{flat_map}
 use Rattle.topo_outline.specs.Common.{view_item}
 use Rattle.map_features.specs.Shapes.{description_of, heads_in}
