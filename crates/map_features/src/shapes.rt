@@ -61,7 +61,7 @@ fn push_leaf<'r, A: Allocator + Copy>(
 ) -> Result<(), AllocError>
     ensures { OnOk result (map description_of shapes.new.items ≡ map description_of shapes.old.items
         ++ descriptions_from (length shapes.old.items) (heads_in (view_item item.now))
-            (drop (length shapes.old.items) (map (λ p. p.items) polygons.now))) }
+        (drop (length shapes.old.items) (map (λ p. p.items) polygons.now))) }
 {
     let number = shapes.len();
     if let Item::Leaf(feature) = item
@@ -85,7 +85,7 @@ fn push_leaves<'r, A: Allocator + Copy>(
 ) -> Result<(), AllocError>
     ensures { OnOk result (map description_of shapes.new.items ≡ map description_of shapes.old.items
         ++ descriptions_from (length shapes.old.items) (flat_map heads_in (map view_item items.now))
-            (drop (length shapes.old.items) (map (λ p. p.items) polygons.now))) }
+        (drop (length shapes.old.items) (map (λ p. p.items) polygons.now))) }
 {
     for item in items {
         push_leaf(shapes, item, polygons)?;

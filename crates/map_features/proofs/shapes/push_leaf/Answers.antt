@@ -19,7 +19,7 @@ returns-in_ok-push g c =
     let left : drop number given ≡ polygons.items ∷ map (λ p. p.items) (drop (number + 1) all) =
     drop-map (λ p. p.items) number all ∙ ap (map (λ p. p.items)) (next_drop all number polygons lent.3.0 lent.1) in
     let one : descriptions_from number (heads_in (view_item c.args.item.now)) (drop number given)
-        ≡ (number, option_map (λ t. t.now) head.id, option_map (λ t. t.now) head.properties, polygons.items) ∷ [] =
+    ≡ (number, option_map (λ t. t.now) head.id, option_map (λ t. t.now) head.properties, polygons.items) ∷ [] =
     ap₂ (λ hs ps. descriptions_from number hs ps) heads left in
     ap (map description_of) c.in_ok-push.ensures.items ∙ (map-append description_of old _ ∙ ap (λ ds. map description_of old ++ ds)
     (ap (λ ps. (number, option_map (λ t. t.now) head.id, option_map (λ t. t.now) head.properties, ps) ∷ []) c.as_slice.ensures.value
