@@ -1,9 +1,10 @@
 //! The files of the program: what is read, what is written, and in which order.
-ghost use Rattle.std.specs.Prelude.{◌≡◌, false, []};
+ghost use Rattle.std.specs.Prelude.{◌≡◌, ◌≤◌, false, [], IsSome};
 
 use device_io::{FromReader, Sink, Source, ToWriter};
 use edit_program::{
     NotedAnswers, NotedScript, RefusedLines, ScriptTail, Words, ending_of_run, strict_ending,
+    whole_rows,
 };
 use program_ends::{Ending, Errors, Paths, Stop, hash_seed, map_bytes, replace_file};
 use script_runner::{RunFault, Summary, run};
@@ -38,13 +39,15 @@ fn paths_of(words: &Words) -> Paths<'_> {
     }
 }
 
-/// Writes FILE where the ending has something for it.
+/// Writes FILE where the ending has something for it. A fault before stays one.
 fn save<'a, E: Write>(
     rt: &HostRuntime,
     words: &Words,
     ending: Ending<'a>,
     errors: &mut Errors<'_, E>,
-) -> Ending<'a> {
+) -> Ending<'a>
+    ensures { result.status ≤ 1 → ending.entry.status ≤ 1 }
+{
     let Some(text) = ending.file else {
         return ending;
     };
@@ -53,17 +56,20 @@ fn save<'a, E: Write>(
     ending.once_written(replace_file(rt, file, text))
 }
 
-/// Whether the whole script was answered, and FILE was written or is to stay as it is.
-fn is_done(ending: &Ending<'_>) -> bool {
-    ending.status <= 1
+/// Writes these rows in FILE2. The whole script was answered, and FILE was written or is to stay as it is.
+fn write_rows<'a>(rt: &HostRuntime, ending: Ending<'a>, path: &str, rows: &[u8]) -> Ending<'a>
+    requires { ending.status ≤ 1 }
+{
+    ending.once_listed(replace_file(rt, path, rows))
 }
 
-/// Writes the rows of the refused lines in FILE2, where no fault came before.
-fn list<'a>(rt: &HostRuntime, ending: Ending<'a>, path: &str, rows: &[u8]) -> Ending<'a> {
-    if is_done(&ending) {
-        ending.once_listed(replace_file(rt, path, rows))
-    } else {
-        ending
+/// Writes the rows of the refused lines in FILE2, where no fault came before; a list that lacks rows is one.
+fn list<'a>(rt: &HostRuntime, ending: Ending<'a>, path: &str, rows: Option<&[u8]>) -> Ending<'a>
+    requires { ending.status ≤ 1 → IsSome rows }
+{
+    match rows {
+        Some(rows) if ending.status <= 1 => write_rows(rt, ending, path, rows),
+        _ => ending,
     }
 }
 
@@ -152,14 +158,14 @@ impl Editing<'_> {
         );
         let saved = saved.writer.as_slice();
         let ending = ending_of(self.words, &outcome, saved, script.source().is_whole());
-        let is_short = script.is_short() || answers.is_short();
         let listed = lines.try_borrow();
-        let ending = ending.unless_short(is_short || listed.is_err());
-        let ending = save(self.rt, self.words, ending, errors);
-        let ending = match &listed {
-            Ok(lines) => list(self.rt, ending, path, lines.rows()),
-            Err(_) => ending,
+        let rows = match &listed {
+            Ok(lines) => whole_rows(lines, &script, &answers),
+            Err(_) => None,
         };
+        let ending = ending.unless_short(rows.is_none());
+        let ending = save(self.rt, self.words, ending, errors);
+        let ending = list(self.rt, ending, path, rows);
         errors.end(ending, &paths_of(self.words))
     }
 

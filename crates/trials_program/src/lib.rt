@@ -9,6 +9,8 @@ mod disk;
 #[cfg(test)]
 mod listed;
 #[cfg(test)]
+mod noted;
+#[cfg(test)]
 mod reasons;
 #[cfg(test)]
 mod replaced;
