@@ -22,18 +22,18 @@ The others are POST with JSON. What is not done is answered with `reason`: 400 f
 who may not ask, 404 for a name that there is not, 409 for what can't be done now, with `force` if it can be forced
 and `closed` if a newer page has the map, and 500 after border_edit has ended.
 """
-import http.server
 import json
 import os
 import pathlib
 import re
 import secrets
+import socketserver
 import sys
 import threading
 import time
-import traceback
 
 from child import Ended
+from connection import BadRequest, Connection
 from session import MOST_EDITS, MOST_LINE, Lost, Refusal
 from visits import NoPage, Visits
 
@@ -59,14 +59,6 @@ MOST_DIGITS = 24
 MOST_COORDINATE, MOST_WIDTH = 10 ** 12, 4 * 10 ** 12
 # Seconds for which the page can ask why the map could not be opened.
 TELLING = 1
-
-
-class BadRequest(Exception):
-    """A request that no page of ours sends: its status and why."""
-
-    def __init__(self, status, reason):
-        super().__init__(reason)
-        self.status = status
 
 
 def static_files(folder):
@@ -114,7 +106,7 @@ def number_in(given, name, most, least=0):
     return number
 
 
-class Server(http.server.ThreadingHTTPServer):
+class Server(socketserver.ThreadingTCPServer):
     """The session, who may see it, and when it is over."""
 
     daemon_threads = True
@@ -185,25 +177,17 @@ class Server(http.server.ThreadingHTTPServer):
     def handle_error(self, request, client_address):
         """A browser that leaves while it is answered is no fault."""
         if not isinstance(sys.exc_info()[1], ConnectionError):
-            traceback.print_exc()
+            print_fault()
 
 
-class Handler(http.server.BaseHTTPRequestHandler):
-    """One connection of a browser."""
+def print_fault():
+    """Writes a mistake of the server on standard error."""
+    import traceback  # which takes time, and is needed for this alone
+    traceback.print_exc()
 
-    protocol_version = "HTTP/1.1"
-    # seconds for which a connection may be silent
-    timeout = 120
-    # head and body go out in one piece, at once: else the system waits 40 ms for the answer to the first one
-    wbufsize = -1
-    disable_nagle_algorithm = True
 
-    def version_string(self):
-        """The server's name in answers, without versions."""
-        return "border_edit"
-
-    def log_message(self, *_):
-        """Nothing is written for a request."""
+class Handler(Connection):
+    """One connection of a browser, whose requests are answered."""
 
     def send(self, status, body, kind=JSON, policy=POLICY):
         """Sends an answer: bytes, or what becomes JSON."""
@@ -215,18 +199,13 @@ class Handler(http.server.BaseHTTPRequestHandler):
 
     def _send_head(self, status, size, kind=JSON, policy=POLICY):
         """Sends the head of an answer, whose body has so many bytes."""
-        self.send_response(status)
         own = {"Content-Type": kind, "Content-Length": str(size), "Content-Security-Policy": policy}
-        for name, value in {**own, **HEADERS}.items():
-            self.send_header(name, value)
-        if self.close_connection:
-            self.send_header("Connection", "close")
-        self.end_headers()
+        self.send_head(status, {**own, **HEADERS})
 
-    def send_error(self, code, message=None, explain=None):
-        """What a request is answered of which nothing more is read."""
-        self.close_connection = True
-        self.send(code, {"reason": message or "no such request"})
+    def refuse(self, bad):
+        """Answers a request of which nothing more is read."""
+        self.is_last = True
+        self.send(bad.status, {"reason": str(bad)})
 
     # ---- who may ask
 
@@ -241,32 +220,31 @@ class Handler(http.server.BaseHTTPRequestHandler):
     def _is_from_here(self, name):
         """Whether the browser says that no other site makes it ask."""
         hosts = self.server.hosts
-        if self.headers.get("Host") not in hosts:
+        if self.headers.get("host") not in hosts:
             return False
-        origin = self.headers.get("Origin")
+        origin = self.headers.get("origin")
         if origin is not None and origin not in ["http://" + host for host in hosts]:
             return False
-        if self.headers.get("Sec-Fetch-Site", "none") in ("none", "same-origin"):
+        if self.headers.get("sec-fetch-site", "none") in ("none", "same-origin"):
             return True
         # the file that leads to the page is another site, and may do no more than that
-        leads = (self.command, name, self.headers.get("Sec-Fetch-Mode"),
-                 self.headers.get("Sec-Fetch-Dest", "document"))
+        leads = (self.command, name, self.headers.get("sec-fetch-mode"),
+                 self.headers.get("sec-fetch-dest", "document"))
         return leads == ("GET", "", "navigate", "document")
 
     # ---- what is answered
 
-    def do_GET(self):
-        self._guarded(self._get)
-
-    def do_POST(self):
-        self._guarded(self._post)
-
-    def _guarded(self, does):
+    def answer(self):
         """Answers a request, also where something is wrong with it."""
         try:
-            does()
+            if self.command == "GET":
+                self._get()
+            elif self.command == "POST":
+                self._post()
+            else:
+                raise BadRequest(501, "no such request")
         except BadRequest as bad:
-            self.send_error(bad.status, str(bad))
+            self.refuse(bad)
         except Refusal as refusal:
             self.send(409, {"reason": str(refusal), "force": refusal.force})
         except Lost as lost:
@@ -277,10 +255,10 @@ class Handler(http.server.BaseHTTPRequestHandler):
             # the browser is gone
             raise
         except OSError as fault:
-            self.send_error(500, f"this was not done: {fault.strerror}")
+            self.refuse(BadRequest(500, f"this was not done: {fault.strerror}"))
         except Exception:
-            traceback.print_exc()
-            self.send_error(500, "this was not done, by a mistake in the server; its terminal has more")
+            print_fault()
+            self.refuse(BadRequest(500, "this was not done, by a mistake in the server; its terminal has more"))
 
     def _get(self):
         """Answers a GET."""
@@ -353,11 +331,11 @@ class Handler(http.server.BaseHTTPRequestHandler):
 
     def _body(self, name):
         """What the body of a request says."""
-        kind = self.headers.get("Content-Type", "").split(";")[0].strip().lower()
+        kind = self.headers.get("content-type", "").split(";")[0].strip().lower()
         # a browser sends a page's last call as it likes; it says no more than who leaves
         if kind != "application/json" and not (name == "leave" and kind == "text/plain"):
             raise BadRequest(403, "not from this page")
-        length = self.headers.get("Content-Length", "")
+        length = self.headers.get("content-length", "")
         if not re.fullmatch("[0-9]+", length):
             raise BadRequest(411, "no length")
         if len(length) > 9 or int(length) > MOST_BODY:

@@ -44,6 +44,24 @@ KINDS = [("application/json", 200), ("application/json; charset=utf-8", 200), ("
 BODIES = [b"{", b"[]", b"5", b"null", b'"x"', b"true", b"NaN", b"", b"\xff\xfe", b'{"lines":', b"{}{}"]
 LENGTHS = [("-1", 411), ("x", 411), ("\u00b2", 411), ("1e3", 411), ("", 411), (None, 411), ("1048577", 413),
            ("99999999999", 413), ("9" * 5000, 413)]
+# Heads of requests as they are sent, and the status of the answer. {get} is what loads the page, {host} the header of its
+# host, {begin} what begins.
+HEADS = [
+    ("{get} HTTP/1.1\r\n{host}\r\n\r\n", 200), ("{get} HTTP/1.0\r\n{host}\r\n\r\n", 200),
+    ("{get} HTTP/1.1\n{host}\n\n", 200), ("{get} HTTP/1.1\r\nhOST:127.0.0.1:{port}  \r\n\r\n", 200),
+    ("\r\n", 400), ("x\r\n\r\n", 400), ("{get}\r\n{host}\r\n\r\n", 400), ("{get} HTTP\r\n{host}\r\n\r\n", 400),
+    ("{get} x HTTP/1.1\r\n{host}\r\n\r\n", 400), ("{get} HTTP/2.0\r\n{host}\r\n\r\n", 505),
+    ("{get} HTTP/1.11\r\n{host}\r\n\r\n", 505), ("{get} HTTP/1.1\r\n\r\n", 403),
+    ("{get} HTTP/1.1\r\n{host}\r\n{host}\r\n\r\n", 403), ("{get} HTTP/1.1\r\n{host}\r\nHost: evil.example\r\n\r\n", 403),
+    ("{get} HTTP/1.1\r\n{host}\r\n evil.example\r\n\r\n", 400), ("{get} HTTP/1.1\r\n{host}\r\nx\r\n\r\n", 400),
+    ("{get} HTTP/1.1\r\n{host}\r\n: x\r\n\r\n", 400), ("{get} HTTP/1.1\r\nHost : 127.0.0.1:{port}\r\n\r\n", 400),
+    ("{get} HTTP/1.1\r\n{host}\r\n" + 99 * "x: y\r\n" + "\r\n", 200),
+    ("{get} HTTP/1.1\r\n{host}\r\n" + 100 * "x: y\r\n" + "\r\n", 431),
+    ("GET /" + 70_000 * "x", 414), ("{get} HTTP/1.1\r\n{host}\r\nx: " + 70_000 * "y", 431),
+    ("{begin}Content-Length: 2\r\n\r\n{{}}", 200), ("{begin}Content-Length: 2\r\nContent-Length: 2\r\n\r\n{{}}", 411),
+    ("{begin}Transfer-Encoding: chunked\r\n\r\n2\r\n{{}}\r\n0\r\n\r\n", 411),
+    ("{begin}Content-Length: 2\r\nTransfer-Encoding: chunked\r\n\r\n2\r\n{{}}\r\n0\r\n\r\n", 411),
+]
 HEADERS = {"X-Content-Type-Options": "nosniff", "Referrer-Policy": "no-referrer", "Cache-Control": "no-store",
            "Cross-Origin-Opener-Policy": "same-origin", "Cross-Origin-Resource-Policy": "same-origin",
            "Access-Control-Allow-Origin": None, "Server": "border_edit"}
@@ -162,6 +180,34 @@ def bodies(checks):
             checks.same("and none began", page.post("begin")[1]["owner"], 3)
 
 
+def heads(checks):
+    """Heads of requests, right and wrong; and which connections go on."""
+    with folder() as files:
+        (files / "map.json").write_text(SQUARES)
+        with Served(files / "map.json") as page:
+            fill = {"get": f"GET {page.base}", "host": f"Host: 127.0.0.1:{page.port}", "port": page.port}
+            begin = f"POST {page.base}begin HTTP/1.1\r\n{fill['host']}\r\nContent-Type: application/json\r\n"
+            for head, status in HEADS:
+                said = sent(page, head.format(**fill, begin=begin))
+                checks.same(f"head {head[:90]!r}", said.split(" ")[1], str(status))
+            twice = "{get} HTTP/1.1\r\n{host}\r\n{more}\r\n{get} HTTP/1.1\r\n{host}\r\nConnection: close\r\n\r\n"
+            for more, answers in [("", 2), ("Connection: keep-alive\r\n", 2), ("Connection: x, Close\r\n", 1),
+                                  ("Content-Length: 0\r\n", 1)]:
+                said = sent(page, twice.format(**fill, more=more))
+                checks.same(f"two requests {more!r}", said.count("HTTP/1.1 200 OK"), answers)
+            said = sent(page, f"{begin}Expect: 100-continue\r\nContent-Length: 2\r\n\r\n{{}}")
+            checks.same("a body that waits to be asked for", said.split("\r\n")[:3],
+                        ["HTTP/1.1 100 Continue", "", "HTTP/1.1 200 OK"])
+
+
+def sent(page, text):
+    """What is answered to a text, after which nothing more comes."""
+    with socket.create_connection(("127.0.0.1", page.port)) as connection:
+        connection.sendall(text.encode())
+        connection.shutdown(socket.SHUT_WR)
+        return connection.makefile("rb").read().decode()
+
+
 def head_of(page, name, length):
     """The head of a POST."""
     return (f"POST {page.base}{name} HTTP/1.1\r\nHost: 127.0.0.1:{page.port}\r\n"
@@ -242,5 +288,5 @@ def preloaded(checks):
 
 
 GROUPS = [preloaded, who_may_ask, what_the_browser_tells,
-          what_is_served, bodies, silent_ones, other_machines, constant_time,
+          what_is_served, heads, bodies, silent_ones, other_machines, constant_time,
           hostile_texts]
