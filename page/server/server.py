@@ -5,6 +5,7 @@ Everything is below /TOKEN/, on the loopback address alone.
 | Request | Takes | Answers |
 |---|---|---|
 | GET, no name; each file of the page | | the page |
+| GET `all.js` | | all modules of the page as one |
 | GET `map` | | MAP as it is in its file, also while it is opened, nothing once it was edited |
 | GET `document`, `script`, `picture` | | the text of the map; the log as a script; a map that does not open as SVG |
 | `begin` | | `owner`, `name`, `out`, `proved`, `opens`; then either what is edited or what stops it |
@@ -32,6 +33,7 @@ import sys
 import threading
 import time
 
+from bundle import bundled
 from child import Ended
 from connection import BadRequest, Connection
 from session import MOST_EDITS, MOST_LINE, Lost, Refusal
@@ -41,6 +43,8 @@ WEB = pathlib.Path(__file__).resolve().parent.parent / "web"
 KINDS = {".html": "text/html; charset=utf-8", ".css": "text/css; charset=utf-8",
          ".js": "text/javascript; charset=utf-8"}
 JSON = "application/json; charset=utf-8"
+# The modules that the page asks for by themselves, so that they run before the others are there.
+APART = {"early.js"}
 POLICY = ("default-src 'none'; script-src 'self'; style-src 'self'; img-src 'self' blob: data:; "
           "connect-src 'self'; base-uri 'none'; form-action 'none'; frame-ancestors 'none'")
 HEADERS = {"Cache-Control": "no-store", "X-Content-Type-Options": "nosniff", "Referrer-Policy": "no-referrer",
@@ -267,6 +271,8 @@ class Handler(Connection):
         if name in server.files:
             path = server.files[name]
             self.send(200, path.read_bytes(), KINDS[path.suffix])
+        elif name == "all.js":
+            self.send(200, bundled(WEB, "main.js", APART).encode(), KINDS[".js"])
         elif name == "map":
             self._send_map()
         elif name == "document":

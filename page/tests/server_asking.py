@@ -8,6 +8,7 @@ from unittest import mock
 from server_maps import SQUARES, of_squares
 from server_runs import PAGE, Served, folder
 
+import bundle
 import server as served
 from address import Address
 
@@ -280,13 +281,50 @@ def hostile_texts(checks):
                         [{"line": f"rename 0 {HOSTILE[0]}", "answer": "ok", "act": 1}])
 
 
-def preloaded(checks):
-    """The page names each of its modules, so that the browser asks for all of them at once."""
-    text = (served.WEB / "index.html").read_text()
-    named = re.findall(r'<(?:link rel="modulepreload" href|script (?:async )?type="module" src)="([^"]*)">', text)
-    checks.same("modules", sorted(named), sorted(path.name for path in served.WEB.glob("*.js")))
+# A module, and what stands for its lines in the text of all modules; nothing where that can't be made.
+MODULES = [
+    ("export const a = 1;", "const a = 1;\n\nreturn { a };"),
+    ("export class A {\n}", "class A {\n}\n\nreturn { A };"),
+    ("export function f() {", "function f() {\n\nreturn { f };"),
+    ("export async function f() {", "async function f() {\n\nreturn { f };"),
+    ("export function* f() {", "function* f() {\n\nreturn { f };"),
+    ('import { b } from "./other.js";', 'const { b } = given["other.js"];\n\nreturn {  };'),
+    ('import { b, c as d } from "./other.js";', 'const { b, c: d } = given["other.js"];\n\nreturn {  };'),
+    ('export { b, c } from "./other.js";', '\n\nreturn { b: given["other.js"].b, c: given["other.js"].c };'),
+    ('import { e } from "./early.js";', 'const { e } = given["early.js"];\n\nreturn {  };'),
+    (' import { b } from "./none.js";', ' import { b } from "./none.js";\n\nreturn {  };'),
+    ("export default 1;", None), ("export { a };", None), ('import * as b from "./other.js";', None),
+    ('import { b } from "./other.js"', None), ('import { a } from "./main.js";', None),
+]
 
 
-GROUPS = [preloaded, who_may_ask, what_the_browser_tells,
+def one_text(checks):
+    """The modules of the page as one text."""
+    with folder() as files:
+        (files / "other.js").write_text("export const b = 1, c = 2;\n")
+        other = 'given["other.js"] = (() => {\nconst b = 1, c = 2;\n\nreturn { b };\n})();\n'
+        for module, function in MODULES:
+            (files / "main.js").write_text(module + "\n")
+            try:
+                text = bundle.bundled(files, "main.js", {"early.js"})
+            except ValueError:
+                text = None
+            checks.same(f"module {module!r}", text and text.partition('given["main.js"] = (() => {\n')[2],
+                        function and function + "\n})();\n")
+            if "other.js" in module and text:
+                checks.same("what it needs comes before it", text.index(other) < text.index('given["main.js"]'), True)
+            if "early.js" in module:
+                checks.same("what stays apart is asked for", text.split("\n")[0], 'import * as early from "./early.js";')
+        (files / "map.json").write_text(SQUARES)
+        with Served(files / "map.json") as page:
+            status, text, answer = page.ask("GET", page.base + "all.js")
+            got = (status, answer.getheader("Content-Type"), sorted(re.findall(r'^given\["(.*?)"\]', text.decode(), re.M)))
+            checks.same("of the page", got, (200, "text/javascript; charset=utf-8",
+                                             sorted(path.name for path in served.WEB.glob("*.js"))))
+            named = re.findall(r'<script (?:async )?type="module" src="([^"]*)">', (served.WEB / "index.html").read_text())
+            checks.same("the page asks for", named, ["early.js", "all.js"])
+
+
+GROUPS = [one_text, who_may_ask, what_the_browser_tells,
           what_is_served, heads, bodies, silent_ones, other_machines, constant_time,
           hostile_texts]
