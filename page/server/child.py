@@ -11,6 +11,8 @@ BATCH = 4096
 # Bytes that are read of a pipe at once, and that it holds where the system lets it: of a long answer fewer pieces are
 # waited for.
 BUFFER = 1 << 20
+# Bytes that the answer to `count` does not have, with the line feed before it.
+MOST_COUNT = 256
 # The number of fcntl's F_SETPIPE_SZ, which Python has a name for since 3.10.
 SET_PIPE_SIZE = 1031
 
@@ -68,18 +70,30 @@ class Child:
         return answers
 
     def document(self):
-        """The text of the map.
-
-        It may have line feeds, which stand between tokens of JSON. No token begins with `features`, so the first line
-        that does is the answer to the question behind it.
-        """
+        """The text of the map, piece by piece. It is read to its end also where nobody takes all pieces."""
         self._send(b"document\ncount\n")
-        text, last = bytearray(), 0
-        while not (text.endswith(b"\n") and text.startswith(b"features ", last)):
-            text += self._piece()
-            last = text.rfind(b"\n", 0, -1) + 1 if text.endswith(b"\n") else 0
-        del text[last - 1:]
-        return bytes(text)
+        pieces = self._pieces()
+        try:
+            for piece in pieces:
+                yield piece
+        except GeneratorExit:
+            with contextlib.suppress(Ended):
+                for _ in pieces:
+                    pass
+            raise
+
+    def _pieces(self):
+        """What comes up to the answer to `count`.
+
+        The text may have line feeds, which stand between tokens of JSON. No token begins with `features`, so the first
+        line that does is the answer to the question behind it.
+        """
+        end, begin = b"", 0
+        while not (begin and end.endswith(b"\n") and end.startswith(b"features ", begin)):
+            yield end[:-MOST_COUNT]
+            end = end[-MOST_COUNT:] + self._piece()
+            begin = end.rfind(b"\n", 0, -1) + 1
+        yield end[:begin - 1]
 
     def end(self):
         """Ends the program. It is not let read the end of the script, at which it would write FILE."""

@@ -1,7 +1,6 @@
 """Files: what tells whether another program has changed one, and writing one whole."""
 import contextlib
 import errno
-import hashlib
 import os
 import stat
 import tempfile
@@ -25,15 +24,36 @@ def pieces(path, most=None):
             left = None if left is None else left - len(piece)
 
 
+class Counted:
+    """Pieces of a file that are passed on: how many bytes they have, and what tells them from others."""
+
+    def __init__(self, rows):
+        import hashlib  # which takes time, and is needed once the page has come
+        self.rows, self.size, self.digest = rows, 0, hashlib.blake2b()
+
+    def __iter__(self):
+        for row in self.rows:
+            self.size += len(row)
+            self.digest.update(row)
+            yield row
+
+    @property
+    def fingerprint(self):
+        """What tells the pieces that were passed on from others."""
+        return self.digest.hexdigest()
+
+
 def fingerprint(path):
     """What tells whether a file was changed: nothing where there is no file."""
-    digest = hashlib.blake2b()
+    if not os.path.exists(path):
+        return None
+    counted = Counted(pieces(path))
     try:
-        for piece in pieces(path):
-            digest.update(piece)
+        for _ in counted:
+            pass
     except FileNotFoundError:
         return None
-    return digest.hexdigest()
+    return counted.fingerprint
 
 
 def copy_rights(path, handle):
@@ -61,10 +81,10 @@ def sync_folder(folder):
         os.close(handle)
 
 
-def replace(path, rows, rights=None):
+def replace(path, rows, rights=None, before=lambda: None):
     """Writes a file whole: a new file beside it, sent to the disk, takes its place. After a fault it is as it was.
 
-    `rights` is the file whose mode the new one gets, if it is another one.
+    `rights` is the file whose mode the new one gets, if it is another one. `before` is called before it takes its place.
     """
     handle, part = tempfile.mkstemp(prefix=".border_edit.", dir=path.parent)
     try:
@@ -74,6 +94,7 @@ def replace(path, rows, rights=None):
             file.flush()
             copy_rights(rights or path, file.fileno())
             os.fsync(file.fileno())
+        before()
         os.replace(part, path)
     except BaseException:
         with contextlib.suppress(OSError):

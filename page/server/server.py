@@ -277,9 +277,10 @@ class Handler(Connection):
             self._send_map()
         elif name == "document":
             with server.lock:
-                text = server.session.document()
+                file = server.session.document()
                 server.visits.hear()
-            self.send(200, text)
+            with file:
+                self._send_file(file)
         elif name == "script":
             with server.lock:
                 text = server.session.script()
@@ -296,9 +297,13 @@ class Handler(Connection):
             self.send(200, b"")
             return
         with open(path, "rb") as file:
-            self._send_head(200, os.fstat(file.fileno()).st_size)
-            self.wfile.flush()
-            self.connection.sendfile(file)
+            self._send_file(file)
+
+    def _send_file(self, file):
+        """Sends a file whole."""
+        self._send_head(200, os.fstat(file.fileno()).st_size)
+        self.wfile.flush()
+        self.connection.sendfile(file)
 
     def _send_picture(self):
         """Sends the picture of a map that does not open."""

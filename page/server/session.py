@@ -1,7 +1,6 @@
 """A map that is edited: the log of its edits, saving it, and opening it again after border_edit has ended."""
 import collections
 import contextlib
-import hashlib
 import os
 import pathlib
 import shutil
@@ -148,8 +147,21 @@ class Session:
         return self._with_child(lambda: self.child.ask(lines))
 
     def document(self):
-        """The text of the map."""
-        return self._with_child(lambda: self.child.document())
+        """The text of the map, as a file that is gone once it is closed."""
+        return self._with_child(self._text)
+
+    def _text(self):
+        """A file without a name, with the text of the map."""
+        file = open(self.scratch / "text.json", "w+b")
+        try:
+            os.unlink(file.name)
+            with contextlib.closing(self.child.document()) as pieces:
+                file.writelines(pieces)
+            file.flush()
+        except BaseException:
+            file.close()
+            raise
+        return file
 
     def unedited(self):
         """The file of the map, also while it is opened; nothing where there are edits, or where it is too large."""
@@ -286,28 +298,39 @@ class Session:
 
     def save(self, force):
         """Writes FILE. The bytes that it has then."""
-        text = self.document()
-        now = self._look(force, len(text))
+        self._must_be_open()
+        now = self._look(force)
         try:
-            if now is not None and now != self.written:
-                saving.keep_original(self.out)
-            saving.replace(self.out, [text])
-            self.seen = self.written = hashlib.blake2b(text).hexdigest()
+            text = self._with_child(lambda: self._write(force, now))
+            self.seen = self.written = text.fingerprint
             saving.sync_folder(self.out.parent)
         except OSError as fault:
             raise Refusal(f"{self.file} can't be written: {fault.strerror}") from None
         self.saved_state = self.states[-1]
-        return len(text)
+        return text.size
 
-    def _look(self, force, size):
+    def _write(self, force, now):
+        """Writes FILE, which holds `now`: the text that it has then."""
+        with contextlib.closing(self.child.document()) as pieces:
+            text = saving.Counted(pieces)
+
+            def before():
+                if text.size > MOST_BYTES and not force:
+                    raise Refusal(f"the map has {text.size:,} bytes; of more than {MOST_BYTES:,} it can't be opened again",
+                                  True)
+                if now is not None and now != self.written:
+                    saving.keep_original(self.out)
+
+            saving.replace(self.out, text, before=before)
+        return text
+
+    def _look(self, force):
         """What FILE holds before it is written over. Refuses where the user should be asked first."""
         if why := why_not_writable(self.out):
             raise Refusal(why)
         now = saving.fingerprint(self.out)
         if now != self.seen and not force:
             raise Refusal(f"{self.file} was changed by another program since it was opened or saved here", True)
-        if size > MOST_BYTES and not force:
-            raise Refusal(f"the map has {size:,} bytes; of more than {MOST_BYTES:,} it can't be opened again", True)
         return now
 
     def mend(self, digits):

@@ -1,13 +1,18 @@
 """Maps as large as maps may be."""
+import pathlib
 import time
 
 from server_maps import of_squares
-from server_runs import Served, folder
+from server_runs import PATHS, Served, folder
+
+from child import Child
 
 # Bytes of a map that opens, at most.
 MOST = 67_108_864
 # Seconds that all of it may take on a busy machine; on one with nothing else to do it takes some five.
 PATIENCE = 180
+# Kilobytes of memory that the server may have had at most.
+MEMORY = 44_000
 
 
 def of_bytes(size, rows):
@@ -32,7 +37,37 @@ def as_large_as_may_be(checks):
             checks.same("saved", page.post("save"), (200, {"bytes": MOST, "file": str(path)}))
             checks.same("what is saved", path.read_bytes() == text.replace(b'"id":"A"', b'"id":"B"'), True)
             checks.same("what was there", (files / "map.json.orig").read_bytes() == text, True)
+            checks.same("the server never had all of it", most_memory(page.process.pid) < MEMORY, True)
         checks.same("in time", time.monotonic() - began < PATIENCE, True)
+
+
+def most_memory(process):
+    """Kilobytes of memory that a process had at most."""
+    rows = pathlib.Path(f"/proc/{process}/status").read_text().splitlines()
+    return next(int(row.split()[1]) for row in rows if row.startswith("VmHWM:"))
+
+
+def half_taken(checks):
+    """A text of which not all pieces are taken: the next answer is that to the next question."""
+    text = of_bytes(5_000_000, 1000).encode()
+    with folder() as files:
+        (files / "map.json").write_bytes(text)
+        child = Child(PATHS["border_edit"], files / "map.json")
+        try:
+            count = child.ask(["count"])
+            for taken in (0, 1, 2):
+                pieces = child.document()
+                begin = b"".join(next(pieces) for _ in range(taken))
+                checks.same(f"{taken} pieces", (text.startswith(begin), len(begin) < len(text)), (True, True))
+                pieces.close()
+                checks.same("then a question", child.ask(["count"]), count)
+            checks.same("then all of it", b"".join(child.document()) == text, True)
+            pieces = child.document()
+            next(pieces)
+            child.process.kill()
+            checks.same("ended meanwhile", pieces.close(), None)
+        finally:
+            child.end()
 
 
 def larger(checks):
@@ -45,4 +80,4 @@ def larger(checks):
             checks.same("the fault", page.begin()["fault"], "too large bytes")
 
 
-GROUPS = [as_large_as_may_be, larger]
+GROUPS = [as_large_as_may_be, half_taken, larger]

@@ -32,7 +32,7 @@ def main():
         if what == "end":
             real.end()
             sys.exit("out of memory")
-        answer = real.document().decode() if line == "document" else real.ask([line])[0]
+        answer = b"".join(real.document()).decode() if line == "document" else real.ask([line])[0]
         print(what or answer, flush=True)
 
 
