@@ -41,7 +41,7 @@ def findings(border_mend, map_path):
 def picture(border_show, map_path, place=None):
     """A map with segments in conflict as SVG, or a square of it: the x and y of its middle and its width. Nothing where
     the map can't be drawn."""
-    drawn = map_path.with_name("picture.svg")
+    drawn = map_path.parent.with_name("picture.svg")
     at = ["--at", *place] if place else []
     status, _, _ = run(border_show, map_path, *at, "--out", drawn)
     return drawn.read_bytes() if status == 0 else None

@@ -69,8 +69,9 @@ class Session:
         self.written = None
         self.scratch = pathlib.Path(tempfile.mkdtemp(prefix="border_edit-"))
         try:
-            # the map is copied, so that it may be saved over, and the log run again from it
-            self.base = self.scratch / "map.json"
+            # the map is copied, so that it may be saved over, and the log run again from it; a picture has its name
+            self.base = self.scratch / "map" / self.name
+            self.base.parent.mkdir()
             self._copy(map_path)
             self.opening = self._child(self.base)
         except BaseException:
@@ -337,7 +338,8 @@ class Session:
         """Mends a map that does not open, and opens what was made of it. The report of border_mend."""
         if self.child is not None:
             raise Refusal("the map opens")
-        mended = self.scratch / "mended.json"
+        mended = self.scratch / "mended" / self.base.name
+        mended.parent.mkdir(exist_ok=True)
         report, why = mending.mend(self.programs.path("border_mend"), self.base, mended, digits)
         if why:
             raise Refusal(f"the map can't be mended: {why}")

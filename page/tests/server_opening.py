@@ -56,6 +56,24 @@ def do_not_open(checks):
                             (text, ["map.json"]))
 
 
+# Names of files, and how a picture has them.
+NAMES = [("wards.json", b">wards.json<"), ("a&b <i>.json", b">a&amp;b &lt;i"), ("-x.json", b">-x.json<"),
+         ("picture.svg", b">picture.svg<"), ("never-written", b">never-written<"), ("a\nb.json", b">a?b.json<"),
+         (os.fsdecode(b"\xff.json"), b">?.json<"), ("x" * 250 + ".json", b">xxxx")]
+
+
+def names(checks):
+    """A picture has the name of MAP, whatever it is; then it is mended."""
+    for name, drawn in NAMES:
+        with folder() as files:
+            (files / name).write_text(CROSSING)
+            with Served(files / name, "--out", files / "out.json") as page:
+                page.begin()
+                status, text = page.get("picture")
+                checks.same(f"name {name[:20]!r}", (status, drawn in text), (200, True))
+                checks.same("mended", (page.post("mend")[1]["opens"], page.post("save")[0]), (True, 200))
+
+
 def places(checks):
     """A place of a map that does not open is drawn."""
     with folder() as files:
@@ -170,4 +188,4 @@ def policy_of_pictures(checks):
             checks.same("none of a map that opens", page.get("picture")[0], 404)
 
 
-GROUPS = [do_not_open, places, mended, digits, dies_after_mending, policy_of_pictures]
+GROUPS = [do_not_open, names, places, mended, digits, dies_after_mending, policy_of_pictures]

@@ -72,7 +72,13 @@ def test_dragging(page):
     at = page.screen(*corner)
     page.hover(at)
     same("pointing finds the vertex", page.js("return tools.vertex"), corner)
-    page.drag(at, (at[0] + 60, at[1] - 10))
+    page.press(at)
+    page.slide((at[0] + 30, at[1]))
+    page.slide((at[0] + 60, at[1] - 10))
+    page.wait("tools.drag.isMoved && !tools.drag.isTrying")
+    said, place = page.text("where"), page.js("return [tools.drag.u, tools.drag.v]")
+    true("while it is dragged its new place is told", said.endswith(f"grid {place[0]} {place[1]}"), (said, place))
+    page.release()
     line, answer = page.last()
     x, y = map(int, line.split()[3:])
     same("dragging a corner sends its move", (line.split()[:3], answer), (["move", "532622", "382902"], "ok"))
@@ -131,6 +137,17 @@ def test_vertices(page):
     page.keys(Keys.DELETE)
     same("Delete removes the vertex", page.last(), (f"remove {x} {y}", "ok"))
     is_map(page, "adding and removing a vertex")
+    page.js("editor.select([4])")
+    page.hover(page.screen(580000, 450000))
+    page.keys(Keys.DELETE)
+    true("Delete where there is no vertex says how a feature is deleted", "Shift+Delete" in page.text("note"))
+    page.keys(Keys.ESCAPE)
+    page.js("editor.view.hasVertices = false")
+    page.double_click(page.screen(580000, 450000))
+    true("where none are shown a double click says so", "Zoom in" in page.text("note") and "zoom in" in page.text("what"))
+    page.keys(Keys.ESCAPE)
+    page.js("editor.view.redraw()")
+    page.settle()
 
 
 def border_middle(page, x, y, u, v):
@@ -292,6 +309,20 @@ def test_measuring(page):
     true("an area, once the outline is closed", f"Area {area:.6f}"[:11] in page.text("hint"), (page.text("hint"), area))
     page.keys(Keys.ESCAPE)
     true("Esc ends measuring", page.js("return tools.sketch.kind === null") and not page.is_shown("hint"))
+
+
+def test_underlay(page, folder):
+    """A file is drawn below the map, and taken away again."""
+    line = {"type": "LineString", "coordinates": [[8, 11], [11, 14]]}
+    page.element("underlayFile").send_keys(str(put(folder, "line.geojson", line)))
+    page.wait("editor.view.underlay.length === 1")
+    same("a file lies below the map", page.text("underlay"), "Remove underlay")
+    page.button("underlay")
+    same("it is taken away", [page.text("underlay"), page.js("return editor.view.underlay.length")], ["Underlay…", 0])
+    page.element("underlayFile").send_keys(str(put(folder, "none.geojson", "no")))
+    page.wait("!document.getElementById('note').hidden")
+    same("a file that is none", [page.text("underlay"), "none.geojson" in page.text("note")], ["Underlay…", True])
+    page.keys(Keys.ESCAPE)
 
 
 def unload_asks(page):
@@ -766,6 +797,7 @@ def edits_by_mouse(page):
 
 
 def files_and_tabs(page, map_path, out, folder, downloads):
+    test_underlay(page, folder)
     test_saving(page, map_path, out, folder)
     test_saving_troubles(page, out)
     test_loading_again(page)

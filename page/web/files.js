@@ -51,6 +51,18 @@ export class Files {
       this.panel.note("", TEXT.noUnderlay(file.name));
     }
     by("underlayFile").value = "";
+    this.tellUnderlay();
+  }
+
+  /** Asks for a file to draw below the map, or takes away the one that is there. */
+  toggleUnderlay() {
+    if (!this.editor.view.underlay.length) { by("underlayFile").click(); return; }
+    this.editor.view.underlay = [];
+    this.tellUnderlay();
+  }
+
+  tellUnderlay() {
+    by("underlay").textContent = this.editor.view.underlay.length ? TEXT.underlayRemove : TEXT.underlayAdd;
     this.editor.view.change();
   }
 }

@@ -114,7 +114,7 @@ function wireView(files) {
   on("script", () => files.script());
   on("download", () => files.download());
   by("helpOpen").addEventListener("click", showHelp);
-  by("underlay").addEventListener("click", () => by("underlayFile").click());
+  by("underlay").addEventListener("click", () => files.toggleUnderlay());
   by("underlayFile").addEventListener("change", () => files.underlay(by("underlayFile").files[0]));
   by("down").checked = view.down;
   by("down").addEventListener("change", () => view.turn());

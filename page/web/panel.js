@@ -72,7 +72,6 @@ export class Panel {
     by("noteText").textContent = text;
     by("noteCode").textContent = code;
     by("noteShow").hidden = isGood || !(this.editor.conflict || this.editor.swept);
-    by("noteShow").textContent = TEXT.showConflict;
     (isGood ? by("said") : by("alert")).textContent = `${head} ${text}`;
   }
 

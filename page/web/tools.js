@@ -151,12 +151,13 @@ export class Tools {
 
   /** Where the pointer is, and on what. */
   tell() {
-    const { units, layers } = this.panel, [x, y] = this.vertex || this.grid();
+    const { units, layers } = this.panel, { drag } = this;
+    const [x, y] = drag?.kind === "vertex" ? [drag.u, drag.v] : this.vertex || this.grid();
     const where = `${units.coordinate(x, 0)}, ${units.coordinate(y, 1)}`;
     by("where").textContent = units.hasUnit ? TEXT.where(where, x, y) : where;
     const on = this.vertex ? TEXT.vertexAt : this.segment ? TEXT.borderAt : "";
     const name = this.feature === null ? "" : TEXT.numbered(layers.nameOf(this.feature), this.feature);
-    by("what").textContent = [on, name].filter(Boolean).join(", ");
+    by("what").textContent = [on, name, this.view.hasVertices ? "" : TEXT.tooFar].filter(Boolean).join(", ");
     if (this.isByKeys) by("said").textContent = [on, name, where].filter(Boolean).join(", ");
   }
 
@@ -316,6 +317,7 @@ export class Tools {
 
   /** Puts a vertex on the border under the pointer. */
   async insertHere() {
+    if (!this.view.hasVertices) this.panel.note("", TEXT.zoomIn);
     if (this.vertex || !this.segment || !this.editor.canEdit) return;
     const [x, y] = this.onSegment(this.segment);
     await this.editor.edit(`insert ${this.segment.join(" ")} ${x} ${y}`);
@@ -333,6 +335,7 @@ export class Tools {
   }
 
   async removeHere() {
+    if (!this.vertex && this.editor.selected.length) this.panel.note("", TEXT.howToDelete);
     if (!this.vertex || !this.editor.canEdit) return;
     await this.editor.edit(`remove ${this.vertex[0]} ${this.vertex[1]}`);
     this.look();

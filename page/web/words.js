@@ -158,7 +158,6 @@ export const TEXT = {
   noServer: "The program behind this page has ended or cannot be reached. If it could, it left unsaved edits as a script beside the map.",
   noAnswer: "The program could not answer.",
   notOpened: "The map could not be opened.",
-  showConflict: "Show the place",
   newId: "New id of the feature",
   partId: (/** @type {string} */ name) => `Id of the part that is cut from ${name}`,
   partOfReshape: "part",
@@ -181,14 +180,18 @@ export const TEXT = {
   thinLeft: (/** @type {number} */ left, /** @type {number} */ before, /** @type {number} */ share) =>
     `${grouped(left)} of ${grouped(before)} vertices left (${share} %)`,
   thinKept: (/** @type {number} */ left, /** @type {number} */ before) => `Thinned from ${grouped(before)} to ${grouped(left)} vertices.`,
-  counts: (/** @type {number} */ features, /** @type {number} */ vertices) => `${grouped(features)} features, ${grouped(vertices)} vertices`,
+  counts: (/** @type {number} */ features, /** @type {number} */ vertices) =>
+    `${features === 1 ? "1 feature" : `${grouped(features)} features`}, ${grouped(vertices)} vertices`,
   vertexAt: "vertex",
   borderAt: "border",
+  tooFar: "zoom in to see vertices",
+  zoomIn: "Zoom in first: vertices can be edited where fewer than 5,000 are in view.",
+  howToDelete: "There is no vertex here. Shift+Delete deletes the selected features.",
   where: (/** @type {string} */ own, /** @type {number} */ x, /** @type {number} */ y) => `${own}  ·  grid ${x} ${y}`,
   numbered: (/** @type {string} */ name, /** @type {number} */ num) => name === `#${num}` ? name : `${name} (#${num})`,
   nothingSelected: "Click a feature to see it here. Shift+click selects more than one.",
   howToEdit: "Drag a vertex to move it in every feature that has it. Double-click a border to add a vertex. " +
-    "Point at a vertex and press Delete to remove it.",
+    "Point at a vertex and press Delete to remove it. Zoom in where no vertices are shown.",
   manySelected: (/** @type {number} */ count) => `${count} features selected`,
   mergeKeeps: "Merge keeps the id of the first one.",
   selectedOne: (/** @type {string} */ name) => `${name} selected`,
@@ -214,6 +217,8 @@ export const TEXT = {
   otherValues: "other values",
   range: (/** @type {string} */ from, /** @type {string} */ to) => from === to ? from : `${from} to ${to}`,
   notFound: (/** @type {string} */ text) => `No feature with “${text}” in its id or name.`,
+  underlayAdd: "Underlay…",
+  underlayRemove: "Remove underlay",
   underlay: (/** @type {number} */ lines, /** @type {string} */ file) => `Underlay: ${grouped(lines)} lines of ${file}.`,
   noUnderlay: (/** @type {string} */ file) => `${file} is not GeoJSON or TopoJSON.`,
   mendTitle: (/** @type {string} */ name) => `${name} does not open`,
@@ -258,7 +263,7 @@ export const HELP = [
     ["Undo, redo", "Undo, Redo", "Ctrl+Z, Ctrl+Y"],
     ["Save", "Save", "Ctrl+S"],
     ["Stop what is under way", "", "Esc"],
-    ["This help", "?", "?"],
+    ["This help", "Help", "?"],
   ] },
 ];
 
