@@ -144,6 +144,7 @@ def test_vertices(page):
     page.keys(Keys.ESCAPE)
     page.js("editor.view.hasVertices = false")
     page.double_click(page.screen(580000, 450000))
+    page.settle()
     true("where none are shown a double click says so", "Zoom in" in page.text("note") and "zoom in" in page.text("what"))
     page.keys(Keys.ESCAPE)
     page.js("editor.view.redraw()")

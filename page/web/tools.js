@@ -293,12 +293,12 @@ export class Tools {
   /** @param {boolean} isMore */
   async select(isMore) {
     const { editor, panel } = this, [x, y] = this.grid();
+    panel.hideNote();
     const { inside, border } = await editor.featuresAt(x, y).catch(() => ({ inside: [], border: [] }));
     const found = panel.layers.hit(inside), all = found.length ? found : panel.layers.hit(border);
     // where features lie over each other, each click takes the next one
     const now = editor.selected.length === 1 && !isMore ? all.indexOf(editor.selected[0]) : -1;
     const num = all[all.length ? (now + 1) % all.length : 0];
-    panel.hideNote();
     const others = isMore ? editor.selected.filter(other => other !== num) : [], isOut = isMore && others.length < editor.selected.length;
     if (num !== undefined || !isMore) editor.select(num === undefined || isOut ? others : [...others, num]);
     if (num !== undefined) by("said").textContent = TEXT.selectedOne(panel.nameOf(num));
