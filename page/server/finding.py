@@ -9,8 +9,9 @@ class Programs:
         self.found, self.looked_for = {}, {}
 
     def look_for(self, name):
-        """Begins to look for a program that is needed soon."""
-        self.looked_for[name] = programs.look_for(name)
+        """Begins to look for a program that is needed soon, once."""
+        if name not in self.looked_for:
+            self.looked_for[name] = programs.look_for(name)
 
     def path(self, name):
         """The path of a program."""

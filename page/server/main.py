@@ -22,20 +22,23 @@ def interrupt(*_):
 
 def begun(given):
     """Where the page will be, and the programs, of which border_edit is looked for."""
-    from address import Address
     from finding import Programs
+    programs = Programs()
+    if given.port == 0:
+        # while what an address needs is read, which takes as long; a port that is given may be taken
+        programs.look_for("border_edit")
+    from address import Address
     try:
         address = Address(given.port)
     except OSError as fault:
         raise Stop(f"port {given.port}: {fault.strerror}") from None
-    programs = Programs()
     programs.look_for("border_edit")
     return address, programs
 
 
 def main():
     """Serves the page of a map."""
-    given = options()
+    given = options(sys.argv[1:])
     for sign in SIGNALS:
         signal.signal(sign, interrupt)
     try:

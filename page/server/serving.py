@@ -3,7 +3,6 @@ import contextlib
 import os
 import pathlib
 import sys
-import tempfile
 import threading
 
 from asked import Stop
@@ -31,6 +30,7 @@ def stops(map_path):
 def leading_file(address):
     """A file that only the user may read, and that leads on to the page. The browser gets its name as an argument,
     which all users of the machine can see. Nothing if the home folder can't hold it."""
+    import tempfile  # which takes time, and is not needed without a browser to open
     text = ('<!doctype html><meta charset="utf-8">'
             f'<meta http-equiv="refresh" content="0;url={address}"><a href="{address}">the map</a>\n')
     try:

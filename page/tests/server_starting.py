@@ -12,6 +12,8 @@ import time
 from server_maps import SQUARES
 from server_runs import EDIT, PATIENCE, Served, environment, folder, until
 
+import arguments
+import asked
 from session import MOST_BYTES
 
 # Arguments, the status, and the last line on standard error. {here} is the folder, {port} a port that is taken.
@@ -66,6 +68,22 @@ def ends(checks):
                         (status, b"", [line.format(**fill)]))
             checks.same("one line, but for the usage", len(said) == 1, status == 3)
         checks.same("nothing is left", list((files / "tmp").iterdir()), [])
+
+
+# Arguments that are read without the library, and some that are not; `plain` gives nothing for these.
+PLAIN = [["m"], ["m", "--no-open"], ["--no-open", "m"], ["m", "--out", "o"], ["--out", "o", "--port", "0", "m"],
+         ["m", "--port", "1024"], ["m", "--port", "65535", "--no-open", "--no-open"], ["m", "--out", "a", "--out", "b"], [""]]
+NOT_PLAIN = [[], ["m", "n"], ["-h"], ["m", "--help"], ["m", "--out=o"], ["m", "--port=2000"], ["m", "--"], ["--", "m"], ["-"],
+             ["m", "--out"], ["m", "--out", "-o"], ["m", "--port"], ["m", "--port", "1023"], ["m", "--port", "65536"],
+             ["m", "--port", "-1"], ["m", "--port", "\u00b2"], ["m", "--port", "080"], ["m", "--no"], ["m", "--ou", "o"]]
+
+
+def plain_arguments(checks):
+    """Plain arguments are read without the library, and mean the same."""
+    for words in PLAIN:
+        checks.same(f"{words}", vars(asked.plain(words)), vars(arguments.parsed(words)))
+    for words in NOT_PLAIN:
+        checks.same(f"{words} is left to the library", asked.plain(words), None)
 
 
 def run_edit(files, *arguments, **more):
@@ -206,4 +224,4 @@ def scratch(checks):
             checks.same("its mode", stat.filemode(os.stat(kept).st_mode), "drwx------")
 
 
-GROUPS = [ends, programs_fail, while_it_opens, file_of_the_map, help_text, browser, no_home, scratch]
+GROUPS = [ends, plain_arguments, programs_fail, while_it_opens, file_of_the_map, help_text, browser, no_home, scratch]

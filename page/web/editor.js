@@ -105,6 +105,7 @@ export class Editor {
     this.view.resize();
     this.view.setModel(model);
     this.view.fit(model.extent());
+    this.view.drawNow();
     return model;
   }
 
