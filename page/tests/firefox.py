@@ -13,6 +13,7 @@ import time
 
 from selenium import webdriver
 from selenium.common.exceptions import WebDriverException
+from selenium.webdriver.remote.file_detector import UselessFileDetector
 
 # Seconds that Firefox may take to start, to answer, and to end.
 STARTING, ANSWERING, ENDING = 120, 180, 20
@@ -130,6 +131,8 @@ class Firefox(webdriver.Remote):
         with open(self.folder / "said.txt", "wb") as said:
             self.process = subprocess.Popen(command, stdin=subprocess.DEVNULL, stdout=said, stderr=said)
         super().__init__(Marionette(port), options=webdriver.FirefoxOptions())
+        # files that a page is given are of this machine
+        self.file_detector = UselessFileDetector()
 
     def _resize(self, width, height):
         """Gives the window a size with which its page has the wanted one."""
