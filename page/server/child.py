@@ -48,8 +48,8 @@ class Child:
     """border_edit on a map. FILE of the program is never wanted: what is saved is the answer to `document`."""
 
     def __init__(self, program, map_path):
-        never = os.path.join(os.path.dirname(map_path), "never-written")
-        command = [program, map_path, "-", "--out", never, "--undo", str(DEPTH)]
+        unwanted = os.path.join(os.path.dirname(map_path), "unwanted")
+        command = [program, map_path, "-", "--out", unwanted, "--undo", str(DEPTH)]
         # in a session of its own, so that Ctrl+C in the terminal does not reach it before the log is kept
         pipes = {name: subprocess.PIPE for name in ("stdin", "stdout", "stderr")}
         self.process = subprocess.Popen(command, **pipes, bufsize=BUFFER, env=environment(), start_new_session=True)

@@ -58,7 +58,7 @@ def do_not_open(checks):
 
 # Names of files, and how a picture has them.
 NAMES = [("wards.json", b">wards.json<"), ("a&b <i>.json", b">a&amp;b &lt;i"), ("-x.json", b">-x.json<"),
-         ("picture.svg", b">picture.svg<"), ("never-written", b">never-written<"), ("a\nb.json", b">a?b.json<"),
+         ("picture.svg", b">picture.svg<"), ("unwanted", b">unwanted<"), ("a\nb.json", b">a?b.json<"),
          (os.fsdecode(b"\xff.json"), b">?.json<"), ("x" * 250 + ".json", b">xxxx")]
 
 
