@@ -28,6 +28,7 @@ import os
 import pathlib
 import re
 import secrets
+import socket
 import socketserver
 import sys
 import threading
@@ -255,7 +256,7 @@ class Handler(Connection):
             self.send(500, {"reason": str(lost)})
         except Ended as ended:
             self.send(500, {"reason": f"border_edit ended, and this was not done: {ended}"})
-        except (ConnectionError, TimeoutError):
+        except (ConnectionError, socket.timeout):
             # the browser is gone
             raise
         except OSError as fault:
