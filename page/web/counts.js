@@ -12,23 +12,19 @@
  * @returns {Counts}
  */
 export function countAll(map) {
-  let inner = 0, segments = 0, used = 0;
-  for (const piece of map.pieces) {
+  const { pieces } = map, ends = new Float64Array(4 * pieces.length);
+  let inner = 0, segments = 0, at = 0;
+  for (let i = 0; i < pieces.length; i++) {
+    const piece = pieces[i], { xy, from, to } = piece;
     if (!piece.users.length) continue;
-    used++;
     inner += innerVertices(piece);
-    segments += (piece.to - piece.from) / 2 - 1;
-  }
-  const ends = new Float64Array(4 * used);
-  let at = 0;
-  for (const { xy, from, to, users } of map.pieces) {
-    if (!users.length) continue;
+    segments += (to - from) / 2 - 1;
     ends[at++] = xy[from];
     ends[at++] = xy[from + 1];
     ends[at++] = xy[to - 2];
     ends[at++] = xy[to - 1];
   }
-  return { features: map.features.size, vertices: inner + distinct(ends), segments };
+  return { features: map.features.size, vertices: inner + distinct(ends.subarray(0, at)), segments };
 }
 
 /**
@@ -64,7 +60,7 @@ function distinct(xy) {
   let count = 0;
   for (let i = 0; i < xy.length; i += 2) {
     const x = xy[i], y = xy[i + 1];
-    let at = (Math.imul(x % 4294967296, 0x9e3779b1) ^ Math.imul((y % 4294967296) + 0x7f4a7c15, 0x85ebca6b)) >>> 0;
+    let at = (Math.imul(x, 0x9e3779b1) ^ Math.imul(y + 0x7f4a7c15, 0x85ebca6b)) >>> 0;
     at = (at ^ (at >>> 15)) & mask;
     while (table[at] >= 0 && (xy[table[at]] !== x || xy[table[at] + 1] !== y)) at = (at + 1) & mask;
     if (table[at] < 0) { table[at] = i; count++; }

@@ -257,8 +257,9 @@ export class Pieces {
    * @param {Feature} feature
    */
   useFirst({ num, polygons }) {
-    for (const polygon of polygons) for (const ring of polygon) for (const ref of ring) {
-      const piece = this.pieces[pieceOf(ref)];
+    const { pieces } = this;
+    for (const polygon of polygons) for (const ring of polygon) for (let i = 0; i < ring.length; i++) {
+      const ref = ring[i], piece = pieces[ref < 0 ? ~ref : ref];
       if (piece.users === NOBODY) piece.users = [num]; else piece.users.push(num);
     }
   }
@@ -428,12 +429,12 @@ function putBox(boxes, i, { xy, from, to }) {
  */
 function boxOfRings(feature, boxes) {
   let x0 = Infinity, y0 = Infinity, x1 = -Infinity, y1 = -Infinity;
-  for (const [outer] of feature.polygons) for (const ref of outer || []) {
-    const at = 4 * pieceOf(ref);
-    x0 = Math.min(x0, boxes[at]);
-    y0 = Math.min(y0, boxes[at + 1]);
-    x1 = Math.max(x1, boxes[at + 2]);
-    y1 = Math.max(y1, boxes[at + 3]);
+  for (const [outer] of feature.polygons) for (let i = 0; outer && i < outer.length; i++) {
+    const ref = outer[i], at = ref < 0 ? 4 * ~ref : 4 * ref;
+    if (boxes[at] < x0) x0 = boxes[at];
+    if (boxes[at + 1] < y0) y0 = boxes[at + 1];
+    if (boxes[at + 2] > x1) x1 = boxes[at + 2];
+    if (boxes[at + 3] > y1) y1 = boxes[at + 3];
   }
   return [x0, y0, x1, y1];
 }
@@ -446,15 +447,19 @@ function boxOfRings(feature, boxes) {
  * @returns {Ring}
  */
 function refsOf(arcs, firsts, room) {
-  const sizeOf = (/** @type {number} */ arc) => firsts[(arc < 0 ? ~arc : arc) + 1] - firsts[arc < 0 ? ~arc : arc];
-  const size = arcs.reduce((sum, arc) => sum + sizeOf(arc), 0);
+  if (!Array.isArray(arcs)) throw new Error("a ring is no list");
+  let size = 0;
+  for (let k = 0; k < arcs.length; k++) {
+    const arc = arcs[k] < 0 ? ~arcs[k] : arcs[k];
+    size += firsts[arc + 1] - firsts[arc];
+  }
   room.left -= size;
   // also where an index is none
   if (!(room.left >= 0)) throw new Error("no such arc, or too many positions");
   const refs = new Array(size);
   let at = 0;
-  for (const arc of arcs) {
-    const first = firsts[arc < 0 ? ~arc : arc], end = firsts[(arc < 0 ? ~arc : arc) + 1];
+  for (let k = 0; k < arcs.length; k++) {
+    const arc = arcs[k], first = firsts[arc < 0 ? ~arc : arc], end = firsts[(arc < 0 ? ~arc : arc) + 1];
     if (arc >= 0) for (let i = first; i < end; i++) refs[at++] = i;
     else for (let i = end - 1; i >= first; i--) refs[at++] = ~i;
   }
