@@ -1,46 +1,48 @@
 """What the user of ./edit asks for."""
+import argparse
 import os
 import pathlib
-import types
+import sys
 
 from paths import shown, why_not_writable
+
+# The status of arguments that make no sense, which is that of border_edit.
+USAGE = 64
+TEXT = """Edits a boundary map in the browser.
+
+The page is served on this machine alone, and only to this browser. Each edit made in it is a line of a script, which
+border_edit accepts or refuses. Save writes FILE whole; what FILE held before stays as FILE.orig."""
 
 
 class Stop(Exception):
     """The page can't be served: why."""
 
 
-def port_in(word):
-    """A port that a user's program may listen on; 0 lets the system choose one. Nothing where a word is none."""
-    is_one = word.isascii() and word.isdigit() and (word == "0" or 1024 <= int(word[:6]) <= 65535)
-    return int(word) if is_one else None
+class Parser(argparse.ArgumentParser):
+    """Arguments that make no sense end with the status that the programs have for that."""
+
+    def error(self, message):
+        self.print_usage(sys.stderr)
+        self.exit(USAGE, f"edit: {message}\n")
+
+
+def port(word):
+    """A port that a user's program may listen on; 0 lets the system choose one."""
+    if word.isascii() and word.isdigit() and (word == "0" or 1024 <= int(word[:6]) <= 65535):
+        return int(word)
+    raise argparse.ArgumentTypeError("a port is from 1024 to 65535, or 0 for any that is free")
 
 
 def options(words):
     """What the user asks for."""
-    given = plain(words)
-    if given is None:
-        from arguments import parsed
-        given = parsed(words)
-    return given
-
-
-def plain(words):
-    """What arguments say of which each is a MAP, or is spelled as the help has it; nothing for all others."""
-    given = {"map": None, "out": None, "port": 0, "no_open": False}
-    rest = list(words)
-    while rest:
-        word = rest.pop(0)
-        if word == "--no-open":
-            given["no_open"] = True
-        elif word in ("--out", "--port") and rest and not rest[0].startswith("-"):
-            value = rest.pop(0)
-            given[word[2:]] = pathlib.Path(value) if word == "--out" else port_in(value)
-        elif word.startswith("-") or given["map"] is not None:
-            return None
-        else:
-            given["map"] = pathlib.Path(word)
-    return None if None in (given["map"], given["port"]) else types.SimpleNamespace(**given)
+    parser = Parser(prog="edit", description=TEXT, allow_abbrev=False,
+                    formatter_class=argparse.RawDescriptionHelpFormatter)
+    add = parser.add_argument
+    add("map", metavar="MAP", type=pathlib.Path, help="a map as TopoJSON, such as examples/columbus.json")
+    add("--out", metavar="FILE", type=pathlib.Path, help="the file that Save writes; MAP if it is not given")
+    add("--port", metavar="N", type=port, default=0, help="the port of the page; any free one if it is not given")
+    add("--no-open", action="store_true", help="prints the address of the page, and opens no browser")
+    return parser.parse_args(words)
 
 
 def checked(given):

@@ -39,12 +39,13 @@ def begun(given):
 def main():
     """Serves the page of a map."""
     given = options(sys.argv[1:])
-    for sign in SIGNALS:
-        signal.signal(sign, interrupt)
     try:
         files = checked(given)
         address, programs = begun(given)
         from serving import serve  # what it needs is read meanwhile, which takes as long
+        # from here on there is something to keep; while modules are read here an exception of a signal can be lost
+        for sign in SIGNALS:
+            signal.signal(sign, interrupt)
         serve(address, programs, given, files)
     except Stop as stop:
         print(f"edit: {stop}", file=sys.stderr)

@@ -3,6 +3,7 @@ import contextlib
 import errno
 import os
 import stat
+import tempfile
 
 # Bytes that are read or written at once.
 PIECE = 1 << 20
@@ -85,7 +86,6 @@ def replace(path, rows, rights=None, before=lambda: None):
 
     `rights` is the file whose mode the new one gets, if it is another one. `before` is called before it takes its place.
     """
-    import tempfile  # which takes time, and is needed once the page has come
     handle, part = tempfile.mkstemp(prefix=".border_edit.", dir=path.parent)
     try:
         with os.fdopen(handle, "wb") as file:

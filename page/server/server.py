@@ -33,6 +33,7 @@ import socketserver
 import sys
 import threading
 import time
+import traceback
 
 from bundle import bundled
 from child import Ended
@@ -182,13 +183,7 @@ class Server(socketserver.ThreadingTCPServer):
     def handle_error(self, request, client_address):
         """A browser that leaves while it is answered is no fault."""
         if not isinstance(sys.exc_info()[1], ConnectionError):
-            print_fault()
-
-
-def print_fault():
-    """Writes a mistake of the server on standard error."""
-    import traceback  # which takes time, and is needed for this alone
-    traceback.print_exc()
+            traceback.print_exc()
 
 
 class Handler(Connection):
@@ -207,11 +202,6 @@ class Handler(Connection):
         own = {"Content-Type": kind, "Content-Length": str(size), "Content-Security-Policy": policy}
         self.send_head(status, {**own, **HEADERS})
 
-    def refuse(self, bad):
-        """Answers a request of which nothing more is read."""
-        self.is_last = True
-        self.send(bad.status, {"reason": str(bad)})
-
     # ---- who may ask
 
     def name(self):
@@ -225,31 +215,32 @@ class Handler(Connection):
     def _is_from_here(self, name):
         """Whether the browser says that no other site makes it ask."""
         hosts = self.server.hosts
-        if self.headers.get("host") not in hosts:
+        # a head in which the library finds defects may hide what else it says
+        if self.headers.defects or self.header("Host") not in hosts:
             return False
-        origin = self.headers.get("origin")
+        origin = self.header("Origin")
         if origin is not None and origin not in ["http://" + host for host in hosts]:
             return False
-        if self.headers.get("sec-fetch-site", "none") in ("none", "same-origin"):
+        if self.header("Sec-Fetch-Site", "none") in ("none", "same-origin"):
             return True
         # the file that leads to the page is another site, and may do no more than that
-        leads = (self.command, name, self.headers.get("sec-fetch-mode"),
-                 self.headers.get("sec-fetch-dest", "document"))
+        leads = (self.command, name, self.header("Sec-Fetch-Mode"), self.header("Sec-Fetch-Dest", "document"))
         return leads == ("GET", "", "navigate", "document")
 
     # ---- what is answered
 
-    def answer(self):
+    def do_GET(self):
+        self._guarded(self._get)
+
+    def do_POST(self):
+        self._guarded(self._post)
+
+    def _guarded(self, does):
         """Answers a request, also where something is wrong with it."""
         try:
-            if self.command == "GET":
-                self._get()
-            elif self.command == "POST":
-                self._post()
-            else:
-                raise BadRequest(501, "no such request")
+            does()
         except BadRequest as bad:
-            self.refuse(bad)
+            self.send_error(bad.status, str(bad))
         except Refusal as refusal:
             self.send(409, {"reason": str(refusal), "force": refusal.force})
         except Lost as lost:
@@ -260,10 +251,10 @@ class Handler(Connection):
             # the browser is gone
             raise
         except OSError as fault:
-            self.refuse(BadRequest(500, f"this was not done: {fault.strerror}"))
+            self.send_error(500, f"this was not done: {fault.strerror}")
         except Exception:
-            print_fault()
-            self.refuse(BadRequest(500, "this was not done, by a mistake in the server; its terminal has more"))
+            traceback.print_exc()
+            self.send_error(500, "this was not done, by a mistake in the server; its terminal has more")
 
     def _get(self):
         """Answers a GET."""
@@ -343,11 +334,11 @@ class Handler(Connection):
 
     def _body(self, name):
         """What the body of a request says."""
-        kind = self.headers.get("content-type", "").split(";")[0].strip().lower()
+        kind = self.header("Content-Type", "").split(";")[0].strip().lower()
         # a browser sends a page's last call as it likes; it says no more than who leaves
         if kind != "application/json" and not (name == "leave" and kind == "text/plain"):
             raise BadRequest(403, "not from this page")
-        length = self.headers.get("content-length", "")
+        length = self.header("Content-Length", "")
         if not re.fullmatch("[0-9]+", length):
             raise BadRequest(411, "no length")
         if len(length) > 9 or int(length) > MOST_BODY:

@@ -1,8 +1,10 @@
 """From MAP to its page: what is started, and what is done at the end."""
 import contextlib
+import importlib
 import os
 import pathlib
 import sys
+import tempfile
 import threading
 
 from asked import Stop
@@ -30,7 +32,6 @@ def stops(map_path):
 def leading_file(address):
     """A file that only the user may read, and that leads on to the page. The browser gets its name as an argument,
     which all users of the machine can see. Nothing if the home folder can't hold it."""
-    import tempfile  # which takes time, and is not needed without a browser to open
     text = ('<!doctype html><meta charset="utf-8">'
             f'<meta http-equiv="refresh" content="0;url={address}"><a href="{address}">the map</a>\n')
     try:
@@ -65,6 +66,16 @@ def open_browser(address, leave):
     return lambda: remove(leading)
 
 
+def server_class():
+    """The class of the server. What it needs takes time to be read, which the browser and border_edit need too."""
+    # by a thread, since an exception of a signal can be lost while modules are read
+    reading = threading.Thread(target=importlib.import_module, args=["server"])
+    reading.start()
+    reading.join()
+    from server import Server
+    return Server
+
+
 def finish(server):
     """Ends border_edit, and keeps what is not saved as a script."""
     server.server_close()
@@ -89,8 +100,7 @@ def serve(address, programs, given, files):
         print(address, flush=True)
         with contextlib.suppress(KeyboardInterrupt, NoPage):
             on_first_page = (lambda: None) if given.no_open else open_browser(address, leave)
-            from server import Server  # which takes time, that the browser and border_edit need too
-            server = Server(address, session)
+            server = server_class()(address, session)
             server.on_first_page = on_first_page
             leave.callback(finish, server)
             server.open()

@@ -3,12 +3,14 @@ import collections
 import contextlib
 import os
 import pathlib
+import shutil
+import tempfile
 import time
 
 import mending
 import saving
 from child import DEPTH, Child, Ended
-from paths import new_folder, shown, why_not_writable
+from paths import shown, why_not_writable
 
 # Bytes of a map that opens.
 MOST_BYTES = 67_108_864
@@ -65,7 +67,7 @@ class Session:
         self.is_saved_over = out == map_path
         self.seen = None if self.is_saved_over else saving.fingerprint(out)
         self.written = None
-        self.scratch = pathlib.Path(new_folder("border_edit-"))
+        self.scratch = pathlib.Path(tempfile.mkdtemp(prefix="border_edit-"))
         try:
             # the map is copied, so that it may be saved over, and the log run again from it; a picture has its name
             self.base = self.scratch / "map" / self.name
@@ -349,7 +351,6 @@ class Session:
 
     def leave_script(self):
         """Leaves the log as a script, in the folder of FILE if that is possible. Its path."""
-        import tempfile
         name = os.fsdecode(os.fsencode(self.out.name)[:200]) + time.strftime(".unsaved-%Y%m%d-%H%M%S.txt")
         for folder in (self.out.parent, os.path.expanduser("~"), tempfile.gettempdir()):
             left = pathlib.Path(folder, name)
@@ -363,5 +364,4 @@ class Session:
         for child in (self.child, self.opening):
             if child is not None:
                 child.end()
-        import shutil
         shutil.rmtree(self.scratch, ignore_errors=True)

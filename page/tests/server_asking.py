@@ -52,11 +52,13 @@ HEADS = [
     ("{get} HTTP/1.1\n{host}\n\n", 200), ("{get} HTTP/1.1\r\nhOST:127.0.0.1:{port}  \r\n\r\n", 200),
     ("\r\n", 400), ("x\r\n\r\n", 400), ("{get}\r\n{host}\r\n\r\n", 400), ("{get} HTTP\r\n{host}\r\n\r\n", 400),
     ("{get} x HTTP/1.1\r\n{host}\r\n\r\n", 400), ("{get} HTTP/2.0\r\n{host}\r\n\r\n", 505),
-    ("{get} HTTP/1.11\r\n{host}\r\n\r\n", 505), ("{get} HTTP/1.1\r\n\r\n", 403),
+    ("{get} HTTP/1.11\r\n{host}\r\n\r\n", 200), ("{get} HTTP/0.9\r\n{host}\r\n\r\n", 400),
+    ("{get} HTTP/1.x\r\n{host}\r\n\r\n", 400), ("{get} HTTP/1.1\r\n\r\n", 403),
     ("{get} HTTP/1.1\r\n{host}\r\n{host}\r\n\r\n", 403), ("{get} HTTP/1.1\r\n{host}\r\nHost: evil.example\r\n\r\n", 403),
-    ("{get} HTTP/1.1\r\n{host}\r\n evil.example\r\n\r\n", 400), ("{get} HTTP/1.1\r\n{host}\r\nx\r\n\r\n", 400),
-    ("{get} HTTP/1.1\r\n{host}\r\n: x\r\n\r\n", 400), ("{get} HTTP/1.1\r\nHost : 127.0.0.1:{port}\r\n\r\n", 400),
-    ("{get} HTTP/1.1\r\n{host}\r\n" + 99 * "x: y\r\n" + "\r\n", 200),
+    ("{get} HTTP/1.1\r\n{host}\r\n evil.example\r\n\r\n", 403), ("{get} HTTP/1.1\r\n{host}\r\nx\r\n\r\n", 403),
+    ("{get} HTTP/1.1\r\n{host}\r\n: x\r\n\r\n", 403), ("{get} HTTP/1.1\r\nHost : 127.0.0.1:{port}\r\n\r\n", 403),
+    ("{get} HTTP/1.1\r\n{host}\r\nx\r\nOrigin: http://evil.example\r\n\r\n", 403),
+    ("{get} HTTP/1.1\r\n{host}\r\n" + 98 * "x: y\r\n" + "\r\n", 200),
     ("{get} HTTP/1.1\r\n{host}\r\n" + 100 * "x: y\r\n" + "\r\n", 431),
     ("GET /" + 70_000 * "x", 414), ("{get} HTTP/1.1\r\n{host}\r\nx: " + 70_000 * "y", 431),
     ("{begin}Content-Length: 2\r\n\r\n{{}}", 200), ("{begin}Content-Length: 2\r\nContent-Length: 2\r\n\r\n{{}}", 411),
@@ -192,13 +194,14 @@ def heads(checks):
                 said = sent(page, head.format(**fill, begin=begin))
                 checks.same(f"head {head[:90]!r}", said.split(" ")[1], str(status))
             twice = "{get} HTTP/1.1\r\n{host}\r\n{more}\r\n{get} HTTP/1.1\r\n{host}\r\nConnection: close\r\n\r\n"
-            for more, answers in [("", 2), ("Connection: keep-alive\r\n", 2), ("Connection: x, Close\r\n", 1),
-                                  ("Content-Length: 0\r\n", 1)]:
+            for more, answers in [("", 2), ("Connection: keep-alive\r\n", 2), ("Connection: x, Close\r\n", 2),
+                                  ("Connection: Close\r\n", 1), ("Content-Length: 0\r\n", 1)]:
                 said = sent(page, twice.format(**fill, more=more))
                 checks.same(f"two requests {more!r}", said.count("HTTP/1.1 200 OK"), answers)
             said = sent(page, f"{begin}Expect: 100-continue\r\nContent-Length: 2\r\n\r\n{{}}")
             checks.same("a body that waits to be asked for", said.split("\r\n")[:3],
                         ["HTTP/1.1 100 Continue", "", "HTTP/1.1 200 OK"])
+            checks.same("and nothing else began", page.post("begin")[1]["owner"], 3)
 
 
 def sent(page, text):

@@ -8,11 +8,11 @@ import socket
 import stat
 import subprocess
 import time
+from unittest import mock
 
 from server_maps import SQUARES
 from server_runs import EDIT, PATIENCE, Served, environment, folder, until
 
-import arguments
 import asked
 from session import MOST_BYTES
 
@@ -70,20 +70,36 @@ def ends(checks):
         checks.same("nothing is left", list((files / "tmp").iterdir()), [])
 
 
-# Arguments that are read without the library, and some that are not; `plain` gives nothing for these.
-PLAIN = [["m"], ["m", "--no-open"], ["--no-open", "m"], ["m", "--out", "o"], ["--out", "o", "--port", "0", "m"],
-         ["m", "--port", "1024"], ["m", "--port", "65535", "--no-open", "--no-open"], ["m", "--out", "a", "--out", "b"], [""]]
-NOT_PLAIN = [[], ["m", "n"], ["-h"], ["m", "--help"], ["m", "--out=o"], ["m", "--port=2000"], ["m", "--"], ["--", "m"], ["-"],
-             ["m", "--out"], ["m", "--out", "-o"], ["m", "--port"], ["m", "--port", "1023"], ["m", "--port", "65536"],
-             ["m", "--port", "-1"], ["m", "--port", "\u00b2"], ["m", "--port", "080"], ["m", "--no"], ["m", "--ou", "o"]]
+# Arguments, and what they say: MAP, FILE, the port, and whether no browser is opened; or the status that they end with.
+READ = [
+    (["m"], ("m", None, 0, False)), (["m", "--no-open"], ("m", None, 0, True)), (["--no-open", "m"], ("m", None, 0, True)),
+    (["m", "--out", "o"], ("m", "o", 0, False)), (["--out", "o", "--port", "0", "m"], ("m", "o", 0, False)),
+    (["m", "--port", "1024"], ("m", None, 1024, False)),
+    (["m", "--port", "65535", "--no-open", "--no-open"], ("m", None, 65535, True)),
+    (["m", "--out", "a", "--out", "b"], ("m", "b", 0, False)), ([""], (".", None, 0, False)),
+    (["m", "--out=o"], ("m", "o", 0, False)), (["m", "--port=2000"], ("m", None, 2000, False)),
+    (["m", "--"], ("m", None, 0, False)), (["--", "m"], ("m", None, 0, False)), (["--", "-m"], ("-m", None, 0, False)),
+    (["-"], ("-", None, 0, False)), ([], 64), (["m", "n"], 64), (["-h"], 0), (["m", "--help"], 0), (["m", "--out"], 64),
+    (["m", "--out", "-o"], 64), (["m", "--port"], 64), (["m", "--port", "1023"], 64), (["m", "--port", "65536"], 64),
+    (["m", "--port", "-1"], 64), (["m", "--port", "\u00b2"], 64), (["m", "--port", "080"], 64), (["m", "--no"], 64),
+    (["m", "--ou", "o"], 64),
+]
 
 
-def plain_arguments(checks):
-    """Plain arguments are read without the library, and mean the same."""
-    for words in PLAIN:
-        checks.same(f"{words}", vars(asked.plain(words)), vars(arguments.parsed(words)))
-    for words in NOT_PLAIN:
-        checks.same(f"{words} is left to the library", asked.plain(words), None)
+def arguments(checks):
+    """What arguments say."""
+    with mock.patch.object(asked.Parser, "_print_message"):
+        for words, said in READ:
+            checks.same(f"{words}", read(words), said)
+
+
+def read(words):
+    """What arguments say, or the status that they end with."""
+    try:
+        given = asked.options(words)
+    except SystemExit as end:
+        return end.code
+    return str(given.map), given.out and str(given.out), given.port, given.no_open
 
 
 def run_edit(files, *arguments, **more):
@@ -224,4 +240,4 @@ def scratch(checks):
             checks.same("its mode", stat.filemode(os.stat(kept).st_mode), "drwx------")
 
 
-GROUPS = [ends, plain_arguments, programs_fail, while_it_opens, file_of_the_map, help_text, browser, no_home, scratch]
+GROUPS = [ends, arguments, programs_fail, while_it_opens, file_of_the_map, help_text, browser, no_home, scratch]
