@@ -13,7 +13,7 @@ use topo_outline::OpenFault;
 use topo_reader::{RawDoc, read};
 
 /// Why there is no picture.
-#[derive(Debug, Drop)]
+#[derive(Drop)]
 pub(crate) enum ShowFault<'a> {
     /// A map can't be read, or an allocation failed.
     Open(OpenFault<'a>),
