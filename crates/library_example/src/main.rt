@@ -36,7 +36,7 @@ fn opened(alloc: Global, seed: RandomState, text: &[u8]) -> Option<MapEditor<'_>
         return None;
     };
     let index = TreeIndex::new(alloc, raw.extent());
-    let map = Map::build(alloc, seed, raw, index).ok()?;
+    let map = Map::build(alloc, alloc, seed, raw, index).ok()?;
     Editor::new(alloc, map, DEPTH).ok()
 }
 

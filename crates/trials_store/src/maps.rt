@@ -18,7 +18,7 @@ pub(crate) fn in_trees<'a, R: Abort>(rt: &R, alloc: Global, text: &'a str) -> Ma
         panic!(rt; "the text opens");
     };
     let index = TreeIndex::new(alloc, raw.extent());
-    match Map::build(alloc, seed, raw, index) {
+    match Map::build(alloc, alloc, seed, raw, index) {
         Ok(map) => map,
         Err(_) => panic!(rt; "no two segments conflict"),
     }
