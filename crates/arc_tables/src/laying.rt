@@ -96,7 +96,7 @@ fn push_key<A: Allocator + Copy>(
 }
 
 /// How many keys a ring went on by, and the arc that is being made.
-#[derive(Clone, Copy, Debug)]
+#[derive(Clone, Copy)]
 pub(crate) struct Piece {
     keys: usize,
     making: Option<usize>,
