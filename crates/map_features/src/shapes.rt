@@ -81,7 +81,7 @@ pub fn shapes_of<'r, A: Allocator + Copy>(
     polygons: &'r [Vec<Vec<Vec<Pos, A>, A>, A>],
 ) -> Result<Vec<Shape<'r, A>, A>, AllocError> {
     let mut shapes = Vec::new(alloc);
-    for layer in &map.layers {
+    for layer in map.layers.values() {
         push_leaves(&mut shapes, layer.items.as_slice(), polygons)?;
     }
     Ok(shapes)

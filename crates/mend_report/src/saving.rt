@@ -62,7 +62,7 @@ fn opened<A: Allocator + Copy>(
     ensures opened { OnOk result (HasOpened text.now) }
     ensures fault { IfErr result (DoesNotOpen text.now) }
 {
-    let raw = match read(alloc, heap, text) {
+    let raw = match read(alloc, heap, seed, text) {
         Ok(raw) => raw,
         Err(fault) => {
             return match fault {

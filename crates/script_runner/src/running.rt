@@ -70,7 +70,7 @@ fn open<'a, A: Allocator + Copy>(
     ensures cells { IfOk result (λ map. map.cells ≡ None) }
     ensures refused { IfErr result (λ fault. IsOpenEnd fault bytes.now) }
 {
-    let raw = match read(alloc, heap, bytes) {
+    let raw = match read(alloc, heap, seed, bytes) {
         Ok(raw) => raw,
         Err(OpenFault::OutOfMemory) => return Err(RunFault::OutOfMemory),
         Err(fault) => return Err(RunFault::Open(fault)),

@@ -58,7 +58,7 @@ pub(crate) fn map_of<'a, A: Allocator + Copy>(
     text: &'a [u8],
 ) -> Option<Map<'a, GridIndex<A>, A>> {
     let seed = fixed_seed()?;
-    match read(heap, alloc, text) {
+    match read(heap, alloc, seed, text) {
         Ok(raw) => built(heap, alloc, seed, raw),
         Err(_) => None,
     }
