@@ -126,7 +126,10 @@ fn polygons<'a, A: Allocator + Copy>(
         (walks_read (map (map (position_on_grid digits wants.finer)) (arcs_seen fine.now))
         (view_outline outline.now).layers)) }
 {
-    if !wants.points_lie && digits + wants.finer > 0 && has_points(outline.layers.values().as_slice()) {
+    if !wants.points_lie
+        && digits + wants.finer > 0
+        && has_points(outline.layers.values().as_slice())
+    {
         return Err(OpenFault::Unsupported {
             type_name: Token { text: b"Point" },
         });

@@ -65,7 +65,14 @@ fn compare_looked(
 pub(crate) fn compare_report(stored: &mut Stored<'_>, seed: RandomState) -> Result<(), AllocError> {
     let (alloc, map) = (stored.alloc, stored.given("map")?);
     let (asked, mut texts) = (asked_of(&stored.case), no_texts(stored));
-    match report_map(alloc, alloc, seed, map.as_str().as_bytes(), asked, &mut texts) {
+    match report_map(
+        alloc,
+        alloc,
+        seed,
+        map.as_str().as_bytes(),
+        asked,
+        &mut texts,
+    ) {
         Ok(report) => compare_looked(stored, &texts, &report),
         Err(fault) => compare_fault(stored, &fault),
     }

@@ -1,8 +1,8 @@
 // What a topology is read as: the rings of its features.
 use grid_geometry::{Pos, Rect};
 use std::alloc::{AllocError, Global};
-use topo_outline::OpenFault;
 use test_aids::fixed_seed;
+use topo_outline::OpenFault;
 use topo_reader::{RawDoc, read, read_walks};
 
 /// A polygon's rings, each a list of positions.
