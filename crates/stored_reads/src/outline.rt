@@ -2,6 +2,7 @@
 use crate::pieces::{put_bytes, put_scan_fault};
 use json_spans::{Span, at, bytes, scan};
 use std::alloc::{AllocError, Global};
+use test_aids::fixed_seed;
 use topo_outline::{
     Form, Head, Item, KeptMember, Outline, Place, RawFeature, RawLayer, read_outline,
 };
