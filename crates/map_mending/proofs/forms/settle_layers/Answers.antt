@@ -1,4 +1,4 @@
-use Rattle.kit_words.proofs.Common.{◌≡◌, ℕ, ◌+◌, ◌<◌, ◌++◌, List, ap, sym, ◌∙◌, refl, length, map, take, drop, get_or, length-map, arith, with_items_is}
+use Rattle.kit_words.proofs.Common.{◌≡◌, ℕ, ◌+◌, ◌<◌, ◌++◌, List, ap, sym, ◌∙◌, refl, length, map, take, drop, get_or, length-map, length-set, with_items_is}
 use Rattle.std.proofs.lemmas.Option.{get_or_from_slice_get, slice_get_within}
 use Rattle.topo_outline.specs.Common.{LayerText, Piece, leaves_in, values, view_item, view_layer}
 use Rattle.topo_outline.proofs.Common.{values-with_value_at}
@@ -30,5 +30,5 @@ loop-i-preserved g c =
       ahead = rw (values-with_value_at l.layers l.i _) (ahead_of old now l.i x _ lt l.invariant.long is l.invariant.ahead);
       settled = rw (values-with_value_at l.layers l.i _) (settled_more old now l.i x _ lt l.invariant.long is l.invariant.ahead view_layer feature_positions layer_after layer_features layers_after (λ all p ps. refl)
           l.rest.now c.settle_items-rest.result.now _ l.invariant.settled (ap (λ (ps : List Piece). record { name = x.name.now; pieces = ps }) pieces) rest);
-      long = rw (values-with_value_at l.layers l.i _) (omega (arith, l.invariant.long));
+      long = rw (values-with_value_at l.layers l.i _) (length-set now l.i _ ∙ l.invariant.long);
     }
