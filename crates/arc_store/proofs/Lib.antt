@@ -15,6 +15,7 @@ pub mod Inserted
 pub mod Removed
 pub mod RingUsers
 pub mod Judged
+pub mod CornerLemmas
 pub mod RemovalJudged
 pub mod InsertPlan
 pub mod RemovePlan

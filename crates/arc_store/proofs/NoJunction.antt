@@ -1,8 +1,9 @@
--- No junction stands where no vertex does.
+-- Where no vertex stands, no junction does, and no neighbours are joined.
 use Rattle.kit_words.proofs.Common.{◌≡◌, Bool, false, refl, sym, ap, ◌∙◌, subst, cond, List, [], ◌∷◌, ◌++◌, take, inl}
 use Rattle.kit_words.proofs.Common.{inr, map, not, filter, flat_map, list_any, false≢true, or_parts, false_from_ne_true}
 use Rattle.grid_geometry.specs.Common.{Position, position_eq, Segment}
-use Rattle.ring_machine.specs.Common.{has, between_each, spots, Document, rings, is_vertex, all_equal, is_junction}
+use Rattle.ring_machine.specs.Common.{has, between_each, spots, Document, rings, is_vertex, is_segment, all_equal, is_junction}
+use Rattle.ring_machine.specs.Common.{is_bridged}
 use Rattle.ring_machine.proofs.Common.{position_eq-true, In, in-append, in-has}
 
 place_in : (ps : List Position) (p : Position) (s : Segment) → In (p, s) (between_each ps) → In p ps
@@ -44,3 +45,7 @@ nowhere (r ∷ rs) p h =
 
 pub no_vertex : (d : Document) (p : Position) → is_vertex d p ≡ false → is_junction d p ≡ false
 no_vertex d p h = ap (λ (ss : List (Position × Segment)). not (all_equal (map (λ spot. spot.1) ss))) (nowhere (rings d) p h)
+
+-- nor are neighbours joined there
+pub no_bridge : (d : Document) (p : Position) → is_vertex d p ≡ false → is_bridged d p ≡ false
+no_bridge d p h = ap (λ (ss : List (Position × Segment)). list_any (is_segment d) (map (λ spot. spot.1) ss)) (nowhere (rings d) p h)

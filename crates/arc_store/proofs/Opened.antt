@@ -7,7 +7,7 @@ use Rattle.grid_geometry.specs.Common.{Position, Segment}
 use Rattle.ring_machine.specs.Common.{canonical, is_ring, segments, rings, size, features, Proper, first_pair}
 use Rattle.ring_machine.specs.Common.{least_conflict, DocumentOf, are_distinct, WellFormed}
 use Rattle.ring_machine.proofs.Common.{formed-before_rings, contains_in, in-map, all_in}
-use Rattle.topo_outline.specs.Common.{KeepsTexts, view_kept}
+use Rattle.topo_outline.specs.Common.{KeepsTexts, values, view_kept}
 use Rattle.topo_outline.specs.Outline.{leaves}
 use Rattle.topo_outline.proofs.Common.{keeps-before_rings}
 use Rattle.topo_reader.specs.Common.{IsOfRings, view_raw, polygon_positions, feature_positions}
@@ -94,12 +94,12 @@ module _ {I A : Type 0} (raw : RawDoc A) (h : IsOfRings (view_raw raw)) {given a
       ∙ sym (counts length (numbers_seen polygons)) ∙ ap (map length) alike ∙ counts length o.polygons
       ∙ lengths_of feature_positions (λ f. length f.items) (λ f. length-map f.items polygon_positions) raw.polygons.items
 
-  pub opened_stands : CanStand (option_map (λ t. t.now) raw.transform) raw.layers.items (map view_kept raw.members.items) polygons
+  pub opened_stands : CanStand (option_map (λ t. t.now) raw.transform) (values raw.layers) (map view_kept raw.members.items) polygons
   opened_stands = can_stand raw polygons h numbers_alike
 
   -- the frame of what was read, with numbers in the place of rings
   abbrev read_frame : DocumentOf ℕ
-  read_frame = frame.opened (option_map (λ t. t.now) raw.transform) raw.layers.items (map view_kept raw.members.items) polygons
+  read_frame = frame.opened (option_map (λ t. t.now) raw.transform) (values raw.layers) (map view_kept raw.members.items) polygons
 
   abbrev opened_map : Stored
   opened_map = record { frame = read_frame; rings = t.borders; places = t.vertices }

@@ -1,5 +1,5 @@
 -- The plan of a removal from between two vertices: what comes and goes, and what is kept.
-use Rattle.kit_words.proofs.Common.{◌≡◌, ◌≤◌, ◌+◌, ◌-◌, ℕ, true, false, refl, sym, ap, ap₂, ◌∙◌, subst, List, [], ◌∷◌}
+use Rattle.kit_words.proofs.Common.{◌≡◌, ◌≢◌, ◌≤◌, ◌+◌, ◌-◌, ℕ, true, false, refl, sym, ap, ap₂, ◌∙◌, subst, List, [], ◌∷◌}
 use Rattle.kit_words.proofs.Common.{inl, inr, arith, Option, Some, false≢true, false_from_ne_true}
 use Rattle.std.specs.FinMap as table
 use Rattle.std.specs.FinSet as set
@@ -23,7 +23,7 @@ use Rattle.arc_store.proofs.Around.{bridged_two, segments_two, sweeps_two, unbri
 use Rattle.arc_store.proofs.Around.{two_apart, neighbours_none, neighbours_one, neighbours_more}
 use Rattle.ring_store.proofs.Common.{place_is}
 use Rattle.feature_exchange.proofs.Common.{joined_kept, joined_apart, joined_back, vertex_key, joined_segment, one_to}
-use Rattle.feature_exchange.proofs.Common.{key_vertex}
+use Rattle.feature_exchange.proofs.Common.{key_vertex, segment_ends}
 use Rattle.arc_store.proofs.InsertPlan.{two_single}
 use Rattle.arc_store.proofs.Removed.{Removing, without_vertex, document_removed, reindexed_removed}
 use Rattle.arc_store.proofs.Removed.{holds_removed, size_removed}
@@ -120,6 +120,15 @@ module _ {frame : Framed} {rings : Rings} {places : Placement} {held : SegmentSe
 
   pub three_apart : AreApart j k m
   three_apart = two_apart s whole m p f.read.here j k f.read.two
+
+  -- p is no end of the segment that comes
+  pub away : p ≢ after.lo
+  away e =
+      let is : place places m ≡ (segment a b).lo = place_is places m p f.read.here ∙ e ∙ ap (λ (z : Segment). z.lo) (sym is_after) in
+      elim (segment_ends a b) [
+        | inl u ↦ joined_apart s whole m j joined_j (is ∙ u.0)
+        | inr u ↦ joined_apart s whole m k joined_k (is ∙ u.0)
+      ]
 
   -- the segments to p are held
   remove_held : AreAmong held (spokes p (a ∷ b ∷ []))

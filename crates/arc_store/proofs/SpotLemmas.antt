@@ -1,22 +1,25 @@
 -- What stands around a vertex, from the neighbours of its key and the shortest ring that passes it.
 use Rattle.kit_words.proofs.Common.{◌≡◌, ◌≢◌, ◌≤◌, ℕ, true, refl, sym, ap, ◌∙◌, List, [], ◌∷◌, length, arith, inl, inr}
-use Rattle.kit_words.proofs.Common.{Some, min, sum_by, is_lt, sum_by-cons}
+use Rattle.kit_words.proofs.Common.{Some, min, sum_by, is_lt, sum_by-cons, nat_lt, kept_any}
 use Rattle.std.specs.FinMap as table
 use Rattle.grid_geometry.specs.Common.{Position, segment}
-use Rattle.ring_machine.specs.Common.{rings, size, is_vertex, canonical, is_junction}
+use Rattle.ring_machine.specs.Common.{rings, size, is_vertex, canonical, is_junction, is_bridged}
 use Rattle.ring_machine.proofs.Common.{In, contains_in, in_contains}
 use Rattle.ring_store.specs.declared.neighbours.Neighbours.{Neighbours}
 use Rattle.ring_store.specs.declared.neighbours.Neighbours.TheVariants.{One, Two, More}
 use Rattle.ring_store.specs.Common.{Passes, AreNeighbours}
-use Rattle.arc_tables.specs.Common.{Edge}
+use Rattle.arc_tables.specs.Common.{Edge, users_of}
 use Rattle.vertex_index.specs.Common.{place}
 use Rattle.feature_exchange.specs.Common.{Stored, positions_along, stored_document, IsWhole}
 use Rattle.arc_store.specs.Common.{IsBetween, IsShortest}
-use Rattle.arc_store.proofs.Around.{is_there, two_no_junction, around_two, bridge_two, neighbours_none}
+use Rattle.arc_store.proofs.Around.{is_there, two_no_junction, around_two, bridge_two, bridged_two, neighbours_none}
 use Rattle.arc_store.proofs.Around.{neighbours_one, neighbours_more, ring_length, passes_has, has_passes}
 use Rattle.ring_store.proofs.Common.{IsKept}
 use Rattle.feature_exchange.proofs.Common.{joined_kept, laid_ring, ring_laid}
+use Rattle.arc_store.proofs.Insertions.{has_segment, is_segment_by}
+use Rattle.arc_store.proofs.Numbers.{users_count}
 use Rattle.arc_store.proofs.Reading.{ends_make}
+use Rattle.arc_store.proofs.RingUsers.{users_same}
 
 -- a list is no longer than all together
 length_among : {A : Type 0} (xs : List A) (xss : List (List A)) → In xs xss
@@ -56,6 +59,15 @@ module _ (s : Stored) (w : IsWhole s) (m : ℕ) (p : Position) (here : table.get
           order = ap is_lt (bridge_two s w m p here a b two);
           each = λ u i. around_two s w m p here a b two u (contains_in _ u i) ∙ sym (ends_make t (bridge_two s w m p here a b two));
         }
+
+    -- they are joined where some ring has their segment
+    pub bridge_used : nat_lt 0 (users_of s.rings a b) ≡ is_bridged (stored_document s) p
+    bridge_used =
+        let t = segment (place s.places a) (place s.places b) in
+        ap (nat_lt 0) (sym (users_same s w a b) ∙ sym (users_count s w a b two_kept.0 two_kept.1))
+        ∙ kept_any (has_segment t) (rings (stored_document s))
+        ∙ sym (is_segment_by (stored_document s) t)
+        ∙ sym (bridged_two s w m p here a b two)
 
   capped : (n l most : ℕ) → n ≡ min l most → l ≤ 4000000 → 4000000 ≤ most → n ≡ l
   capped n l most e f g = omega (arith, e, f, g)

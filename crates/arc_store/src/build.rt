@@ -10,15 +10,17 @@ use local_planarity::TestCount;
 use map_frame::Frame;
 use map_opening::{flattened, lay, regrouped};
 use segment_index::SegIndex;
-use std::alloc::Allocator;
+use std::alloc::{Allocator, Global};
 use std::hash::RandomState;
 use topo_reader::RawDoc;
 
 impl<'a, I: SegIndex, A: Allocator + Copy> Map<'a, I, A> {
-    /// The map of what was read, in an index that is empty; positions are hashed by a seed. Fails with
-    /// the least pair of segments in conflict, or on allocation failure.
+    /// The map of what was read, in an index that is empty; positions are hashed by a seed, and `heap`
+    /// holds long lists of arcs and of rings. Fails with the least pair of segments in conflict, or on
+    /// allocation failure.
     pub fn build(
         alloc: A,
+        heap: Global,
         seed: RandomState,
         raw: RawDoc<'a, A>,
         index: I,
@@ -41,7 +43,7 @@ impl<'a, I: SegIndex, A: Allocator + Copy> Map<'a, I, A> {
             polygons,
         } = raw;
         let flat = flattened(alloc, polygons)?;
-        let opened = lay(alloc, seed, index, flat.rings.as_slice())?;
+        let opened = lay(alloc, heap, seed, index, flat.rings.as_slice())?;
         if let Some((s, t)) = opened.first {
             return Err(BuildFault::Conflict { s, t });
         }

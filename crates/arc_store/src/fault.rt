@@ -1,12 +1,15 @@
 use grid_geometry::{Pos, Seg};
 use std::alloc::AllocError;
+use thiserror::Error;
 
 /// Why no map was built.
-#[derive(Clone, Copy, Debug, PartialEq, Eq)]
+#[derive(Clone, Copy, Debug, PartialEq, Eq, Error)]
 pub enum BuildFault {
     /// Two segments are in conflict: the least such pair, s the lesser one.
+    #[error("conflict {s} / {t}")]
     Conflict { s: Seg, t: Seg },
     /// There was no memory.
+    #[error("out of memory")]
     OutOfMemory,
 }
 

@@ -1,4 +1,4 @@
-ghost use Rattle.std.specs.Prelude.{◌≡◌, ◌≤◌, ◌+◌, ℕ, true, false, List, Some, None, [], ◌∷◌};
+ghost use Rattle.std.specs.Prelude.{◌≡◌, ◌≢◌, ◌≤◌, ◌+◌, ℕ, true, false, List, Some, None, [], ◌∷◌};
 ghost use Rattle.std.specs.Prelude.{OnOk, OnErr, IfOk, IfErr};
 ghost use Rattle.grid_geometry.specs.Common.{Segment};
 ghost use Rattle.ring_machine.specs.Common.{Document, is_vertex, first_of, remove_refusals};
@@ -15,14 +15,15 @@ ghost use Rattle.arc_store.specs.Recorded.{removal_seen, IsLeftOut};
 use crate::edit_record::Record;
 use crate::fault::EditFault;
 use crate::map::Map;
-use crate::plan::test_planar;
+use crate::plan::test_near;
 use grid_geometry::{Pos, Seg};
-use local_planarity::{Leaving, TestCount, holds_other};
+use local_planarity::{Leaving, TestCount, holds_end, near_move};
 use ring_store::{Removal, read_bridging, take_out};
 use segment_index::SegIndex;
 use std::alloc::{AllocError, Allocator};
 
-/// Tests that p may go from between the ends of a segment.
+/// Tests that p may go from between the ends of a segment. The index is asked once, for the triangle of
+/// the three.
 fn test_remove<I: SegIndex, A: Allocator + Copy>(
     alloc: A,
     index: &I,
@@ -31,6 +32,7 @@ fn test_remove<I: SegIndex, A: Allocator + Copy>(
     tests: &mut TestCount,
 ) -> Result<(), EditFault>
     requires apart { NoneConflict (I.held index.now) }
+    requires away { p ≢ after.lo }
     ensures accepted { OnOk result ((d : Document)
         → IsRemovable d (I.held index.now) p after
         → first_of (remove_refusals d p) ≡ None) }
@@ -42,12 +44,14 @@ fn test_remove<I: SegIndex, A: Allocator + Copy>(
         → tests.new ≤ tests.old + most_tests (times_by (I.cells index.now)) ss (after ∷ []) }
 {
     let (a, b) = (after.lo, after.hi);
-    match test_planar(alloc, index, Leaving::EndingAt(p), &[after], tests) {
-        Ok(()) => match holds_other(alloc, index, &[a, p, b], a, p, b) {
-            Ok(true) => Err(EditFault::Sweeps),
-            Ok(false) => Ok(()),
-            Err(_) => Err(EditFault::OutOfMemory),
-        },
+    let near = near_move(alloc, index, p, a, &[after])?;
+    match test_near(&near, Leaving::EndingAt(p), &[after], tests) {
+        Ok(()) => {
+            if holds_end(near.segments(), &[a, p, b], a, p, b) {
+                return Err(EditFault::Sweeps);
+            }
+            Ok(())
+        }
         Err(fault) => Err(fault),
     }
 }

@@ -1,8 +1,8 @@
-ghost use Rattle.std.specs.Prelude.{◌≡◌, true};
+ghost use Rattle.std.specs.Prelude.{◌≡◌, ◌&&◌, not, true, false, IfSome, IfNone};
 ghost use Rattle.std.specs.FinMap as table;
 ghost use Rattle.grid_geometry.specs.Common.{segment};
-ghost use Rattle.ring_machine.specs.Common.{is_junction};
-ghost use Rattle.arc_store.specs.Spots.{IsSpot};
+ghost use Rattle.ring_machine.specs.Common.{is_vertex, is_junction, is_bridged};
+ghost use Rattle.arc_store.specs.Spots.{IsSpot, IsBetween};
 ghost use Rattle.vertex_index.specs.Common.{place};
 
 use crate::map::Map;
@@ -22,24 +22,14 @@ pub enum Spot {
     Between(Pos, Pos, usize),
 }
 
-/// The vertex between the two of these keys, where the shortest ring with it has so many positions.
-fn between<A: Allocator + Copy>(
-    vertices: &Vertices<A>,
-    a: VertexKey,
-    b: VertexKey,
-    shortest: usize,
-) -> Spot
+/// The positions of these keys, the lesser one first.
+fn in_order<A: Allocator + Copy>(vertices: &Vertices<A>, a: VertexKey, b: VertexKey) -> (Pos, Pos)
     requires first { table.contains_key vertices.now a ≡ true }
     requires second { table.contains_key vertices.now b ≡ true }
-    ensures { let t = segment (place vertices.now a) (place vertices.now b) in
-        result ≡ Spot.Between t.lo t.hi shortest }
+    ensures { let t = segment (place vertices.now a) (place vertices.now b) in result ≡ (t.lo, t.hi) }
 {
     let (a, b) = (vertices.pos(a), vertices.pos(b));
-    if a > b {
-        Spot::Between(b, a, shortest)
-    } else {
-        Spot::Between(a, b, shortest)
-    }
+    if a > b { (b, a) } else { (a, b) }
 }
 
 impl<'a, I: SegIndex, A: Allocator + Copy> Map<'a, I, A> {
@@ -52,7 +42,38 @@ impl<'a, I: SegIndex, A: Allocator + Copy> Map<'a, I, A> {
             return Some(Spot::Junction);
         };
         let shortest = self.rings.borders.shortest(k)?;
-        Some(between(&self.rings.vertices, a, b, shortest))
+        let (a, b) = in_order(&self.rings.vertices, a, b);
+        Some(Spot::Between(a, b, shortest))
+    }
+
+    /// The two that a vertex stands between wherever it stands, the lesser one first; `None` where there
+    /// is no vertex, or borders meet. Takes no memory.
+    pub fn between(&self, p: Pos) -> Option<(Pos, Pos)>
+        ensures some { IfSome result (λ ends. IsBetween self.now.doc p ends.0 ends.1) }
+        ensures none { IfNone result
+            ((is_vertex self.now.doc p && not (is_junction self.now.doc p)) ≡ false) }
+    {
+        let Some(k) = self.rings.vertices.key_of(p) else {
+            return None;
+        };
+        match self.rings.borders.neighbours(k) {
+            Neighbours::Two(a, b) => Some(in_order(&self.rings.vertices, a, b)),
+            _ => None,
+        }
+    }
+
+    /// Whether the two that a vertex stands between are joined by a segment. Takes no memory.
+    pub fn is_bridged(&self, p: Pos) -> bool
+        requires inner { is_junction self.now.doc p ≡ false }
+        ensures { result ≡ is_bridged self.now.doc p }
+    {
+        let Some(k) = self.rings.vertices.key_of(p) else {
+            return false;
+        };
+        match self.rings.borders.neighbours(k) {
+            Neighbours::Two(a, b) => 0 < self.rings.borders.uses(a, b),
+            _ => false,
+        }
     }
 
     /// Whether borders meet at a position: a vertex that has different neighbours at two of its

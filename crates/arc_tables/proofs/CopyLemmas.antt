@@ -28,13 +28,20 @@ module _ {T : Type 0} (is_clone : T → T → Type 0) where
       by (Some v) None h = absurd h
       by (Some v) (Some w) h = alike v w h
 
-module _ {A : Type 0} where
-  -- copies have the same keys, rings, uses and arcs
-  abbrev pub SameStand : Stand A → Stand A → Type 0
-  SameStand stand copy = (copy.arcs ≡ stand.arcs) × (copy.ends ≡ stand.ends)
+cloned_lists : {is_clone : Stand → Stand → Type 0} → ((s t : Stand) → is_clone s t → t.arcs.items ≡ s.arcs.items) → (ss ts : List Stand) → AllZip is_clone ss ts
+    → map (λ s. s.arcs.items) ts ≡ map (λ s. s.arcs.items) ss
+cloned_lists same [] [] h = refl
+cloned_lists same [] (t ∷ ts) h = absurd h
+cloned_lists same (s ∷ ss) [] h = absurd h
+cloned_lists same (s ∷ ss) (t ∷ ts) h = ap₂ (λ x xs. x ∷ xs) (same s t h.0) (cloned_lists same ss ts h.1)
 
+-- copies have the same keys, rings, uses and arcs
+pub cloned_stands : {is_clone : Stand → Stand → Type 0} (ss ts : List Stand) → AllZip is_clone ss ts → ((s t : Stand) → is_clone s t → t.arcs.items ≡ s.arcs.items) → ListsMore ss ts
+cloned_stands ss ts h same j m c = subst (λ ls. Contains (get_or ls j []) m) (sym (cloned_lists same ss ts h)) c
+
+module _ {A : Type 0} where
   pub cloned_arcs : {is_clone : Arc A → Arc A → Type 0} (s t : Slab (Arc A)) → IsSlabClone is_clone s t
-      → ((arc copy : Arc A) → is_clone arc copy → (copy.keys.items ≡ arc.keys.items) × (copy.rings ≡ arc.rings)) → SamePaths s t × SameUsers s t
+      → ((arc copy : Arc A) → is_clone arc copy → (copy.keys.items ≡ arc.keys.items) × (copy.rings.items ≡ arc.rings.items)) → SamePaths s t × SameUsers s t
   cloned_arcs {is_clone} s t c same = (
     cloned_as is_clone path_in (λ v w h. (same v w h).0) s t c,
     record { there = cloned_as is_clone is_some (λ v w h. refl) s t c; users = cloned_as is_clone users_in (λ v w h. (same v w h).1) s t c },
@@ -43,15 +50,6 @@ module _ {A : Type 0} where
   pub cloned_rings : {is_clone : Ring A → Ring A → Type 0} (s t : Slab (Ring A)) → IsSlabClone is_clone s t
       → ((ring copy : Ring A) → is_clone ring copy → copy.uses.items ≡ ring.uses.items) → SameRings s t × SameKeys s t
   cloned_rings {is_clone} s t c same = (cloned_as is_clone uses_in same s t c, cloned_as is_clone is_some (λ v w h. refl) s t c)
-
-  cloned_lists : (ss ts : List (Stand A)) → AllZip SameStand ss ts → map (λ (s : Stand A). s.arcs) ts ≡ map (λ (s : Stand A). s.arcs) ss
-  cloned_lists [] [] h = refl
-  cloned_lists [] (t ∷ ts) h = absurd h
-  cloned_lists (s ∷ ss) [] h = absurd h
-  cloned_lists (s ∷ ss) (t ∷ ts) h = ap₂ (λ x xs. x ∷ xs) h.0.0 (cloned_lists ss ts h.1)
-
-  pub cloned_stands : (ss ts : List (Stand A)) → AllZip SameStand ss ts → ListsMore ss ts
-  cloned_stands ss ts h j m c = subst (λ ls. Contains (get_or ls j []) m) (sym (cloned_lists ss ts h)) c
 
   pub copy_sound : (s t : Tables A) → SamePaths s.arcs t.arcs × SameUsers s.arcs t.arcs → SameRings s.rings t.rings → ListsMore s.stands.items t.stands.items → Sound s → Sound t
   copy_sound s t arcs rings more h = record {

@@ -52,7 +52,7 @@ module _ {A : Type 0} where
   rings_unedited s t paths same = rings_kept s t (λ k. ap (λ z. is_some (get z k)) same) (keeps_same (store s) (store t) paths (λ k. ap (λ z. uses_in (get z k)) same))
 
   -- one arc has other keys, the vertices of which list it
-  pub listed_edited : (arcs arcs' : Slab (Arc A)) (ss ss' : List (Stand A)) (i q : ℕ) → ((k : ℕ) → Contains (path_in (get arcs' i)) k → Contains (path_in (get arcs i)) k ⊎ (k ≡ q)) → ((j : ℕ) → j ≢ i → get arcs' j ≡ get arcs j) →
+  pub listed_edited : (arcs arcs' : Slab (Arc A)) (ss ss' : List Stand) (i q : ℕ) → ((k : ℕ) → Contains (path_in (get arcs' i)) k → Contains (path_in (get arcs i)) k ⊎ (k ≡ q)) → ((j : ℕ) → j ≢ i → get arcs' j ≡ get arcs j) →
       ListsMore ss ss' → Contains (stand_at ss' q) i → Listed arcs ss → Listed arcs' ss'
   listed_edited arcs arcs' ss ss' i q keys others more noted h = listed_but arcs arcs' ss ss' i (λ k m. elim (keys k m) [ inl y ↦ more k i (h i k y) | inr f ↦ subst (λ n. Contains (stand_at ss' n) i) (sym f) noted ]) others more h
 

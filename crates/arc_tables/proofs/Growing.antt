@@ -27,7 +27,7 @@ module _ {A : Type 0} where
   same_users s t e = record { there = λ j. ap is_some (e j); users = λ j. ap users_in (e j) }
 
   -- an arc with one more ring is written at a key
-  pub learns : (s t : Slab (Arc A)) (key r : ℕ) (v : Arc A) → Updates s t key (Some v) → v.rings ≡ including r (users_in (get s key)) → Learns s t key r
+  pub learns : (s t : Slab (Arc A)) (key r : ℕ) (v : Arc A) → Updates s t key (Some v) → v.rings.items ≡ including r (users_in (get s key)) → Learns s t key r
   learns s t key r v u e = record {
     there = ap is_some u.changed;
     users = ap users_in u.changed ∙ e;

@@ -195,7 +195,7 @@ module _ {A : Type 0} where
   ]
 
   -- the vertices know their arcs: b those of p too, and p none
-  pub listed_collapsed : (arcs arcs' : Slab (Arc A)) (ss mid ss' : List (Stand A)) (p b : ℕ) → ((j : ℕ) → CollapsesAmong (stand_at ss p) j p b (path_in (get arcs j)) (path_in (get arcs' j))) → b ≢ p →
+  pub listed_collapsed : (arcs arcs' : Slab (Arc A)) (ss mid ss' : List Stand) (p b : ℕ) → ((j : ℕ) → CollapsesAmong (stand_at ss p) j p b (path_in (get arcs j)) (path_in (get arcs' j))) → b ≢ p →
       ListsMore ss mid → ((i : ℕ) → Contains (stand_at ss p) i → Contains (stand_at mid b) i) → ((j m : ℕ) → j ≢ p → Contains (stand_at mid j) m → Contains (stand_at ss' j) m) → Listed arcs ss → Listed arcs' ss'
   listed_collapsed arcs arcs' ss mid ss' p b h ne more noted kept l j k m = elim (h j) [
     | inl f ↦ let r = f.1.keys k m in kept k j r.0 (elim r.1 [ inl y ↦ more k j (l j k y) | inr e ↦ subst (λ n. Contains (stand_at mid n) j) (sym e) (noted j f.0) ])

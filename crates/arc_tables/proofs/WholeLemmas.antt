@@ -16,7 +16,7 @@ module _ {A : Type 0} where
   }
 
   -- the same paths, and no vertex forgot an arc
-  pub listed_paths : (arcs arcs' : Slab (Arc A)) (ss ss' : List (Stand A)) → SamePaths arcs arcs' → ListsMore ss ss' → Listed arcs ss → Listed arcs' ss'
+  pub listed_paths : (arcs arcs' : Slab (Arc A)) (ss ss' : List Stand) → SamePaths arcs arcs' → ListsMore ss ss' → Listed arcs ss → Listed arcs' ss'
   listed_paths arcs arcs' ss ss' same more h j k m = more k j (h j k (subst (λ z. Contains z k) (same j) m))
 
   pub whole_same : (s t : Tables A) → SamePaths s.arcs t.arcs → SameUsers s.arcs t.arcs → SameRings s.rings t.rings → ListsMore s.stands.items t.stands.items → Whole s → Whole t
@@ -27,7 +27,7 @@ module _ {A : Type 0} where
 
   -- arc n, which is new, is listed for its vertices
   -- one arc changed, and its vertices list it
-  pub listed_but : (arcs arcs' : Slab (Arc A)) (ss ss' : List (Stand A)) (n : ℕ) → ((k : ℕ) → Contains (path_in (get arcs' n)) k → Contains (stand_at ss' k) n) → ((j : ℕ) → j ≢ n → get arcs' j ≡ get arcs j) →
+  pub listed_but : (arcs arcs' : Slab (Arc A)) (ss ss' : List Stand) (n : ℕ) → ((k : ℕ) → Contains (path_in (get arcs' n)) k → Contains (stand_at ss' k) n) → ((j : ℕ) → j ≢ n → get arcs' j ≡ get arcs j) →
       ListsMore ss ss' → Listed arcs ss → Listed arcs' ss'
   listed_but arcs arcs' ss ss' n here o more h j k m = elim (cases_eq j n) [
     | inl f ↦ subst (λ z. Contains (stand_at ss' k) z) (sym f) (here k (subst (λ z. Contains (path_in (get arcs' z)) k) f m))
@@ -35,7 +35,7 @@ module _ {A : Type 0} where
   ]
 
   -- arc n, which is new, is listed for its vertices
-  pub listed_new : (arcs arcs' : Slab (Arc A)) (ss ss' : List (Stand A)) (n : ℕ) (keys : List ℕ) → path_in (get arcs' n) ≡ keys → ((j : ℕ) → j ≢ n → get arcs' j ≡ get arcs j) →
+  pub listed_new : (arcs arcs' : Slab (Arc A)) (ss ss' : List Stand) (n : ℕ) (keys : List ℕ) → path_in (get arcs' n) ≡ keys → ((j : ℕ) → j ≢ n → get arcs' j ≡ get arcs j) →
       ListsMore ss ss' → ((k : ℕ) → Contains keys k → Contains (stand_at ss' k) n) → Listed arcs ss → Listed arcs' ss'
   listed_new arcs arcs' ss ss' n keys e o more noted = listed_but arcs arcs' ss ss' n (λ k m. noted k (subst (λ z. Contains z k) e m)) o more
 

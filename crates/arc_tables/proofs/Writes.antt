@@ -12,13 +12,13 @@ use Rattle.arc_tables.proofs.StoreLemmas.{uses_changed, uses_other, still_held}
 pub including_new : (n : ℕ) (xs : List ℕ) → list_any (λ k. k == n) xs ≡ false → including n xs ≡ xs ++ n ∷ []
 including_new n xs h = ap (λ b. if b then xs else xs ++ n ∷ []) h
 
-module _ {A : Type 0} where
-  -- a vertex that lists an arc too lists it
-  pub listed_now : (ss ss' : List (Stand A)) (k n : ℕ) → stand_at ss' k ≡ including n (stand_at ss k) → Contains (stand_at ss' k) n
-  listed_now ss ss' k n e = subst (λ z. Contains z n) (sym e) (itself_including n (stand_at ss k))
+-- a vertex that lists an arc too lists it
+pub listed_now : (ss ss' : List Stand) (k n : ℕ) → stand_at ss' k ≡ including n (stand_at ss k) → Contains (stand_at ss' k) n
+listed_now ss ss' k n e = subst (λ z. Contains z n) (sym e) (itself_including n (stand_at ss k))
 
+module _ {A : Type 0} where
   -- an arc has other keys, and the rings that it had
-  pub rekeyed_users : (arcs : Slab (Arc A)) (n : ℕ) (v : Arc A) → ContainsKey arcs n → v.rings ≡ users_in (get arcs n) → SameUsers arcs (with_value arcs n v)
+  pub rekeyed_users : (arcs : Slab (Arc A)) (n : ℕ) (v : Arc A) → ContainsKey arcs n → v.rings.items ≡ users_in (get arcs n) → SameUsers arcs (with_value arcs n v)
   rekeyed_users arcs n v h e =
       let u = Updates-with_value arcs n v h in
       record {

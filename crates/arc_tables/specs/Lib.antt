@@ -1,6 +1,5 @@
 pub mod Edited
 pub mod Rings
-pub mod ShortLists
 pub mod Sound
 pub mod Stores
 pub mod Users

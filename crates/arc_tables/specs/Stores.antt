@@ -1,7 +1,7 @@
 -- What the tables of arcs, of rings and of vertices hold.
 use Rattle.std.specs.Prelude.{ℕ, ◌≡◌, ◌≢◌, ◌⊎◌, ◌<◌, ◌≤◌, ◌+◌, ◌==◌, if◌then◌else◌}
-use Rattle.std.specs.Prelude.{Bool, true, Option, Some, None, is_some, Result, IfOk, OnErr, vec_len, vec_capacity}
-use Rattle.std.specs.Prelude.{List, [], ◌∷◌, ◌++◌, take, map, Contains, length, get_or}
+use Rattle.std.specs.Prelude.{Bool, true, not, Option, Some, None, is_some, Result, IfOk, OnErr, vec_len, vec_capacity}
+use Rattle.std.specs.Prelude.{List, [], ◌∷◌, ◌++◌, take, map, filter, Contains, length, get_or}
 use Rattle.std.specs.Option.{option_map_or}
 use Rattle.std.specs.List.{list_any, flat_map, AllByRecursion}
 use Rattle.slab.specs.Slab.{Slab, get, ContainsKey}
@@ -32,9 +32,32 @@ abbrev pub AllDifferent : List ℕ → Type 0
 AllDifferent [] = Unit {0}
 AllDifferent (x ∷ xs) = AllByRecursion (λ y. y ≢ x) xs × AllDifferent xs
 
+-- the list without this number
+abbrev pub without : ℕ → List ℕ → List ℕ
+without r xs = filter (λ k. not (k == r)) xs
+
 -- the list with this number, which comes last where it is new
 abbrev pub including : ℕ → List ℕ → List ℕ
 including r xs = if list_any (λ k. k == r) xs then xs else xs ++ r ∷ []
+
+-- the arcs that are listed for a vertex
+abbrev pub stand_at : List Stand → ℕ → List ℕ
+stand_at stands k = get_or (map (λ s. s.arcs.items) stands) k []
+
+-- no vertex forgets an arc
+abbrev pub ListsMore : List Stand → List Stand → Type 0
+ListsMore old new = (j m : ℕ) → Contains (stand_at old j) m → Contains (stand_at new j) m
+
+-- no vertex forgets another arc than i
+abbrev pub UnlistsOnly : List Stand → List Stand → ℕ → Type 0
+UnlistsOnly old new i =
+    (j m : ℕ) → m ≢ i → Contains (stand_at old j) m → Contains (stand_at new j) m
+
+-- no vertex forgets another arc than i, nor does one of this path forget arc i
+abbrev pub UnlistsOff : List ℕ → List Stand → List Stand → ℕ → Type 0
+UnlistsOff path old new i =
+    (j m : ℕ) → (m ≢ i) ⊎ Contains path j → Contains (stand_at old j) m
+    → Contains (stand_at new j) m
 
 module _ {A : Type 0} where
   -- the keys of an arc, none where there is no arc
@@ -43,7 +66,7 @@ module _ {A : Type 0} where
 
   -- the rings that an arc is said to be in
   abbrev pub users_in : Option (Arc A) → List ℕ
-  users_in o = option_map_or (λ a. a.rings) o []
+  users_in o = option_map_or (λ a. a.rings.items) o []
 
   -- the uses of a ring
   abbrev pub uses_in : Option (Ring A) → List Use
@@ -51,10 +74,6 @@ module _ {A : Type 0} where
 
   abbrev pub store_of : Slab (Arc A) → Slab (Ring A) → Store
   store_of arcs rings = record { path = λ i. path_in (get arcs i); ring = λ r. uses_in (get rings r) }
-
-  -- the arcs that are listed for a vertex
-  abbrev pub stand_at : List (Stand A) → ℕ → List ℕ
-  stand_at stands k = get_or (map (λ s. s.arcs) stands) k []
 
   -- an arc has each ring that uses it, once, and no other, and an arc that is there is used
   pub record Known (arcs : Slab (Arc A)) (rings : Slab (Ring A)) : Type 0 where
@@ -67,23 +86,8 @@ module _ {A : Type 0} where
     pub some : (i : ℕ) → ContainsKey arcs i → 1 ≤ length (users_in (get arcs i))
 
   -- a vertex knows every arc that it stands in, and perhaps others
-  abbrev pub Listed : Slab (Arc A) → List (Stand A) → Type 0
+  abbrev pub Listed : Slab (Arc A) → List Stand → Type 0
   Listed arcs stands = (j k : ℕ) → Contains (path_in (get arcs j)) k → Contains (stand_at stands k) j
-
-  -- no vertex forgets an arc
-  abbrev pub ListsMore : List (Stand A) → List (Stand A) → Type 0
-  ListsMore old new = (j m : ℕ) → Contains (stand_at old j) m → Contains (stand_at new j) m
-
-  -- no vertex forgets another arc than i
-  abbrev pub UnlistsOnly : List (Stand A) → List (Stand A) → ℕ → Type 0
-  UnlistsOnly old new i =
-      (j m : ℕ) → m ≢ i → Contains (stand_at old j) m → Contains (stand_at new j) m
-
-  -- no vertex forgets another arc than i, nor does one of this path forget arc i
-  abbrev pub UnlistsOff : List ℕ → List (Stand A) → List (Stand A) → ℕ → Type 0
-  UnlistsOff path old new i =
-      (j m : ℕ) → (m ≢ i) ⊎ Contains path j → Contains (stand_at old j) m
-      → Contains (stand_at new j) m
 
   -- the tables belong together
   pub record Whole (t : Tables A) : Type 0 where

@@ -1,5 +1,8 @@
 //! Arcs, the rings that use them, and the arcs that a vertex stands in.
-use crate::short_list::ShortList;
+ghost use Rattle.std.specs.Prelude.{◌≡◌};
+ghost use Rattle.arc_tables.specs.Stores.{without};
+
+use smallvec::SmallVec;
 use std::alloc::{Allocator, Global};
 use vertex_index::VertexKey;
 
@@ -17,8 +20,8 @@ pub struct Use {
 pub struct Arc<A: Allocator + Copy = Global> {
     /// The keys of its vertices, in order.
     pub keys: Vec<VertexKey, A>,
-    /// The numbers of the rings that use it, each once.
-    pub rings: ShortList<A>,
+    /// The numbers of the rings that use it, each once: most arcs are of one ring or two.
+    pub rings: SmallVec<usize, 2>,
 }
 
 /// A ring, by its uses of arcs.
@@ -30,9 +33,10 @@ pub struct Ring<A: Allocator + Copy = Global> {
 
 /// The arcs that a vertex stands in, and whether new arcs end at it.
 #[derive(Clone, Drop)]
-pub struct Stand<A: Allocator + Copy = Global> {
-    /// The numbers of the arcs that it stands in, and perhaps of others.
-    pub arcs: ShortList<A>,
+pub struct Stand {
+    /// The numbers of the arcs that it stands in, and perhaps of others: most vertices stand in one arc,
+    /// and most others in three.
+    pub arcs: SmallVec<usize, 3>,
     /// Whether new arcs end at it.
     pub ends: bool,
 }
@@ -42,4 +46,11 @@ pub struct Stand<A: Allocator + Copy = Global> {
 pub(crate) struct NewUses<A: Allocator + Copy = Global> {
     pub(crate) ring: usize,
     pub(crate) uses: Vec<Use, A>,
+}
+
+/// Takes a number out of a list, wherever it stands.
+pub(crate) fn leave_out<const N: usize>(list: &mut SmallVec<usize, N>, n: usize)
+    ensures { list.new.items ≡ without n list.old.items }
+{
+    list.retain(|k| *k != n);
 }

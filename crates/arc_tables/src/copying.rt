@@ -17,6 +17,7 @@ impl<A: Allocator + Copy> Tables<A> {
         let stands = self.stands.clone()?;
         Ok(Tables {
             alloc: self.alloc,
+            heap: self.heap,
             arcs,
             rings,
             stands,

@@ -95,7 +95,7 @@ impl<A: Allocator + Copy> Tables<A> {
         let tail = Vec::from_slice(self.alloc, &arc.keys[at..])?;
         let users = arc.rings.clone()?;
         let news = plan_uses(self.alloc, &self.rings, users.as_slice(), i, n)?;
-        note(self.alloc, &mut self.stands, tail.as_slice(), n)?;
+        note(self.heap, &mut self.stands, tail.as_slice(), n)?;
         let arc = self.arcs.get_mut(i).unwrap();
         arc.keys.truncate(at + 1);
         unlist_moved(&mut self.stands, arc.keys.as_slice(), tail.as_slice(), i);

@@ -11,13 +11,13 @@ use crate::place::{arcs_at, place_in};
 use crate::standing::list_arc;
 use crate::tables::Tables;
 use slab::Slab;
-use std::alloc::{AllocError, Allocator};
+use std::alloc::{AllocError, Allocator, Global};
 use vertex_index::VertexKey;
 
 /// Lists these arcs for a vertex.
 fn list_arcs<A: Allocator + Copy>(
-    alloc: A,
-    stands: &mut Vec<Stand<A>, A>,
+    heap: Global,
+    stands: &mut Vec<Stand, A>,
     k: VertexKey,
     among: &[usize],
 ) -> Result<(), AllocError>
@@ -26,7 +26,7 @@ fn list_arcs<A: Allocator + Copy>(
         → Contains (stand_at stands.new.items k) i) }
 {
     for i in among {
-        list_arc(alloc, stands, k, *i)?;
+        list_arc(heap, stands, k, *i)?;
     }
     Ok(())
 }
@@ -111,7 +111,7 @@ fn collapse_all<A: Allocator + Copy>(
 }
 
 /// Vertex `k` forgets all arcs.
-fn forget_arcs<A: Allocator + Copy>(stands: &mut Vec<Stand<A>, A>, k: VertexKey)
+fn forget_arcs<A: Allocator + Copy>(stands: &mut Vec<Stand, A>, k: VertexKey)
     ensures { (j m : ℕ) → j ≢ k → Contains (stand_at stands.old.items j) m
         → Contains (stand_at stands.new.items j) m }
 {
@@ -135,7 +135,7 @@ impl<A: Allocator + Copy> Tables<A> {
         let Some(place) = self.find(a, b) else {
             return Ok(());
         };
-        list_arc(self.alloc, &mut self.stands, q, place.arc)?;
+        list_arc(self.heap, &mut self.stands, q, place.arc)?;
         let arc = self.arcs.get_mut(place.arc).unwrap();
         arc.keys.insert(place.at + 1, q)?;
         Ok(())
@@ -153,7 +153,7 @@ impl<A: Allocator + Copy> Tables<A> {
         ensures rings { self.new.rings ≡ self.old.rings }
     {
         let among = Vec::from_slice(self.alloc, arcs_at(&self.stands, p))?;
-        list_arcs(self.alloc, &mut self.stands, b, among.as_slice())?;
+        list_arcs(self.heap, &mut self.stands, b, among.as_slice())?;
         collapse_all(&mut self.arcs, among.as_slice(), p, b);
         forget_arcs(&mut self.stands, p);
         Ok(())

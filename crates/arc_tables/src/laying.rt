@@ -12,10 +12,10 @@ ghost use Rattle.arc_tables.specs.Stores.{Advances, WholeWith, Learns, IsPlace, 
 
 use crate::arc::{Arc, Ring, Use};
 use crate::place::{Place, agreed, agreed_back};
-use crate::short_list::ShortList;
 use crate::standing::{list_arc, note};
 use crate::tables::Tables;
 use slab::Slab;
+use smallvec::SmallVec;
 use std::alloc::{AllocError, Allocator};
 use vertex_index::VertexKey;
 
@@ -60,7 +60,6 @@ fn is_known<A: Allocator + Copy>(
 
 /// Arc `i` learns that ring `r` uses it, unless it knows.
 fn learn<A: Allocator + Copy>(
-    alloc: A,
     arcs: &mut Slab<Arc<A>, A>,
     i: usize,
     r: usize,
@@ -76,7 +75,8 @@ fn learn<A: Allocator + Copy>(
         return Ok(());
     }
     let arc = arcs.get_mut(i).unwrap();
-    arc.rings.push(alloc, r)
+    arc.rings.push(r)?;
+    Ok(())
 }
 
 /// Appends the next key of an arc. Most arcs have two keys or several: so room for several is taken at
@@ -96,7 +96,7 @@ fn push_key<A: Allocator + Copy>(
 }
 
 /// How many keys a ring went on by, and the arc that is being made.
-#[derive(Clone, Copy, Debug)]
+#[derive(Clone, Copy)]
 pub(crate) struct Piece {
     keys: usize,
     making: Option<usize>,
@@ -117,11 +117,12 @@ impl<A: Allocator + Copy> Tables<A> {
         self.arcs.reserve(1)?;
         let n = self.arcs.vacant_key();
         let keys = Vec::from_slice(self.alloc, &[a, b])?;
-        note(self.alloc, &mut self.stands, keys.as_slice(), n)?;
+        note(self.heap, &mut self.stands, keys.as_slice(), n)?;
         let back = false;
         let ring = self.rings.get_mut(r).unwrap();
         ring.uses.push(Use { arc: n, back })?;
-        let rings = ShortList::of(r);
+        let mut rings = SmallVec::new(self.heap);
+        rings.push_reserved(r);
         self.arcs.insert_reserved(Arc { keys, rings });
         Ok(n)
     }
@@ -137,7 +138,7 @@ impl<A: Allocator + Copy> Tables<A> {
         ensures users { SameUsers self.old.arcs self.new.arcs }
         ensures whole { Whole self.new }
     {
-        list_arc(self.alloc, &mut self.stands, b, n)?;
+        list_arc(self.heap, &mut self.stands, b, n)?;
         let arc = self.arcs.get_mut(n).unwrap();
         push_key(&mut arc.keys, b)?;
         Ok(())
@@ -156,7 +157,7 @@ impl<A: Allocator + Copy> Tables<A> {
         let known = is_known(&self.arcs, &self.rings, i, r);
         let ring = self.rings.get_mut(r).unwrap();
         ring.uses.reserve(1)?;
-        learn(self.alloc, &mut self.arcs, i, r, known)?;
+        learn(&mut self.arcs, i, r, known)?;
         ring.uses.push_reserved(Use { arc: i, back });
         Ok(())
     }

@@ -138,7 +138,7 @@ fn find_among<A: Allocator + Copy>(
 }
 
 /// The arcs that are listed for a vertex.
-pub fn arcs_at<A: Allocator + Copy>(stands: &Vec<Stand<A>, A>, k: VertexKey) -> &[usize]
+pub fn arcs_at<A: Allocator + Copy>(stands: &Vec<Stand, A>, k: VertexKey) -> &[usize]
     ensures { result.now ≡ stand_at stands.now.items k }
 {
     match stands.get(k.index()) {
@@ -148,11 +148,7 @@ pub fn arcs_at<A: Allocator + Copy>(stands: &Vec<Stand<A>, A>, k: VertexKey) -> 
 }
 
 /// The arcs that are listed for the one of two vertices that has fewer: none where it is new.
-fn fewer_arcs<A: Allocator + Copy>(
-    stands: &Vec<Stand<A>, A>,
-    a: VertexKey,
-    b: VertexKey,
-) -> &[usize]
+fn fewer_arcs<A: Allocator + Copy>(stands: &Vec<Stand, A>, a: VertexKey, b: VertexKey) -> &[usize]
     ensures { (result.now ≡ stand_at stands.now.items a)
         ⊎ (result.now ≡ stand_at stands.now.items b) }
 {

@@ -2,19 +2,23 @@
 ghost use Rattle.std.specs.Prelude.{◌≡◌, ◌≢◌, ℕ, ◌<◌, OnOk, Contains, vec_len};
 ghost use Rattle.arc_tables.specs.Stores.{stand_at, including, ListsMore, UnlistsOnly, UnlistsOff};
 
-use crate::arc::Stand;
-use crate::short_list::ShortList;
-use std::alloc::{AllocError, Allocator};
+use crate::arc::{Stand, leave_out};
+use smallvec::SmallVec;
+use std::alloc::{AllocError, Allocator, Global};
 use vertex_index::VertexKey;
 
 /// Makes the table long enough for vertex `k`.
-fn reach<A: Allocator + Copy>(stands: &mut Vec<Stand<A>, A>, k: VertexKey) -> Result<(), AllocError>
+fn reach<A: Allocator + Copy>(
+    heap: Global,
+    stands: &mut Vec<Stand, A>,
+    k: VertexKey,
+) -> Result<(), AllocError>
     ensures kept { (j : ℕ) → stand_at stands.new.items j ≡ stand_at stands.old.items j }
     ensures ok { OnOk result (k < vec_len stands.new) }
 {
     while stands.len() <= k.index() {
         stands.push(Stand {
-            arcs: ShortList::new(),
+            arcs: SmallVec::new(heap),
             ends: false,
         })?;
     }
@@ -23,8 +27,8 @@ fn reach<A: Allocator + Copy>(stands: &mut Vec<Stand<A>, A>, k: VertexKey) -> Re
 
 /// Lists arc `n` for a vertex.
 pub(crate) fn list_arc<A: Allocator + Copy>(
-    alloc: A,
-    stands: &mut Vec<Stand<A>, A>,
+    heap: Global,
+    stands: &mut Vec<Stand, A>,
     k: VertexKey,
     n: usize,
 ) -> Result<(), AllocError>
@@ -32,18 +36,19 @@ pub(crate) fn list_arc<A: Allocator + Copy>(
     ensures listed { OnOk result
         (stand_at stands.new.items k ≡ including n (stand_at stands.old.items k)) }
 {
-    reach(stands, k)?;
+    reach(heap, stands, k)?;
     let stand = stands.get_mut(k.index()).unwrap();
     if stand.arcs.as_slice().contains(&n) {
         return Ok(());
     }
-    stand.arcs.push(alloc, n)
+    stand.arcs.push(n)?;
+    Ok(())
 }
 
 /// Lists arc `n` for each of these vertices.
 pub(crate) fn note<A: Allocator + Copy>(
-    alloc: A,
-    stands: &mut Vec<Stand<A>, A>,
+    heap: Global,
+    stands: &mut Vec<Stand, A>,
     keys: &[VertexKey],
     n: usize,
 ) -> Result<(), AllocError>
@@ -52,24 +57,24 @@ pub(crate) fn note<A: Allocator + Copy>(
         ((k : ℕ) → Contains keys.now k → Contains (stand_at stands.new.items k) n) }
 {
     for k in keys {
-        list_arc(alloc, stands, *k, n)?;
+        list_arc(heap, stands, *k, n)?;
     }
     Ok(())
 }
 
 /// Vertex `k` forgets arc `i`.
-fn unlist<A: Allocator + Copy>(stands: &mut Vec<Stand<A>, A>, k: VertexKey, i: usize)
+fn unlist<A: Allocator + Copy>(stands: &mut Vec<Stand, A>, k: VertexKey, i: usize)
     ensures arc { UnlistsOnly stands.old.items stands.new.items i }
     ensures others { (j : ℕ) → j ≢ k → stand_at stands.new.items j ≡ stand_at stands.old.items j }
 {
     if let Some(stand) = stands.get_mut(k.index()) {
-        stand.arcs.take_out(i);
+        leave_out(&mut stand.arcs, i);
     }
 }
 
 /// These vertices forget arc `i`.
 pub(crate) fn unlist_all<A: Allocator + Copy>(
-    stands: &mut Vec<Stand<A>, A>,
+    stands: &mut Vec<Stand, A>,
     keys: &[VertexKey],
     i: usize,
 )
@@ -82,7 +87,7 @@ pub(crate) fn unlist_all<A: Allocator + Copy>(
 
 /// Vertices that moved to another arc forget arc `i`, but for those that its path still has.
 pub(crate) fn unlist_moved<A: Allocator + Copy>(
-    stands: &mut Vec<Stand<A>, A>,
+    stands: &mut Vec<Stand, A>,
     path: &[VertexKey],
     moved: &[VertexKey],
     i: usize,
@@ -98,12 +103,13 @@ pub(crate) fn unlist_moved<A: Allocator + Copy>(
 
 /// New arcs end at vertex `k` from now on. Fails only on allocation failure.
 pub fn mark_end<A: Allocator + Copy>(
-    stands: &mut Vec<Stand<A>, A>,
+    heap: Global,
+    stands: &mut Vec<Stand, A>,
     k: VertexKey,
 ) -> Result<(), AllocError>
     ensures { ListsMore stands.old.items stands.new.items }
 {
-    reach(stands, k)?;
+    reach(heap, stands, k)?;
     let stand = stands.get_mut(k.index()).unwrap();
     stand.ends = true;
     Ok(())

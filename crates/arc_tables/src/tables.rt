@@ -8,10 +8,12 @@ use std::alloc::{Allocator, Global};
 pub struct Tables<A: Allocator + Copy = Global> {
     /// Where the memory of all of them comes from.
     pub alloc: A,
+    /// Where the memory of long lists of numbers comes from.
+    pub heap: Global,
     /// The arcs by their numbers.
     pub arcs: Slab<Arc<A>, A>,
     /// The rings by their numbers.
     pub rings: Slab<Ring<A>, A>,
     /// What is known of each vertex, by the index of its key.
-    pub stands: Vec<Stand<A>, A>,
+    pub stands: Vec<Stand, A>,
 }

@@ -2,10 +2,9 @@
 ghost use Rattle.std.specs.Prelude.{◌≡◌, ◌≢◌, ℕ, ◌≤◌, None, IfSome, length};
 ghost use Rattle.slab.specs.Slab.{get, ContainsKey};
 ghost use Rattle.arc_tables.specs.Ways.{TakesOut};
-ghost use Rattle.arc_tables.specs.Stores.{users_in, store, Whole, Listed, StaysOrGoes};
-ghost use Rattle.arc_tables.specs.ShortLists.{without};
+ghost use Rattle.arc_tables.specs.Stores.{users_in, without, store, Whole, Listed, StaysOrGoes};
 
-use crate::arc::Arc;
+use crate::arc::{Arc, leave_out};
 use crate::standing::unlist_all;
 use crate::tables::Tables;
 use slab::Slab;
@@ -20,8 +19,8 @@ fn forget<A: Allocator + Copy>(arcs: &mut Slab<Arc<A>, A>, i: usize, r: usize) -
     ensures gone { IfSome result (λ _. get arcs.new i ≡ None) }
 {
     let arc = arcs.get_mut(i)?;
-    arc.rings.take_out(r);
-    if arc.rings.as_slice().is_empty() {
+    leave_out(&mut arc.rings, r);
+    if arc.rings.is_empty() {
         arcs.try_remove(i)
     } else {
         None

@@ -5,7 +5,7 @@ use mend_report::Asked;
 use program_ends::{FileArgument, Role};
 
 /// What the words of the program ask for.
-#[derive(Debug, Drop)]
+#[derive(Drop)]
 pub struct Words {
     /// The path of the map.
     pub map: String,

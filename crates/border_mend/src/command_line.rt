@@ -146,7 +146,7 @@ struct Said<'m> {
 }
 
 /// What is wrong with words that parse.
-#[derive(Clone, Copy, Debug)]
+#[derive(Clone, Copy)]
 enum Wrong {
     /// A value is none that its argument takes.
     Value(&'static str),

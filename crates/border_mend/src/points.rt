@@ -8,6 +8,7 @@ use decimal_texts::{PointFault, rounded_points};
 use grid_reader::point_digits;
 use mend_report::{Asked, LookFault};
 use std::alloc::Global;
+use std::hash::RandomState;
 use topo_outline::OpenFault;
 
 /// The text with its points (TopoJSON 1.0, 2.2.1 and 2.2.2) on the grid that is asked for, and the same
@@ -15,6 +16,7 @@ use topo_outline::OpenFault;
 /// and where it can't be read: then reading it tells its fault.
 pub(crate) fn with_points_on_grid(
     alloc: Global,
+    seed: RandomState,
     text: Vec<u8>,
     asked: Asked,
 ) -> Result<(Vec<u8>, Asked), PointFault>
@@ -27,7 +29,7 @@ pub(crate) fn with_points_on_grid(
     ensures asked { IfOk result (λ pair. AsksOfLying asked pair.1) }
 {
     let mut asked = asked;
-    let digits = point_digits(alloc, alloc, text.as_slice(), asked.grid)?;
+    let digits = point_digits(alloc, alloc, seed, text.as_slice(), asked.grid)?;
     asked.grid.points_lie = true;
     match digits {
         Some(digits) => {

@@ -70,11 +70,12 @@ fn map_asked(rt: &HostRuntime, words: &Words) -> Result<(Vec<u8>, Asked), Stop> 
 /// The report of a map, where its points were put on the grid that is asked for.
 fn reported<'a>(
     alloc: Global,
+    seed: RandomState,
     map: &'a Result<(Vec<u8>, Asked), PointFault>,
     texts: &mut Texts,
 ) -> Result<Report, LookFault<'a>> {
     match map {
-        Ok((text, asked)) => report_map(alloc, alloc, text.as_slice(), *asked, texts),
+        Ok((text, asked)) => report_map(alloc, alloc, seed, text.as_slice(), *asked, texts),
         Err(fault) => Err(unread(*fault)),
     }
 }
@@ -115,10 +116,11 @@ fn tell_file<W: Write, E: Write>(
     errors: &mut Errors<'_, E>,
 ) -> Result<u8, Stop> {
     let alloc = rt.alloc();
+    let seed = hash_seed(rt)?;
     let (map, asked) = map_asked(rt, words)?;
-    let map = with_points_on_grid(alloc, map, asked);
+    let map = with_points_on_grid(alloc, seed, map, asked);
     let mut texts = Texts::new(alloc, words.places.is_some());
-    let outcome = reported(alloc, &map, &mut texts);
+    let outcome = reported(alloc, seed, &map, &mut texts);
     let ending = ending_of_report(&outcome, texts.report.as_slice());
     let ending = print_and_place(rt, words, &texts, ending, output);
     Ok(errors.end(ending, &paths_of(words)))
@@ -135,7 +137,7 @@ fn mend_file<W: Write, E: Write>(
     let alloc = rt.alloc();
     let seed = hash_seed(rt)?;
     let (map, asked) = map_asked(rt, words)?;
-    let map = with_points_on_grid(alloc, map, asked);
+    let map = with_points_on_grid(alloc, seed, map, asked);
     let mut texts = Texts::new(alloc, words.places.is_some());
     let outcome = mended(alloc, seed, &map, &mut texts);
     let ending = ending_of_mending(&outcome, texts.report.as_slice());
@@ -148,8 +150,8 @@ fn mend_file<W: Write, E: Write>(
 }
 
 /// Tells what the words ask. Answers the status that the program ends with; the report and the line
-/// that says why it ends go to these two writers. Faults are found in this order: a seed, where the
-/// map is mended; the file of the map, the map, standard output, the file of the places, and FILE,
+/// that says why it ends go to these two writers. Faults are found in this order: a seed; the file
+/// of the map, the map, standard output, the file of the places, and FILE,
 /// which is written last.
 pub(crate) fn tell<W: Write, E: Write>(
     rt: &HostRuntime,

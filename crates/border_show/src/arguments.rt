@@ -5,7 +5,7 @@ use program_ends::{FileArgument, Role};
 use std::alloc::{AllocError, Global};
 
 /// The part of a map that is drawn.
-#[derive(Debug, Drop)]
+#[derive(Drop)]
 pub enum Part {
     /// All of it.
     Whole,
@@ -16,7 +16,7 @@ pub enum Part {
 }
 
 /// What the arguments of the program ask for.
-#[derive(Debug, Drop)]
+#[derive(Drop)]
 pub struct Arguments {
     /// The path of the map, or of the map before an edit.
     pub before: String,

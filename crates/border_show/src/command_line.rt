@@ -81,7 +81,7 @@ fn square_of(values: &[&str]) -> Option<Window> {
 }
 
 /// Why the values of arguments ask for no part.
-#[derive(Clone, Copy, Debug)]
+#[derive(Clone, Copy)]
 enum PartFault {
     /// The values are wrong, as these words say.
     Wrong(&'static str),

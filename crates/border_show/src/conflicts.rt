@@ -35,7 +35,7 @@ pub(crate) fn first_conflict(
         ≡ first_pair (document_of (view_raw map.entry))) }
 {
     let index = TreeIndex::new(heap, map.extent());
-    let fault = Map::build(heap, seed, map, index).err();
+    let fault = Map::build(heap, heap, seed, map, index).err();
     match fault {
         None => Ok(None),
         Some(fault) => Ok(Some(of_fault(fault)?)),

@@ -46,7 +46,7 @@ fn features_numbered<'s, 'r>(
 }
 
 /// Why the surroundings of no feature can be drawn.
-#[derive(Clone, Copy, Debug, PartialEq, Eq)]
+#[derive(Clone, Copy)]
 pub(crate) enum NoFeature {
     /// No feature has this id or number.
     Unknown,
@@ -68,7 +68,7 @@ impl NoFeature {
 }
 
 /// A feature that is drawn with its surroundings.
-#[derive(Clone, Copy, Debug)]
+#[derive(Clone, Copy)]
 pub(crate) struct Shown {
     /// The part of the grid about it.
     pub(crate) part: Window,

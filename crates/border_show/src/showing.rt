@@ -13,7 +13,7 @@ use topo_outline::OpenFault;
 use topo_reader::{RawDoc, read};
 
 /// Why there is no picture.
-#[derive(Debug, Drop)]
+#[derive(Drop)]
 pub(crate) enum ShowFault<'a> {
     /// A map can't be read, or an allocation failed.
     Open(OpenFault<'a>),
@@ -42,7 +42,7 @@ fn conflict_of<'a>(
 ) -> Result<Option<Conflict>, OpenFault<'a>>
     ensures { IfErr result (λ fault. IsFault bytes.now fault) }
 {
-    let map = match read(heap, heap, bytes) {
+    let map = match read(heap, heap, seed, bytes) {
         Ok(map) => map,
         Err(fault) => return Err(fault),
     };
@@ -95,11 +95,11 @@ pub(crate) fn show<'a>(
     ensures { IfErr result (IsShowFault before.entry bytes.now arguments.now.part) }
 {
     let before = match before {
-        Some(before) => Some(or_return!(read(heap, heap, before))),
+        Some(before) => Some(or_return!(read(heap, heap, seed, before))),
         None => None,
     };
     let conflict = or_return!(conflict_of(heap, seed, bytes));
-    let map = or_return!(read(heap, heap, bytes));
+    let map = or_return!(read(heap, heap, seed, bytes));
     let view = match view_of(heap, before.as_ref(), &map, arguments)? {
         Ok(view) => View { conflict, ..view },
         Err(fault) => return Err(ShowFault::Feature(fault)),

@@ -99,7 +99,7 @@ struct Said<'m> {
 }
 
 /// What is wrong with words that parse.
-#[derive(Clone, Copy, Debug)]
+#[derive(Clone, Copy)]
 enum Wrong {
     /// The value of `--undo` is no number of changes that can be kept.
     Depth,

@@ -2,7 +2,7 @@
 use std::alloc::{AllocError, Global};
 
 /// Where the next byte of the answers stands.
-#[derive(Clone, Copy, Debug, PartialEq, Eq)]
+#[derive(Clone, Copy, PartialEq, Eq)]
 enum Place {
     /// Before an answer.
     Start,
@@ -66,7 +66,7 @@ impl Place {
 }
 
 /// Where the answers have come to, and the refusal that came last.
-#[derive(Debug, Drop)]
+#[derive(Drop)]
 pub(crate) struct Notes {
     place: Place,
     /// What has come of an answer that is a refusal or `bad line`, up to the next answer.

@@ -17,7 +17,7 @@ const MIN_PATH: usize = 2;
 const MAX_PATH: usize = 256;
 
 /// Why a line is a bad one: what is wrong with it first, from its start on.
-#[derive(Clone, Copy, Debug, PartialEq, Eq)]
+#[derive(Clone, Copy)]
 pub(crate) enum Reason {
     /// It has more than 8,192 bytes before its line feed.
     TooLong,
@@ -67,7 +67,7 @@ impl Display for Reason {
 }
 
 /// What an argument is.
-#[derive(Clone, Copy, Debug, PartialEq, Eq)]
+#[derive(Clone, Copy)]
 enum Argument {
     Coordinate,
     Feature,

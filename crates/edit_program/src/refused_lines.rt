@@ -31,7 +31,7 @@ impl From<Error> for NotListed {
 
 /// The refused lines of a script, of which each piece is seen before the answers to the lines that end
 /// in it. Of the script it keeps only lines that wait for their answer, and the one that has not ended.
-#[derive(Debug, Drop)]
+#[derive(Drop)]
 pub struct RefusedLines {
     alloc: Global,
     /// The line that has not ended.

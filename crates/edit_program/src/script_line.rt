@@ -20,7 +20,7 @@ fn without_return(line: &[u8]) -> &[u8]
 }
 
 /// A line of a script.
-#[derive(Debug, Drop)]
+#[derive(Drop)]
 pub(crate) struct ScriptLine {
     /// Its number, from 1.
     pub(crate) number: u64,

@@ -10,7 +10,7 @@ use std::alloc::{AllocError, Global};
 use std::fmt::{Display, Formatter, Result as FmtResult, Write};
 
 /// Why a line is a bad one, or what its refusal is about.
-#[derive(Clone, Copy, Debug, PartialEq, Eq)]
+#[derive(Clone, Copy)]
 pub(crate) enum Why {
     /// The line is a bad one, for this reason.
     Bad(Reason),

@@ -1,10 +1,10 @@
 -- One vertex of a pass of thinning, and the pass as far as it has come.
 use Rattle.kit_words.proofs.Common.{◌≡◌, ℕ, zero, suc, ◌+◌, ◌<◌, ◌≤◌, Bool, true, false, refl, sym, ap, ap₂, ◌∙◌, cond}
 use Rattle.kit_words.proofs.Common.{ℤ, List, [], ◌∷◌, ◌++◌, take, length, get_or, Option, None, Some, arith, not, ◌&&◌}
-use Rattle.kit_words.proofs.Common.{pos, unsigned_abs, int_le, fold, false≢true, take_more}
+use Rattle.kit_words.proofs.Common.{pos, unsigned_abs, int_le, fold, false≢true, take_more, and_parts, not-true}
 use Rattle.grid_geometry.specs.Common.{Position, Segment, Box, segment, orientation}
 use Rattle.ring_machine.specs.Common.{Document, is_vertex, Proper, del, around, is_junction, Refusal, NoVertex}
-use Rattle.ring_machine.specs.Common.{first_of, remove_refusals, Thinning, is_flat, without, thin_at}
+use Rattle.ring_machine.specs.Common.{first_of, remove_refusals, is_bridged, Thinning, is_flat, without, thin_at}
 use Rattle.arc_store.specs.Common.{Refuses, IsBetween}
 use Rattle.arc_store.specs.declared.fault.EditFault.{EditFault}
 use Rattle.arc_store.specs.declared.fault.EditFault.TheVariants.{OutOfMemory}
@@ -12,7 +12,7 @@ use Rattle.arc_store.specs.declared.fault.EditFault.TheVariants as edit
 use Rattle.local_planarity.specs.Common.{most_for}
 use Rattle.edit_vertex.specs.Common.{most_at, most_over}
 use Rattle.edit_vertex.proofs.Lists.{all_same}
-use Rattle.edit_vertex.proofs.Removing.{same_around, place_there, ordered_ends, remove_no_vertex}
+use Rattle.edit_vertex.proofs.Removing.{same_around, place_there, ordered_ends, remove_no_vertex, bridged_refused}
 
 -- ---- whether a vertex is thin
 
@@ -31,13 +31,25 @@ flat_between d p a b proper between t =
 abbrev pub is_thin : ℤ → Document → Position → Bool
 is_thin t d p = is_vertex d p && (not (is_junction d p) && is_flat t d p)
 
-pub thin_none : (t : ℤ) (d : Document) (p : Position) → is_vertex d p ≡ false
-    → is_thin t d p ≡ false
-thin_none t d p h = ap (λ b. b && (not (is_junction d p) && is_flat t d p)) h
+pub thin_unplaced : (t : ℤ) (d : Document) (p : Position)
+    → (is_vertex d p && not (is_junction d p)) ≡ false → is_thin t d p ≡ false
+thin_unplaced t d p h = by (is_vertex d p) (is_junction d p) h
+  where
+    by : (v j : Bool) → (v && not j) ≡ false → (v && (not j && is_flat t d p)) ≡ false
+    by true true h = refl
+    by true false h = absurd (false≢true (sym h))
+    by false j h = refl
 
-pub thin_junction : (t : ℤ) (d : Document) (p : Position) → is_vertex d p ≡ true
-    → is_junction d p ≡ true → is_thin t d p ≡ false
-thin_junction t d p h k = ap₂ (λ b c. b && (not c && is_flat t d p)) h k
+pub thin_vertex : (t : ℤ) (d : Document) (p : Position) → is_thin t d p ≡ true
+    → is_vertex d p ≡ true
+thin_vertex t d p h =
+    (and_parts (is_vertex d p) (not (is_junction d p) && is_flat t d p) h).0
+
+pub thin_inner : (t : ℤ) (d : Document) (p : Position) → is_thin t d p ≡ true
+    → is_junction d p ≡ false
+thin_inner t d p h =
+    let rest = (and_parts (is_vertex d p) (not (is_junction d p) && is_flat t d p) h).1 in
+    not-true (is_junction d p) (and_parts (not (is_junction d p)) (is_flat t d p) rest).0
 
 pub thin_between : (d : Document) (p a b : Position) → Proper d → IsBetween d p a b → (t : ℤ)
     → is_thin t d p ≡ int_le (pos (unsigned_abs (orientation a p b))) t
@@ -55,12 +67,7 @@ module _ (t : ℤ) (d : Document) (p : Position) (n : ℕ) where
   thin_by b o = cond b (without (with_count d n) p o) (with_count d n)
 
   parts : is_thin t d p ≡ true → (not (is_junction d p) && is_flat t d p) ≡ true
-  parts h = by (is_vertex d p) h
-    where
-      by : (v : Bool) → (v && (not (is_junction d p) && is_flat t d p)) ≡ true
-          → (not (is_junction d p) && is_flat t d p) ≡ true
-      by true h = h
-      by false h = absurd (false≢true h)
+  parts h = (and_parts (is_vertex d p) (not (is_junction d p) && is_flat t d p) h).1
 
   pub thin_gone : is_thin t d p ≡ true → first_of (remove_refusals d p) ≡ None
       → (new : Document) → new ≡ del d p
@@ -78,6 +85,13 @@ module _ (t : ℤ) (d : Document) (p : Position) (n : ℕ) where
   thin_refused h fault k l new e =
       let same : n ≡ n + 0 = omega arith in
       ap₂ thin_by (parts h) (refused fault k l).1 ∙ ap₂ with_count (sym e) same
+
+  -- where the neighbours are joined it stays
+  pub thin_bridged : is_thin t d p ≡ true → is_bridged d p ≡ true
+      → thin_at t (with_count d n) p ≡ with_count d (n + 0)
+  thin_bridged h b =
+      let same : n ≡ n + 0 = omega arith in
+      ap₂ thin_by (parts h) (bridged_refused d p (thin_vertex t d p h) (thin_inner t d p h) b).1 ∙ ap (with_count d) same
 
   pub thin_passed : is_thin t d p ≡ false → thin_at t (with_count d n) p ≡ with_count d (n + 0)
   thin_passed h =

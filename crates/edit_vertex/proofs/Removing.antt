@@ -1,16 +1,18 @@
 -- What a removal is refused by, from what stands around the vertex.
 use Rattle.kit_words.proofs.Common.{◌≡◌, ◌<◌, ◌≤◌, ℕ, Bool, true, false, refl, sym, ap, ap₂, ◌∙◌, subst, cond, List, []}
 use Rattle.kit_words.proofs.Common.{◌∷◌, length, ◌||◌, Option, Some, arith, not, nat_lt, is_lt, is_gt, Ordering, Less}
-use Rattle.kit_words.proofs.Common.{Equal, Greater, false≢true, lt-ltb, le-ltb}
+use Rattle.kit_words.proofs.Common.{Equal, Greater, false≢true, lt-ltb, le-ltb, inl, inr}
 use Rattle.grid_geometry.specs.Common.{Position, position_cmp, position_lt, Segment, segment, Edge, edges}
-use Rattle.ring_machine.specs.Common.{has, is_ring, spots, Document, rings, is_vertex, is_segment, del, around}
+use Rattle.grid_geometry.proofs.Common.{segment-comm}
+use Rattle.ring_machine.specs.Common.{has, is_ring, spots, segments, Document, rings, is_vertex, is_segment, del, around}
 use Rattle.ring_machine.specs.Common.{is_junction, Proper, first_pair, remove_sweeps, Refusal, NoVertex, Junction}
 use Rattle.ring_machine.specs.Common.{RingShort, SegmentExists, Sweeps, ◌unless◌, first_of, planar, are_long}
 use Rattle.ring_machine.specs.Common.{is_bridged, remove_refusals}
 use Rattle.ring_machine.proofs.Common.{In, all_in, has-in, begin_place, place_around, position_lt-irrefl, edges_start}
-use Rattle.ring_machine.proofs.Common.{any_in, in_contains, contains_in, in_mapped, pass_all}
+use Rattle.ring_machine.proofs.Common.{any_in, in_any, in_contains, contains_in, in_mapped, in-flat_map, pass_all}
 use Rattle.arc_store.specs.Common.{Refuses, IsShortest, IsBetween}
 use Rattle.arc_store.specs.declared.fault.EditFault.{EditFault}
+use Rattle.arc_store.proofs.Common.{segment_in}
 use Rattle.edit_vertex.specs.Common.{needs_no_pairs}
 use Rattle.edit_vertex.proofs.Late.{is_late, late_end, late_fault}
 use Rattle.edit_vertex.proofs.Lists.{not_all, any_same}
@@ -80,6 +82,44 @@ ring_short d p n s h =
     not_all (is_long p) (rings d) s.ring (contains_in (rings d) s.ring s.there)
     (ap (λ t. not t || nat_lt 3 (length s.ring)) s.through ∙ le-ltb 3 (length s.ring) short)
 
+-- in a ring of three the neighbours of each position are joined
+three_bridged : (d : Document) (x y z p : Position) → In (x ∷ y ∷ z ∷ []) (rings d)
+    → In p (x ∷ y ∷ z ∷ []) → is_bridged d p ≡ true
+three_bridged d x y z p there at = by at
+  where
+    ring : List Position
+    ring = x ∷ y ∷ z ∷ []
+
+    joined : (s : Segment) → In (p, s) (spots ring) → In s (segments ring) → is_bridged d p ≡ true
+    joined s i j =
+        in_any (is_segment d) s (around d p) (place_around d ring p s there i)
+        (segment_in d s (in-flat_map segments ring s (rings d) there j))
+
+    by : In p ring → is_bridged d p ≡ true
+    by (inl e) =
+        joined (segment z y) (inr (inr (inl (ap (λ q. (q, segment z y)) e)))) (inr (inl (segment-comm y z)))
+    by (inr (inl e)) =
+        joined (segment x z) (inl (ap (λ q. (q, segment x z)) e)) (inr (inr (inl (segment-comm z x))))
+    by (inr (inr (inl e))) =
+        joined (segment y x) (inr (inl (ap (λ q. (q, segment y x)) e))) (inl (segment-comm x y))
+    by (inr (inr (inr e))) = absurd e
+
+-- so where its neighbours are not joined the rings of p have more positions
+pub unbridged_long : (d : Document) (p : Position) → Proper d → is_bridged d p ≡ false
+    → are_long d p ≡ true
+unbridged_long d p proper free =
+    pass_all (is_long p) (rings d) (λ ring i. each ring i (all_in is_ring (rings d) ring proper.are_rings i) (has ring p) refl)
+  where
+    each : (ring : List Position) → In ring (rings d) → is_ring ring ≡ true → (t : Bool)
+        → has ring p ≡ t → (not t || nat_lt 3 (length ring)) ≡ true
+    each ring i r false t = refl
+    each [] i r true t = absurd (false≢true t)
+    each (x ∷ []) i r true t = absurd (false≢true r)
+    each (x ∷ y ∷ []) i r true t = absurd (false≢true r)
+    each (x ∷ y ∷ z ∷ []) i r true t =
+        absurd (false≢true (sym free ∙ three_bridged d x y z p i (has-in p (x ∷ y ∷ z ∷ []) t)))
+    each (x ∷ y ∷ z ∷ w ∷ ps) i r true t = lt-ltb 3 (length (x ∷ y ∷ z ∷ w ∷ ps)) (omega arith)
+
 -- ---- the refusal
 
 -- the first refusal by the answers
@@ -120,6 +160,15 @@ module _ (d : Document) (p : Position) where
     unfolding remove_refusals
     remove_bridged l m =
         ap₂ (λ v j. by v j (are_long d p) (is_bridged d p)) h k ∙ ap₂ (by true false) l m
+
+    -- whether or not its rings are long enough
+    pub bridged_refused : is_bridged d p ≡ true
+        → (r : Refusal) × (first_of (remove_refusals d p) ≡ Some r)
+    bridged_refused m = either (are_long d p) refl
+      where
+        either : (l : Bool) → are_long d p ≡ l → (r : Refusal) × (first_of (remove_refusals d p) ≡ Some r)
+        either true e = (SegmentExists, remove_bridged e m)
+        either false e = (RingShort, remove_short e)
 
     pub remove_late : are_long d p ≡ true → is_bridged d p ≡ false → (fault : EditFault)
         → Refuses fault (first_of (remove_refusals d p)) → needs_no_pairs fault ≡ false

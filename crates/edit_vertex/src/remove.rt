@@ -29,7 +29,7 @@ fn is_joined<'a, I: SegIndex, A: Allocator + Copy>(map: &Map<'a, I, A>, a: Pos, 
 }
 
 /// Tells whether p may be left out, but for what would be in conflict or swept over.
-pub(crate) fn check_removal<'a, I: SegIndex, A: Allocator + Copy>(
+fn check_removal<'a, I: SegIndex, A: Allocator + Copy>(
     map: &Map<'a, I, A>,
     p: Pos,
 ) -> Result<(), EditFault>

@@ -1,18 +1,15 @@
-ghost use Rattle.std.specs.Prelude.{◌≡◌, ◌≤◌, ℕ, ◌+◌, ◌&&◌, not, true, false, is_some, if◌then◌else◌, None, Some, ◌∷◌, OnOk, OnErr, IfOk, IfErr, IsTrue, MatchOption};
+ghost use Rattle.std.specs.Prelude.{◌≡◌, ◌≤◌, ℕ, ◌+◌, ◌&&◌, not, true, false, is_some, if◌then◌else◌, OnOk, OnErr, IfOk, IsTrue, MatchOption};
 ghost use Rattle.std.specs.Prelude.{int_le, pos, unsigned_abs};
 ghost use Rattle.grid_geometry.specs.Common.{orientation};
-ghost use Rattle.ring_machine.specs.Common.{Document, is_vertex, Proper, first_of, remove_refusals};
-ghost use Rattle.ring_machine.specs.Common.{KeepsSides, is_flat, thinned, thin_at, del};
+ghost use Rattle.ring_machine.specs.Common.{Document, is_vertex, Proper};
+ghost use Rattle.ring_machine.specs.Common.{KeepsSides, is_flat, thinned, thin_at};
 ghost use Rattle.ring_machine.specs.Common.{is_junction, IsThinnedPart};
-ghost use Rattle.edit_records.specs.Records as made;
 ghost use Rattle.segment_index.specs.Common.{times_by};
-ghost use Rattle.local_planarity.specs.Common.{most_for};
-ghost use Rattle.arc_store.specs.Common.{Edits, IsLeftOut, IsThinning, left_out};
+ghost use Rattle.arc_store.specs.Common.{IsThinning};
 ghost use Rattle.edit_vertex.specs.Kept.{IsThinnedFrom, IsThinRecorded};
 ghost use Rattle.edit_vertex.specs.Tested.{most_at, most_for_thin};
 
-use crate::remove::check_removal;
-use arc_store::{EditFault, Map, Spot};
+use arc_store::{EditFault, Map};
 use grid_geometry::{Pos, orient};
 use segment_index::SegIndex;
 use std::alloc::{AllocError, Allocator};
@@ -31,34 +28,10 @@ fn is_thin<'a, I: SegIndex, A: Allocator + Copy>(map: &Map<'a, I, A>, p: Pos, t:
     ensures { result
         ≡ (is_vertex map.now.doc p && (not (is_junction map.now.doc p) && is_flat t map.now.doc p)) }
 {
-    let Some(spot) = map.spot(p) else {
-        return false;
-    };
-    match &spot {
-        Spot::Between(a, b, _) => is_flat_at(*a, p, *b, t),
-        Spot::Junction => false,
+    match map.between(p) {
+        Some((a, b)) => is_flat_at(a, p, b, t),
+        None => false,
     }
-}
-
-/// Leaves p out of every ring, in a thinning.
-fn thin_now<'a, I: SegIndex, A: Allocator + Copy>(
-    map: &mut Map<'a, I, A>,
-    p: Pos,
-) -> Result<(), EditFault>
-    requires proper { Proper map.old.doc }
-    requires thinning { IsThinning map.old.last }
-    ensures edits { Edits map.old map.new result (first_of (remove_refusals map.old.doc p))
-        (record map.old { doc = del map.old.doc p; last = map.new.last }) }
-    ensures recorded { OnOk result ((r : made.Removal)
-        × (map.new.last ≡ Some (made.Thinned (r ∷ left_out map.old.last)))
-        × IsLeftOut map.old.doc p r) }
-    ensures few { map.new.tests ≤ map.old.tests
-        + most_for (times_by map.old.cells) map.old.doc (del map.old.doc p) }
-{
-    if let Err(fault) = check_removal(map, p) {
-        return Err(fault);
-    }
-    map.raw_thin(p)
 }
 
 /// Leaves p out where it is flat by t, is no junction, and may be removed; tells whether it did.
@@ -89,7 +62,10 @@ fn thin_at<'a, I: SegIndex, A: Allocator + Copy>(
     if !is_thin(map, p, t) {
         return Ok(false);
     }
-    match thin_now(map, p) {
+    if map.is_bridged(p) {
+        return Ok(false); // also where a ring of p has only three positions
+    }
+    match map.raw_thin(p) {
         Ok(()) => Ok(true),
         Err(fault) => match fault {
             EditFault::OutOfMemory => Err(AllocError),

@@ -15,6 +15,7 @@ use crate::reading::{MAX_BYTES, has_points, opened_on};
 use crate::wants::Wants;
 use json_spans::{ScanFault, Span, scan};
 use std::alloc::{AllocError, Allocator, Global};
+use std::hash::RandomState;
 use topo_outline::{OpenFault, Outline, read_outline};
 
 /// Nothing where something was not read, unless on allocation failure.
@@ -70,7 +71,7 @@ fn digits_at<A: Allocator + Copy>(
     ensures digits { IfOk result (λ d. d ≡ digits_at wants (view_outline outline.entry)) }
     ensures few { IfOk result (λ d. IfSome d (λ digits. digits ≤ 24)) }
 {
-    if !has_points(outline.layers.as_slice()) {
+    if !has_points(outline.layers.values().as_slice()) {
         return Ok(None);
     }
     match fine_arcs(alloc, wants, outline.transform.is_some(), outline.arcs) {
@@ -83,13 +84,14 @@ fn digits_at<A: Allocator + Copy>(
 fn digits_in<A: Allocator + Copy>(
     alloc: A,
     heap: Global,
+    seed: RandomState,
     wants: Wants,
     root: Span<'_>,
 ) -> Result<Option<usize>, AllocError>
     ensures digits { IfOk result (λ d. d ≡ where_read (digits_at wants) (outline (node root.entry))) }
     ensures few { IfOk result (λ d. IfSome d (λ digits. digits ≤ 24)) }
 {
-    match read_outline(alloc, heap, root) {
+    match read_outline(alloc, heap, seed, root) {
         Ok(outline) => digits_at(alloc, heap, wants, outline),
         Err(fault) => none_after(&fault),
     }
@@ -104,6 +106,7 @@ fn digits_in<A: Allocator + Copy>(
 pub fn point_digits<A: Allocator + Copy>(
     alloc: A,
     heap: Global,
+    seed: RandomState,
     bytes: &[u8],
     wants: Wants,
 ) -> Result<Option<usize>, AllocError>
@@ -117,7 +120,7 @@ pub fn point_digits<A: Allocator + Copy>(
         return Ok(None);
     }
     match scan(alloc, bytes) {
-        Ok(root) => digits_in(alloc, heap, wants, root.span()),
+        Ok(root) => digits_in(alloc, heap, seed, wants, root.span()),
         Err(ScanFault::NotJson { place: _ } | ScanFault::TooDeep { place: _ }) => Ok(None),
         Err(ScanFault::OutOfMemory) => Err(AllocError),
     }

@@ -21,7 +21,10 @@ use crate::wants::Wants;
 use grid_geometry::Pos;
 use json_spans::{Span, scan};
 use std::alloc::{Allocator, Global};
-use topo_outline::{Item, KeptMember, Limit, OpenFault, Outline, RawLayer, Token, read_outline};
+use std::hash::RandomState;
+use topo_outline::{
+    Item, KeptMember, Layers, Limit, OpenFault, Outline, RawLayer, Token, read_outline,
+};
 use topo_reader::walks_along;
 
 /// The most bytes of a text.
@@ -35,8 +38,8 @@ pub(crate) const MAX_BYTES: usize = 67_108_864;
 pub struct OnGrid<'a, A: Allocator + Copy = Global> {
     /// The transform of the grid.
     pub transform: Transform<'a, A>,
-    /// The members of `objects`, in order (TopoJSON 1.0, 2.1.5).
-    pub layers: Vec<RawLayer<'a, A>, A>,
+    /// The members of `objects` in order, by the texts that their names stand for (TopoJSON 1.0, 2.1.5).
+    pub layers: Layers<'a, A>,
     /// The members that are neither known nor a `bbox`, in order.
     pub members: Vec<KeptMember<'a>, A>,
     /// By feature the polygons, each a list of walks, begun where their first arcs are.
@@ -123,7 +126,10 @@ fn polygons<'a, A: Allocator + Copy>(
         (walks_read (map (map (position_on_grid digits wants.finer)) (arcs_seen fine.now))
         (view_outline outline.now).layers)) }
 {
-    if !wants.points_lie && digits + wants.finer > 0 && has_points(outline.layers.as_slice()) {
+    if !wants.points_lie
+        && digits + wants.finer > 0
+        && has_points(outline.layers.values().as_slice())
+    {
         return Err(OpenFault::Unsupported {
             type_name: Token { text: b"Point" },
         });
@@ -170,13 +176,14 @@ pub(crate) fn opened_on<'a, A: Allocator + Copy>(
 fn opened<'a, A: Allocator + Copy>(
     alloc: A,
     heap: Global,
+    seed: RandomState,
     wants: Wants,
     root: Span<'a>,
 ) -> Result<OnGrid<'a, A>, OpenFault<'a>>
     ensures value { Gives view_on_grid result (grid_opening wants (node root.entry)) }
     ensures told { IfOk result (λ read. IsToldAt wants (node root.entry) read.told) }
 {
-    let outline = or_return!(read_outline(alloc, heap, root));
+    let outline = or_return!(read_outline(alloc, heap, seed, root));
     let delta = outline.transform.is_some();
     let fine = or_return!(fine_arcs(alloc, wants, delta, outline.arcs));
     opened_on(alloc, heap, wants, outline, fine.as_slice())
@@ -193,10 +200,12 @@ fn opened<'a, A: Allocator + Copy>(
 /// `Unsupported` of a point where the grid is finer than that of the text: points are kept as they
 /// stand. With `wants.points_lie` they are said to lie on the grid already, and there is no such fault.
 ///
-/// All that the topology owns lies in `alloc`. `heap` holds decoded names while they are compared.
+/// All that the topology owns lies in `alloc`, but for the names of its layers. These lie in `heap`, as
+/// other decoded names do while they are compared; `seed` is that of their hash.
 pub fn read_on_grid<'a, A: Allocator + Copy>(
     alloc: A,
     heap: Global,
+    seed: RandomState,
     bytes: &'a [u8],
     wants: Wants,
 ) -> Result<OnGrid<'a, A>, OpenFault<'a>>
@@ -211,5 +220,5 @@ pub fn read_on_grid<'a, A: Allocator + Copy>(
         return Err(OpenFault::TooLarge { what: Limit::Bytes });
     }
     let root = scan(alloc, bytes)?;
-    opened(alloc, heap, wants, root.span())
+    opened(alloc, heap, seed, wants, root.span())
 }

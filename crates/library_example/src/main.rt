@@ -32,11 +32,11 @@ type MapEditor<'a> = Editor<'a, TreeIndex<Global>, Global>;
 /// An editor of the map of a text, whose positions are hashed by a seed; `None` where the map does not
 /// open.
 fn opened(alloc: Global, seed: RandomState, text: &[u8]) -> Option<MapEditor<'_>> {
-    let Ok(raw) = read(alloc, alloc, text) else {
+    let Ok(raw) = read(alloc, alloc, seed, text) else {
         return None;
     };
     let index = TreeIndex::new(alloc, raw.extent());
-    let map = Map::build(alloc, seed, raw, index).ok()?;
+    let map = Map::build(alloc, alloc, seed, raw, index).ok()?;
     Editor::new(alloc, map, DEPTH).ok()
 }
 

@@ -1,5 +1,5 @@
 -- Sums and differences of the code, beside a window.
-use Rattle.kit_words.proofs.Common.{◌≡◌, ◌≤◌, ◌≤ℤ◌, ◌+ℤ◌, ◌-ℤ◌, ◌*ℤ◌, true, ℤ, pos, unsigned_abs, w64, to_z}
+use Rattle.kit_words.proofs.Common.{◌≡◌, ◌≤◌, ◌≤ℤ◌, ◌+ℤ◌, ◌-ℤ◌, ◌*ℤ◌, true, ℕ, ℤ, pos, unsigned_abs, w64, to_z}
 use Rattle.kit_words.proofs.Common.{of_z, arith, ints, int_le, int_max, ◌∙◌, subst, sym}
 
 -- a side, a margin further out
@@ -25,6 +25,14 @@ passed a b h = grind (arith, ints)
 
 pub passes : (a b : ℤ) → a ≤ℤ b → int_le a b ≡ true
 passes a b h = grind (arith, ints)
+
+-- a coordinate of a middle, less half of a width
+pub half_off : (at middle half : ℤ) (d : ℕ) → at ≡ middle → unsigned_abs middle ≤ 1000000000000 → unsigned_abs half ≤ 4000000000000 → unsigned_abs half ≡ d → pos 0 ≤ℤ half
+    → to_z w64 (of_z w64 (to_z w64 (of_z w64 at) -ℤ to_z w64 (of_z w64 half))) ≡ middle -ℤ pos d
+half_off at middle half d is range small size sign = omega (arith, ints, is, range, small, size, sign)
+
+pub width_kept : (width : ℤ) → pos 1 ≤ℤ width → width ≤ℤ pos 4000000000000 → to_z w64 (of_z w64 width) ≡ width
+width_kept width low high = omega (arith, ints, low, high)
 
 extent_kept : (a : ℤ) → pos 0 ≤ℤ a → a ≤ℤ pos 2000000000000 → to_z w64 (of_z w64 a) ≡ a
 extent_kept a low high = omega (arith, ints, low, high)

@@ -1,6 +1,10 @@
 pub mod Windows
 pub mod Missing
 pub mod Areas
+pub mod Values
 pub mod Names
 pub mod Shapes
+pub mod Amounts
+pub mod Lengths
+pub mod SquareUnits
 pub mod Common

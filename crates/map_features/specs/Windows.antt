@@ -1,5 +1,5 @@
 -- The part of the grid that is drawn.
-use Rattle.std.specs.Prelude.{◌≤ℤ◌, ◌+ℤ◌, List, Option, Some, None, Vec}
+use Rattle.std.specs.Prelude.{◌≡◌, ◌≤ℤ◌, ◌+ℤ◌, ◌-ℤ◌, ◌/◌, ℤ, pos, unsigned_abs, List, Option, Some, None, Vec}
 use Rattle.std.specs.List.{All}
 use Rattle.grid_geometry.specs.Common.{Position}
 use Rattle.topo_reader.specs.Common.{positions_of}
@@ -51,3 +51,14 @@ pub record Covers (w : Window) (b : Bounds) : Type 0 where
   pub right : b.x1 ≤ℤ (w.x +ℤ w.width)
   pub lower : w.y ≤ℤ b.y0
   pub upper : b.y1 ≤ℤ (w.y +ℤ w.height)
+
+-- half of a positive width, rounded down
+abbrev pub half_of : ℤ → ℤ
+half_of width = pos (unsigned_abs width / 2)
+
+-- the square of this width about the position: it reaches half of the width to the left and down
+pub record IsSquareAbout (p : Position) (width : ℤ) (w : Window) : Type 0 where
+  pub left : w.x ≡ p.x -ℤ half_of width
+  pub lower : w.y ≡ p.y -ℤ half_of width
+  pub across : w.width ≡ width
+  pub upward : w.height ≡ width

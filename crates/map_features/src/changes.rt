@@ -14,7 +14,7 @@ pub struct FeatureChange<'r, A: Allocator + Copy> {
 }
 
 /// What features of two maps are paired by.
-#[derive(Clone, Copy, Debug, PartialEq, Eq)]
+#[derive(Clone, Copy)]
 enum By {
     /// That they are the same region.
     Region,
@@ -68,15 +68,14 @@ impl By {
         }
     }
 
-    /// The features in pairs, and those that are in none. Both are in its order, and the first of those that
-    /// are alike is paired with the first.
-    fn pairs<'r, A: Allocator + Copy>(
+    /// Appends the features in pairs, and those that are in none. Both are in its order, and the first of those
+    /// that are alike is paired with the first.
+    fn push_pairs<'r, A: Allocator + Copy>(
         self,
-        alloc: A,
+        pairs: &mut Vec<FeatureChange<'r, A>, A>,
         before: &[Shape<'r, A>],
         after: &[Shape<'r, A>],
-    ) -> Result<Vec<FeatureChange<'r, A>, A>, AllocError> {
-        let mut pairs = Vec::new(alloc);
+    ) -> Result<(), AllocError> {
         let mut i: usize = 0;
         let mut j: usize = 0;
         for _step in 0..before.len().saturating_add(after.len()) {
@@ -88,7 +87,7 @@ impl By {
             j = j.saturating_add(usize::from(pair.after.is_some()));
             pairs.push(pair)?;
         }
-        Ok(pairs)
+        Ok(())
     }
 }
 
@@ -104,53 +103,126 @@ fn keys<'r, A: Allocator + Copy>(
     Ok(keys)
 }
 
-/// The features of these that none of the others is the same as: with the same `id` and region.
+/// By feature, whether none of the others is the same as it: with the same `id` and region.
+fn are_changed<A: Allocator + Copy>(
+    alloc: A,
+    these: &[Shape<'_, A>],
+    others: &[Shape<'_, A>],
+) -> Result<Vec<bool, A>, AllocError> {
+    let mut keys_of_others = keys(alloc, others)?;
+    keys_of_others.sort_unstable();
+    let keys_of_these = keys(alloc, these)?;
+    missing(alloc, keys_of_these.as_slice(), keys_of_others.as_slice())
+}
+
+/// Appends the features with a flag that is on.
+fn push_flagged<'r, A: Allocator + Copy>(
+    found: &mut Vec<Shape<'r, A>, A>,
+    shapes: &[Shape<'r, A>],
+    flags: &[bool],
+) -> Result<(), AllocError> {
+    for (shape, flag) in shapes.iter().zip(flags) {
+        if *flag {
+            found.push(*shape)?;
+        }
+    }
+    Ok(())
+}
+
+/// The features of these that none of the others is the same as, in the order of their regions.
 fn changed<'r, A: Allocator + Copy>(
     alloc: A,
     these: &[Shape<'r, A>],
     others: &[Shape<'r, A>],
 ) -> Result<Vec<Shape<'r, A>, A>, AllocError> {
-    let keys_of_these = keys(alloc, these)?;
-    let mut keys_of_others = keys(alloc, others)?;
-    keys_of_others.sort_unstable();
-    let flags = missing(alloc, keys_of_these.as_slice(), keys_of_others.as_slice())?;
+    let flags = are_changed(alloc, these, others)?;
     let mut found = Vec::new(alloc);
-    for (shape, flag) in these.iter().zip(flags.as_slice()) {
-        if *flag {
-            found.push(*shape)?;
-        }
-    }
+    push_flagged(&mut found, these, flags.as_slice())?;
+    found.sort_unstable_by(|one, other| By::Region.full_order(one, other));
     Ok(found)
 }
 
-/// The features before of changes that have none after.
-fn gone<'r, A: Allocator + Copy>(
-    alloc: A,
+/// Appends the features before of changes that have none after.
+fn push_gone<'r, A: Allocator + Copy>(
+    gone: &mut Vec<Shape<'r, A>, A>,
     changes: &[FeatureChange<'r, A>],
-) -> Result<Vec<Shape<'r, A>, A>, AllocError> {
-    let mut gone = Vec::new(alloc);
+) -> Result<(), AllocError> {
     for change in changes {
         if let (Some(before), None) = (change.before, change.after) {
             gone.push(before)?;
         }
     }
     gone.sort_unstable_by(|one, other| By::Id.full_order(one, other));
-    Ok(gone)
+    Ok(())
 }
 
-/// The features after of changes that have none before.
-fn made<'r, A: Allocator + Copy>(
-    alloc: A,
+/// Appends the features after of changes that have none before.
+fn push_made<'r, A: Allocator + Copy>(
+    made: &mut Vec<Shape<'r, A>, A>,
     changes: &[FeatureChange<'r, A>],
-) -> Result<Vec<Shape<'r, A>, A>, AllocError> {
-    let mut made = Vec::new(alloc);
+) -> Result<(), AllocError> {
     for change in changes {
         if let (None, Some(after)) = (change.before, change.after) {
             made.push(after)?;
         }
     }
     made.sort_unstable_by(|one, other| By::Id.full_order(one, other));
-    Ok(made)
+    Ok(())
+}
+
+/// Appends the features of pairs.
+fn push_both<'r, A: Allocator + Copy>(
+    changes: &mut Vec<FeatureChange<'r, A>, A>,
+    pairs: &[FeatureChange<'r, A>],
+) -> Result<(), AllocError> {
+    for pair in pairs {
+        if pair.before.is_some() && pair.after.is_some() {
+            changes.push(*pair)?;
+        }
+    }
+    Ok(())
+}
+
+/// The lists that changes are found with.
+#[derive(Drop)]
+struct Lists<'r, A: Allocator + Copy> {
+    /// The features before that are in no pair of the same region, by `id`.
+    gone: Vec<Shape<'r, A>, A>,
+    /// Those after.
+    made: Vec<Shape<'r, A>, A>,
+    /// The features that changed, in pairs of the same region, and those that are in none.
+    pairs: Vec<FeatureChange<'r, A>, A>,
+}
+
+impl<'r, A: Allocator + Copy> Lists<'r, A> {
+    /// Appends what became of features that changed, which are in the order of their regions.
+    fn push_changes(
+        &mut self,
+        changes: &mut Vec<FeatureChange<'r, A>, A>,
+        old: &[Shape<'r, A>],
+        new: &[Shape<'r, A>],
+    ) -> Result<(), AllocError> {
+        By::Region.push_pairs(&mut self.pairs, old, new)?;
+        push_both(changes, self.pairs.as_slice())?;
+        push_gone(&mut self.gone, self.pairs.as_slice())?;
+        push_made(&mut self.made, self.pairs.as_slice())?;
+        By::Id.push_pairs(changes, self.gone.as_slice(), self.made.as_slice())
+    }
+}
+
+/// Appends what became of features that changed, which are in the order of their regions.
+fn push_between<'r, A: Allocator + Copy>(
+    changes: &mut Vec<FeatureChange<'r, A>, A>,
+    alloc: A,
+    old: &[Shape<'r, A>],
+    new: &[Shape<'r, A>],
+) -> Result<(), AllocError> {
+    let mut lists = Lists {
+        gone: Vec::new(alloc),
+        made: Vec::new(alloc),
+        pairs: Vec::new(alloc),
+    };
+    lists.push_changes(changes, old, new)
 }
 
 impl<'r, A: Allocator + Copy> FeatureChange<'r, A> {
@@ -170,19 +242,10 @@ pub fn changes_between<'r, A: Allocator + Copy>(
     before: &[Shape<'r, A>],
     after: &[Shape<'r, A>],
 ) -> Result<Vec<FeatureChange<'r, A>, A>, AllocError> {
-    let mut old = changed(alloc, before, after)?;
-    let mut new = changed(alloc, after, before)?;
-    old.sort_unstable_by(|one, other| By::Region.full_order(one, other));
-    new.sort_unstable_by(|one, other| By::Region.full_order(one, other));
-    let by_region = By::Region.pairs(alloc, old.as_slice(), new.as_slice())?;
-    let old = gone(alloc, by_region.as_slice())?;
-    let new = made(alloc, by_region.as_slice())?;
-    let mut changes = By::Id.pairs(alloc, old.as_slice(), new.as_slice())?;
-    for pair in &by_region {
-        if pair.before.is_some() && pair.after.is_some() {
-            changes.push(*pair)?;
-        }
-    }
+    let old = changed(alloc, before, after)?;
+    let new = changed(alloc, after, before)?;
+    let mut changes = Vec::new(alloc);
+    push_between(&mut changes, alloc, old.as_slice(), new.as_slice())?;
     changes.sort_unstable_by_key(|change| (change.number(), change.after.is_some()));
     Ok(changes)
 }

@@ -3,7 +3,7 @@ use crate::bounds::Bounds;
 use grid_geometry::{Pos, Seg};
 
 /// Two segments that meet elsewhere than at their common ends.
-#[derive(Clone, Copy, Debug, PartialEq, Eq)]
+#[derive(Clone, Copy)]
 pub struct Conflict {
     /// The lesser of them.
     pub first: Seg,

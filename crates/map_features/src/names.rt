@@ -1,95 +1,12 @@
 // What features are called.
-ghost use Rattle.std.specs.Prelude.{◌≡◌, IfOk, option_map};
-ghost use Rattle.topo_outline.specs.Shape.{unquoted};
-ghost use Rattle.map_features.specs.Names.{bare_value, is_called, is_quoted, stands_for};
+ghost use Rattle.std.specs.Prelude.{◌≡◌, ◌++◌, ◌==◌, IfOk, OnOk, option_map, slice_index};
+ghost use Rattle.json_spans.specs.Common.{nodes};
+ghost use Rattle.map_features.specs.Names.{id_behind, id_text, is_called, is_name, name_in, name_text, names_feature, number_text};
 
 use crate::shapes::Shape;
-use json_spans::{Span, TextFault, members, text};
+use crate::values::{is_for, value_text};
+use json_spans::{Span, members};
 use std::alloc::{AllocError, Allocator, Global};
-
-/// The most bytes of a name that are shown.
-const MOST_BYTES: usize = 48;
-
-/// Whether a byte goes on with a character (RFC 3629, 3).
-fn goes_on(byte: u8) -> bool {
-    byte & 0xC0 == 0x80
-}
-
-/// The first bytes of a text, at most so many, with no character cut.
-fn first_bytes(words: &[u8], most: usize) -> &[u8] {
-    let mut end = words.len().min(most);
-    while 0 < end && end < words.len() && goes_on(words[end]) {
-        end -= 1;
-    }
-    &words[..end]
-}
-
-/// Whether a JSON value is a string.
-fn is_quoted(token: &[u8]) -> bool
-    ensures { result ≡ is_quoted token.now }
-{
-    1 < token.len() && token[0] == b'"' && token[token.len() - 1] == b'"'
-}
-
-/// A token without its first and its last byte.
-fn without_ends(token: &[u8]) -> &[u8]
-    ensures { result.now ≡ unquoted token.now }
-{
-    match token {
-        [] => token,
-        [_, rest @ ..] => &rest[..rest.len().saturating_sub(1)],
-    }
-}
-
-/// A JSON value without the quotes of a string.
-fn without_quotes(token: &[u8]) -> &[u8]
-    ensures { result.now ≡ bare_value token.now }
-{
-    if is_quoted(token) {
-        without_ends(token)
-    } else {
-        token
-    }
-}
-
-/// The first bytes of a text, at most so many, and three dots where these are not all.
-pub fn shortened<A: Allocator>(
-    alloc: A,
-    words: &[u8],
-    most: usize,
-) -> Result<Vec<u8, A>, AllocError> {
-    let first = first_bytes(words, most);
-    let mut name = Vec::from_slice(alloc, first)?;
-    if first.len() < words.len() {
-        name.extend_from_slice("\u{2026}".as_bytes())?;
-    }
-    Ok(name)
-}
-
-/// What a JSON value stands for, cut where it is long: the text of a string, and any other value as in the
-/// text of the map, as is a string with half a surrogate pair.
-fn value_text<A: Allocator>(
-    alloc: A,
-    heap: Global,
-    value: &[u8],
-) -> Result<Vec<u8, A>, AllocError> {
-    match text(heap, Span { text: value, at: 0 }) {
-        Ok(words) => shortened(alloc, words.as_bytes(), MOST_BYTES),
-        Err(TextFault::BadText) => shortened(alloc, without_quotes(value), MOST_BYTES),
-        Err(TextFault::OutOfMemory) => Err(AllocError),
-    }
-}
-
-/// Whether a JSON value stands for this text.
-fn is_for(heap: Global, value: &[u8], wanted: &str) -> Result<bool, AllocError>
-    ensures { IfOk result (λ is. is ≡ stands_for value.now wanted.now) }
-{
-    match text(heap, Span { text: value, at: 0 }) {
-        Ok(words) => Ok(words.as_bytes() == wanted.as_bytes()),
-        Err(TextFault::BadText) => Ok(without_quotes(value) == wanted.as_bytes()),
-        Err(TextFault::OutOfMemory) => Err(AllocError),
-    }
-}
 
 /// Whether the `id` of a feature stands for this text.
 pub fn has_id<A: Allocator + Copy>(
@@ -106,20 +23,40 @@ pub fn has_id<A: Allocator + Copy>(
     }
 }
 
-/// Whether a member of `properties` names its feature.
-fn is_name(name: &[u8]) -> bool {
-    matches!(name, b"\"name\"" | b"\"Name\"" | b"\"NAME\"")
+/// Whether it is `name`, as a name.
+fn is_name(name: &[u8]) -> bool
+    ensures { result ≡ is_name name.now }
+{
+    name == b"\"name\"".as_slice()
+        || name == b"\"Name\"".as_slice()
+        || name == b"\"NAME\"".as_slice()
 }
 
-/// The text of the member of `properties` that names a feature: the first string called `name`.
-fn name_of(properties: &[u8]) -> Option<&[u8]> {
+/// Whether a JSON value is a string.
+fn is_text(value: &[u8]) -> bool
+    ensures { result ≡ (slice_index value.now 0 == 34) }
+{
+    !value.is_empty() && value[0] == b'"'
+}
+
+/// Whether a member of `properties` names its feature: a string called `name`.
+fn names_feature(member: (Span<'_>, Span<'_>)) -> bool
+    ensures { result ≡ names_feature (nodes member.entry) }
+{
+    is_name(member.0.text) && is_text(member.1.text)
+}
+
+/// The text of the member of `properties` that names a feature, the first of those.
+fn name_of(properties: &[u8]) -> Option<&[u8]>
+    ensures { option_map (λ name. name.now) result ≡ name_in properties.now }
+{
     let object = Span {
         text: properties,
         at: 0,
     };
-    for (name, value) in members(object) {
-        if is_name(name.text) && matches!(value.text, [b'"', ..]) {
-            return Some(value.text);
+    for member in members(object) {
+        if names_feature(member) {
+            return Some(member.1.text);
         }
     }
     None
@@ -129,8 +66,28 @@ fn name_of(properties: &[u8]) -> Option<&[u8]> {
 pub fn feature_number<A: Allocator + Copy>(
     alloc: A,
     shape: &Shape<'_, A>,
-) -> Result<Vec<u8, A>, AllocError> {
+) -> Result<Vec<u8, A>, AllocError>
+    ensures { IfOk result (λ text. text.items ≡ number_text shape.now.number) }
+{
     Ok(format!(in alloc; "#{}", shape.number)?.into_bytes())
+}
+
+/// Appends a space and what an `id` stands for, if there is one.
+fn push_id<A: Allocator + Copy>(
+    words: &mut Vec<u8, A>,
+    alloc: A,
+    heap: Global,
+    id: Option<&[u8]>,
+) -> Result<(), AllocError>
+    ensures { OnOk result
+        (words.new.items ≡ words.old.items ++ id_behind (option_map (λ id. id.now) id.entry)) }
+{
+    if let Some(id) = id {
+        let id = value_text(alloc, heap, id)?;
+        words.push(b' ')?;
+        words.extend_from_slice(id.as_slice())?;
+    }
+    Ok(())
 }
 
 /// The number of a feature, and after it what its `id` stands for.
@@ -138,13 +95,12 @@ pub fn number_and_id<A: Allocator + Copy>(
     alloc: A,
     heap: Global,
     shape: &Shape<'_, A>,
-) -> Result<Vec<u8, A>, AllocError> {
+) -> Result<Vec<u8, A>, AllocError>
+    ensures { IfOk result (λ text. text.items
+        ≡ number_text shape.now.number ++ id_behind (option_map (λ id. id.now) shape.now.id)) }
+{
     let mut words = feature_number(alloc, shape)?;
-    if let Some(id) = shape.id {
-        let id = value_text(alloc, heap, id)?;
-        words.push(b' ')?;
-        words.extend_from_slice(id.as_slice())?;
-    }
+    push_id(&mut words, alloc, heap, shape.id)?;
     Ok(words)
 }
 
@@ -153,7 +109,11 @@ pub fn feature_name<A: Allocator + Copy>(
     alloc: A,
     heap: Global,
     shape: &Shape<'_, A>,
-) -> Result<Vec<u8, A>, AllocError> {
+) -> Result<Vec<u8, A>, AllocError>
+    ensures { IfOk result (λ text. text.items
+        ≡ name_text (option_map (λ text. text.now) shape.now.properties)
+        (option_map (λ id. id.now) shape.now.id)) }
+{
     match shape.properties.and_then(name_of).or(shape.id) {
         Some(value) => value_text(alloc, heap, value),
         None => Ok(Vec::new(alloc)),
@@ -165,7 +125,10 @@ pub fn feature_id<A: Allocator + Copy>(
     alloc: A,
     heap: Global,
     shape: &Shape<'_, A>,
-) -> Result<Vec<u8, A>, AllocError> {
+) -> Result<Vec<u8, A>, AllocError>
+    ensures { IfOk result (λ text. text.items
+        ≡ id_text (option_map (λ id. id.now) shape.now.id)) }
+{
     match shape.id {
         Some(id) => value_text(alloc, heap, id),
         None => Vec::from_slice(alloc, b"no id"),

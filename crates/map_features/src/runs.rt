@@ -9,7 +9,7 @@ use std::alloc::{AllocError, Allocator};
 
 /// A straight line of the grid: its direction in the least whole steps, and which of the parallel ones
 /// it is.
-#[derive(Clone, Copy, Debug, PartialEq, Eq, PartialOrd, Ord)]
+#[derive(Clone, Copy, PartialEq, Eq, PartialOrd, Ord)]
 struct Line {
     right: i64,
     up: i64,
@@ -17,7 +17,7 @@ struct Line {
 }
 
 /// A part of a line, from its lesser end to its greater.
-#[derive(Clone, Copy, Debug, PartialEq, Eq, PartialOrd, Ord)]
+#[derive(Clone, Copy, PartialEq, Eq, PartialOrd, Ord)]
 pub struct Run {
     line: Line,
     /// Its lesser end.
@@ -72,15 +72,10 @@ fn sorted_runs<A: Allocator + Copy>(alloc: A, segments: &[Seg]) -> Result<Vec<Ru
     Ok(runs)
 }
 
-/// The longest runs that segments make up, ascending.
-pub(crate) fn runs<A: Allocator + Copy>(
-    alloc: A,
-    segments: &[Seg],
-) -> Result<Vec<Run, A>, AllocError> {
-    let parts = sorted_runs(alloc, segments)?;
-    let mut runs = Vec::new(alloc);
+/// Appends the longest runs that parts make up, which ascend.
+fn push_runs<A: Allocator>(runs: &mut Vec<Run, A>, parts: &[Run]) -> Result<(), AllocError> {
     let mut open: Option<Run> = None;
-    for part in &parts {
+    for part in parts {
         open = match open {
             Some(run) if run.line == part.line && part.from <= run.to => Some(Run {
                 to: run.to.max(part.to),
@@ -96,6 +91,17 @@ pub(crate) fn runs<A: Allocator + Copy>(
     if let Some(run) = open {
         runs.push(run)?;
     }
+    Ok(())
+}
+
+/// The longest runs that segments make up, ascending.
+pub(crate) fn runs<A: Allocator + Copy>(
+    alloc: A,
+    segments: &[Seg],
+) -> Result<Vec<Run, A>, AllocError> {
+    let parts = sorted_runs(alloc, segments)?;
+    let mut runs = Vec::new(alloc);
+    push_runs(&mut runs, parts.as_slice())?;
     Ok(runs)
 }
 
@@ -140,6 +146,15 @@ pub(crate) fn uncovered<A: Allocator + Copy>(
     Ok(uncovered)
 }
 
+/// The longest runs that the borders of features are, ascending.
+fn borders<A: Allocator + Copy>(
+    alloc: A,
+    shapes: &[Shape<'_, A>],
+) -> Result<Vec<Run, A>, AllocError> {
+    let segments = segments(alloc, shapes)?;
+    runs(alloc, segments.as_slice())
+}
+
 /// The parts of the borders of features that lie on none of the borders of the others, wherever their
 /// vertices are.
 pub fn borders_beyond<A: Allocator + Copy>(
@@ -147,9 +162,7 @@ pub fn borders_beyond<A: Allocator + Copy>(
     these: &[Shape<'_, A>],
     others: &[Shape<'_, A>],
 ) -> Result<Vec<Run, A>, AllocError> {
-    let these = segments(alloc, these)?;
-    let others = segments(alloc, others)?;
-    let these = runs(alloc, these.as_slice())?;
-    let others = runs(alloc, others.as_slice())?;
+    let these = borders(alloc, these)?;
+    let others = borders(alloc, others)?;
     uncovered(alloc, these.as_slice(), others.as_slice())
 }

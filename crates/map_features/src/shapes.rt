@@ -1,9 +1,10 @@
 // The features of a map.
-ghost use Rattle.std.specs.Prelude.{IfSome};
+ghost use Rattle.std.specs.Prelude.{◌≡◌, ◌++◌, drop, flat_map, length, map, IfOk, IfSome, OnOk};
 ghost use Rattle.std.specs.List.{All};
 ghost use Rattle.grid_geometry.specs.Common.{Position};
 ghost use Rattle.map_features.specs.Windows.{IsWithin, AreWithin, ArePolygonsShown};
-ghost use Rattle.map_features.specs.Shapes.{ShapeIn};
+ghost use Rattle.topo_outline.specs.Common.{view_item, view_layer};
+ghost use Rattle.map_features.specs.Shapes.{ShapeIn, features_described, heads_in, description_of, descriptions_from, heads_of};
 
 use crate::areas::area;
 use crate::bounds::Bounds;
@@ -11,7 +12,7 @@ use crate::extents::with_polygons;
 use crate::window::Window;
 use grid_geometry::Pos;
 use std::alloc::{AllocError, Allocator};
-use topo_outline::Item;
+use topo_outline::{Item, RawLayer};
 use topo_reader::RawDoc;
 
 /// A feature of a map, whose texts and polygons stay with the map.
@@ -52,24 +53,58 @@ impl<'r, A: Allocator + Copy> Shape<'r, A> {
     }
 }
 
+/// Appends the feature that an item of a layer is, if it is one.
+fn push_leaf<'r, A: Allocator + Copy>(
+    shapes: &mut Vec<Shape<'r, A>, A>,
+    item: &'r Item<'_, A>,
+    polygons: &'r [Vec<Vec<Vec<Pos, A>, A>, A>],
+) -> Result<(), AllocError>
+    ensures { OnOk result (map description_of shapes.new.items ≡ map description_of shapes.old.items
+        ++ descriptions_from (length shapes.old.items) (heads_in (view_item item.now))
+        (drop (length shapes.old.items) (map (λ p. p.items) polygons.now))) }
+{
+    let number = shapes.len();
+    if let Item::Leaf(feature) = item
+        && let Some(polygons) = polygons.get(number)
+    {
+        shapes.push(Shape {
+            number,
+            id: feature.head.id,
+            properties: feature.head.properties,
+            polygons: polygons.as_slice(),
+        })?;
+    }
+    Ok(())
+}
+
 /// Appends the features among the items of a layer.
 fn push_leaves<'r, A: Allocator + Copy>(
     shapes: &mut Vec<Shape<'r, A>, A>,
     items: &'r [Item<'_, A>],
     polygons: &'r [Vec<Vec<Vec<Pos, A>, A>, A>],
-) -> Result<(), AllocError> {
+) -> Result<(), AllocError>
+    ensures { OnOk result (map description_of shapes.new.items ≡ map description_of shapes.old.items
+        ++ descriptions_from (length shapes.old.items) (flat_map heads_in (map view_item items.now))
+        (drop (length shapes.old.items) (map (λ p. p.items) polygons.now))) }
+{
     for item in items {
-        let number = shapes.len();
-        if let Item::Leaf(feature) = item
-            && let Some(polygons) = polygons.get(number)
-        {
-            shapes.push(Shape {
-                number,
-                id: feature.head.id,
-                properties: feature.head.properties,
-                polygons: polygons.as_slice(),
-            })?;
-        }
+        push_leaf(shapes, item, polygons)?;
+    }
+    Ok(())
+}
+
+/// Appends the features of layers.
+fn push_layers<'r, A: Allocator + Copy>(
+    shapes: &mut Vec<Shape<'r, A>, A>,
+    layers: &'r [RawLayer<'_, A>],
+    polygons: &'r [Vec<Vec<Vec<Pos, A>, A>, A>],
+) -> Result<(), AllocError>
+    ensures { OnOk result (map description_of shapes.new.items ≡ map description_of shapes.old.items
+        ++ descriptions_from (length shapes.old.items) (heads_of (map view_layer layers.now))
+        (drop (length shapes.old.items) (map (λ p. p.items) polygons.now))) }
+{
+    for layer in layers {
+        push_leaves(shapes, layer.items.as_slice(), polygons)?;
     }
     Ok(())
 }
@@ -77,13 +112,14 @@ fn push_leaves<'r, A: Allocator + Copy>(
 /// The features of a map in the order of its text, with these polygons.
 pub fn shapes_of<'r, A: Allocator + Copy>(
     alloc: A,
-    map: &'r RawDoc<'_, A>,
+    raw: &'r RawDoc<'_, A>,
     polygons: &'r [Vec<Vec<Vec<Pos, A>, A>, A>],
-) -> Result<Vec<Shape<'r, A>, A>, AllocError> {
+) -> Result<Vec<Shape<'r, A>, A>, AllocError>
+    ensures { IfOk result (λ shapes. map description_of shapes.items
+        ≡ features_described raw.now polygons.now) }
+{
     let mut shapes = Vec::new(alloc);
-    for layer in &map.layers {
-        push_leaves(&mut shapes, layer.items.as_slice(), polygons)?;
-    }
+    push_layers(&mut shapes, raw.layers.values().as_slice(), polygons)?;
     Ok(shapes)
 }
 

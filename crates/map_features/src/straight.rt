@@ -42,17 +42,39 @@ fn sort_holes<A: Allocator + Copy>(rings: &mut [Vec<Pos, A>]) {
     }
 }
 
+/// Appends the corners of rings.
+fn push_corners<A: Allocator + Copy>(
+    straight: &mut Vec<Vec<Pos, A>, A>,
+    alloc: A,
+    rings: &[Vec<Pos, A>],
+) -> Result<(), AllocError> {
+    for ring in rings {
+        straight.push(corners(alloc, ring.as_slice())?)?;
+    }
+    Ok(())
+}
+
 /// A polygon with the corners of its rings alone, its holes in ascending order.
 fn straight_rings<A: Allocator + Copy>(
     alloc: A,
     rings: &[Vec<Pos, A>],
 ) -> Result<Vec<Vec<Pos, A>, A>, AllocError> {
     let mut straight = Vec::new(alloc);
-    for ring in rings {
-        straight.push(corners(alloc, ring.as_slice())?)?;
-    }
+    push_corners(&mut straight, alloc, rings)?;
     sort_holes(straight.as_mut_slice());
     Ok(straight)
+}
+
+/// Appends polygons with corners alone.
+fn push_straight<A: Allocator + Copy>(
+    straight: &mut Vec<Vec<Vec<Pos, A>, A>, A>,
+    alloc: A,
+    polygons: &[Vec<Vec<Pos, A>, A>],
+) -> Result<(), AllocError> {
+    for rings in polygons {
+        straight.push(straight_rings(alloc, rings.as_slice())?)?;
+    }
+    Ok(())
 }
 
 /// The polygons of a feature with corners alone, in ascending order: the same for the same region.
@@ -61,9 +83,7 @@ fn straight_polygons<A: Allocator + Copy>(
     polygons: &[Vec<Vec<Pos, A>, A>],
 ) -> Result<Vec<Vec<Vec<Pos, A>, A>, A>, AllocError> {
     let mut straight = Vec::new(alloc);
-    for rings in polygons {
-        straight.push(straight_rings(alloc, rings.as_slice())?)?;
-    }
+    push_straight(&mut straight, alloc, polygons)?;
     straight.sort_unstable();
     Ok(straight)
 }

@@ -22,7 +22,7 @@ const MOST_NORTH: i128 = 90_000_000_000_000_000_000_000_000;
 const HALF_TURN: i64 = 32_400_000_000;
 
 /// What a length is given in.
-#[derive(Clone, Copy, Debug, PartialEq, Eq)]
+#[derive(Clone, Copy)]
 pub enum Unit {
     /// Units of the grid: the map has no transform.
     Grid,
@@ -33,7 +33,7 @@ pub enum Unit {
 }
 
 /// What a unit of the grid is on the map's own scale.
-#[derive(Clone, Copy, Debug)]
+#[derive(Clone, Copy)]
 pub struct Units {
     /// What lengths are given in.
     pub unit: Unit,
@@ -47,7 +47,7 @@ pub struct Units {
 }
 
 /// A transform: how long a unit is along an axis, and where 0 lies, in the finest parts.
-#[derive(Clone, Copy, Debug)]
+#[derive(Clone, Copy)]
 struct Axis {
     scale: i128,
     translate: i128,

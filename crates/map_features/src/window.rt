@@ -6,7 +6,7 @@ use crate::quotients::quotient;
 use grid_geometry::Pos;
 
 /// The part of the grid that is drawn: from its least corner so many units across and up.
-#[derive(Clone, Copy, Debug, PartialEq, Eq)]
+#[derive(Clone, Copy)]
 pub struct Window {
     /// Its least x.
     pub x: i64,
@@ -33,7 +33,7 @@ fn is_met(start: i64, extent: i64, least: i64, most: i64) -> bool
 
 impl Window {
     ghost use Rattle.grid_geometry.specs.Position.{Position};
-    ghost use Rattle.map_features.specs.Windows.{Covers, IsShown, IsWithin};
+    ghost use Rattle.map_features.specs.Windows.{Covers, IsShown, IsSquareAbout, IsWithin};
 
     /// All of these bounds, with a margin of this width.
     fn with_margin(bounds: Bounds, margin: i64) -> Window
@@ -83,8 +83,7 @@ impl Window {
     pub fn about(middle: Pos, width: i64) -> Window
         requires least { pos 1 ≤ℤ width }
         requires most { width ≤ℤ pos 4000000000000 }
-        ensures across { result.width ≡ width }
-        ensures upward { result.height ≡ width }
+        ensures { IsSquareAbout middle width result }
     {
         Window {
             x: middle.x() - quotient(width, 2),

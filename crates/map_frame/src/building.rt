@@ -3,7 +3,7 @@ ghost use Rattle.std.specs.Prelude.{◌≡◌, ◌<◌, List, Option, [], ◌∷
 ghost use Rattle.std.specs.List.{flat_map};
 ghost use Rattle.std.specs.Vec.Iter.{into_iter_items};
 ghost use Rattle.topo_outline.specs.Outline.{leaves_in, leaves};
-ghost use Rattle.topo_outline.specs.Common.{view_item, view_kept, view_layer};
+ghost use Rattle.topo_outline.specs.Common.{values, view_item, view_kept, view_layer};
 ghost use Rattle.ring_machine.specs.Common.{empty_collection};
 ghost use Rattle.map_frame.specs.Common.{AreLayers, AreSlots, CanStand, CanTake, Feature, IsNext, IsSlot};
 ghost use Rattle.map_frame.specs.Common.{items_at, lone, of_slots, opened, progress};
@@ -13,7 +13,7 @@ use crate::names::name_all;
 use crate::tables::{Frame, Geometry, Layer, Slot, Tables};
 use std::alloc::{AllocError, Allocator, Global};
 use std::vec::IntoIter;
-use topo_outline::{Head, Item, KeptMember, RawFeature, RawLayer};
+use topo_outline::{Head, Item, KeptMember, Layers, RawFeature};
 
 /// The features that were read so far, where they stand, and the polygons of those to come.
 #[derive(Drop)]
@@ -115,15 +115,15 @@ fn geometry_of<'a, A: Allocator + Copy>(slots: Vec<Slot<'a, A>, A>) -> Geometry<
 /// The layers that were read, with the features numbered in the order of the text. Fails only on
 /// allocation failure.
 fn build_layers<'a, A: Allocator + Copy>(
-    raws: Vec<RawLayer<'a, A>, A>,
+    raws: Layers<'a, A>,
     gathered: &mut Gathered<'a, A>,
 ) -> Result<Vec<Layer<'a, A>, A>, AllocError>
-    requires { CanTake (length (leaves (map view_layer raws.items))) (progress gathered.old) }
-    ensures { IfOk result (λ layers. AreLayers 0 raws.entry.items layers.items
+    requires { CanTake (length (leaves (map view_layer (values raws)))) (progress gathered.old) }
+    ensures { IfOk result (λ layers. AreLayers 0 (values raws.entry) layers.items
         (progress gathered.old) (progress gathered.new)) }
 {
     let mut layers = Vec::new(gathered.alloc);
-    for raw in raws {
+    for raw in raws.into_values() {
         let slots = build_slots(raw.items, layers.len(), gathered)?;
         layers.push(Layer {
             name: raw.name,
@@ -154,14 +154,14 @@ impl<'a, A: Allocator + Copy> Frame<'a, A> {
     pub fn build(
         alloc: A,
         transform: Option<&'a [u8]>,
-        layers: Vec<RawLayer<'a, A>, A>,
+        layers: Layers<'a, A>,
         members: Vec<KeptMember<'a>, A>,
         polygons: Vec<Vec<Vec<usize, A>, A>, A>,
     ) -> Result<Frame<'a, A>, AllocError>
-        requires stands { CanStand (option_map (λ t. t.now) transform) layers.items
+        requires stands { CanStand (option_map (λ t. t.now) transform) (values layers)
             (map view_kept members.items) polygons.items }
         ensures doc { IfOk result (λ frame. frame.doc ≡ opened (option_map (λ t. t.now) transform.entry)
-            layers.entry.items (map view_kept members.entry.items) polygons.items) }
+            (values layers.entry) (map view_kept members.entry.items) polygons.items) }
         ensures next { IfOk result (λ frame. frame.next ≡ length polygons.items) }
     {
         let names = name_all(alloc, polygons.as_slice())?;

@@ -1,13 +1,13 @@
 // The forms that the polygons of features ask for (TopoJSON 1.0, 2.2).
 ghost use Rattle.std.specs.Prelude.{◌≡◌, map, drop, length};
-ghost use Rattle.topo_outline.specs.Common.{leaves_in, form_of, view_item, view_layer};
+ghost use Rattle.topo_outline.specs.Common.{leaves_in, form_of, values, view_item, view_layer};
 ghost use Rattle.topo_reader.specs.Common.{view_raw, feature_positions};
 ghost use Rattle.map_mending.specs.Mended as mended;
 ghost use Rattle.map_mending.specs.Seen.{features_at, piece_after, pieces_after, layers_after, with_mended};
 
 use grid_geometry::Pos;
 use std::alloc::Allocator;
-use topo_outline::{Form, Item, RawLayer};
+use topo_outline::{Form, Item, Layers};
 use topo_reader::RawDoc;
 
 /// The polygons of a feature, each an outer ring and its holes.
@@ -59,12 +59,13 @@ fn settle_items<'p, A: Allocator + Copy>(
 }
 
 /// Gives each feature the form that its polygons ask for.
-fn settle_layers<A: Allocator + Copy>(layers: &mut [RawLayer<'_, A>], features: &[Polygons<A>])
-    ensures { map view_layer layers.new
-        ≡ layers_after (map feature_positions features.now) (map view_layer layers.old) }
+fn settle_layers<A: Allocator + Copy>(layers: &mut Layers<'_, A>, features: &[Polygons<A>])
+    ensures { map view_layer (values layers.new)
+        ≡ layers_after (map feature_positions features.now) (map view_layer (values layers.old)) }
 {
     let mut rest = features;
-    for layer in layers.iter_mut() {
+    for i in 0..layers.len() {
+        let layer = &mut layers[i];
         rest = settle_items(layer.items.as_mut_slice(), rest);
     }
 }
@@ -83,7 +84,7 @@ pub(crate) fn with_polygons<'a, A: Allocator + Copy>(
         members,
         polygons: _walks,
     } = raw;
-    settle_layers(layers.as_mut_slice(), polygons.as_slice());
+    settle_layers(&mut layers, polygons.as_slice());
     RawDoc {
         transform,
         layers,

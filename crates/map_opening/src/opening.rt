@@ -13,7 +13,7 @@ use crate::opened::OpenedRings;
 use grid_geometry::Pos;
 use ring_store::{Borders, Counted, RingTables};
 use segment_index::SegIndex;
-use std::alloc::{AllocError, Allocator};
+use std::alloc::{AllocError, Allocator, Global};
 use std::hash::RandomState;
 use vertex_index::Vertices;
 
@@ -26,10 +26,11 @@ fn shared_by_two<A: Allocator + Copy>(rings: &[Vec<Pos, A>]) -> usize {
     count / 2
 }
 
-/// Lays these rings, in an index that is empty; positions are hashed by a seed. Fails only on
-/// allocation failure.
+/// Lays these rings, in an index that is empty; positions are hashed by a seed, and `heap` holds long
+/// lists of arcs and of rings. Fails only on allocation failure.
 pub fn lay<I: SegIndex, A: Allocator + Copy>(
     alloc: A,
+    heap: Global,
     seed: RandomState,
     mut index: I,
     rings: &[Vec<Pos, A>],
@@ -43,7 +44,7 @@ pub fn lay<I: SegIndex, A: Allocator + Copy>(
 {
     let mut vertices = Vertices::with_room(alloc, seed, shared_by_two(rings))?;
     let keyed = key_all(alloc, &mut vertices, rings)?;
-    let mut borders = Borders::with_room(alloc, vertices.len())?;
+    let mut borders = Borders::with_room(alloc, heap, vertices.len())?;
     mark_junctions(alloc, &mut borders, vertices.len(), keyed.as_slice())?;
     index.prepare(vertices.len())?;
     let index = Counted::new(index, 0);

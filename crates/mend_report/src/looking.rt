@@ -10,6 +10,7 @@ use crate::asked::{Asked, Report};
 use grid_reader::{OnGrid, Transform, read_on_grid};
 use segment_index::TreeIndex;
 use std::alloc::{AllocError, Allocator, Global};
+use std::hash::RandomState;
 use topo_outline::OpenFault;
 use topo_reader::RawDoc;
 use walk_faults::{FindFault, Findings, find};
@@ -73,6 +74,7 @@ pub(crate) struct Seen<'a, A: Allocator + Copy = Global> {
 pub(crate) fn looked_through<'a, A: Allocator + Copy>(
     alloc: A,
     heap: Global,
+    seed: RandomState,
     bytes: &'a [u8],
     asked: Asked,
 ) -> Result<Seen<'a, A>, LookFault<'a>>
@@ -91,7 +93,7 @@ pub(crate) fn looked_through<'a, A: Allocator + Copy>(
         members,
         polygons,
         told,
-    } = match read_on_grid(alloc, heap, bytes, asked.grid) {
+    } = match read_on_grid(alloc, heap, seed, bytes, asked.grid) {
         Ok(read) => read,
         Err(OpenFault::OutOfMemory) => return Err(LookFault::OutOfMemory),
         Err(fault) => return Err(LookFault::Open(fault)),

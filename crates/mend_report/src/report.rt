@@ -167,6 +167,7 @@ fn put_places<'f, A: Allocator + Copy>(
 pub fn report_map<'a, A: Allocator + Copy>(
     alloc: A,
     heap: Global,
+    seed: RandomState,
     bytes: &'a [u8],
     asked: Asked,
     texts: &mut Texts<A>,
@@ -189,7 +190,7 @@ pub fn report_map<'a, A: Allocator + Copy>(
         transform,
         map,
         report,
-    } = or_return!(looked_through(alloc, heap, bytes, asked));
+    } = or_return!(looked_through(alloc, heap, seed, bytes, asked));
     push_report(&mut texts.report, &report, asked.most)?;
     let (text, walks) = (transform.text(), map.polygons.as_slice());
     put_places(
@@ -247,7 +248,7 @@ pub fn mend_map<'a, A: Allocator + Copy>(
         transform,
         map,
         report,
-    } = match looked_through(alloc, heap, bytes, asked) {
+    } = match looked_through(alloc, heap, seed, bytes, asked) {
         Ok(seen) => seen,
         Err(fault) => return Err(RepairFault::Look(fault)),
     };

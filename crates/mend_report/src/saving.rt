@@ -40,7 +40,7 @@ fn written<'a, A: Allocator + Copy>(
     ensures fault { IfErr result (IsUnsaved (document_of (view_raw raw.entry))) }
 {
     let index = TreeIndex::new(heap, raw.extent());
-    let map = match Map::build(alloc, seed, raw, index) {
+    let map = match Map::build(alloc, heap, seed, raw, index) {
         Ok(map) => map,
         Err(fault) => return Err(unbuilt(fault)),
     };
@@ -62,7 +62,7 @@ fn opened<A: Allocator + Copy>(
     ensures opened { OnOk result (HasOpened text.now) }
     ensures fault { IfErr result (DoesNotOpen text.now) }
 {
-    let raw = match read(alloc, heap, text) {
+    let raw = match read(alloc, heap, seed, text) {
         Ok(raw) => raw,
         Err(fault) => {
             return match fault {
@@ -72,7 +72,7 @@ fn opened<A: Allocator + Copy>(
         }
     };
     let index = TreeIndex::new(heap, raw.extent());
-    match Map::build(alloc, seed, raw, index) {
+    match Map::build(alloc, heap, seed, raw, index) {
         Ok(_map) => Ok(()),
         Err(BuildFault::Conflict { .. }) => Err(SaveFault::Unopened),
         Err(BuildFault::OutOfMemory) => Err(SaveFault::OutOfMemory),
@@ -83,7 +83,7 @@ fn opened<A: Allocator + Copy>(
 /// map but for the numbers of its features. Fails with `Conflict` where two segments conflict, with
 /// `Unopened` where the text is over a limit, and on allocation failure.
 ///
-/// The text and what is read of it lie in `alloc`, the indexes in `heap`.
+/// The text and what is read of it lie in `alloc`, the indexes and long lists of arcs in `heap`.
 pub fn saved_text<'a, A: Allocator + Copy>(
     alloc: A,
     heap: Global,

@@ -12,7 +12,7 @@ use topo_outline::RingAt;
 use walk_faults::{Crossing, Findings, Repeat, Touch};
 
 /// A kind of findings.
-#[derive(Clone, Copy, Debug, PartialEq, Eq)]
+#[derive(Clone, Copy)]
 pub(crate) enum Kind {
     /// A walk of fewer than three positions.
     Short,
@@ -25,7 +25,7 @@ pub(crate) enum Kind {
 }
 
 /// Where something is found.
-#[derive(Clone, Copy, Debug)]
+#[derive(Clone, Copy)]
 pub(crate) struct Place {
     pub(crate) pos: Pos,
     pub(crate) kind: Kind,

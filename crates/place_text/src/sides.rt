@@ -9,7 +9,7 @@ use std::alloc::{AllocError, Allocator};
 use walk_faults::{Crossing, Findings, Touch};
 
 /// A segment that a finding speaks of.
-#[derive(Clone, Copy, Debug)]
+#[derive(Clone, Copy)]
 pub(crate) struct Side {
     pub(crate) segment: Seg,
     pub(crate) kind: Kind,

@@ -11,7 +11,7 @@ use std::alloc::{AllocError, Allocator};
 use std::collections::BTreeSet;
 
 /// A polygon: its feature's number, and its place among the polygons of the feature.
-#[derive(Clone, Copy, Debug, PartialEq, Eq, PartialOrd, Ord)]
+#[derive(Clone, Copy, PartialEq, Eq, PartialOrd, Ord)]
 pub(crate) struct PolygonName {
     pub(crate) feature: u32,
     pub(crate) polygon: usize,

@@ -36,12 +36,13 @@ impl<A: Allocator + Copy> Model for Borders<A> {
 
 impl<A: Allocator + Copy> Borders<A> {
     /// No ring. Takes no memory.
-    pub fn new(alloc: A) -> Self
+    pub fn new(alloc: A, heap: Global) -> Self
         ensures { result ≡ map.empty }
     {
         Borders {
             tables: Tables {
                 alloc,
+                heap,
                 arcs: Slab::new(alloc),
                 rings: Slab::new(alloc),
                 stands: Vec::new(alloc),
@@ -50,13 +51,14 @@ impl<A: Allocator + Copy> Borders<A> {
     }
 
     /// No ring, with room for what so many vertices stand in. Fails only on allocation failure.
-    pub fn with_room(alloc: A, vertices: usize) -> Result<Self, AllocError>
+    pub fn with_room(alloc: A, heap: Global, vertices: usize) -> Result<Self, AllocError>
         ensures { IfOk result (λ borders. borders ≡ map.empty) }
     {
         let stands = Vec::with_capacity(alloc, vertices)?;
         Ok(Borders {
             tables: Tables {
                 alloc,
+                heap,
                 arcs: Slab::new(alloc),
                 rings: Slab::new(alloc),
                 stands,
@@ -76,7 +78,7 @@ impl<A: Allocator + Copy> Borders<A> {
     pub fn end_arcs_at(&mut self, k: VertexKey) -> Result<(), AllocError>
         ensures { self.new ≡ self.old }
     {
-        mark_end(&mut self.tables.stands, k)
+        mark_end(self.tables.heap, &mut self.tables.stands, k)
     }
 
     /// Puts in the ring that goes along these keys, and from the last to the first, under a number that

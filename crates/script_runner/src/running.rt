@@ -70,13 +70,13 @@ fn open<'a, A: Allocator + Copy>(
     ensures cells { IfOk result (λ map. map.cells ≡ None) }
     ensures refused { IfErr result (λ fault. IsOpenEnd fault bytes.now) }
 {
-    let raw = match read(alloc, heap, bytes) {
+    let raw = match read(alloc, heap, seed, bytes) {
         Ok(raw) => raw,
         Err(OpenFault::OutOfMemory) => return Err(RunFault::OutOfMemory),
         Err(fault) => return Err(RunFault::Open(fault)),
     };
     let index = TreeIndex::new(alloc, raw.extent());
-    match Map::build(alloc, seed, raw, index) {
+    match Map::build(alloc, heap, seed, raw, index) {
         Ok(map) => Ok(map),
         Err(fault) => Err(not_built(fault)),
     }
@@ -179,8 +179,8 @@ fn answer_and_save<'a, A: Allocator + Copy, R: Source, W: Sink, V: Sink>(
 /// last line; then the text of the map goes to `saved`, which is flushed too. A line ends with
 /// a line feed, before which one carriage return is dropped, and a last line without a line feed
 /// counts where it is not empty. A line of more than 8,192 bytes is a bad line. The newest `depth`
-/// changes can be taken back. `heap` holds decoded texts while the map is opened, and the id and
-/// the path of a line; `alloc` all else.
+/// changes can be taken back. `heap` holds decoded texts while the map is opened, the id and the path of
+/// a line, and long lists of arcs and of rings; `alloc` all else.
 pub fn run<'a, A: Allocator + Copy, R: Source, W: Sink, V: Sink>(
     alloc: A,
     heap: Global,

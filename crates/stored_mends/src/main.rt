@@ -63,13 +63,13 @@ impl Counts {
 /// Compares the answers to a case.
 fn compare(stored: &mut Stored<'_>, door: Door, seed: RandomState) -> Result<(), AllocError> {
     match door {
-        Door::Report => maps::compare_report(stored),
+        Door::Report => maps::compare_report(stored, seed),
         Door::Mend => maps::compare_mended(stored, seed),
         Door::End => maps::compare_end(stored, seed),
         Door::Areas => maps::compare_areas(stored, seed),
         Door::DropLines => points::compare_without_lines(stored),
         Door::PutPoints => points::compare_on_grid(stored),
-        Door::KeepDigits => points::compare_digits(stored),
+        Door::KeepDigits => points::compare_digits(stored, seed),
     }
 }
 

@@ -62,10 +62,17 @@ fn compare_looked(
 }
 
 /// Compares what is reported of the map of a case.
-pub(crate) fn compare_report(stored: &mut Stored<'_>) -> Result<(), AllocError> {
+pub(crate) fn compare_report(stored: &mut Stored<'_>, seed: RandomState) -> Result<(), AllocError> {
     let (alloc, map) = (stored.alloc, stored.given("map")?);
     let (asked, mut texts) = (asked_of(&stored.case), no_texts(stored));
-    match report_map(alloc, alloc, map.as_str().as_bytes(), asked, &mut texts) {
+    match report_map(
+        alloc,
+        alloc,
+        seed,
+        map.as_str().as_bytes(),
+        asked,
+        &mut texts,
+    ) {
         Ok(report) => compare_looked(stored, &texts, &report),
         Err(fault) => compare_fault(stored, &fault),
     }

@@ -4,6 +4,7 @@ use crate::stored::Stored;
 use decimal_texts::{PointFault, rounded_points, without_lines};
 use grid_reader::point_digits;
 use std::alloc::AllocError;
+use std::hash::RandomState;
 
 /// Compares what is left of a text without its lines, and how many these were.
 pub(crate) fn compare_without_lines(stored: &mut Stored<'_>) -> Result<(), AllocError> {
@@ -40,10 +41,10 @@ pub(crate) fn compare_on_grid(stored: &mut Stored<'_>) -> Result<(), AllocError>
 }
 
 /// Compares how many decimals the grid keeps on which the points of a map are to be put.
-pub(crate) fn compare_digits(stored: &mut Stored<'_>) -> Result<(), AllocError> {
+pub(crate) fn compare_digits(stored: &mut Stored<'_>, seed: RandomState) -> Result<(), AllocError> {
     let (alloc, text) = (stored.alloc, stored.given("text")?);
     let grid = asked_of(&stored.case).grid;
-    match point_digits(alloc, alloc, text.as_str().as_bytes(), grid)? {
+    match point_digits(alloc, alloc, seed, text.as_str().as_bytes(), grid)? {
         Some(digits) => stored.compare_number("keeps", digits),
         None => stored.compare("keeps", b"none"),
     }

@@ -3,6 +3,7 @@ use crate::pieces::put_scan_fault;
 use crate::runs::{Key, Runs};
 use json_spans::{ScanFault, scan};
 use std::alloc::{AllocError, Global};
+use test_aids::fixed_seed;
 use topo_outline::OpenFault;
 use topo_reader::read;
 
@@ -37,7 +38,8 @@ fn put_scanned(
 
 /// Appends how many features are opened, or the fault.
 fn put_opened(out: &mut String, alloc: Global, text: &[u8], from: usize) -> Result<(), AllocError> {
-    match read(alloc, alloc, text) {
+    let seed = fixed_seed().ok_or(AllocError)?;
+    match read(alloc, alloc, seed, text) {
         Ok(raw) => write!(out, "opened {}", raw.polygons.len()),
         Err(OpenFault::NotJson { place }) => put_place(out, text, from, place),
         Err(fault) => write!(out, "{fault}"),

@@ -1,6 +1,7 @@
 // What a topology is read as: the rings of its features.
 use grid_geometry::{Pos, Rect};
 use std::alloc::{AllocError, Global};
+use test_aids::fixed_seed;
 use topo_outline::OpenFault;
 use topo_reader::{RawDoc, read, read_walks};
 
@@ -69,10 +70,12 @@ fn put_read(
 
 /// Appends what the text is read as, with rings.
 pub(crate) fn put_opened(out: &mut String, alloc: Global, text: &[u8]) -> Result<(), AllocError> {
-    put_read(out, &read(alloc, alloc, text))
+    let seed = fixed_seed().ok_or(AllocError)?;
+    put_read(out, &read(alloc, alloc, seed, text))
 }
 
 /// Appends what the text is read as, with walks in the place of rings.
 pub(crate) fn put_walks(out: &mut String, alloc: Global, text: &[u8]) -> Result<(), AllocError> {
-    put_read(out, &read_walks(alloc, alloc, text))
+    let seed = fixed_seed().ok_or(AllocError)?;
+    put_read(out, &read_walks(alloc, alloc, seed, text))
 }

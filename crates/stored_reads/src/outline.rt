@@ -2,6 +2,7 @@
 use crate::pieces::{put_bytes, put_scan_fault};
 use json_spans::{Span, at, bytes, scan};
 use std::alloc::{AllocError, Global};
+use test_aids::fixed_seed;
 use topo_outline::{
     Form, Head, Item, KeptMember, Outline, Place, RawFeature, RawLayer, read_outline,
 };
@@ -84,7 +85,7 @@ fn put_places(out: &mut String, places: &[Place<'_>]) -> Result<(), AllocError> 
 fn put_outline(out: &mut String, outline: &Outline<'_>) -> Result<(), AllocError> {
     out.push_str("transform ")?;
     put_bytes(out, outline.transform.unwrap_or(b"none"))?;
-    put_layers(out, outline.layers.as_slice())?;
+    put_layers(out, outline.layers.values().as_slice())?;
     put_places(out, outline.places.as_slice())?;
     put_part(out, " | arcs ", Some(bytes(outline.arcs)))?;
     out.push_str(" | members")?;
@@ -93,7 +94,8 @@ fn put_outline(out: &mut String, outline: &Outline<'_>) -> Result<(), AllocError
 
 /// Appends the outline of a topology, or its first fault.
 fn put_topology(out: &mut String, alloc: Global, root: Span<'_>) -> Result<(), AllocError> {
-    match read_outline(alloc, alloc, root) {
+    let seed = fixed_seed().ok_or(AllocError)?;
+    match read_outline(alloc, alloc, seed, root) {
         Ok(outline) => put_outline(out, &outline),
         Err(fault) => write!(out, "{fault}"),
     }

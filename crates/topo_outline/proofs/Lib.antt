@@ -1,5 +1,6 @@
 pub mod Walking
 pub mod Naming
+pub mod Layering
 pub mod Depth
 pub mod Placing
 pub mod Steps

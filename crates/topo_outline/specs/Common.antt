@@ -1,4 +1,5 @@
 -- The words of this crate that others cite most, passed on from one place. Declares nothing.
+pub use Rattle.indexmap.specs.IndexMap.{values}
 pub use Rattle.topo_outline.specs.Faults.{Fault, arcs_do_not_meet, bad_arc_index, bad_member, bad_position, demand}
 pub use Rattle.topo_outline.specs.Faults.{duplicate, each, each_at, not_topology, not_whole, out_of_range, ring_repeats}
 pub use Rattle.topo_outline.specs.Faults.{ring_short, too_deep, too_large, unsupported, ◌>>=◌}

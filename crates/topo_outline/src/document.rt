@@ -1,6 +1,8 @@
 // What is kept of a document, as slices of its text.
+use indexmap::IndexMap;
 use json_spans::Span;
 use std::alloc::{Allocator, Global};
+use std::hash::RandomState;
 
 /// The kind of a feature's geometry (TopoJSON 1.0, 2.2).
 #[derive(Clone, Copy, Debug, PartialEq, Eq)]
@@ -61,3 +63,8 @@ pub struct RawLayer<'a, A: Allocator + Copy = Global> {
     pub name: &'a [u8],
     pub items: Vec<Item<'a, A>, A>,
 }
+
+/// The members of `objects` in order, each under the text that its name stands for: `"a"` and
+/// `"\u0061"` are one name. The hash has a random seed, since names of one hash could be chosen by
+/// whoever writes the text.
+pub type Layers<'a, A = Global> = IndexMap<String, RawLayer<'a, A>, RandomState, A>;

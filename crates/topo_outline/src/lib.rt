@@ -20,13 +20,14 @@ mod document;
 mod entries;
 mod fault;
 mod geometries;
+mod layer_names;
 mod members;
 mod places;
 mod shape;
 mod token;
 mod words;
 
-pub use document::{Form, Head, Item, KeptMember, RawFeature, RawLayer};
+pub use document::{Form, Head, Item, KeptMember, Layers, RawFeature, RawLayer};
 pub use entries::Entry;
 pub use fault::{Limit, OpenFault, RingAt};
 pub use members::Owner;

@@ -43,7 +43,7 @@ pub(crate) fn token_of(entry: Entry<'_>) -> Token<'_>
 }
 
 /// The text that a name stands for (RFC 8259, 7), or BadMember where it stands for none.
-fn name_text<'a>(heap: Global, name: Span<'a>) -> Result<String, OpenFault<'a>>
+pub(crate) fn name_text<'a>(heap: Global, name: Span<'a>) -> Result<String, OpenFault<'a>>
     ensures { Gives string_bytes result (name_text (node name.entry)) }
 {
     match text(heap, name) {

@@ -1,5 +1,6 @@
 // The shape of a topology (TopoJSON 1.0, 2.1): its transform, its layers and where its arcs stand.
 ghost use Rattle.std.specs.Prelude.{◌≡◌, ◌≢◌, ◌&&◌, true, map, Ok, IfOk, IfErr, option_map, nat_le, length};
+ghost use Rattle.indexmap.specs.IndexMap.{index_map_len, values};
 ghost use Rattle.json_spans.specs.Common.{node, items, kind_of, decoded};
 ghost use Rattle.topo_outline.specs.Gives.{Gives};
 ghost use Rattle.topo_outline.specs.Faults.{each, demand, not_topology};
@@ -11,15 +12,18 @@ ghost use Rattle.topo_outline.specs.IsOutline.{HasOutline, HasNoOutline, NestsAt
 ghost use Rattle.topo_outline.specs.OutlineView.{view_outline, IsPlaced};
 ghost use Rattle.topo_outline.specs.Views.{view_entry, view_layer, view_place};
 
-use crate::document::{KeptMember, RawLayer};
+use crate::document::{KeptMember, Layers, RawLayer};
 use crate::entries::Entry;
 use crate::fault::{Limit, OpenFault};
 use crate::geometries::geometry;
+use crate::layer_names::named;
 use crate::members::{Owner, entries, find, kept, list_member, object_member, token_of};
 use crate::places::{Place, places};
 use crate::words::{Geometry, Word, geometry_of};
+use indexmap::IndexMap;
 use json_spans::{Kind, Span, TextFault, items, kind, text};
 use std::alloc::{Allocator, Global};
+use std::hash::RandomState;
 
 /// A topology before its positions are read (TopoJSON 1.0, 2.1).
 #[derive(Drop)]
@@ -27,8 +31,8 @@ use std::alloc::{Allocator, Global};
 pub struct Outline<'a, A: Allocator + Copy = Global> {
     /// The text of the transform, and none where it is missing or `null` (TopoJSON 1.0, 2.1.2).
     pub transform: Option<&'a [u8]>,
-    /// The members of `objects`, in order.
-    pub layers: Vec<RawLayer<'a, A>, A>,
+    /// The members of `objects` in order, by the texts that their names stand for.
+    pub layers: Layers<'a, A>,
     /// The features of all layers in the order of the text.
     pub places: Vec<Place<'a>, A>,
     /// The value of `arcs`, a list (TopoJSON 1.0, 2.1.3).
@@ -148,45 +152,52 @@ fn layer<'a, A: Allocator + Copy>(
     })
 }
 
+/// Reads each layer into its place in the map.
 fn each_layer<'a, A: Allocator + Copy>(
     alloc: A,
     heap: Global,
     names: &[Entry<'a>],
-) -> Result<Vec<RawLayer<'a, A>, A>, OpenFault<'a>>
-    ensures { Gives (λ v. map view_layer v.items) result (each layer (map view_entry names.now)) }
+    found: &mut Layers<'a, A>,
+) -> Result<(), OpenFault<'a>>
+    requires { index_map_len found.old ≡ length names.now }
+    ensures { Gives (λ _. map view_layer (values found.new)) result
+        (each layer (map view_entry names.now)) }
 {
-    let mut found = Vec::new(alloc);
-    for entry in names {
-        found.push(or_return!(layer(alloc, heap, *entry)))?;
+    for i in 0..names.len() {
+        found[i] = or_return!(layer(alloc, heap, names[i]));
     }
-    Ok(found)
+    Ok(())
 }
 
+/// The layers of `objects`: all names are tested before any layer is read.
 fn layers<'a, A: Allocator + Copy>(
     alloc: A,
     heap: Global,
+    seed: RandomState,
     span: Span<'a>,
-) -> Result<Vec<RawLayer<'a, A>, A>, OpenFault<'a>>
-    ensures { Gives (λ v. map view_layer v.items) result (layers (node span.entry)) }
+) -> Result<Layers<'a, A>, OpenFault<'a>>
+    ensures { Gives (λ m. map view_layer (values m)) result (layers (node span.entry)) }
 {
-    let names = or_return!(entries(alloc, heap, span));
-    each_layer(alloc, heap, names.as_slice())
+    let mut found: Layers<'a, A> = IndexMap::with_hasher(alloc, seed);
+    let names = or_return!(named(alloc, heap, span, &mut found));
+    or_return!(each_layer(alloc, heap, names.as_slice(), &mut found));
+    Ok(found)
 }
 
 /// The outline, or TooLarge where it has too many features.
 fn limited<'a, A: Allocator + Copy>(
     alloc: A,
     transform: Option<&'a [u8]>,
-    layers: Vec<RawLayer<'a, A>, A>,
+    layers: Layers<'a, A>,
     arcs: Span<'a>,
     members: &[Entry<'a>],
 ) -> Result<Outline<'a, A>, OpenFault<'a>>
     ensures shape { Gives view_outline result
         (limited (outline_text (option_map (λ t. t.now) transform.entry)
-        (map view_layer layers.entry.items) (node arcs.entry) (map view_entry members.now))) }
+        (map view_layer (values layers.entry)) (node arcs.entry) (map view_entry members.now))) }
     ensures places { IfOk result (λ o. IsPlaced o) }
 {
-    let places = places(alloc, layers.as_slice())?;
+    let places = places(alloc, layers.values().as_slice())?;
     if places.len() > MAX_FEATURES {
         return Err(OpenFault::TooLarge {
             what: Limit::Features,
@@ -205,6 +216,7 @@ fn limited<'a, A: Allocator + Copy>(
 fn outlined<'a, A: Allocator + Copy>(
     alloc: A,
     heap: Global,
+    seed: RandomState,
     members: &[Entry<'a>],
 ) -> Result<Outline<'a, A>, OpenFault<'a>>
     ensures shape { Gives view_outline result (outlined (map view_entry members.now)) }
@@ -213,7 +225,7 @@ fn outlined<'a, A: Allocator + Copy>(
     let transform = or_return!(transform(alloc, heap, members));
     let objects = or_return!(object_member(members, Word::Objects, b"objects"));
     let arcs = or_return!(list_member(members, Word::Arcs, b"arcs"));
-    let layers = or_return!(layers(alloc, heap, objects.value));
+    let layers = or_return!(layers(alloc, heap, seed, objects.value));
     limited(alloc, transform, layers, arcs.value, members)
 }
 
@@ -221,6 +233,7 @@ fn outlined<'a, A: Allocator + Copy>(
 fn topology<'a, A: Allocator + Copy>(
     alloc: A,
     heap: Global,
+    seed: RandomState,
     root: Span<'a>,
 ) -> Result<Outline<'a, A>, OpenFault<'a>>
     ensures shape { Gives view_outline result (outline (node root.entry)) }
@@ -233,18 +246,20 @@ fn topology<'a, A: Allocator + Copy>(
     if !or_return!(is_topology(heap, members.as_slice())) {
         return Err(OpenFault::NotTopology);
     }
-    outlined(alloc, heap, members.as_slice())
+    outlined(alloc, heap, seed, members.as_slice())
 }
 
 /// The outline of the topology whose root this is, or the first fault of its shape: `NotTopology`,
 /// `BadMember`, `Duplicate`, `Unsupported`, at the end `TooLarge` with more than 200,000 features, and
 /// `OutOfMemory` where an allocation fails. What stands in `arcs` is not tested.
 ///
-/// All that the outline owns lies in `alloc`. `heap` has each decoded name while its object is
-/// read, for `serde_json` decodes into `Global` only.
+/// All that the outline owns lies in `alloc`, but for the decoded names of layers. These are in
+/// `heap`, as is each decoded name while its object is read: `serde_json` decodes into `Global` only.
+/// `seed` is that of the hash of the layers' names.
 pub fn read_outline<'a, A: Allocator + Copy>(
     alloc: A,
     heap: Global,
+    seed: RandomState,
     root: Span<'a>,
 ) -> Result<Outline<'a, A>, OpenFault<'a>>
     ensures opened { IfOk result (λ o. HasOutline (node root.entry) (view_outline o)) }
@@ -255,5 +270,5 @@ pub fn read_outline<'a, A: Allocator + Copy>(
     ensures shape { Gives view_outline result (outline (node root.entry)) }
     ensures places { IfOk result (λ o. IsPlaced o) }
 {
-    topology(alloc, heap, root)
+    topology(alloc, heap, seed, root)
 }

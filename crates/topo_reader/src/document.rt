@@ -1,7 +1,7 @@
 // The topology as it is read.
 use grid_geometry::Pos;
 use std::alloc::{Allocator, Global};
-use topo_outline::{KeptMember, RawLayer};
+use topo_outline::{KeptMember, Layers};
 
 /// A topology that was read: its layers as they stand in the text, and its rings.
 ///
@@ -11,8 +11,8 @@ use topo_outline::{KeptMember, RawLayer};
 pub struct RawDoc<'a, A: Allocator + Copy = Global> {
     /// The text of the transform, and none where it is missing or `null` (TopoJSON 1.0, 2.1.2).
     pub transform: Option<&'a [u8]>,
-    /// The members of `objects`, in order (TopoJSON 1.0, 2.1.5).
-    pub layers: Vec<RawLayer<'a, A>, A>,
+    /// The members of `objects` in order, by the texts that their names stand for (TopoJSON 1.0, 2.1.5).
+    pub layers: Layers<'a, A>,
     /// The members that are neither known nor a `bbox`, in order.
     pub members: Vec<KeptMember<'a>, A>,
     /// By feature the polygons, each an outer ring and its holes (RFC 7946, 3.1.6). A ring begins at

@@ -92,7 +92,7 @@ impl<'a, A: Allocator + Copy> RawDoc<'a, A> {
         ensures { result ≡ extent_of (positions (document_of (view_raw self.now))) }
     {
         let features = self.polygons.as_slice();
-        let unnamed = less_layers(features.len(), self.layers.as_slice());
+        let unnamed = less_layers(features.len(), self.layers.values().as_slice());
         with_features(&features[..features.len() - unnamed])
     }
 }

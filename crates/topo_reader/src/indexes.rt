@@ -11,7 +11,7 @@ use std::alloc::Allocator;
 use topo_outline::{Form, OpenFault, Place};
 
 /// An arc as a ring uses it: as it stands, or in reverse.
-#[derive(Clone, Copy, Debug)]
+#[derive(Clone, Copy)]
 pub struct Use<'b> {
     pub arc: &'b [Pos],
     pub reversed: bool,

@@ -17,6 +17,7 @@ use crate::rings::{Closed, all_rings};
 use grid_geometry::Pos;
 use json_spans::{Span, scan};
 use std::alloc::{Allocator, Global};
+use std::hash::RandomState;
 use topo_outline::{Limit, OpenFault, Outline, read_outline};
 
 /// The most bytes of a text.
@@ -63,12 +64,13 @@ pub fn walks_along<'a, A: Allocator + Copy>(
 fn opened<'a, A: Allocator + Copy>(
     alloc: A,
     heap: Global,
+    seed: RandomState,
     closed: Closed,
     root: Span<'a>,
 ) -> Result<RawDoc<'a, A>, OpenFault<'a>>
     ensures { Gives view_raw result (opening closed (node root.entry)) }
 {
-    let outline = or_return!(read_outline(alloc, heap, root));
+    let outline = or_return!(read_outline(alloc, heap, seed, root));
     let arcs = or_return!(arcs(alloc, outline.transform.is_some(), outline.arcs));
     let polygons = or_return!(polygons_along(alloc, closed, arcs.as_slice(), &outline));
     Ok(RawDoc {
@@ -88,10 +90,12 @@ fn opened<'a, A: Allocator + Copy>(
 /// Whether segments are in conflict is not tested here. `OutOfMemory` may come in the place of any
 /// answer.
 ///
-/// All that the topology owns lies in `alloc`. `heap` holds decoded names while they are compared.
+/// All that the topology owns lies in `alloc`, but for the names of its layers. These lie in `heap`, as
+/// other decoded names do while they are compared; `seed` is that of their hash.
 pub fn read<'a, A: Allocator + Copy>(
     alloc: A,
     heap: Global,
+    seed: RandomState,
     bytes: &'a [u8],
 ) -> Result<RawDoc<'a, A>, OpenFault<'a>>
     ensures opened { IfOk result (λ raw. Opens bytes.now (view_raw raw)) }
@@ -108,7 +112,7 @@ pub fn read<'a, A: Allocator + Copy>(
     if bytes.len() > MAX_BYTES {
         return Err(OpenFault::TooLarge { what: Limit::Bytes });
     }
-    opened(alloc, heap, Closed::Rings, scan(alloc, bytes)?.span())
+    opened(alloc, heap, seed, Closed::Rings, scan(alloc, bytes)?.span())
 }
 
 /// The topology that the bytes are, with walks in the place of rings, or its first fault.
@@ -123,6 +127,7 @@ pub fn read<'a, A: Allocator + Copy>(
 pub fn read_walks<'a, A: Allocator + Copy>(
     alloc: A,
     heap: Global,
+    seed: RandomState,
     bytes: &'a [u8],
 ) -> Result<RawDoc<'a, A>, OpenFault<'a>>
     ensures opened { IfOk result (λ raw. OpensWalks bytes.now (view_raw raw)) }
@@ -139,5 +144,5 @@ pub fn read_walks<'a, A: Allocator + Copy>(
     if bytes.len() > MAX_BYTES {
         return Err(OpenFault::TooLarge { what: Limit::Bytes });
     }
-    opened(alloc, heap, Closed::Walks, scan(alloc, bytes)?.span())
+    opened(alloc, heap, seed, Closed::Walks, scan(alloc, bytes)?.span())
 }

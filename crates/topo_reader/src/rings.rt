@@ -12,7 +12,7 @@ use std::collections::BTreeSet;
 use topo_outline::{OpenFault, RingAt};
 
 /// What the arcs of a ring are read as.
-#[derive(Clone, Copy, Debug)]
+#[derive(Clone, Copy)]
 pub(crate) enum Closed {
     /// Walks of three positions or more, none of them twice, begun at the least one.
     Rings,

@@ -28,7 +28,7 @@ fn has_two(alloc: Global, map: &RawDoc<'_>) -> bool {
 
 /// The map of walks that a text is.
 fn walks_of(alloc: Global, text: &'static str) -> Option<RawDoc<'static>> {
-    read_walks(alloc, alloc, text.as_bytes()).ok()
+    read_walks(alloc, alloc, fixed_seed()?, text.as_bytes()).ok()
 }
 
 #[test]
@@ -68,7 +68,7 @@ const BOW_TIE: &str =
 /// Whether a text is a map that is not saved for segments in conflict.
 fn is_in_conflict(alloc: Global, text: &str) -> Option<bool> {
     let seed = fixed_seed()?;
-    match read(alloc, alloc, text.as_bytes()) {
+    match read(alloc, alloc, seed, text.as_bytes()) {
         Ok(map) => {
             let saved = saved_text(alloc, alloc, seed, map);
             Some(matches!(&saved, Err(SaveFault::Conflict { .. })))

@@ -39,9 +39,12 @@ fn told<A: Allocator + Copy>(texts: &Texts<A>, last: &str) -> End {
 }
 
 fn look<A: Allocator + Copy>(alloc: Global, heap: A) -> End {
+    let Some(seed) = fixed_seed() else {
+        return End::Otherwise;
+    };
     let mut texts = Texts::new(heap, true);
     let asked = Asked::with_most(1000);
-    match report_map(heap, alloc, MAP.as_bytes(), asked, &mut texts) {
+    match report_map(heap, alloc, seed, MAP.as_bytes(), asked, &mut texts) {
         Ok(_) => told(&texts, LOOKED),
         Err(LookFault::OutOfMemory) => End::OutOfMemory,
         Err(_) => End::Otherwise,

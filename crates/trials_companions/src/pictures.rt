@@ -2,6 +2,7 @@
 use map_drawing::View;
 use std::alloc::{Allocator, Global};
 use std::process::Abort;
+use test_aids::fixed_seed;
 use topo_reader::{RawDoc, read};
 
 /// What an allocation that nothing refuses is expected to find.
@@ -21,7 +22,7 @@ pub(crate) fn read_map<A: Allocator + Copy>(
     alloc: Global,
     map: &str,
 ) -> Option<RawDoc<'_, A>> {
-    read(heap, alloc, map.as_bytes()).ok()
+    read(heap, alloc, fixed_seed()?, map.as_bytes()).ok()
 }
 
 /// Whether a text has these bytes one after another.

@@ -36,13 +36,14 @@ pub(crate) const ACROSS: &str =
 /// The map of what was read, in a grid; `None` where an allocation failed.
 fn built<'a, A: Allocator + Copy>(
     heap: A,
+    alloc: Global,
     seed: RandomState,
     raw: RawDoc<'a, A>,
 ) -> Option<Map<'a, GridIndex<A>, A>>
     requires rings { IsOfRings (view_raw raw) }
 {
     match GridIndex::new(heap, raw.extent()) {
-        Ok(index) => Map::build(heap, seed, raw, index).ok(),
+        Ok(index) => Map::build(heap, alloc, seed, raw, index).ok(),
         Err(_) => {
             drop(raw);
             None
@@ -57,8 +58,8 @@ pub(crate) fn map_of<'a, A: Allocator + Copy>(
     text: &'a [u8],
 ) -> Option<Map<'a, GridIndex<A>, A>> {
     let seed = fixed_seed()?;
-    match read(heap, alloc, text) {
-        Ok(raw) => built(heap, seed, raw),
+    match read(heap, alloc, seed, text) {
+        Ok(raw) => built(heap, alloc, seed, raw),
         Err(_) => None,
     }
 }

@@ -15,6 +15,7 @@ fn no_tables(alloc: Global) -> Tables
 {
     Tables {
         alloc,
+        heap: alloc,
         arcs: Slab::new(alloc),
         rings: Slab::new(alloc),
         stands: Vec::new(alloc),
@@ -37,7 +38,7 @@ fn mark<R: Abort>(rt: &R, tables: &mut Tables, keys: &[VertexKey], n: usize)
     requires { Whole tables.old }
     ensures { Whole tables.new }
 {
-    mark_end(&mut tables.stands, key(rt, keys, n)).expect(rt, MEMORY);
+    mark_end(tables.heap, &mut tables.stands, key(rt, keys, n)).expect(rt, MEMORY);
 }
 
 /// Whether there are so many arcs, and each vertex lists so many of them.

@@ -41,7 +41,7 @@ fn count_sides<R: Abort>(
 fn a_shared_side_is_counted_twice(rt: HostRuntime) {
     let keys = vertex_keys(&rt, rt.alloc(), 6);
     for right in [RIGHT, RIGHT_TURNED] {
-        let mut borders = Borders::new(rt.alloc());
+        let mut borders = Borders::new(rt.alloc(), rt.alloc());
         count_sides(&rt, rt.alloc(), &mut borders, keys.as_slice(), &right);
     }
 }
@@ -66,6 +66,6 @@ fn list_both<R: Abort>(
 #[test]
 fn a_shared_side_lists_both_rings(rt: HostRuntime) {
     let keys = vertex_keys(&rt, rt.alloc(), 6);
-    let (mut borders, mut listed) = (Borders::new(rt.alloc()), Vec::new(rt.alloc()));
+    let (mut borders, mut listed) = (Borders::new(rt.alloc(), rt.alloc()), Vec::new(rt.alloc()));
     list_both(&rt, rt.alloc(), &mut borders, keys.as_slice(), &mut listed);
 }

@@ -2,6 +2,7 @@
 use crate::maps::map_of;
 use crate::told::holds;
 use std::alloc::Global;
+use test_aids::fixed_seed;
 use topo_reader::{RawDoc, read};
 
 /// Whether the transform, a member and a layer of two features were kept.
@@ -14,9 +15,9 @@ fn is_kept(raw: &RawDoc<'_>) -> bool {
 
 /// Whether the map opens, and these are kept.
 fn opens_with_kept(alloc: Global, map: &[u8]) -> bool {
-    match read(alloc, alloc, map) {
-        Ok(raw) => is_kept(&raw),
-        Err(_) => false,
+    match fixed_seed().map(|seed| read(alloc, alloc, seed, map)) {
+        Some(Ok(raw)) => is_kept(&raw),
+        _ => false,
     }
 }
 

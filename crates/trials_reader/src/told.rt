@@ -2,6 +2,7 @@
 use linked_list_allocator::LocalHeap;
 use std::alloc::{Allocator, Global};
 use std::process::Abort;
+use test_aids::fixed_seed;
 use topo_outline::OpenFault;
 use topo_reader::read;
 
@@ -11,7 +12,10 @@ pub(crate) fn features<A: Allocator + Copy>(
     heap: Global,
     text: &[u8],
 ) -> Result<usize, OpenFault<'_>> {
-    match read(alloc, heap, text) {
+    let Some(seed) = fixed_seed() else {
+        return Err(OpenFault::OutOfMemory);
+    };
+    match read(alloc, heap, seed, text) {
         Ok(raw) => Ok(raw.polygons.len()),
         Err(fault) => Err(fault),
     }

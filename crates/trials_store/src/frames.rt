@@ -8,6 +8,7 @@ ghost use Rattle.map_frame.specs.Numbers.{feature_numbers};
 use map_frame::{FeatureTexts, Frame, Id, ItemView};
 use std::alloc::{AllocError, Global};
 use std::process::Abort;
+use test_aids::fixed_seed;
 use topo_outline::Form;
 use topo_reader::read;
 
@@ -67,7 +68,8 @@ fn frame_of<R: Abort>(
 ) -> Result<Frame<'static>, AllocError>
     ensures { IfOk result (λ frame. IsTrue (are_distinct (rings frame.doc))) }
 {
-    let Ok(raw) = read(alloc, alloc, text) else {
+    let seed = fixed_seed().expect(rt, "a seed");
+    let Ok(raw) = read(alloc, alloc, seed, text) else {
         return Err(AllocError);
     };
     assert!(rt; are_two(raw.polygons.as_slice()));

@@ -57,7 +57,7 @@ impl Squares {
             tables: RingTables {
                 alloc,
                 vertices: Vertices::new(alloc, seed),
-                borders: Borders::new(alloc),
+                borders: Borders::new(alloc, alloc),
                 index: Counted::new(ListIndex::new(alloc), 0),
             },
             rings: Vec::new(alloc),

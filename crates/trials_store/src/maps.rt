@@ -14,11 +14,11 @@ pub(crate) const DONUT: &str =
 /// The map of the text in trees.
 pub(crate) fn in_trees<'a, R: Abort>(rt: &R, alloc: Global, text: &'a str) -> Map<'a, TreeIndex> {
     let seed = fixed_seed().expect(rt, "a seed");
-    let Ok(raw) = read(alloc, alloc, text.as_bytes()) else {
+    let Ok(raw) = read(alloc, alloc, seed, text.as_bytes()) else {
         panic!(rt; "the text opens");
     };
     let index = TreeIndex::new(alloc, raw.extent());
-    match Map::build(alloc, seed, raw, index) {
+    match Map::build(alloc, alloc, seed, raw, index) {
         Ok(map) => map,
         Err(_) => panic!(rt; "no two segments conflict"),
     }

@@ -1,4 +1,3 @@
-use Rattle.kit_words.proofs.Common.{into_iter_items}
 use Rattle.map_frame.specs.Common.{progress}
 use Rattle.map_frame.proofs.Built.{LayersSoFar}
 use Rattle.map_frame.proofs.building.build_layers.Given as goal
@@ -6,5 +5,4 @@ use Rattle.map_frame.proofs.building.build_layers.Given as goal
 -- with those that are left they are all layers
 abbrev pub invariant-loop-raw : goal.invariant-loop-raw
 invariant-loop-raw g l =
-    LayersSoFar (into_iter_items l.initial.raw-iterator) (progress l.fn.gathered)
-    (into_iter_items l.raw-iterator) l.layers.items (progress l.gathered)
+    LayersSoFar l.initial.raw-iterator (progress l.fn.gathered) l.raw-iterator l.layers.items (progress l.gathered)

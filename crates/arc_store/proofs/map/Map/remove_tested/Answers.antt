@@ -8,7 +8,7 @@ use Rattle.arc_store.proofs.Accepted.{remove_may}
 use Rattle.arc_store.proofs.Indexed.{indexed_apart}
 use Rattle.arc_store.proofs.LeftOut.{found_left}
 use Rattle.arc_store.proofs.Outcomes.{is_made, hands_on}
-use Rattle.arc_store.proofs.RemovePlan.{has_bridging, found, planned, not_joined, three_apart, taken}
+use Rattle.arc_store.proofs.RemovePlan.{has_bridging, found, away, planned, not_joined, three_apart, taken}
 use Rattle.arc_store.proofs.StateKept.{tested, with_document_tested}
 use Rattle.arc_store.proofs.Tested.{removed_few}
 use Rattle.arc_store.proofs.map.Map.remove_tested.Goals as goal
@@ -24,6 +24,7 @@ read_bridging-requires g c =
 pub test_remove-requires : goal.test_remove-requires
 test_remove-requires g c = record {
   apart = indexed_apart (stored_document (stored c.self.inside.frame c.self.inside.rings.borders c.self.inside.rings.vertices)) c.self.inside.rings.index.held c.self.invariant.holds.indexed c.self.invariant.holds.proper;
+  away = away (found c.self.invariant c.self.view_is c.in_ok-bridging.ensures.read c.as_slice-before.ensures.value c.requires.inner c.requires.long c.requires.unjoined);
 }
 
 -- ---- the tables

@@ -1,8 +1,9 @@
 use Rattle.kit_words.proofs.Common.{sym, ap, ◌∙◌, subst, Some, arith}
 use Rattle.ring_machine.specs.Common.{is_vertex, is_junction}
-use Rattle.grid_geometry.specs.Common.{segment}
+use Rattle.grid_geometry.specs.Common.{Position, segment}
 use Rattle.feature_exchange.specs.Common.{stored}
 use Rattle.arc_store.specs.Common.{IsSpot, IsBetween, IsShortest}
+use Rattle.arc_store.specs.declared.spot.Spot.TheVariants.{Between}
 use Rattle.vertex_index.specs.Common.{place}
 use Rattle.arc_store.proofs.Reading.{no_vertex}
 use Rattle.arc_store.proofs.SpotLemmas.{spot_junction, two_pass, two_kept, two_between, shortest_read}
@@ -26,13 +27,13 @@ returns-in_err-shortest g c =
     let m = c.self.inside in
     absurd (two_pass (stored m.frame m.rings.borders m.rings.vertices) c.self.invariant.holds.whole c.in_ok-k.k c.args.p c.in_ok-k.ensures.found c.in-Two.a c.in-Two.b c.in-Two.ensures c.in_err-shortest.ensures.none)
 
-pub between-requires-clause-first : goal.between-requires-clause-first
-between-requires-clause-first g c =
+pub in_order-a-requires-clause-first : goal.in_order-a-requires-clause-first
+in_order-a-requires-clause-first g c =
     let m = c.self.inside in
     (two_kept (stored m.frame m.rings.borders m.rings.vertices) c.self.invariant.holds.whole c.in_ok-k.k c.args.p c.in_ok-k.ensures.found c.in-Two.a c.in-Two.b c.in-Two.ensures).0
 
-pub between-requires-clause-second : goal.between-requires-clause-second
-between-requires-clause-second g c =
+pub in_order-a-requires-clause-second : goal.in_order-a-requires-clause-second
+in_order-a-requires-clause-second g c =
     let m = c.self.inside in
     (two_kept (stored m.frame m.rings.borders m.rings.vertices) c.self.invariant.holds.whole c.in_ok-k.k c.args.p c.in_ok-k.ensures.found c.in-Two.a c.in-Two.b c.in-Two.ensures).1
 
@@ -44,5 +45,5 @@ returns g c =
     let t = segment (place m.rings.vertices c.in-Two.a) (place m.rings.vertices c.in-Two.b) in
     let between = two_between s w c.in_ok-k.k c.args.p c.in_ok-k.ensures.found c.in-Two.a c.in-Two.b c.in-Two.ensures in
     let shortest = shortest_read s w c.in_ok-k.k c.args.p c.in_ok-k.ensures.found c.self.invariant.holds.small c.in_ok-shortest.shortest _ (omega arith) c.in_ok-shortest.ensures.some c.in_ok-shortest.ensures.least in
-    subst (λ z. IsSpot c.args.self.now.doc c.args.p (Some z)) (sym c.between.ensures)
+    subst (λ (z : Position × Position). IsSpot c.args.self.now.doc c.args.p (Some (Between z.0 z.1 c.in_ok-shortest.shortest))) (sym c.in_order-a.ensures)
     (subst (λ s. IsBetween s.doc c.args.p t.lo t.hi × IsShortest s.doc c.args.p c.in_ok-shortest.shortest) c.self.view_is (between, shortest))

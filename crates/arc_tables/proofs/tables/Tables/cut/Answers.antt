@@ -1,6 +1,6 @@
 use Rattle.kit_words.proofs.Common.{◌≡◌, ◌≢◌, inl, inr, ℕ, ◌+◌, ap, sym, ◌∙◌, subst, take, drop, length, get_or, Contains}
 use Rattle.kit_words.proofs.Common.{Some, arith, IsSome, is_some, List, ◌-◌, refl, false≢true, option_copied, option_copied_mut, cases_eq}
-use Rattle.kit_words.proofs.Common.{Option, None, [], ◌∷◌, true, zero, suc, set, if◌then◌else◌}
+use Rattle.kit_words.proofs.Common.{Option, None, [], ◌∷◌, true, zero, suc, set, if◌then◌else◌, same_from_all_zip}
 use Rattle.std.specs.List.{count_by, fold}
 use Rattle.std.proofs.Common.{take_all, length-drop}
 use Rattle.slab.specs.Slab.{get, ContainsKey, Updates, with_value}
@@ -73,7 +73,7 @@ kept g c j h = elim (cases_eq j c.args.i) [
   ]
 ]
 
-parted : (g : Over) (c : goal.After-put_uses g) → Parted c.args.self.now.arcs c.insert_reserved.new.self c.args.i c.vacant_key-n.result c.args.at c.in_ok-users.users
+parted : (g : Over) (c : goal.After-put_uses g) → Parted c.args.self.now.arcs c.insert_reserved.new.self c.args.i c.vacant_key-n.result c.args.at c.in_ok-users.users.items
 parted g c = record {
   vacant = sym (same g c c.vacant_key-n.result) ∙ c.vacant_key-n.ensures.vacant;
   i_there = c.requires.there;
@@ -81,23 +81,23 @@ parted g c = record {
   first = ap path_in (here g c) ∙ c.truncate.ensures.items ∙ ap (λ o. take (c.args.at + 1) (path_in o)) (arc_again g c);
   second = ap (λ k. path_in (get c.insert_reserved.new.self k)) (sym (key g c)) ∙ ap path_in c.insert_reserved.ensures.updates.changed ∙ c.in_ok-tail.ensures.items ∙ rest c.args.at c.deref.result.now ∙ ap (drop c.args.at) c.deref.ensures.value ∙ ap (λ o. drop c.args.at (path_in o)) (arc g c);
   others = others g c;
-  users-is = c.in_ok-users.ensures.cases ∙ ap users_in (arc g c);
+  users-is = same_from_all_zip _ c.unwrap-arc.result.now.rings.items c.in_ok-users.users.items c.in_ok-users.ensures.cases (λ x y e. e) ∙ ap users_in (arc g c);
   users_i = ap users_in (here g c) ∙ ap users_in (arc_again g c);
   users_n = ap (λ k. users_in (get c.insert_reserved.new.self k)) (sym (key g c)) ∙ ap users_in c.insert_reserved.ensures.updates.changed;
   kept = kept g c;
   new_there = new_there g c;
 }
 
-all : (g : Over) (c : goal.After-put_uses g) (r : ℕ) → Contains c.in_ok-users.users r → ContainsKey c.args.self.now.rings r → HasRing c.in_ok-news.news.items r
+all : (g : Over) (c : goal.After-put_uses g) (r : ℕ) → Contains c.in_ok-users.users.items r → ContainsKey c.args.self.now.rings r → HasRing c.in_ok-news.news.items r
 all g c r m h = c.in_ok-news.ensures.all r (subst (λ z. Contains z r) (sym c.as_slice.ensures) m) h
 
 pub returns-clause-ok : goal.returns-clause-ok
-returns-clause-ok g c = cuts_of c.args.self.now.arcs c.insert_reserved.new.self c.args.self.now.rings c.put_uses.new.rings c.args.i c.vacant_key-n.result c.args.at c.in_ok-users.users c.in_ok-news.news.items
+returns-clause-ok g c = cuts_of c.args.self.now.arcs c.insert_reserved.new.self c.args.self.now.rings c.put_uses.new.rings c.args.i c.vacant_key-n.result c.args.at c.in_ok-users.users.items c.in_ok-news.news.items
     c.requires.inner c.requires.whole.known (parted g c) c.put_uses.ensures.put c.in_ok-news.ensures.each (all g c)
 
 pub returns-clause-whole : goal.returns-clause-whole
 returns-clause-whole g c = record {
-  known = still_known c.args.self.now.arcs c.insert_reserved.new.self c.args.self.now.rings c.put_uses.new.rings c.args.i c.vacant_key-n.result c.args.at c.in_ok-users.users c.in_ok-news.news.items
+  known = still_known c.args.self.now.arcs c.insert_reserved.new.self c.args.self.now.rings c.put_uses.new.rings c.args.i c.vacant_key-n.result c.args.at c.in_ok-users.users.items c.in_ok-news.news.items
       c.requires.inner c.requires.whole.known (parted g c) c.put_uses.ensures.put c.in_ok-news.ensures.each (all g c);
   listed = stands_off c.args.i (λ j. path_in (get c.insert_reserved.new.self j)) (stand_at c.note.new.stands.items) (stand_at c.unlist_moved.new.stands.items)
       (λ k j h. c.unlist_moved.ensures k j (elim h [ inl f ↦ inl f | inr m ↦ inr (subst (λ z. Contains z k) (ap path_in (here g c) ∙ sym c.as_slice-3.ensures.value) m) ]))

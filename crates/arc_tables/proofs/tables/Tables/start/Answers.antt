@@ -16,7 +16,7 @@ vacant : (g : Over) (c : goal.After-insert_reserved g) → get c.args.self.now.a
 vacant g c = sym (same g c c.vacant_key-n.result) ∙ c.vacant_key-n.ensures.vacant
 
 abbrev arc : (g : Over) (c : goal.After-insert_reserved g) → Arc g.row.A.Denot
-arc g c = record { keys = c.in_ok-keys.keys; rings = c.of-rings.result }
+arc g c = record { keys = c.in_ok-keys.keys; rings = c.push_reserved.new.self }
 
 updates : (g : Over) (c : goal.After-insert_reserved g) → Updates c.args.self.now.arcs c.insert_reserved.new.self c.vacant_key-n.result (Some (arc g c))
 updates g c =
@@ -54,7 +54,7 @@ returns-clause-whole g c =
     let n = c.vacant_key-n.result in
     record {
       known = known_goes_on c.args.self.now.arcs c.insert_reserved.new.self c.args.self.now.rings (with_value c.args.self.now.rings c.args.r (more g c)) c.args.r (record { arc = n; back = false }) c.requires.whole.known
-          (learns c.args.self.now.arcs c.insert_reserved.new.self n c.args.r (arc g c) (updates g c) (c.of-rings.ensures ∙ ap (λ o. including c.args.r (users_in o)) (sym (vacant g c))))
+          (learns c.args.self.now.arcs c.insert_reserved.new.self n c.args.r (arc g c) (updates g c) (c.push_reserved.ensures.items ∙ ap (λ xs. xs ++ c.args.r ∷ []) c.new-rings.ensures.items ∙ ap (λ o. including c.args.r (users_in o)) (sym (vacant g c))))
           (went g c);
       listed = listed_new c.args.self.now.arcs c.insert_reserved.new.self c.args.self.now.stands.items c.note.new.stands.items n c.in_ok-keys.keys.items (ap path_in (updates g c).changed) (updates g c).others c.note.ensures.kept
           (λ k m. c.in_ok-note.ensures.noted k (subst (λ z. Contains z k) (sym c.as_slice.ensures.value) m)) c.requires.whole.listed;

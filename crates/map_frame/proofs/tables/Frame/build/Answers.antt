@@ -1,4 +1,5 @@
 use Rattle.kit_words.proofs.Common.{◌∙◌, subst, map, into_iter_items}
+use Rattle.topo_outline.specs.Common.{values}
 use Rattle.map_frame.specs.declared.building.Gathered.{Gathered}
 use Rattle.map_frame.specs.Common.{feature_numbers, AllNamed, Tables}
 use Rattle.map_frame.proofs.BuiltTables.{laid_from, tables_seen, tables_framed, as_many}
@@ -14,7 +15,7 @@ invariant_of-result g c =
       waiting = c.into_iter.result;
     } in
     let laid = laid_from _ _ begun ps _ c.new.ensures.items c.new-2.ensures.items c.into_iter.ensures.rest c.in_ok-layers.ensures in
-    tables_framed _ c.args.layers.items ps (into_iter_items c.build_layers.new.gathered.waiting) laid c.requires.stands
+    tables_framed _ (values c.args.layers) ps (into_iter_items c.build_layers.new.gathered.waiting) laid c.requires.stands
     (subst (λ z. AllNamed c.in_ok-names.names.items (map feature_numbers z)) c.as_slice.ensures.value c.in_ok-names.ensures)
     (c.len.ensures ∙ c.build_layers.new.gathered.features.ok.0)
     c.in_ok-empty.ensures
@@ -42,6 +43,6 @@ returns g c =
     } in
     let laid = laid_from _ _ begun ps _ c.new.ensures.items c.new-2.ensures.items c.into_iter.ensures.rest c.in_ok-layers.ensures in
     record {
-      doc = tables_seen t c.args.layers.items ps left laid;
-      next = as_many t c.args.layers.items ps left laid c.requires.stands;
+      doc = tables_seen t (values c.args.layers) ps left laid;
+      next = as_many t (values c.args.layers) ps left laid c.requires.stands;
     }
