@@ -43,7 +43,7 @@ def main():
         files = checked(given)
         address, programs = begun(given)
         from serving import serve  # what it needs is read meanwhile, which takes as long
-        # from here on there is something to keep; while modules are read here an exception of a signal can be lost
+        # until here a signal may end the program at once; and while modules are read, the exception it raises can be lost
         for sign in SIGNALS:
             signal.signal(sign, interrupt)
         serve(address, programs, given, files)
