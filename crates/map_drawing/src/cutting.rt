@@ -6,7 +6,7 @@ use std::alloc::{AllocError, Allocator};
 const BEYOND: i64 = 1_000;
 
 /// A side of the box outside which nothing is drawn.
-#[derive(Clone, Copy, Debug)]
+#[derive(Clone, Copy)]
 pub(crate) enum Side {
     /// All with an x of at least this is inside.
     Left(i64),

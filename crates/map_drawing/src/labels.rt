@@ -17,7 +17,7 @@ const LETTER: i64 = 720;
 const ROWS: i64 = 9;
 
 /// The place of a label.
-#[derive(Clone, Copy, Debug)]
+#[derive(Clone, Copy)]
 pub(crate) struct Label {
     /// Its upper and its lower side.
     row: Row,

@@ -32,7 +32,7 @@ pub(crate) const RATIO: i64 = 10_000;
 const MOST_UNITS: i64 = 4_000_000_000_000;
 
 /// Where a window lies in the picture.
-#[derive(Clone, Copy, Debug)]
+#[derive(Clone, Copy)]
 pub(crate) struct Layout {
     /// The part of the grid that is drawn.
     pub(crate) window: Window,

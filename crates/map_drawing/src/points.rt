@@ -1,7 +1,7 @@
 // Points of the picture of a map.
 
 /// A point of the picture of a map, in hundredths of a pixel from its upper left corner.
-#[derive(Clone, Copy, Debug, PartialEq, Eq)]
+#[derive(Clone, Copy, PartialEq, Eq)]
 pub(crate) struct Point {
     /// How far from the left it is.
     pub(crate) x: i64,

@@ -3,7 +3,7 @@ use crate::points::{Point, between};
 use std::alloc::{AllocError, Allocator};
 
 /// A row across the picture: all between two distances from the top.
-#[derive(Clone, Copy, Debug)]
+#[derive(Clone, Copy)]
 pub(crate) struct Row {
     /// Its upper side.
     pub(crate) top: i64,
@@ -12,7 +12,7 @@ pub(crate) struct Row {
 }
 
 /// A part of a row, from the left to the right.
-#[derive(Clone, Copy, Debug, PartialEq, Eq)]
+#[derive(Clone, Copy)]
 pub(crate) struct Stretch {
     /// Where it begins.
     pub(crate) left: i64,

@@ -2,7 +2,7 @@
 use map_features::{Conflict, Window};
 
 /// What is drawn of a map, and how.
-#[derive(Clone, Copy, Debug)]
+#[derive(Clone, Copy)]
 pub struct View {
     /// The part that is drawn; all of it where there is none.
     pub part: Option<Window>,

@@ -242,6 +242,15 @@ const OF_ONE_HASH: Round = (
     8,
 );
 
+/// Layers of such names.
+const LAYERS_OF_ONE_HASH: Round = (
+    r#"{"type":"Topology","arcs":[],"objects":{"a":{"type":"GeometryCollection","geometries":[]}"#,
+    r#","vael51bfy6vcb6a2A3<F0~[k"#,
+    r#"":{"type":"GeometryCollection","geometries":[]}"#,
+    "}}",
+    8,
+);
+
 /// That the opening of the text of so many numbers is reported so.
 fn numbers_tell<R: Abort>(rt: &R, alloc: Global, round: &Round, count: usize, want: &str) {
     let text = numbers(rt, alloc, round, count);
@@ -263,4 +272,5 @@ fn many_members(rt: HostRuntime) {
 #[test]
 fn names_of_one_hash(rt: HostRuntime) {
     numbers_tell(&rt, rt.alloc(), &OF_ONE_HASH, 100_000, "opened 0");
+    numbers_tell(&rt, rt.alloc(), &LAYERS_OF_ONE_HASH, 100_000, "opened 0");
 }
