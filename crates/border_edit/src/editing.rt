@@ -4,7 +4,6 @@ ghost use Rattle.std.specs.Prelude.{◌≡◌, false, []};
 use device_io::{FromReader, Sink, Source, ToWriter};
 use edit_program::{
     NotedAnswers, NotedScript, RefusedLines, ScriptTail, Words, ending_of_run, strict_ending,
-    whole_rows,
 };
 use program_ends::{Ending, Errors, Paths, Stop, hash_seed, map_bytes, replace_file};
 use script_runner::{RunFault, Summary, run};
@@ -153,30 +152,15 @@ impl Editing<'_> {
         );
         let saved = saved.writer.as_slice();
         let ending = ending_of(self.words, &outcome, saved, script.source().is_whole());
+        let is_short = script.is_short() || answers.is_short();
         let listed = lines.try_borrow();
+        let ending = ending.unless_short(is_short || listed.is_err());
+        let ending = save(self.rt, self.words, ending, errors);
         let ending = match &listed {
-            Ok(lines) => {
-                self.end_listed(ending, whole_rows(lines, &script, &answers), path, errors)
-            }
-            Err(_) => self.end_listed(ending, None, path, errors),
+            Ok(lines) => list(self.rt, ending, path, lines.rows()),
+            Err(_) => ending,
         };
         errors.end(ending, &paths_of(self.words))
-    }
-
-    /// Writes FILE, and then these rows in FILE2. Without rows, since the list lacks some, neither is written.
-    fn end_listed<'a, E: Write>(
-        &self,
-        ending: Ending<'a>,
-        rows: Option<&[u8]>,
-        path: &str,
-        errors: &mut Errors<'_, E>,
-    ) -> Ending<'a> {
-        let ending = ending.unless_short(rows.is_none());
-        let ending = save(self.rt, self.words, ending, errors);
-        match rows {
-            Some(rows) => list(self.rt, ending, path, rows),
-            None => ending,
-        }
     }
 
     /// Runs a script that comes from a reader.
