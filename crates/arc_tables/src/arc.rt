@@ -31,14 +31,12 @@ pub struct Ring<A: Allocator + Copy = Global> {
     pub uses: Vec<Use, A>,
 }
 
-/// The arcs that a vertex stands in, and whether new arcs end at it.
+/// The arcs that a vertex stands in.
 #[derive(Clone, Drop)]
 pub struct Stand {
-    /// The numbers of the arcs that it stands in, and perhaps of others: most vertices stand in one arc,
-    /// and most others in three.
-    pub arcs: SmallVec<usize, 3>,
-    /// Whether new arcs end at it.
-    pub ends: bool,
+    /// Their numbers, and perhaps those of others: nearly all vertices stand in one arc, and in two
+    /// while an arc is cut.
+    pub arcs: SmallVec<usize, 2>,
 }
 
 /// New uses of a ring.

@@ -15,12 +15,14 @@ impl<A: Allocator + Copy> Tables<A> {
         let arcs = self.arcs.clone()?;
         let rings = self.rings.clone()?;
         let stands = self.stands.clone()?;
+        let ends = self.ends.clone()?;
         Ok(Tables {
             alloc: self.alloc,
             heap: self.heap,
             arcs,
             rings,
             stands,
+            ends,
         })
     }
 }

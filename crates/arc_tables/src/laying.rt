@@ -251,7 +251,8 @@ impl<A: Allocator + Copy> Tables<A> {
         ensures { IfSome result (λ m. m ≡ n) }
     {
         let len = self.arcs.get(n)?.keys.len();
-        if len < LONGEST && !self.stands.get(b.index())?.ends {
+        let is_end = self.ends.get(b.index()).is_some_and(|ends| *ends);
+        if len < LONGEST && !is_end {
             Some(n)
         } else {
             None

@@ -1,5 +1,5 @@
 //! The arcs that each vertex stands in.
-ghost use Rattle.std.specs.Prelude.{◌≡◌, ◌≢◌, ℕ, ◌<◌, OnOk, Contains, vec_len};
+ghost use Rattle.std.specs.Prelude.{◌≡◌, ◌≢◌, ℕ, ◌<◌, OnOk, Contains, vec_len, get_or, true, false};
 ghost use Rattle.arc_tables.specs.Stores.{stand_at, including, ListsMore, UnlistsOnly, UnlistsOff};
 
 use crate::arc::{Stand, leave_out};
@@ -19,7 +19,6 @@ fn reach<A: Allocator + Copy>(
     while stands.len() <= k.index() {
         stands.push(Stand {
             arcs: SmallVec::new(heap),
-            ends: false,
         })?;
     }
     Ok(())
@@ -103,14 +102,15 @@ pub(crate) fn unlist_moved<A: Allocator + Copy>(
 
 /// New arcs end at vertex `k` from now on. Fails only on allocation failure.
 pub fn mark_end<A: Allocator + Copy>(
-    heap: Global,
-    stands: &mut Vec<Stand, A>,
+    ends: &mut Vec<bool, A>,
     k: VertexKey,
 ) -> Result<(), AllocError>
-    ensures { ListsMore stands.old.items stands.new.items }
+    ensures marked { OnOk result (get_or ends.new.items k false ≡ true) }
+    ensures others { (j : ℕ) → j ≢ k → get_or ends.new.items j false ≡ get_or ends.old.items j false }
 {
-    reach(heap, stands, k)?;
-    let stand = stands.get_mut(k.index()).unwrap();
-    stand.ends = true;
+    while ends.len() <= k.index() {
+        ends.push(false)?;
+    }
+    ends[k.index()] = true;
     Ok(())
 }

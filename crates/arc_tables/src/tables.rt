@@ -14,6 +14,8 @@ pub struct Tables<A: Allocator + Copy = Global> {
     pub arcs: Slab<Arc<A>, A>,
     /// The rings by their numbers.
     pub rings: Slab<Ring<A>, A>,
-    /// What is known of each vertex, by the index of its key.
+    /// The arcs of each vertex, by the index of its key.
     pub stands: Vec<Stand, A>,
+    /// Whether new arcs end at a vertex, by the index of its key; at those behind the last they do not.
+    pub ends: Vec<bool, A>,
 }

@@ -1,10 +1,9 @@
 //! The files of the program: what is read, what is written, and in which order.
 ghost use Rattle.std.specs.Prelude.{◌≡◌, false, []};
 
+use crate::ending::{ending_of_run, strict_ending};
 use device_io::{FromReader, Sink, Source, ToWriter};
-use edit_program::{
-    NotedAnswers, NotedScript, RefusedLines, ScriptTail, Words, ending_of_run, strict_ending,
-};
+use edit_program::{NotedAnswers, NotedScript, RefusedLines, ScriptTail, Words};
 use program_ends::{Ending, Errors, Paths, Stop, hash_seed, map_bytes, replace_file};
 use script_runner::{RunFault, Summary, run};
 use std::alloc::Allocator;

@@ -3,6 +3,7 @@
 #![tactic(auto)]
 
 mod editing;
+mod ending;
 
 use edit_program::{Words, words};
 use editing::{STANDARD_INPUT, edit};

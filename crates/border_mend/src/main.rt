@@ -7,6 +7,7 @@ mod command_line;
 mod ending;
 mod help;
 mod points;
+mod seeds;
 mod telling;
 
 use asked::Words;

@@ -4,6 +4,7 @@ ghost use Rattle.std.specs.Prelude.{◌≡◌, None, IsSome};
 use crate::asked::Words;
 use crate::ending::{ending_of_mending, ending_of_report};
 use crate::points::{unread, with_points_on_grid};
+use crate::seeds::report_seed;
 use decimal_texts::{Dropped, PointFault, without_lines};
 use mend_report::{Asked, LookFault, Remade, RepairFault, Report, Texts, mend_map, report_map};
 use program_ends::{Ending, Errors, Paths, Stop, hash_seed, map_bytes, replace_file};
@@ -116,7 +117,7 @@ fn tell_file<W: Write, E: Write>(
     errors: &mut Errors<'_, E>,
 ) -> Result<u8, Stop> {
     let alloc = rt.alloc();
-    let seed = hash_seed(rt)?;
+    let seed = report_seed(rt)?;
     let (map, asked) = map_asked(rt, words)?;
     let map = with_points_on_grid(alloc, seed, map, asked);
     let mut texts = Texts::new(alloc, words.places.is_some());

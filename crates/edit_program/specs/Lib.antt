@@ -1,5 +1,3 @@
-pub mod Status
-pub mod Endings
 pub mod Asked
 pub mod Keeping
 pub mod Tail

@@ -3,8 +3,7 @@ use Rattle.std.specs.Prelude.{◌≡◌, ℕ, ◌-◌, nat_lt, ◌||◌, ◌&&�
 use Rattle.std.specs.Prelude.{Option, None, ◌⊎◌, codes, decimal}
 use Rattle.grid_geometry.specs.Common.{position_text}
 use Rattle.ring_machine.specs.Common.{Command}
-use Rattle.script_lines.specs.Common.{Says}
-use Rattle.script_runner.specs.Common.{without_return}
+use Rattle.script_lines.specs.Common.{Says, without_return}
 use Rattle.edit_program.specs.declared.reasons.Reason.{Reason}
 use Rattle.edit_program.specs.declared.reasons.Reason.TheVariants as reason
 use Rattle.edit_program.specs.declared.why.Why.{Why}

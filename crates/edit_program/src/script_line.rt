@@ -1,23 +1,12 @@
 //! A line of a script, as its bytes come.
 ghost use Rattle.std.specs.Prelude.{◌≡◌, ◌≤◌, length};
-ghost use Rattle.script_runner.specs.Common.{without_return};
 
+use script_lines::without_return;
 use std::alloc::{AllocError, Global};
 use std::str;
 
 /// The most bytes of a line that are kept.
 const MAX_LINE: usize = 8192;
-
-/// A line without a carriage return at its end.
-fn without_return(line: &[u8]) -> &[u8]
-    ensures text { result.now ≡ without_return line.now }
-    ensures within { length result.now ≤ length line.now }
-{
-    match line.strip_suffix(b"\r") {
-        Some(front) => front,
-        None => line,
-    }
-}
 
 /// A line of a script.
 #[derive(Drop)]

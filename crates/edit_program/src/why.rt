@@ -4,8 +4,9 @@ ghost use Rattle.edit_program.specs.Listing.{IsNoReason, TellsWhy};
 
 use crate::reasons::{Reason, reason_of};
 use crate::script_line::ScriptLine;
+use edit_records::Command;
 use grid_geometry::Pos;
-use script_runner::{Command, Line, LineFault, parse_line};
+use script_lines::{Line, LineFault, parse_line};
 use std::alloc::{AllocError, Global};
 use std::fmt::{Display, Formatter, Result as FmtResult, Write};
 

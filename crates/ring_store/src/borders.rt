@@ -46,6 +46,7 @@ impl<A: Allocator + Copy> Borders<A> {
                 arcs: Slab::new(alloc),
                 rings: Slab::new(alloc),
                 stands: Vec::new(alloc),
+                ends: Vec::new(alloc),
             },
         }
     }
@@ -62,6 +63,7 @@ impl<A: Allocator + Copy> Borders<A> {
                 arcs: Slab::new(alloc),
                 rings: Slab::new(alloc),
                 stands,
+                ends: Vec::new(alloc),
             },
         })
     }
@@ -78,7 +80,7 @@ impl<A: Allocator + Copy> Borders<A> {
     pub fn end_arcs_at(&mut self, k: VertexKey) -> Result<(), AllocError>
         ensures { self.new ≡ self.old }
     {
-        mark_end(self.tables.heap, &mut self.tables.stands, k)
+        mark_end(&mut self.tables.ends, k)
     }
 
     /// Puts in the ring that goes along these keys, and from the last to the first, under a number that

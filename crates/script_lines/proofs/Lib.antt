@@ -5,4 +5,5 @@ pub mod PathLemmas
 pub mod IdLemmas
 pub mod CommandLemmas
 pub mod SoundLemmas
+pub mod ReturnLemmas
 pub mod Common

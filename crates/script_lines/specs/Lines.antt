@@ -1,5 +1,5 @@
 -- What a line of a script asks.
-use Rattle.std.specs.Prelude.{◌≡◌, ℕ, ℤ, pos, negsuc, ◌<◌, ◌≤◌, ◌^◌, ◌==◌, List, [], ◌∷◌, ◌++◌, length, Bool, true, codes, Option, None, Some, IsTrue, IsUtf8}
+use Rattle.std.specs.Prelude.{◌≡◌, ℕ, ℤ, pos, negsuc, ◌<◌, ◌≤◌, ◌^◌, ◌==◌, List, [], ◌∷◌, ◌++◌, length, Bool, true, codes, Option, None, Some, IsTrue, IsUtf8, if◌then◌else◌}
 use Rattle.std.specs.Fmt.{signed_decimal}
 use Rattle.std.specs.List.{AllByRecursion, flat_map}
 use Rattle.grid_geometry.specs.Common.{Position, InRange}
@@ -7,6 +7,12 @@ use Rattle.ring_machine.specs.Common.{Text, Command, Move, Insert, Remove, Thin,
 use Rattle.ring_machine.specs.Common.{Area, At, Neighbours, Rings, Count, Show}
 use Rattle.topo_outline.specs.Common.{IsName}
 use Rattle.edit_records.specs.Common.{string_text}
+
+-- one carriage return before the line feed is dropped
+abbrev pub without_return : List ℕ → List ℕ
+without_return [] = []
+without_return (b ∷ []) = if b == 13 then [] else (b ∷ [])
+without_return (b ∷ c ∷ bs) = b ∷ without_return (c ∷ bs)
 
 -- a number after its space: 0, or digits of which the first is not 0, perhaps after a minus
 abbrev pub spaced : ℤ → List ℕ

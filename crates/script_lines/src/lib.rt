@@ -8,5 +8,5 @@ mod parsing;
 mod paths;
 mod words;
 
-pub use lines::{Line, LineFault};
+pub use lines::{Line, LineFault, without_return};
 pub use parsing::parse_line;

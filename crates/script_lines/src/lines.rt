@@ -1,3 +1,7 @@
+//! What a line of a script asks, and the text that it is read from.
+ghost use Rattle.std.specs.Prelude.{◌≡◌, ◌≤◌, length};
+ghost use Rattle.script_lines.specs.Lines.{without_return};
+
 use edit_records::Command;
 use std::alloc::AllocError;
 
@@ -35,5 +39,16 @@ impl From<AllocError> for LineFault {
 
     fn from(_e: AllocError) -> LineFault {
         LineFault::OutOfMemory
+    }
+}
+
+/// The text of a line whose line feed has come: its bytes without one carriage return at their end.
+pub fn without_return(line: &[u8]) -> &[u8]
+    ensures text { result.now ≡ without_return line.now }
+    ensures within { length result.now ≤ length line.now }
+{
+    match line.strip_suffix(b"\r") {
+        Some(front) => front,
+        None => line,
     }
 }

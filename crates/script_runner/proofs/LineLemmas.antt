@@ -5,38 +5,11 @@ use Rattle.kit_words.proofs.Common.{MatchBool, ◌==◌, ◌||◌, map, bytes_eq
 use Rattle.kit_words.proofs.Common.{take-append-drop, bytes_eq-Decides}
 use Rattle.std.proofs.Common.{append-nil, length-append}
 use Rattle.ring_machine.specs.Common.{Document, State}
-use Rattle.script_runner.specs.Common.{NoFeed, NoFeeds, with_feeds, AreLines, ScriptLine, without_return, ended_line}
+use Rattle.script_runner.specs.Common.{NoFeed, NoFeeds, with_feeds, AreLines, ScriptLine, ended_line}
 use Rattle.script_runner.specs.Common.{Meaning, Bad, LineMeans, AllMean, reply_text, state_after_line, answered_by, refused_by}
 use Rattle.script_runner.specs.Common.{ShowsSaved, AllShowSaved, replies, state_after_all, answered, refused}
 use Rattle.script_runner.specs.Common.{opened_state, Progress, start, line_at, KeptMeans, LineStep, more, ByteStep}
 use Rattle.script_runner.specs.Common.{Feeds}
-
--- ---- a carriage return at the end
-
-pub returned : (front : List ℕ) → without_return (front ++ 13 ∷ []) ≡ front
-returned [] = refl
-returned (a ∷ []) = refl
-returned (a ∷ b ∷ bs) = ap (λ t. a ∷ t) (returned (b ∷ bs))
-
-pub return_found : (bs front : List ℕ) → bytes_eq (drop (length bs - 1) bs) (13 ∷ []) ≡ true → front ≡ take (length bs - 1) bs → front ≡ without_return bs
-return_found bs front e f =
-    let whole : bs ≡ front ++ 13 ∷ [] = sym (take-append-drop (length bs - 1) bs) ∙ ap₂ (λ x y. x ++ y) (sym f) ((bytes_eq-Decides (drop (length bs - 1) bs) (13 ∷ [])).0 e) in
-    sym (ap without_return whole ∙ returned front)
-
-pub not_returned : (bs : List ℕ) → bytes_eq (drop (length bs - 1) bs) (13 ∷ []) ≡ false → without_return bs ≡ bs
-not_returned [] e = refl
-not_returned (b ∷ []) e = by (b == 13) refl e
-  where
-    by : (t : Bool) → (b == 13) ≡ t → bytes_eq (b ∷ []) (13 ∷ []) ≡ false → without_return (b ∷ []) ≡ b ∷ []
-    by true k h = absurd (false≢true (sym h ∙ both k))
-      where
-        both : (b == 13) ≡ true → bytes_eq (b ∷ []) (13 ∷ []) ≡ true
-        both q = rw q refl
-    by false k h = rw k refl
-not_returned (a ∷ b ∷ bs) e = ap (λ t. a ∷ t) (not_returned (b ∷ bs) (shorter e))
-  where
-    shorter : bytes_eq (drop (length (a ∷ b ∷ bs) - 1) (a ∷ b ∷ bs)) (13 ∷ []) ≡ false → bytes_eq (drop (length (b ∷ bs) - 1) (b ∷ bs)) (13 ∷ []) ≡ false
-    shorter h = subst (λ n. bytes_eq (drop n (a ∷ b ∷ bs)) (13 ∷ []) ≡ false) (let g : length (a ∷ b ∷ bs) - 1 ≡ suc (length (b ∷ bs) - 1) = omega arith in g) h
 
 -- ---- lists of meanings
 

@@ -13,5 +13,5 @@ pub use Rattle.script_runner.specs.Replies.{IsShown, IsShownSaved, Replied, Repl
 pub use Rattle.script_runner.specs.Runs.{AllMean, AllShowSaved, AreLines, Asked, Bad, Meaning, LineMeans, NoFeed, NoFeeds}
 pub use Rattle.script_runner.specs.Runs.{ScriptLine, ShowsSaved, answered, answered_by, ended_line, all_lines, open_line}
 pub use Rattle.script_runner.specs.Runs.{opened_state, refusals, refused, refused_by, replies, reply_text, state_after_line}
-pub use Rattle.script_runner.specs.Runs.{state_after_all, with_feeds, without_return}
+pub use Rattle.script_runner.specs.Runs.{state_after_all, with_feeds}
 pub use Rattle.script_runner.specs.declared.runner.Summary.{Summary}

@@ -3,7 +3,7 @@ use Rattle.std.specs.Prelude.{◌≡◌, ◌≢◌, ℕ, ◌+◌, ◌≤◌, ◌
 use Rattle.std.specs.List.{flat_map}
 use Rattle.ring_machine.specs.Common.{Document, features, Command, Show, Answer, Refused, State, step}
 use Rattle.map_text.specs.Common.{text_of, Saved}
-use Rattle.script_lines.specs.Common.{Says}
+use Rattle.script_lines.specs.Common.{Says, without_return}
 use Rattle.script_runner.specs.Answers.{answer_text}
 
 -- ---- lines
@@ -31,12 +31,6 @@ pub record AreLines (bytes : List ℕ) (ended : List (List ℕ)) (last : List �
 pub record ScriptLine : Type 0 where
   pub bytes : List ℕ
   pub text : List ℕ
-
--- one carriage return before the line feed is dropped
-abbrev pub without_return : List ℕ → List ℕ
-without_return [] = []
-without_return (b ∷ []) = if b == 13 then [] else (b ∷ [])
-without_return (b ∷ c ∷ bs) = b ∷ without_return (c ∷ bs)
 
 abbrev pub ended_line : List ℕ → ScriptLine
 ended_line l = record { bytes = l; text = without_return l }

@@ -2,7 +2,7 @@
 ghost use Rattle.std.specs.Prelude.{◌≡◌, ◌≤◌, ◌<◌, ◌+◌, ◌^◌, ◌∷◌, ◌++◌, if◌then◌else◌};
 ghost use Rattle.std.specs.Prelude.{[], length, false, true, OnOk, OnErr, IfOk};
 ghost use Rattle.device_io.specs.Common.{Stands};
-ghost use Rattle.script_runner.specs.Runs.{without_return, answered_by, NoFeed};
+ghost use Rattle.script_runner.specs.Runs.{answered_by, NoFeed};
 ghost use Rattle.script_runner.specs.Replies.{meaning_of_said};
 ghost use Rattle.topo_writer.specs.Common.{of_device};
 ghost use Rattle.script_lines.specs.Common.{SaysSound};
@@ -14,7 +14,7 @@ use crate::sending::send_reply;
 use arc_store::Map;
 use device_io::Sink;
 use memchr::memchr;
-use script_lines::{Line, LineFault, parse_line};
+use script_lines::{Line, LineFault, parse_line, without_return};
 use segment_index::TreeIndex;
 use std::alloc::{AllocError, Allocator, Global};
 use std::marker::Model;
@@ -23,16 +23,6 @@ use undo_ring::Editor;
 
 /// The most bytes of a line that are kept.
 const MAX_LINE: usize = 8192;
-
-/// The line without a carriage return at its end.
-fn without_return(line: &[u8]) -> &[u8]
-    ensures { result.now ≡ without_return line.now }
-{
-    match line.strip_suffix(b"\r") {
-        Some(front) => front,
-        None => line,
-    }
-}
 
 /// What the kept line says; nothing for a bad line. Fails where there is no memory for an id or a
 /// path.

@@ -1,12 +1,12 @@
 //! Commands that tests name, and what the editor answers them.
 ghost use Rattle.edit_records.specs.Commands.{IsSound};
 
+use crate::maps::{GridEditor, Heap};
 use arc_store::{EditFault, IdText, Path};
 use grid_geometry::Pos;
-use segment_index::SegIndex;
-use std::alloc::{Allocator, Global};
+use std::alloc::Global;
 use std::process::Abort;
-use undo_ring::{Answer, Command, Editor};
+use undo_ring::{Answer, Command};
 
 /// An edit or a question.
 #[derive(Clone, Copy, Debug)]
@@ -83,7 +83,7 @@ pub(crate) fn check_path<R: Abort>(rt: &R, command: &Command)
 }
 
 /// Whether an answer tells of a change.
-pub(crate) fn is_change<A: Allocator + Copy>(answer: &Answer<A>) -> bool {
+pub(crate) fn is_change(answer: &Answer<Heap<'_>>) -> bool {
     match answer {
         Answer::Done => true,
         Answer::Made(_) => true,
@@ -95,10 +95,10 @@ pub(crate) fn is_change<A: Allocator + Copy>(answer: &Answer<A>) -> bool {
 }
 
 /// Gives an edit that changes the map to its editor; whether there was memory for it.
-pub(crate) fn is_made<R: Abort, I: SegIndex, A: Allocator + Copy>(
+pub(crate) fn is_made<R: Abort>(
     rt: &R,
     alloc: Global,
-    editor: &mut Editor<'_, I, A>,
+    editor: &mut GridEditor<'_, '_>,
     call: Call,
 ) -> bool {
     let command = command_of(rt, alloc, call);
@@ -112,10 +112,10 @@ pub(crate) fn is_made<R: Abort, I: SegIndex, A: Allocator + Copy>(
 }
 
 /// The answer as text.
-fn text_of<R: Abort, A: Allocator + Copy>(
+fn text_of<R: Abort>(
     rt: &R,
     alloc: Global,
-    answer: &Result<Answer<A>, EditFault>,
+    answer: &Result<Answer<Heap<'_>>, EditFault>,
 ) -> String {
     let text = match answer {
         Ok(Answer::Done) => format!(in alloc; "done"),
@@ -152,10 +152,10 @@ fn said_of(text: &str, wanted: &str) -> Said {
 }
 
 /// Gives a call to the editor; whether it is answered so.
-pub(crate) fn say<R: Abort, I: SegIndex, A: Allocator + Copy>(
+pub(crate) fn say<R: Abort>(
     rt: &R,
     alloc: Global,
-    editor: &mut Editor<'_, I, A>,
+    editor: &mut GridEditor<'_, '_>,
     call: Call,
     wanted: &str,
 ) -> Said {

@@ -1,11 +1,9 @@
 //! Copies of a map: an edit of one leaves the map as it was, and so does a copy in which an allocation
 //! fails, each in turn.
 use crate::commands::{Call, is_made};
-use crate::maps::{MANY, SQUARES, editor_of, first_growth};
+use crate::maps::{GridEditor, GridMap, Heap, MANY, SQUARES, editor_of, first_growth};
 use crate::written::{counts_of, is_written, written};
-use arc_store::Map;
-use segment_index::SegIndex;
-use std::alloc::{Allocator, Global};
+use std::alloc::Global;
 use std::process::Abort;
 use test_aids::Refusing;
 use undo_ring::Editor;
@@ -20,19 +18,20 @@ const REMOVE: Call = Call::Remove((10, 5));
 
 /// How the map is written after some edits.
 fn text_after<R: Abort>(rt: &R, alloc: Global, calls: &[Call]) -> Vec<u8> {
-    let mut editor = editor_of(alloc, alloc, SQUARES, DEPTH).expect(rt, "the text opens");
+    let calm = Refusing::new(alloc, 0);
+    let mut editor = editor_of(&calm, alloc, SQUARES, DEPTH).expect(rt, "the text opens");
     let mut are_made = true;
     for call in calls {
         are_made &= is_made(rt, alloc, &mut editor, *call);
     }
-    let text = written(rt, alloc, alloc, editor.map());
+    let text = written(rt, alloc, &calm, editor.map());
     drop(editor);
     assert!(rt; are_made);
     text
 }
 
 /// Whether there is memory for a copy.
-fn is_copied<I: SegIndex, A: Allocator + Copy>(map: &Map<'_, I, A>) -> bool {
+fn is_copied(map: &GridMap<'_, '_>) -> bool {
     let copy = map.copy();
     let is_copied = copy.is_ok();
     drop(copy);
@@ -40,12 +39,12 @@ fn is_copied<I: SegIndex, A: Allocator + Copy>(map: &Map<'_, I, A>) -> bool {
 }
 
 /// Whether the editor of a copy edits it, and the map stays.
-fn stands_alone<R: Abort, I: SegIndex, A: Allocator + Copy>(
+fn stands_alone<R: Abort>(
     rt: &R,
     alloc: Global,
-    calm: A,
-    map: &Map<'_, I, A>,
-    editor: &mut Editor<'_, I, A>,
+    calm: Heap<'_>,
+    map: &GridMap<'_, '_>,
+    editor: &mut GridEditor<'_, '_>,
     texts: &[Vec<u8>; 2],
 ) -> bool {
     let [before, after] = texts;
@@ -58,11 +57,11 @@ fn stands_alone<R: Abort, I: SegIndex, A: Allocator + Copy>(
 }
 
 /// A map that is copied again, where an allocation failed, and the copy is edited.
-fn copy_again<R: Abort, I: SegIndex, A: Allocator + Copy>(
+fn copy_again<R: Abort>(
     rt: &R,
     alloc: Global,
-    calm: A,
-    map: &Map<'_, I, A>,
+    calm: Heap<'_>,
+    map: &GridMap<'_, '_>,
     texts: &[Vec<u8>; 2],
 ) {
     let is_kept = is_written(rt, alloc, calm, map, texts[0].as_slice());

@@ -1,14 +1,12 @@
 //! What a map of a few squares tells, also after an edit: counts, ids, and how many pairs of segments
 //! were tested.
 use crate::commands::{Call, Said, at, say};
-use crate::maps::{editor_of, map_of};
-use arc_store::{Map, Spot};
+use crate::maps::{GridEditor, GridMap, editor_of, map_of};
+use arc_store::Spot;
 use grid_geometry::Seg;
-use segment_index::GridIndex;
 use std::alloc::Global;
 use std::process::Abort;
-use test_aids::TWO_SQUARES;
-use undo_ring::Editor;
+use test_aids::{Refusing, TWO_SQUARES};
 
 // 64 squares in a row, each of side 10, every 100
 const ROW: &str = r#"{"type":"Topology","objects":{"m":{"type":"GeometryCollection","geometries":[
@@ -34,7 +32,7 @@ const ROW: &str = r#"{"type":"Topology","objects":{"m":{"type":"GeometryCollecti
 /// tested against the lower side, and the new upper side against the left side, once each, though
 /// these two have two cells in common; the boxes of the others do not meet. The two new sides are
 /// tested against each other. No side that stays has its box at the way of the corner.
-fn move_a_corner<R: Abort>(rt: &R, alloc: Global, editor: &mut Editor<'_, GridIndex>) {
+fn move_a_corner<R: Abort>(rt: &R, alloc: Global, editor: &mut GridEditor<'_, '_>) {
     assert_eq!(rt;
         (editor.map().segment_count(), editor.map().tests()),
         (256, 0)
@@ -47,7 +45,8 @@ fn move_a_corner<R: Abort>(rt: &R, alloc: Global, editor: &mut Editor<'_, GridIn
 
 #[test]
 fn few_pairs_are_tested(rt: HostRuntime) {
-    let mut editor = editor_of(rt.alloc(), rt.alloc(), ROW, 1).expect(&rt, "the text opens");
+    let calm = Refusing::new(rt.alloc(), 0);
+    let mut editor = editor_of(&calm, rt.alloc(), ROW, 1).expect(&rt, "the text opens");
     move_a_corner(&rt, rt.alloc(), &mut editor);
     drop(editor);
 }
@@ -55,7 +54,7 @@ fn few_pairs_are_tested(rt: HostRuntime) {
 /// So many rings have the segment.
 fn is_used<R: Abort>(
     rt: &R,
-    map: &Map<'_, GridIndex>,
+    map: &GridMap<'_, '_>,
     p: (i64, i64),
     q: (i64, i64),
     rings: usize,
@@ -66,7 +65,7 @@ fn is_used<R: Abort>(
 
 /// The common side is in both squares, borders meet at its end, and a corner of one square stands
 /// between two others of its ring of four.
-fn see_squares<R: Abort>(rt: &R, map: &Map<'_, GridIndex>) {
+fn see_squares<R: Abort>(rt: &R, map: &GridMap<'_, '_>) {
     let between = Spot::Between(at(rt, (0, 10)), at(rt, (10, 0)), 4);
     assert_eq!(rt; (map.feature_count(), map.vertex_count()), (2, 6));
     assert_eq!(rt; (map.segment_count(), map.position_count()), (7, 8));
@@ -77,7 +76,8 @@ fn see_squares<R: Abort>(rt: &R, map: &Map<'_, GridIndex>) {
 
 #[test]
 fn two_squares(rt: HostRuntime) {
-    let map = map_of(rt.alloc(), rt.alloc(), TWO_SQUARES.as_bytes()).expect(&rt, "the text opens");
+    let calm = Refusing::new(rt.alloc(), 0);
+    let map = map_of(&calm, rt.alloc(), TWO_SQUARES.as_bytes()).expect(&rt, "the text opens");
     see_squares(&rt, &map);
     drop(map);
 }
@@ -88,7 +88,7 @@ const ID: &str = "a\"/\\\n\t\u{8}\u{c}\r\u{1}\u{1f}\u{7f}\u{e9}\u{20ac}\u{1f5fa}
 const ESCAPED: &str = "\"a\\\"/\\\\\\n\\t\\b\\f\\r\\u0001\\u001f\u{7f}\u{e9}\u{20ac}\u{1f5fa}\"";
 
 /// The second square has the id that it is given.
-fn give_an_id<R: Abort>(rt: &R, alloc: Global, editor: &mut Editor<'_, GridIndex>) {
+fn give_an_id<R: Abort>(rt: &R, alloc: Global, editor: &mut GridEditor<'_, '_>) {
     let said = say(rt, alloc, editor, Call::Rename(1, ID), "done");
     let feature = editor.map().feature(1).expect(rt, "a feature");
     assert!(rt; said == Said::Wanted && feature.id() == Some(ESCAPED.as_bytes()));
@@ -96,10 +96,8 @@ fn give_an_id<R: Abort>(rt: &R, alloc: Global, editor: &mut Editor<'_, GridIndex
 
 #[test]
 fn an_id_is_escaped(rt: HostRuntime) {
-    let mut editor = editor_of(rt.alloc(), rt.alloc(), TWO_SQUARES, 1).expect(
-        &rt,
-        "the text opens",
-    );
+    let calm = Refusing::new(rt.alloc(), 0);
+    let mut editor = editor_of(&calm, rt.alloc(), TWO_SQUARES, 1).expect(&rt, "the text opens");
     give_an_id(&rt, rt.alloc(), &mut editor);
     drop(editor);
 }

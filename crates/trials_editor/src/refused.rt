@@ -2,11 +2,12 @@
 //! was refused one has changed nothing, or is a thinning that left some out, which is one change; an
 //! undo that was refused one has changed nothing. Made again, each has its usual answer.
 use crate::commands::{Call, EACH_KIND, Said, is_made, say};
-use crate::maps::{ACROSS, INSIDE, MANY, SQUARES, THREE, editor_of, first_growth, map_of};
+use crate::maps::{
+    ACROSS, GridEditor, GridMap, Heap, INSIDE, MANY, SQUARES, THREE, editor_of, first_growth,
+    map_of,
+};
 use crate::written::{Counts, counts_of, is_written, written};
-use arc_store::Map;
-use segment_index::{GridIndex, SegIndex};
-use std::alloc::{Allocator, Global};
+use std::alloc::Global;
 use std::process::Abort;
 use test_aids::{Refusing, TWO_SQUARES};
 use undo_ring::{Editor, UndoFault};
@@ -26,12 +27,7 @@ struct State {
 }
 
 /// The state of the map.
-fn state_of<R: Abort, I: SegIndex, A: Allocator + Copy>(
-    rt: &R,
-    alloc: Global,
-    calm: A,
-    map: &Map<'_, I, A>,
-) -> State {
+fn state_of<R: Abort>(rt: &R, alloc: Global, calm: Heap<'_>, map: &GridMap<'_, '_>) -> State {
     State {
         text: written(rt, alloc, calm, map),
         counts: counts_of(map),
@@ -39,11 +35,11 @@ fn state_of<R: Abort, I: SegIndex, A: Allocator + Copy>(
 }
 
 /// Whether this is the state of the map.
-fn stands<R: Abort, I: SegIndex, A: Allocator + Copy>(
+fn stands<R: Abort>(
     rt: &R,
     alloc: Global,
-    calm: A,
-    map: &Map<'_, I, A>,
+    calm: Heap<'_>,
+    map: &GridMap<'_, '_>,
     state: &State,
 ) -> bool {
     counts_of(map) == state.counts && is_written(rt, alloc, calm, map, state.text.as_slice())
@@ -78,11 +74,11 @@ enum Outcome {
 
 /// Makes a call, again where it was refused memory. Until then the map was as before, with this next
 /// number, or a thinning was made in part.
-fn make_again<R: Abort, I: SegIndex, A: Allocator + Copy>(
+fn make_again<R: Abort>(
     rt: &R,
     alloc: Global,
-    calm: A,
-    editor: &mut Editor<'_, I, A>,
+    calm: Heap<'_>,
+    editor: &mut GridEditor<'_, '_>,
     usual: &Usual,
     next: u32,
 ) -> Outcome {
@@ -99,11 +95,11 @@ fn make_again<R: Abort, I: SegIndex, A: Allocator + Copy>(
 }
 
 /// Makes a call, twice where it was refused memory.
-fn make_twice<R: Abort, I: SegIndex, A: Allocator + Copy>(
+fn make_twice<R: Abort>(
     rt: &R,
     alloc: Global,
-    calm: A,
-    editor: &mut Editor<'_, I, A>,
+    calm: Heap<'_>,
+    editor: &mut GridEditor<'_, '_>,
     usual: &Usual,
 ) -> Outcome {
     let next = editor.map().next_number();
@@ -116,11 +112,11 @@ fn make_twice<R: Abort, I: SegIndex, A: Allocator + Copy>(
 
 /// Takes the newest change back, twice where that was refused memory; whether it was. Until then the
 /// map was as after the change. An undo tests nothing.
-fn undo_twice<R: Abort, I: SegIndex, A: Allocator + Copy>(
+fn undo_twice<R: Abort>(
     rt: &R,
     alloc: Global,
-    calm: A,
-    editor: &mut Editor<'_, I, A>,
+    calm: Heap<'_>,
+    editor: &mut GridEditor<'_, '_>,
     usual: &Usual,
 ) -> bool {
     let next = editor.map().next_number();
@@ -139,11 +135,11 @@ fn undo_twice<R: Abort, I: SegIndex, A: Allocator + Copy>(
 }
 
 /// A change is made once more and taken back, after the allocation that was refused.
-fn goes_again<R: Abort, I: SegIndex, A: Allocator + Copy>(
+fn goes_again<R: Abort>(
     rt: &R,
     alloc: Global,
-    calm: A,
-    editor: &mut Editor<'_, I, A>,
+    calm: Heap<'_>,
+    editor: &mut GridEditor<'_, '_>,
     usual: &Usual,
 ) -> bool {
     let said = say(rt, alloc, editor, usual.call, usual.answer);
@@ -153,12 +149,12 @@ fn goes_again<R: Abort, I: SegIndex, A: Allocator + Copy>(
 
 /// Makes a call and takes it back, where an allocation may be refused. Gives what came of it, and
 /// whether the undo was refused memory.
-fn make_and_undo<R: Abort, I: SegIndex, A: Allocator + Copy>(
+fn make_and_undo<R: Abort>(
     rt: &R,
     alloc: Global,
-    refusing: &Refusing<Global>,
-    calm: A,
-    editor: &mut Editor<'_, I, A>,
+    refusing: Heap<'_>,
+    calm: Heap<'_>,
+    editor: &mut GridEditor<'_, '_>,
     usual: &Usual,
 ) -> (Outcome, bool) {
     let outcome = make_twice(rt, alloc, calm, editor, usual);
@@ -234,10 +230,11 @@ fn usual_of<R: Abort>(
     call: Call,
     answer: &'static str,
 ) -> Usual {
-    let mut editor = editor_of(alloc, alloc, text, DEPTH).expect(rt, "the text opens");
-    let before = state_of(rt, alloc, alloc, editor.map());
+    let calm = Refusing::new(alloc, 0);
+    let mut editor = editor_of(&calm, alloc, text, DEPTH).expect(rt, "the text opens");
+    let before = state_of(rt, alloc, &calm, editor.map());
     let said = say(rt, alloc, &mut editor, call, answer);
-    let after = state_of(rt, alloc, alloc, editor.map());
+    let after = state_of(rt, alloc, &calm, editor.map());
     drop(editor);
     assert!(rt; said == Said::Wanted, "{call:?}: {said:?}");
     Usual {
@@ -405,11 +402,7 @@ fn sweeps(rt: HostRuntime) {
 // ---- a whole history
 
 /// Makes one edit of each kind, once more where it was refused memory.
-fn make_all<R: Abort, I: SegIndex, A: Allocator + Copy>(
-    rt: &R,
-    alloc: Global,
-    editor: &mut Editor<'_, I, A>,
-) {
+fn make_all<R: Abort>(rt: &R, alloc: Global, editor: &mut GridEditor<'_, '_>) {
     for edit in EACH_KIND {
         if !is_made(rt, alloc, editor, *edit) {
             assert!(rt; is_made(rt, alloc, editor, *edit), "{edit:?}");
@@ -418,10 +411,7 @@ fn make_all<R: Abort, I: SegIndex, A: Allocator + Copy>(
 }
 
 /// Takes the newest change back; whether there was memory for it.
-fn is_undone<R: Abort, I: SegIndex, A: Allocator + Copy>(
-    rt: &R,
-    editor: &mut Editor<'_, I, A>,
-) -> bool {
+fn is_undone<R: Abort>(rt: &R, editor: &mut GridEditor<'_, '_>) -> bool {
     let undone = editor.undo();
     assert!(rt; undone != Err(UndoFault::NothingToUndo));
     undone.is_ok()
@@ -429,11 +419,7 @@ fn is_undone<R: Abort, I: SegIndex, A: Allocator + Copy>(
 
 /// Takes so many changes back, each once more where it was refused memory. Gives how many undos were
 /// refused.
-fn undo_all<R: Abort, I: SegIndex, A: Allocator + Copy>(
-    rt: &R,
-    editor: &mut Editor<'_, I, A>,
-    count: usize,
-) -> u32 {
+fn undo_all<R: Abort>(rt: &R, editor: &mut GridEditor<'_, '_>, count: usize) -> u32 {
     let mut refused = 0u32;
     for _ in 0..count {
         if !is_undone(rt, editor) {
@@ -447,11 +433,11 @@ fn undo_all<R: Abort, I: SegIndex, A: Allocator + Copy>(
 
 /// Makes one edit of each kind and takes all back, where an allocation may be refused once. Gives how
 /// many undos were refused.
-fn make_and_undo_all<R: Abort, I: SegIndex, A: Allocator + Copy>(
+fn make_and_undo_all<R: Abort>(
     rt: &R,
     alloc: Global,
-    calm: A,
-    editor: &mut Editor<'_, I, A>,
+    calm: Heap<'_>,
+    editor: &mut GridEditor<'_, '_>,
 ) -> u32 {
     let before = written(rt, alloc, calm, editor.map());
     make_all(rt, alloc, editor);
@@ -495,12 +481,12 @@ fn one_edit_of_each_kind(rt: HostRuntime) {
 
 /// Whether there is memory for the history of the map; where there is none, the map is handed back as
 /// it was.
-fn is_begun<R: Abort, A: Allocator + Copy>(
+fn is_begun<R: Abort>(
     rt: &R,
     alloc: Global,
-    heap: A,
-    calm: A,
-    map: Map<'_, GridIndex<A>, A>,
+    heap: Heap<'_>,
+    calm: Heap<'_>,
+    map: GridMap<'_, '_>,
     text: &[u8],
 ) -> bool {
     let (is_begun, is_same) = match Editor::new(heap, map, DEPTH) {
@@ -512,9 +498,9 @@ fn is_begun<R: Abort, A: Allocator + Copy>(
 }
 
 /// Whether there is memory for the history of the map of the squares, which opens.
-fn opened<R: Abort, A: Allocator + Copy>(rt: &R, alloc: Global, heap: A, calm: A) -> bool {
-    let other = map_of(alloc, alloc, SQUARES.as_bytes()).expect(rt, "the text opens");
-    let text = written(rt, alloc, alloc, &other);
+fn opened<R: Abort>(rt: &R, alloc: Global, heap: Heap<'_>, calm: Heap<'_>) -> bool {
+    let other = map_of(calm, alloc, SQUARES.as_bytes()).expect(rt, "the text opens");
+    let text = written(rt, alloc, calm, &other);
     drop(other);
     let map = map_of(heap, alloc, SQUARES.as_bytes()).expect(rt, "it opens before that growth");
     let is_begun = is_begun(rt, alloc, heap, calm, map, text.as_slice());

@@ -1,18 +1,13 @@
 //! The text of a map as it is then, and its counts.
-use arc_store::Map;
+use crate::maps::{GridMap, Heap};
 use device_io::ToWriter;
 use grid_geometry::{Pos, Seg};
-use segment_index::SegIndex;
-use std::alloc::{Allocator, Global};
+use std::alloc::Global;
 use std::process::Abort;
 use topo_writer::write;
 
 /// The text of the map, where there is memory for it.
-fn try_write<I: SegIndex, A: Allocator + Copy>(
-    alloc: Global,
-    calm: A,
-    map: &Map<'_, I, A>,
-) -> Option<Vec<u8>> {
+fn try_write(alloc: Global, calm: Heap<'_>, map: &GridMap<'_, '_>) -> Option<Vec<u8>> {
     let mut out = ToWriter::new(Vec::new(alloc));
     match write(calm, map, &mut out) {
         Ok(()) => Some(out.writer),
@@ -21,11 +16,11 @@ fn try_write<I: SegIndex, A: Allocator + Copy>(
 }
 
 /// The text of the map. Its own heap may refuse an allocation once; then it is written again.
-pub(crate) fn written<R: Abort, I: SegIndex, A: Allocator + Copy>(
+pub(crate) fn written<R: Abort>(
     rt: &R,
     alloc: Global,
-    calm: A,
-    map: &Map<'_, I, A>,
+    calm: Heap<'_>,
+    map: &GridMap<'_, '_>,
 ) -> Vec<u8> {
     match try_write(alloc, calm, map) {
         Some(text) => text,
@@ -34,11 +29,11 @@ pub(crate) fn written<R: Abort, I: SegIndex, A: Allocator + Copy>(
 }
 
 /// Whether the map is written so.
-pub(crate) fn is_written<R: Abort, I: SegIndex, A: Allocator + Copy>(
+pub(crate) fn is_written<R: Abort>(
     rt: &R,
     alloc: Global,
-    calm: A,
-    map: &Map<'_, I, A>,
+    calm: Heap<'_>,
+    map: &GridMap<'_, '_>,
     text: &[u8],
 ) -> bool {
     let found = written(rt, alloc, calm, map);
@@ -52,7 +47,7 @@ pub(crate) fn is_written<R: Abort, I: SegIndex, A: Allocator + Copy>(
 pub(crate) type Counts = (usize, usize, usize, usize, usize);
 
 /// How many rings have each side of the first outer ring of this feature but its last, added up.
-fn users_along<I: SegIndex, A: Allocator + Copy>(map: &Map<'_, I, A>, n: u32) -> usize {
+fn users_along(map: &GridMap<'_, '_>, n: u32) -> usize {
     let Some(positions) = map.ring(n, 0, 0) else {
         return 0;
     };
@@ -67,7 +62,7 @@ fn users_along<I: SegIndex, A: Allocator + Copy>(map: &Map<'_, I, A>, n: u32) ->
 }
 
 /// The counts of the map.
-pub(crate) fn counts_of<I: SegIndex, A: Allocator + Copy>(map: &Map<'_, I, A>) -> Counts {
+pub(crate) fn counts_of(map: &GridMap<'_, '_>) -> Counts {
     let mut users = 0usize;
     for n in 0..map.next_number() {
         users = users.wrapping_add(users_along(map, n));

@@ -19,6 +19,7 @@ fn no_tables(alloc: Global) -> Tables
         arcs: Slab::new(alloc),
         rings: Slab::new(alloc),
         stands: Vec::new(alloc),
+        ends: Vec::new(alloc),
     }
 }
 
@@ -38,7 +39,7 @@ fn mark<R: Abort>(rt: &R, tables: &mut Tables, keys: &[VertexKey], n: usize)
     requires { Whole tables.old }
     ensures { Whole tables.new }
 {
-    mark_end(tables.heap, &mut tables.stands, key(rt, keys, n)).expect(rt, MEMORY);
+    mark_end(&mut tables.ends, key(rt, keys, n)).expect(rt, MEMORY);
 }
 
 /// Whether there are so many arcs, and each vertex lists so many of them.

@@ -9,4 +9,4 @@ pub returns-clause-rings : goal.returns-clause-rings
 returns-clause-rings g c = cloned_rings c.args.self.now.rings c.in_ok-rings.rings c.in_ok-rings.ensures.cases (λ v w h. same_from_all_zip _ v.uses.items w.uses.items h.0 (λ x y e. e))
 
 pub returns-clause-stands : goal.returns-clause-stands
-returns-clause-stands g c = cloned_stands c.args.self.now.stands.items c.in_ok-stands.stands.items c.in_ok-stands.ensures.cases.0 (λ v w h. same_from_all_zip _ v.arcs.items w.arcs.items h.0 (λ x y e. e))
+returns-clause-stands g c = cloned_stands c.args.self.now.stands.items c.in_ok-stands.stands.items c.in_ok-stands.ensures.cases.0 (λ v w h. same_from_all_zip _ v.arcs.items w.arcs.items h (λ x y e. e))

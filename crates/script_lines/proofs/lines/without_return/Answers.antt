@@ -1,6 +1,6 @@
 use Rattle.kit_words.proofs.Common.{sym}
-use Rattle.script_runner.proofs.LineLemmas.{return_found, not_returned}
-use Rattle.edit_program.proofs.script_line.without_return.Goals as goal
+use Rattle.script_lines.proofs.ReturnLemmas.{return_found, not_returned}
+use Rattle.script_lines.proofs.lines.without_return.Goals as goal
 
 pub returns-in-Some-clause-text : goal.returns-in-Some-clause-text
 returns-in-Some-clause-text c = return_found c.args.line.now c.in-Some.front.now c.in-Some.ensures.cases.0 c.in-Some.ensures.cases.1

@@ -1,7 +1,7 @@
 //! How a run ends the program: with which status, with what in FILE, and with which line.
 ghost use Rattle.std.specs.Prelude.{◌≡◌, None, Some, option_map, OnOk, OnErr, IfOk, IfErr, IsSomeAnd};
-ghost use Rattle.edit_program.specs.Status.{status_of, strict_status};
-ghost use Rattle.edit_program.specs.Endings.{TellsRunFault, strict_file, strict_line};
+ghost use Rattle.border_edit.specs.Status.{status_of, strict_status};
+ghost use Rattle.border_edit.specs.Endings.{TellsRunFault, strict_file, strict_line};
 
 use program_ends::{Diagnostic, Ending};
 use script_runner::{RunFault, Summary};
@@ -33,7 +33,10 @@ fn line_of<'a>(fault: &'a RunFault<'a>) -> Diagnostic<'a>
 
 /// The ending of a run that saved this text: FILE gets it where the whole script was answered, and
 /// after a fault, whatever was saved by then, FILE stays as it is.
-pub fn ending_of_run<'a>(outcome: &'a Result<Summary, RunFault<'a>>, saved: &'a [u8]) -> Ending<'a>
+pub(crate) fn ending_of_run<'a>(
+    outcome: &'a Result<Summary, RunFault<'a>>,
+    saved: &'a [u8],
+) -> Ending<'a>
     ensures status { result.status ≡ status_of outcome.now }
     ensures written { OnOk outcome.now
         (option_map (λ text. text.now) result.file ≡ Some saved.now) }
@@ -69,7 +72,7 @@ fn line_of_unsaved<'a>(refused: u64, is_whole: bool) -> Option<Diagnostic<'a>>
 
 /// The ending of a run that saved this text, where each line is to be accepted, and the last one to
 /// have its line feed: FILE gets the text only then, and stays as it is after any other run.
-pub fn strict_ending<'a>(
+pub(crate) fn strict_ending<'a>(
     outcome: &'a Result<Summary, RunFault<'a>>,
     saved: &'a [u8],
     is_whole: bool,
