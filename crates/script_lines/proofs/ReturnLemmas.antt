@@ -1,7 +1,6 @@
 -- The carriage return before a line feed.
 use Rattle.kit_words.proofs.Common.{◌≡◌, ℕ, suc, ◌-◌, Bool, true, false, length, take, drop, List, [], ◌∷◌, ◌++◌, ◌==◌}
-use Rattle.kit_words.proofs.Common.{refl, sym, ap, ap₂, subst, ◌∙◌, ◌≤◌, arith, bytes_eq, false≢true, take-append-drop, bytes_eq-Decides}
-use Rattle.std.proofs.Common.{length-append}
+use Rattle.kit_words.proofs.Common.{refl, sym, ap, ap₂, subst, ◌∙◌, arith, bytes_eq, false≢true, take-append-drop, bytes_eq-Decides}
 use Rattle.script_lines.specs.Lines.{without_return}
 
 pub returned : (front : List ℕ) → without_return (front ++ 13 ∷ []) ≡ front

@@ -1,8 +1,7 @@
 -- Byte by byte is line by line.
-use Rattle.kit_words.proofs.Common.{◌≡◌, ◌≢◌, ℕ, suc, ◌+◌, ◌-◌, ◌<◌, ◌≤◌, min, Bool, true, false, length, take, drop}
+use Rattle.kit_words.proofs.Common.{◌≡◌, ◌≢◌, ℕ, ◌+◌, ◌-◌, ◌<◌, ◌≤◌, min, Bool, true, false, length}
 use Rattle.kit_words.proofs.Common.{List, [], ◌∷◌, ◌++◌, refl, sym, ap, ap₂, subst, ◌∙◌, arith, append_assoc, nat_lt}
-use Rattle.kit_words.proofs.Common.{MatchBool, ◌==◌, ◌||◌, map, bytes_eq, nat_tests, false≢true, map-append}
-use Rattle.kit_words.proofs.Common.{take-append-drop, bytes_eq-Decides}
+use Rattle.kit_words.proofs.Common.{MatchBool, ◌==◌, ◌||◌, map, nat_tests, map-append}
 use Rattle.std.proofs.Common.{append-nil, length-append}
 use Rattle.ring_machine.specs.Common.{Document, State}
 use Rattle.script_runner.specs.Common.{NoFeed, NoFeeds, with_feeds, AreLines, ScriptLine, ended_line}
