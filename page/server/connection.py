@@ -1,6 +1,11 @@
 """A connection of a browser, on which the library reads requests of HTTP/1.1 one after the other. It refuses what no browser
 sends too. The library takes long to be loaded, so this module is read while the browser starts."""
+import sys
+
+# no connection here is encrypted, and the library does without this module, which takes long to be loaded too
+sys.modules["ssl"] = None
 import http.server
+del sys.modules["ssl"]
 
 
 class BadRequest(Exception):

@@ -1,4 +1,7 @@
 """Edits a boundary map in the browser."""
+import gc
+# until the server answers: all that is read until then stays, so looking for garbage takes time for nothing
+gc.disable()
 import pathlib
 import signal
 import sys

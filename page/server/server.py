@@ -33,7 +33,6 @@ import socketserver
 import sys
 import threading
 import time
-import traceback
 
 from bundle import bundled
 from child import Ended
@@ -112,6 +111,11 @@ def number_in(given, name, most, least=0):
     return number
 
 
+def tell_fault():
+    """Tells the terminal of a mistake. The module that usually does so takes time to be loaded."""
+    sys.excepthook(*sys.exc_info())
+
+
 class Server(socketserver.ThreadingTCPServer):
     """The session, who may see it, and when it is over."""
 
@@ -183,7 +187,7 @@ class Server(socketserver.ThreadingTCPServer):
     def handle_error(self, request, client_address):
         """A browser that leaves while it is answered is no fault."""
         if not isinstance(sys.exc_info()[1], ConnectionError):
-            traceback.print_exc()
+            tell_fault()
 
 
 class Handler(Connection):
@@ -253,7 +257,7 @@ class Handler(Connection):
         except OSError as fault:
             self.send_error(500, f"this was not done: {fault.strerror}")
         except Exception:
-            traceback.print_exc()
+            tell_fault()
             self.send_error(500, "this was not done, by a mistake in the server; its terminal has more")
 
     def _get(self):

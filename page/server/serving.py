@@ -1,5 +1,6 @@
 """From MAP to its page: what is started, and what is done at the end."""
 import contextlib
+import gc
 import importlib
 import os
 import pathlib
@@ -104,4 +105,5 @@ def serve(address, programs, given, files):
             server.on_first_page = on_first_page
             leave.callback(finish, server)
             server.open()
+            gc.enable()
             server.serve_forever()

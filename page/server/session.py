@@ -208,12 +208,16 @@ class Session:
     def _all_or_none(self, lines):
         """The answers up to the first refusal, how many changes were then taken back, and the counts of the map."""
         answers = []
-        for line in lines:
+        for line in lines[:-1]:
             answers += self.child.ask([line])
             if not is_accepted(answers[-1]):
                 break
         else:
-            return answers, 0, self._count_now()
+            # asked for with the last line, so that both answers are waited for at once
+            answer, counts = self.child.ask([lines[-1], "count"])
+            answers.append(answer)
+            if is_accepted(answer):
+                return answers, 0, counts
         undone = sum(map(is_change, lines, answers))
         self._undo(undone)
         return answers, undone, self._count_now()

@@ -133,11 +133,12 @@ export class Pieces {
     this.index = new Boxes(boxes);
     const all = [...this.features.values()].filter(feature => feature.polygons.length);
     this.slots = all.map(feature => feature.num);
-    this.slotOf = new Map(this.slots.map((num, slot) => [num, slot]));
+    this.slotOf = new Map();
     const outlines = new Float64Array(4 * all.length);
     all.forEach((feature, slot) => {
       feature.box = boxOfRings(feature, boxes);
       outlines.set(feature.box, 4 * slot);
+      this.slotOf.set(feature.num, slot);
     });
     this.areas = new Boxes(outlines);
   }
@@ -253,14 +254,15 @@ export class Pieces {
   }
 
   /**
-   * As `use`, while a map is loaded: nobody keeps the lists of users yet, so they grow in place.
+   * As `use`, while a map is loaded: nobody keeps the lists of users yet, so they grow in place, but from one to two, as
+   * most have, since a list that grows in place gets room for many.
    * @param {Feature} feature
    */
   useFirst({ num, polygons }) {
     const { pieces } = this;
     for (const polygon of polygons) for (const ring of polygon) for (let i = 0; i < ring.length; i++) {
-      const ref = ring[i], piece = pieces[ref < 0 ? ~ref : ref];
-      if (piece.users === NOBODY) piece.users = [num]; else piece.users.push(num);
+      const ref = ring[i], piece = pieces[ref < 0 ? ~ref : ref], { users } = piece;
+      if (users.length === 0) piece.users = [num]; else if (users.length === 1) piece.users = [users[0], num]; else users.push(num);
     }
   }
 

@@ -72,36 +72,23 @@ export class Reader {
    * @param {number} from
    */
   takeRest(bytes, from) {
-    let at = from;
-    while (at < bytes.length && !this.isArcs) {
-      if (this.isString) { at = this.takeString(bytes, at); continue; }
+    let at = from, { isArcs, depth, isString, isEscaped, length, word } = this;
+    while (at < bytes.length && !isArcs) {
       const byte = bytes[at++];
-      if (byte === QUOTE) { this.isString = true; this.length = 0; }
-      else if (byte === OPEN || byte === OPEN_LIST) this.depth++;
-      else if (byte === CLOSE || byte === CLOSE_LIST) this.depth--;
+      if (isString) {
+        isString = byte !== QUOTE || isEscaped;
+        isEscaped = byte === BACKSLASH && !isEscaped;
+        if (isString) { word = (word << 8) | byte; length++; }
+      }
+      else if (byte === QUOTE) { isString = true; length = 0; }
+      else if (byte === OPEN || byte === OPEN_LIST) depth++;
+      else if (byte === CLOSE || byte === CLOSE_LIST) depth--;
       // of the topology itself, and what stands before it is its name
-      else if (byte === COLON && this.depth === 1) this.isArcs = this.length === 4 && this.word === ARCS;
+      else if (byte === COLON && depth === 1) isArcs = length === 4 && word === ARCS;
     }
+    Object.assign(this, { isArcs, depth, isString, isEscaped, length, word });
     this.rest.push(bytes.subarray(from, at));
-    if (this.isArcs) this.rest.push(new TextEncoder().encode("null"));
-    return at;
-  }
-
-  /**
-   * Takes bytes of a string, its last quotation mark too. Answers where it stopped.
-   * @param {Uint8Array} bytes
-   * @param {number} from
-   */
-  takeString(bytes, from) {
-    let at = from, { word, length, isEscaped } = this;
-    while (at < bytes.length && this.isString) {
-      const byte = bytes[at++];
-      if (byte === QUOTE && !isEscaped) { this.isString = false; break; }
-      isEscaped = byte === BACKSLASH && !isEscaped;
-      word = (word << 8) | byte;
-      length++;
-    }
-    Object.assign(this, { word, length, isEscaped });
+    if (isArcs) this.rest.push(new TextEncoder().encode("null"));
     return at;
   }
 
