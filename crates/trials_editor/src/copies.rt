@@ -39,12 +39,12 @@ fn is_copied(map: &GridMap<'_, '_>) -> bool {
 }
 
 /// Whether the editor of a copy edits it, and the map stays.
-fn stands_alone<R: Abort>(
+fn stands_alone<'h, R: Abort>(
     rt: &R,
     alloc: Global,
-    calm: Heap<'_>,
-    map: &GridMap<'_, '_>,
-    editor: &mut GridEditor<'_, '_>,
+    calm: Heap<'h>,
+    map: &GridMap<'_, 'h>,
+    editor: &mut GridEditor<'_, 'h>,
     texts: &[Vec<u8>; 2],
 ) -> bool {
     let [before, after] = texts;
@@ -57,11 +57,11 @@ fn stands_alone<R: Abort>(
 }
 
 /// A map that is copied again, where an allocation failed, and the copy is edited.
-fn copy_again<R: Abort>(
+fn copy_again<'h, R: Abort>(
     rt: &R,
     alloc: Global,
-    calm: Heap<'_>,
-    map: &GridMap<'_, '_>,
+    calm: Heap<'h>,
+    map: &GridMap<'_, 'h>,
     texts: &[Vec<u8>; 2],
 ) {
     let is_kept = is_written(rt, alloc, calm, map, texts[0].as_slice());

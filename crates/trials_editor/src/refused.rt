@@ -27,7 +27,7 @@ struct State {
 }
 
 /// The state of the map.
-fn state_of<R: Abort>(rt: &R, alloc: Global, calm: Heap<'_>, map: &GridMap<'_, '_>) -> State {
+fn state_of<'h, R: Abort>(rt: &R, alloc: Global, calm: Heap<'h>, map: &GridMap<'_, 'h>) -> State {
     State {
         text: written(rt, alloc, calm, map),
         counts: counts_of(map),
@@ -35,11 +35,11 @@ fn state_of<R: Abort>(rt: &R, alloc: Global, calm: Heap<'_>, map: &GridMap<'_, '
 }
 
 /// Whether this is the state of the map.
-fn stands<R: Abort>(
+fn stands<'h, R: Abort>(
     rt: &R,
     alloc: Global,
-    calm: Heap<'_>,
-    map: &GridMap<'_, '_>,
+    calm: Heap<'h>,
+    map: &GridMap<'_, 'h>,
     state: &State,
 ) -> bool {
     counts_of(map) == state.counts && is_written(rt, alloc, calm, map, state.text.as_slice())
@@ -74,11 +74,11 @@ enum Outcome {
 
 /// Makes a call, again where it was refused memory. Until then the map was as before, with this next
 /// number, or a thinning was made in part.
-fn make_again<R: Abort>(
+fn make_again<'h, R: Abort>(
     rt: &R,
     alloc: Global,
-    calm: Heap<'_>,
-    editor: &mut GridEditor<'_, '_>,
+    calm: Heap<'h>,
+    editor: &mut GridEditor<'_, 'h>,
     usual: &Usual,
     next: u32,
 ) -> Outcome {
@@ -95,11 +95,11 @@ fn make_again<R: Abort>(
 }
 
 /// Makes a call, twice where it was refused memory.
-fn make_twice<R: Abort>(
+fn make_twice<'h, R: Abort>(
     rt: &R,
     alloc: Global,
-    calm: Heap<'_>,
-    editor: &mut GridEditor<'_, '_>,
+    calm: Heap<'h>,
+    editor: &mut GridEditor<'_, 'h>,
     usual: &Usual,
 ) -> Outcome {
     let next = editor.map().next_number();
@@ -112,11 +112,11 @@ fn make_twice<R: Abort>(
 
 /// Takes the newest change back, twice where that was refused memory; whether it was. Until then the
 /// map was as after the change. An undo tests nothing.
-fn undo_twice<R: Abort>(
+fn undo_twice<'h, R: Abort>(
     rt: &R,
     alloc: Global,
-    calm: Heap<'_>,
-    editor: &mut GridEditor<'_, '_>,
+    calm: Heap<'h>,
+    editor: &mut GridEditor<'_, 'h>,
     usual: &Usual,
 ) -> bool {
     let next = editor.map().next_number();
@@ -135,11 +135,11 @@ fn undo_twice<R: Abort>(
 }
 
 /// A change is made once more and taken back, after the allocation that was refused.
-fn goes_again<R: Abort>(
+fn goes_again<'h, R: Abort>(
     rt: &R,
     alloc: Global,
-    calm: Heap<'_>,
-    editor: &mut GridEditor<'_, '_>,
+    calm: Heap<'h>,
+    editor: &mut GridEditor<'_, 'h>,
     usual: &Usual,
 ) -> bool {
     let said = say(rt, alloc, editor, usual.call, usual.answer);
@@ -149,12 +149,12 @@ fn goes_again<R: Abort>(
 
 /// Makes a call and takes it back, where an allocation may be refused. Gives what came of it, and
 /// whether the undo was refused memory.
-fn make_and_undo<R: Abort>(
+fn make_and_undo<'h, R: Abort>(
     rt: &R,
     alloc: Global,
     refusing: Heap<'_>,
-    calm: Heap<'_>,
-    editor: &mut GridEditor<'_, '_>,
+    calm: Heap<'h>,
+    editor: &mut GridEditor<'_, 'h>,
     usual: &Usual,
 ) -> (Outcome, bool) {
     let outcome = make_twice(rt, alloc, calm, editor, usual);
@@ -433,11 +433,11 @@ fn undo_all<R: Abort>(rt: &R, editor: &mut GridEditor<'_, '_>, count: usize) -> 
 
 /// Makes one edit of each kind and takes all back, where an allocation may be refused once. Gives how
 /// many undos were refused.
-fn make_and_undo_all<R: Abort>(
+fn make_and_undo_all<'h, R: Abort>(
     rt: &R,
     alloc: Global,
-    calm: Heap<'_>,
-    editor: &mut GridEditor<'_, '_>,
+    calm: Heap<'h>,
+    editor: &mut GridEditor<'_, 'h>,
 ) -> u32 {
     let before = written(rt, alloc, calm, editor.map());
     make_all(rt, alloc, editor);
@@ -481,12 +481,12 @@ fn one_edit_of_each_kind(rt: HostRuntime) {
 
 /// Whether there is memory for the history of the map; where there is none, the map is handed back as
 /// it was.
-fn is_begun<R: Abort>(
+fn is_begun<'h, R: Abort>(
     rt: &R,
     alloc: Global,
-    heap: Heap<'_>,
-    calm: Heap<'_>,
-    map: GridMap<'_, '_>,
+    heap: Heap<'h>,
+    calm: Heap<'h>,
+    map: GridMap<'_, 'h>,
     text: &[u8],
 ) -> bool {
     let (is_begun, is_same) = match Editor::new(heap, map, DEPTH) {
@@ -498,7 +498,7 @@ fn is_begun<R: Abort>(
 }
 
 /// Whether there is memory for the history of the map of the squares, which opens.
-fn opened<R: Abort>(rt: &R, alloc: Global, heap: Heap<'_>, calm: Heap<'_>) -> bool {
+fn opened<'h, R: Abort>(rt: &R, alloc: Global, heap: Heap<'h>, calm: Heap<'h>) -> bool {
     let other = map_of(calm, alloc, SQUARES.as_bytes()).expect(rt, "the text opens");
     let text = written(rt, alloc, calm, &other);
     drop(other);

@@ -7,7 +7,7 @@ use std::process::Abort;
 use topo_writer::write;
 
 /// The text of the map, where there is memory for it.
-fn try_write(alloc: Global, calm: Heap<'_>, map: &GridMap<'_, '_>) -> Option<Vec<u8>> {
+fn try_write<'h>(alloc: Global, calm: Heap<'h>, map: &GridMap<'_, 'h>) -> Option<Vec<u8>> {
     let mut out = ToWriter::new(Vec::new(alloc));
     match write(calm, map, &mut out) {
         Ok(()) => Some(out.writer),
@@ -16,11 +16,11 @@ fn try_write(alloc: Global, calm: Heap<'_>, map: &GridMap<'_, '_>) -> Option<Vec
 }
 
 /// The text of the map. Its own heap may refuse an allocation once; then it is written again.
-pub(crate) fn written<R: Abort>(
+pub(crate) fn written<'h, R: Abort>(
     rt: &R,
     alloc: Global,
-    calm: Heap<'_>,
-    map: &GridMap<'_, '_>,
+    calm: Heap<'h>,
+    map: &GridMap<'_, 'h>,
 ) -> Vec<u8> {
     match try_write(alloc, calm, map) {
         Some(text) => text,
@@ -29,11 +29,11 @@ pub(crate) fn written<R: Abort>(
 }
 
 /// Whether the map is written so.
-pub(crate) fn is_written<R: Abort>(
+pub(crate) fn is_written<'h, R: Abort>(
     rt: &R,
     alloc: Global,
-    calm: Heap<'_>,
-    map: &GridMap<'_, '_>,
+    calm: Heap<'h>,
+    map: &GridMap<'_, 'h>,
     text: &[u8],
 ) -> bool {
     let found = written(rt, alloc, calm, map);
