@@ -3,7 +3,7 @@ ghost use Rattle.std.specs.Prelude.{◌≡◌, false, []};
 
 use crate::ending::{ending_of_run, strict_ending};
 use device_io::{FromReader, Sink, Source, ToWriter};
-use edit_program::{NotedAnswers, NotedScript, RefusedLines, ScriptTail, Words};
+use edit_program::{NotedAnswers, NotedScript, RefusedLines, ScriptTail, Words, whole_rows};
 use program_ends::{Ending, Errors, Paths, Stop, hash_seed, map_bytes, replace_file};
 use script_runner::{RunFault, Summary, run};
 use std::alloc::Allocator;
@@ -151,13 +151,12 @@ impl Editing<'_> {
         );
         let saved = saved.writer.as_slice();
         let ending = ending_of(self.words, &outcome, saved, script.source().is_whole());
-        let is_short = script.is_short() || answers.is_short();
-        let listed = lines.try_borrow();
-        let ending = ending.unless_short(is_short || listed.is_err());
+        let rows = whole_rows(&lines, &script, &answers);
+        let ending = ending.unless_short(rows.is_none());
         let ending = save(self.rt, self.words, ending, errors);
-        let ending = match &listed {
-            Ok(lines) => list(self.rt, ending, path, lines.rows()),
-            Err(_) => ending,
+        let ending = match &rows {
+            Some(rows) => list(self.rt, ending, path, rows.as_slice()),
+            None => ending,
         };
         errors.end(ending, &paths_of(self.words))
     }

@@ -68,6 +68,13 @@ impl RefusedLines {
         self.rows.as_slice()
     }
 
+    /// The same, which the list then has no longer.
+    pub(crate) fn take_rows(&mut self) -> Vec<u8>
+        ensures { result.items ≡ rows_of self.old }
+    {
+        mem::replace(&mut self.rows, Vec::new(self.alloc))
+    }
+
     /// The line that was open has ended. It waits for its answer, where it has one.
     fn end_line(&mut self) -> Result<(), NotListed>
         ensures { OnOk result (EndsLine self.old self.new) }
