@@ -1,4 +1,5 @@
 pub mod Asked
 pub mod Endings
 pub mod Points
+pub mod Geojson
 pub mod Common
