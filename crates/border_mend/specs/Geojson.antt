@@ -81,13 +81,12 @@ repair_in_file parts fault = fault
 
 -- ---- the report
 
--- a report begins with "geojson", and never says that the map opens as it is
-abbrev pub geojson_report : List ℕ → List ℕ
-geojson_report report =
-    codes "geojson\n"
-    ++ (if starts_with nat_eq report (codes "opens\n") then drop 6 report else report)
+-- a report without the line of a map that opens as it is, its first
+abbrev pub without_opens : List ℕ → List ℕ
+without_opens report =
+    if starts_with nat_eq report (codes "opens\n") then drop 6 report else report
 
--- the report of a map
+-- the report of a map: that of a GeoJSON object begins with "geojson"
 abbrev pub told_report : Bool → List ℕ → List ℕ
 told_report false report = report
-told_report true report = geojson_report report
+told_report true report = codes "geojson\n" ++ without_opens report

@@ -6,7 +6,7 @@ ghost use Rattle.decimal_texts.specs.Dropped.{whole_value};
 ghost use Rattle.topo_outline.specs.Common.{Gives};
 ghost use Rattle.geo_topology.specs.Views.{view_made};
 ghost use Rattle.border_mend.specs.Geojson.{root_made, made_in, Makes, text_asked, is_geojson, parts_of};
-ghost use Rattle.border_mend.specs.Geojson.{place_in_file, fault_in_file, look_in_file, repair_in_file, told_report};
+ghost use Rattle.border_mend.specs.Geojson.{place_in_file, fault_in_file, look_in_file, repair_in_file, told_report, without_opens};
 
 use geo_topology::{MadeText, geo_object, topology_text};
 use json_spans::{ScanFault, Span, scan};
@@ -156,8 +156,19 @@ pub(crate) fn repair_in_file(source: &Source, fault: &mut RepairFault<'_>)
     }
 }
 
-/// Begins the report of a GeoJSON object with the line that tells so, in the place of the line that a map
-/// opens as it is. The report of any other map stays.
+/// A report without the line of a map that opens as it is.
+fn without_opens(report: &[u8]) -> &[u8]
+    ensures { result.now ≡ without_opens report.now }
+{
+    if report.starts_with(OPENS) {
+        &report[OPENS.len()..]
+    } else {
+        report
+    }
+}
+
+/// Begins the report of a GeoJSON object with the line that tells so, in the place of the line of a map
+/// that opens as it is. The report of any other map stays.
 pub(crate) fn put_first_line(source: &Source, report: &mut Vec<u8>) -> Result<(), AllocError>
     ensures { OnOk result (report.new.items
         ≡ told_report (is_geojson source.now) report.old.items) }
@@ -166,13 +177,7 @@ pub(crate) fn put_first_line(source: &Source, report: &mut Vec<u8>) -> Result<()
         return Ok(());
     }
     let mut text = Vec::from_slice(*report.allocator(), b"geojson\n")?;
-    let told = report.as_slice();
-    let told = if told.starts_with(OPENS) {
-        &told[OPENS.len()..]
-    } else {
-        told
-    };
-    text.extend_from_slice(told)?;
+    text.extend_from_slice(without_opens(report.as_slice()))?;
     *report = text;
     Ok(())
 }
