@@ -128,12 +128,12 @@ fn put_in_file(source: &Source, fault: &mut OpenFault<'_>)
     ensures { fault.new ≡ fault_in_file (parts_of source.now) fault.old }
 {
     match fault {
-        OpenFault::NotJson { place }
-        | OpenFault::TooDeep { place }
-        | OpenFault::NotWhole { place }
-        | OpenFault::OutOfRange { place }
-        | OpenFault::BadPosition { place }
-        | OpenFault::BadArcIndex { place } => *place = source.in_file(*place),
+        OpenFault::NotJson { place } => *place = source.in_file(*place),
+        OpenFault::TooDeep { place } => *place = source.in_file(*place),
+        OpenFault::NotWhole { place } => *place = source.in_file(*place),
+        OpenFault::OutOfRange { place } => *place = source.in_file(*place),
+        OpenFault::BadPosition { place } => *place = source.in_file(*place),
+        OpenFault::BadArcIndex { place } => *place = source.in_file(*place),
         _ => {}
     }
 }
