@@ -2,4 +2,5 @@ pub mod Asked
 pub mod Endings
 pub mod Points
 pub mod Geojson
+pub mod Telling
 pub mod Common

@@ -7,6 +7,7 @@ mod command_line;
 mod ending;
 mod geojson;
 mod help;
+mod looking;
 mod points;
 mod seeds;
 mod telling;

@@ -5,15 +5,11 @@ ghost use Rattle.mend_report.specs.declared.repair_fault.RepairFault.TheVariants
 
 use crate::asked::Words;
 use crate::ending::{ending_of_mending, ending_of_report, ending_unmade};
-use crate::geojson::{Source, look_in_file, made_of, put_first_line, repair_in_file, text_asked};
-use crate::points::{unread, with_points_on_grid};
+use crate::geojson::made_of;
+use crate::looking::{Looking, looking_at, mended, reported};
 use crate::seeds::report_seed;
-use decimal_texts::{Dropped, PointFault, without_lines};
-use mend_report::{Asked, LookFault, Remade, RepairFault, Report, Texts, mend_map, report_map};
-use program_ends::{
-    Ending, Errors, Paths, Role, Stop, check_apart, hash_seed, map_bytes, replace_file,
-};
-use std::alloc::{AllocError, Global};
+use mend_report::{LookFault, Texts};
+use program_ends::{Ending, Errors, Paths, Stop, hash_seed, map_bytes, replace_file};
 use std::hash::RandomState;
 use std::io::{Result as IoResult, Write};
 
@@ -58,79 +54,6 @@ fn print_and_place<'a, W: Write>(
     }
 }
 
-/// What is looked at.
-#[derive(Drop)]
-struct Looking {
-    seed: RandomState,
-    /// The text of a map, with its points on the grid that is asked for, and what is asked of it.
-    map: Result<(Vec<u8>, Asked), PointFault>,
-    /// What the map is.
-    source: Source,
-}
-
-/// A text, and what is asked of it: without its lines, where these are left out.
-fn with_lines_asked(
-    alloc: Global,
-    words: &Words,
-    text: Vec<u8>,
-) -> Result<(Vec<u8>, Asked), AllocError> {
-    if !words.drop_lines {
-        return Ok((text, words.asked));
-    }
-    let Dropped { text, lines } = without_lines(alloc, alloc, text.as_slice())?;
-    let asked = Asked {
-        dropped: lines,
-        ..words.asked
-    };
-    Ok((text, asked))
-}
-
-/// MAP, which is read by now, as it is looked at. No topology is saved over a GeoJSON object.
-fn looking_at(
-    rt: &HostRuntime,
-    words: &Words,
-    seed: RandomState,
-    map: Vec<u8>,
-    source: Source,
-) -> Result<Looking, Stop> {
-    let alloc = rt.alloc();
-    let mut source = source;
-    if source.is_geojson() {
-        check_apart(rt, &words.files(Role::Read))?;
-    }
-    let text = text_asked(map, &mut source);
-    let (text, asked) = with_lines_asked(alloc, words, text)?;
-    Ok(Looking {
-        seed,
-        map: with_points_on_grid(alloc, seed, text, asked),
-        source,
-    })
-}
-
-/// The report of a map, where its points were put on the grid that is asked for.
-fn reported<'a>(
-    alloc: Global,
-    looking: &'a Looking,
-    texts: &mut Texts,
-) -> Result<Report, LookFault<'a>> {
-    match &looking.map {
-        Ok((text, asked)) => report_map(alloc, alloc, looking.seed, text.as_slice(), *asked, texts),
-        Err(fault) => Err(unread(*fault)),
-    }
-}
-
-/// What a map is mended to, where its points were put on the grid that is asked for.
-fn mended<'a>(
-    alloc: Global,
-    looking: &'a Looking,
-    texts: &mut Texts,
-) -> Result<Remade, RepairFault<'a>> {
-    match &looking.map {
-        Ok((text, asked)) => mend_map(alloc, alloc, looking.seed, text.as_slice(), *asked, texts),
-        Err(fault) => Err(RepairFault::Look(unread(*fault))),
-    }
-}
-
 /// The paths of the files that the arguments name: of FILE and the places the only one.
 fn paths_of(words: &Words) -> Paths<'_> {
     let file = match (&words.out, &words.places) {
@@ -153,18 +76,14 @@ fn tell_file<W: Write, E: Write>(
     looking: &Looking,
     output: &mut W,
     errors: &mut Errors<'_, E>,
-) -> Result<u8, Stop> {
+) -> u8 {
     let alloc = rt.alloc();
     let mut texts = Texts::new(alloc, words.places.is_some());
-    let mut outcome = reported(alloc, looking, &mut texts);
-    match &mut outcome {
-        Ok(_) => put_first_line(&looking.source, &mut texts.report)?,
-        Err(fault) => look_in_file(&looking.source, fault),
-    }
+    let outcome = reported(alloc, looking, &mut texts);
     let is_geojson = looking.source.is_geojson();
     let ending = ending_of_report(&outcome, is_geojson, texts.report.as_slice());
     let ending = print_and_place(rt, words, &texts, ending, output);
-    Ok(errors.end(ending, &paths_of(words)))
+    errors.end(ending, &paths_of(words))
 }
 
 /// Mends a map, writes its report and its places, and at last the mended map in FILE.
@@ -174,21 +93,17 @@ fn mend_file<W: Write, E: Write>(
     looking: &Looking,
     output: &mut W,
     errors: &mut Errors<'_, E>,
-) -> Result<u8, Stop> {
+) -> u8 {
     let alloc = rt.alloc();
     let mut texts = Texts::new(alloc, words.places.is_some());
-    let mut outcome = mended(alloc, looking, &mut texts);
-    match &mut outcome {
-        Ok(_) => put_first_line(&looking.source, &mut texts.report)?,
-        Err(fault) => repair_in_file(&looking.source, fault),
-    }
+    let outcome = mended(alloc, looking, &mut texts);
     let ending = ending_of_mending(&outcome, texts.report.as_slice());
     let ending = print_and_place(rt, words, &texts, ending, output);
     let ending = match (&outcome, &words.out) {
         (Ok(remade), Some(out)) => save(rt, ending, out.as_str(), remade.text.as_slice()),
         _ => ending,
     };
-    Ok(errors.end(ending, &paths_of(words)))
+    errors.end(ending, &paths_of(words))
 }
 
 /// The seed that a map is hashed by: one of the operating system, where what it is mended to is saved.
@@ -221,8 +136,8 @@ fn tell_map<W: Write, E: Write>(
     };
     let looking = looking_at(rt, words, seed, map, source)?;
     match words.out {
-        Some(_) => mend_file(rt, words, &looking, output, errors),
-        None => tell_file(rt, words, &looking, output, errors),
+        Some(_) => Ok(mend_file(rt, words, &looking, output, errors)),
+        None => Ok(tell_file(rt, words, &looking, output, errors)),
     }
 }
 
