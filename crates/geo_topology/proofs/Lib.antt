@@ -1,0 +1,9 @@
+pub mod Naming
+pub mod Foreign
+pub mod Separated
+pub mod Depth
+pub mod Texts
+pub mod Lying
+pub mod LyingPieces
+pub mod LyingParts
+pub mod Examples
