@@ -90,7 +90,7 @@ module _ (file : List ℕ) where
 
   value_lies : (before : List ℕ) (o : Option Named) → IfThere o → AllLie (value_behind before o)
   value_lies before None h = tt
-  value_lies before (Some m) h = (tt, h.1, tt)
+  value_lies before (Some m) h = (tt, (h.1, tt))
 
   head_lies : (ms : List Named) → MembersLie ms → AllLie (head ms)
   head_lies ms h =
@@ -100,7 +100,7 @@ module _ (file : List ℕ) where
 
   kept_lies : (b : Bool) (before : List ℕ) (m : Named) → MemberLies m → AllLie (kept_one b before m)
   kept_lies true before m h = tt
-  kept_lies false before m h = (tt, h.0, tt, h.1, tt)
+  kept_lies false before m h = (tt, (h.0, (tt, (h.1, tt))))
 
   foreign_lies : (o : Owner) (ms : List Named) → MembersLie ms → AllLie (foreign o ms)
   foreign_lies o [] h = tt
@@ -135,10 +135,10 @@ module _ (file : List ℕ) where
   tail_lies feature ms h k = join (foreign owner.Feature feature) _ (foreign_lies owner.Feature feature h) (join (inside false ms) _ (inside_lies false ms k) (tt, tt))
 
   coordinates_lie : (g : GeoType) (n : Node) → Lies file n → AllLie (coordinates g n)
-  coordinates_lie geo.Polygon n h = (tt, h, tt)
-  coordinates_lie geo.MultiPolygon n h = (tt, h, tt)
-  coordinates_lie geo.Point n h = (tt, h, tt)
-  coordinates_lie geo.MultiPoint n h = (tt, h, tt)
+  coordinates_lie geo.Polygon n h = (tt, (h, tt))
+  coordinates_lie geo.MultiPolygon n h = (tt, (h, tt))
+  coordinates_lie geo.Point n h = (tt, (h, tt))
+  coordinates_lie geo.MultiPoint n h = (tt, (h, tt))
   coordinates_lie _ n h = tt
 
   single_lies : (g : GeoType) (n : Node) (feature ms : List Named) → Lies file n → MembersLie feature → MembersLie ms → AllLie (single g n feature ms)
@@ -207,7 +207,7 @@ module _ (file : List ℕ) where
 
   layered_lie : (name : Option Named) (ms : List Named) (ps : List Piece) → IfThere name → MembersLie ms → AllLie ps → AllLie (layered name ms ps)
   layered_lie name ms ps h k l =
-      join (layer_front name ms) _ (tt, name_lies name h, tt, join (front geo.GeometryCollection ms) _ (front_lies geo.GeometryCollection ms k) (tt, tt))
+      join (layer_front name ms) _ (tt, (name_lies name h, (tt, join (front geo.GeometryCollection ms) _ (front_lies geo.GeometryCollection ms k) (tt, tt))))
       (join ps _ l (tt, foreign_lies (owner_of name) ms k))
 
   layer_name_lies : (ms : List Named) → MembersLie ms → IfThere (layer_name ms)

@@ -28,11 +28,11 @@ counted_all f old new bs h = omega (arith, sym (length-map new f) ∙ ap length 
 module _ (first : Bool) (t0 t1 t2 : List ℕ) (k k' : ℕ) (r : Node) (rs left : List Node) (whole : List ℕ) (e : left ≡ r ∷ rs) (c : t1 ≡ t0 ++ comma_text first) where
   pub ring_turn : k' ≡ k + 1 → t2 ≡ t1 ++ ring_text k → t0 ++ ring_texts k first left ≡ whole → t2 ++ ring_texts k' false rs ≡ whole
   unfolding ring_texts
-  ring_turn n i h = rw (i, c, n) (simp append_assoc at (rw e at h))
+  ring_turn n i h = rw n (more t1 (ring_text k) (ring_texts (k + 1) false rs) t2 whole i (more t0 (comma_text first) (ring_text k ++ ring_texts (k + 1) false rs) t1 whole c (rw e at h)))
 
   pub polygon_turn : k' ≡ k + length (items r) → t2 ≡ t1 ++ polygon_text k r → t0 ++ polygon_texts k first left ≡ whole → t2 ++ polygon_texts k' false rs ≡ whole
   unfolding polygon_texts
-  polygon_turn n i h = rw (i, c, n) (simp append_assoc at (rw e at h))
+  polygon_turn n i h = rw n (more t1 (polygon_text k r) (polygon_texts (k + length (items r)) false rs) t2 whole i (more t0 (comma_text first) (polygon_text k r ++ polygon_texts (k + length (items r)) false rs) t1 whole c (rw e at h)))
 
 pub rings_end : (first : Bool) (t whole : List ℕ) (k : ℕ) (left : List Node) → left ≡ [] → t ++ ring_texts k first left ≡ whole → t ≡ whole
 unfolding ring_texts
