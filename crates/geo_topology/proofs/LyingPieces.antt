@@ -66,11 +66,11 @@ module _ (file : List ℕ) where
 
   found_lies : (p : Named → Bool) (ms : List Named) → MembersLie ms → IfThere (find p ms)
   found_lies p [] h = tt
-  found_lies p (m ∷ ms) h = by_test (p m)
+  found_lies p (m ∷ ms) h = by_test (p m) (found_lies p ms h.1)
     where
-      by_test : (b : Bool) → IfThere (cond b (Some m) (find p ms))
-      by_test true = h.0
-      by_test false = found_lies p ms h.1
+      by_test : (b : Bool) → IfThere (find p ms) → IfThere (cond b (Some m) (find p ms))
+      by_test true l = h.0
+      by_test false l = l
 
   there_lies : (expected : List ℕ) (o : Option Named) (m : Named) → IfThere o → there expected o ≡ Ok m → MemberLies m
   there_lies expected None m h e = absurd cc

@@ -3,7 +3,8 @@ use Rattle.kit_words.proofs.Common.{◌≡◌, ℕ, ◌+◌, ◌<◌, ◌≤◌,
 use Rattle.kit_words.proofs.Common.{drop-cons, add-one, Bool, true, false, cond, Result, Ok, Err, Some, None, not, ◌==◌}
 use Rattle.kit_words.proofs.Common.{bytes_eq, list_any, append-nil, drop_all}
 use Rattle.json_spans.specs.Common.{Node}
-use Rattle.topo_outline.specs.Common.{Fault, duplicate, name_text, unquoted, Fails, OpenFault}
+use Rattle.topo_outline.specs.Common.{Fault, duplicate, name_text, unquoted, Fails}
+use Rattle.topo_outline.specs.declared.fault.OpenFault.{OpenFault}
 use Rattle.topo_outline.proofs.Walking.{with_front, regroup, carry}
 use Rattle.geo_topology.specs.declared.words.Word.{Word}
 use Rattle.geo_topology.specs.declared.members.Owner.{Owner}
