@@ -1,7 +1,7 @@
 -- Features: which step answers.
-use Rattle.kit_words.proofs.Common.{◌≡◌, List, refl, Result, Ok}
+use Rattle.kit_words.proofs.Common.{◌≡◌, List, refl, Ok}
 use Rattle.json_spans.specs.Common.{Node}
-use Rattle.topo_outline.specs.Common.{Fault, ◌>>=◌, Fails}
+use Rattle.topo_outline.specs.Common.{Fails}
 use Rattle.topo_outline.specs.declared.fault.OpenFault.{OpenFault}
 use Rattle.topo_outline.proofs.Walking.{carry}
 use Rattle.geo_topology.specs.Members.{Named, members_of}

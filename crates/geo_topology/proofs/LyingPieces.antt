@@ -1,9 +1,9 @@
 -- What is copied stands in the file: so of each piece of a topology that is made.
 use Rattle.kit_words.proofs.Common.{◌≡◌, ℕ, zero, suc, List, [], ◌∷◌, ◌++◌, Bool, true, false, cond, Option, Some, None, Result}
-use Rattle.kit_words.proofs.Common.{Ok, Err, refl, subst, AllByRecursion, codes, not, ◌||◌, ◌==◌, is_some}
+use Rattle.kit_words.proofs.Common.{Ok, subst, AllByRecursion, codes, not, ◌||◌, ◌==◌, is_some}
 use Rattle.std.specs.Prelude.{find, option_and_then}
 use Rattle.json_spans.specs.Common.{Node, items, members, decoded}
-use Rattle.topo_outline.specs.Common.{Fault, ◌>>=◌, demand, name_text, is_object, duplicate, unquoted}
+use Rattle.topo_outline.specs.Common.{Fault, demand, name_text, is_object, duplicate, unquoted}
 use Rattle.topo_outline.proofs.Steps.{step, demanded, same_ok}
 use Rattle.std.specs.List.{list_any}
 use Rattle.std.specs.Str.{bytes_eq}
@@ -15,10 +15,10 @@ use Rattle.geo_topology.specs.declared.members.Owner.{Owner}
 use Rattle.geo_topology.specs.declared.members.Owner.TheVariants as owner
 use Rattle.geo_topology.specs.declared.object.GeoObject.{GeoObject}
 use Rattle.geo_topology.specs.declared.object.GeoObject.TheVariants as object
-use Rattle.geo_topology.specs.Members.{Named, named, named_by, members_of, member, named_member, there, member_if, wrong, unless, is_known, code, barred}
+use Rattle.geo_topology.specs.Members.{Named, named, members_of, member, named_member, there, member_if, wrong, unless, is_known, code, barred}
 use Rattle.geo_topology.specs.Pieces.{Piece, words, copied, rings, polygons, comma, separated, value_behind, head, kept_one, before_inside, end_inside, foreign, inside}
 use Rattle.geo_topology.specs.Geometries.{typed, typed_value, geometry_type, value_of, other_word, has_shape, value_name, value_word, is_collection, coordinates, front, tail, single, grouped, shaped, geometry}
-use Rattle.geo_topology.specs.Features.{geometry_of, is_feature, may_be_geometry, empty, with_geometry, feature, name_if, layer_name, features_of, in_features, name_piece, layer_front, owner_of, layer_end, layered, collection, single_object, alone, layer}
+use Rattle.geo_topology.specs.Features.{geometry_of, is_feature, empty, feature, name_if, layer_name, features_of, in_features, name_piece, layer_front, owner_of, layered, collection, alone, layer}
 use Rattle.geo_topology.specs.Copies.{Lies}
 use Rattle.geo_topology.proofs.Lying.{BothLie, lies_items, lies_members}
 

@@ -1,6 +1,6 @@
 -- A place in one of the copied parts.
 use Rattle.kit_words.proofs.Common.{◌≡◌, ℕ, ◌+◌, ◌<◌, ◌≤◌, List, length, get_or, drop, map, refl, drop-cons, add-one, drop_all}
-use Rattle.kit_words.proofs.Common.{Bool, true, false, cond, Option, Some, None, option_map, find}
+use Rattle.kit_words.proofs.Common.{Bool, true, false, cond, Option, Some, None, option_map}
 use Rattle.geo_topology.specs.declared.part.Part.{Part}
 use Rattle.geo_topology.specs.Places.{has_place, place_in, in_file}
 use Rattle.geo_topology.specs.Text.{CopiedPart}

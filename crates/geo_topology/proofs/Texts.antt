@@ -1,7 +1,7 @@
 -- Texts that are put one behind the other.
 use Rattle.kit_words.proofs.Common.{◌≡◌, ℕ, ◌+◌, ◌<◌, ◌≤◌, List, [], ◌∷◌, ◌++◌, length, map, drop, get_or, Bool, true, false}
 use Rattle.kit_words.proofs.Common.{refl, sym, ap, ap₂, ◌∙◌, append_assoc, append-nil, length-append, length-map, arith}
-use Rattle.kit_words.proofs.Common.{drop-cons, add-one, drop_all, flat_map-append, suc, Result, Ok, Err, OnOk, codes}
+use Rattle.kit_words.proofs.Common.{drop_all, flat_map-append, Result, Ok, Err, OnOk, codes}
 use Rattle.std.specs.List.{flat_map}
 use Rattle.json_spans.specs.Common.{Node, items, node}
 use Rattle.json_spans.specs.declared.span.Span.{Span}

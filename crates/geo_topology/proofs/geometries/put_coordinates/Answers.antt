@@ -1,4 +1,4 @@
-use Rattle.kit_words.proofs.Common.{◌≡◌, List, [], ◌∷◌, ◌++◌, ◌⊎◌, inl, inr, refl, sym, ap, ◌∙◌, append_assoc, codes, map, Result, Ok, Err, OnOk}
+use Rattle.kit_words.proofs.Common.{◌≡◌, List, [], ◌∷◌, ◌++◌, ◌⊎◌, inl, inr, refl, ap, ◌∙◌, append_assoc, codes, map, Result, Ok, Err, OnOk}
 use Rattle.json_spans.specs.Common.{Node, node}
 use Rattle.geo_topology.specs.declared.words.GeoType.{GeoType}
 use Rattle.geo_topology.specs.declared.words.GeoType.TheVariants as geo

@@ -1,5 +1,4 @@
 use Rattle.json_spans.specs.Common.{node}
-use Rattle.geo_topology.specs.Views.{view_made}
 use Rattle.geo_topology.proofs.Texts.{whole_text}
 use Rattle.geo_topology.proofs.LyingParts.{copies}
 use Rattle.geo_topology.proofs.step.topology_text.Goals as goal
