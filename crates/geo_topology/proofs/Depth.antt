@@ -2,7 +2,8 @@
 use Rattle.kit_words.proofs.Common.{◌≡◌, ◌≢◌, ℕ, zero, suc, ◌-◌, List, [], ◌∷◌, ◌++◌, refl, ap, append_assoc, sub-one, true}
 use Rattle.kit_words.proofs.Common.{false, Result, Ok, Err, codes}
 use Rattle.json_spans.specs.Common.{Node, items}
-use Rattle.topo_outline.specs.Common.{OpenFault, Fault, too_deep, ◌>>=◌, demand, Fails, is_object}
+use Rattle.topo_outline.specs.Common.{Fault, too_deep, ◌>>=◌, demand, Fails, is_object}
+use Rattle.topo_outline.specs.declared.fault.OpenFault.{OpenFault}
 use Rattle.topo_outline.proofs.Walking.{with_front, carry}
 use Rattle.geo_topology.specs.declared.words.GeoType.{GeoType}
 use Rattle.geo_topology.specs.declared.words.GeoType.TheVariants as geo

@@ -1,5 +1,5 @@
 -- What GeoJSON objects become, and where their copied parts stand, worked out.
-use Rattle.kit_words.proofs.Common.{refl, ◌≡◌, ℕ, List, [], ◌∷◌, Bool, true, false, codes, Ok, Err, Some, None, digits}
+use Rattle.kit_words.proofs.Common.{refl, ◌≡◌, ℕ, List, [], ◌∷◌, codes, Err, Some, None, digits}
 use Rattle.json_spans.specs.Common.{Node}
 use Rattle.json_spans.specs.Parts.{part_len, parts_from}
 use Rattle.topo_outline.specs.Common.{bad_member}
@@ -58,6 +58,21 @@ in_named_collection = refl
 in_collection : text_of (segments (layered None (member_at word.Name (codes "\"name\"") (codes "{}") ∷ []) [])) ≡ codes "{\"type\":\"Topology\",\"objects\":{\"features\":{\"type\":\"GeometryCollection\",\"geometries\":[],\"name\":{}}},\"arcs\":[]}"
 unfolding segments_from arc_segments
 in_collection = refl
+
+-- ---- copied parts
+
+abbrev parts_alone : List Piece → List CopiedPart
+parts_alone ps = (made_of (segments (layered None [] ps))).parts
+
+-- of a polygon the ring, which is an arc
+copied_ring : parts_alone (single geo.Polygon (at 7 (codes "[[[0,0],[4,0],[4,4],[0,0]]]")) [] []) ≡ record { made = 127; file = 8; len = 25 } ∷ []
+unfolding segments_from ring_texts arc_segments copies_from part_len parts_from digits
+copied_ring = refl
+
+-- of a Feature the id, the properties, the position, and a foreign member's name and value
+copied_members : parts_alone (single geo.Point (at 7 (codes "[1.5,2,7]")) (member_at word.Id (codes "\"id\"") (codes "3") ∷ member_at word.Bbox (codes "\"bbox\"") (codes "[]") ∷ member_at word.Other (codes "\"title\"") (codes "\"t\"") ∷ member_at word.Properties (codes "\"properties\"") (codes "null") ∷ []) []) ≡ record { made = 105; file = 7; len = 1 } ∷ record { made = 120; file = 7; len = 4 } ∷ record { made = 139; file = 7; len = 9 } ∷ record { made = 149; file = 3; len = 7 } ∷ record { made = 157; file = 7; len = 3 } ∷ []
+unfolding segments_from arc_segments copies_from
+copied_members = refl
 
 -- ---- names of another object
 

@@ -4,7 +4,7 @@ use Rattle.kit_words.proofs.Common.{refl, sym, ap, ◌∙◌, min, arith, length
 use Rattle.kit_words.proofs.Common.{Option, Some, None, ◌==◌, AllByRecursion, prefix_len-le-length, cond, subst}
 use Rattle.std.proofs.lemmas.List.{drop-take}
 use Rattle.json_spans.specs.Common.{Node, is_space, spaces_before, trimmed, after_comma, if_more, parts_left, has_first}
-use Rattle.json_spans.specs.Common.{raw_parts, items, members, member_of, name_of, value_of}
+use Rattle.json_spans.specs.Common.{raw_parts, items, members, member_of}
 use Rattle.json_spans.specs.Parts.{parts_from, comma_at, colon_at}
 use Rattle.json_spans.specs.Walk.{behind_colon}
 use Rattle.geo_topology.specs.Copies.{Lies}

@@ -1,15 +1,14 @@
 -- Each copied part of the made text is a copy of bytes of the file.
-use Rattle.kit_words.proofs.Common.{◌≡◌, ℕ, ◌+◌, List, [], ◌∷◌, ◌++◌, length, take, drop, Bool, true, false, refl, sym, ap}
-use Rattle.kit_words.proofs.Common.{◌∙◌, append_assoc, append-nil, length-append, arith, take_at, AllByRecursion, Result, Ok, subst}
+use Rattle.kit_words.proofs.Common.{◌≡◌, ℕ, ◌+◌, List, [], ◌∷◌, ◌++◌, length, take, Bool, true, false, refl, sym, ap}
+use Rattle.kit_words.proofs.Common.{◌∙◌, append_assoc, length-append, arith, take_at, AllByRecursion, Ok, subst}
 use Rattle.std.proofs.lemmas.List.{drop_at}
 use Rattle.std.specs.List.{flat_map}
 use Rattle.json_spans.specs.Common.{Node, items}
-use Rattle.topo_outline.specs.Common.{Fault}
 use Rattle.topo_outline.proofs.Steps.{step, same_ok}
 use Rattle.geo_topology.specs.declared.object.GeoObject.{GeoObject}
 use Rattle.geo_topology.specs.Pieces.{Piece, words, copied, rings, polygons}
 use Rattle.geo_topology.specs.Features.{layer}
-use Rattle.geo_topology.specs.Text.{Segment, made, copy, MadeOf, CopiedPart, bytes_of, text_of, parts_from, rings_in, segment, segments_from, comma_segment, arc_segments, segments, made_of, topology_text}
+use Rattle.geo_topology.specs.Text.{Segment, made, copy, MadeOf, text_of, parts_from, rings_in, segment, segments_from, comma_segment, arc_segments, segments, topology_text}
 use Rattle.geo_topology.specs.Copies.{Lies, IsCopy}
 use Rattle.geo_topology.proofs.Lying.{lies_items}
 use Rattle.geo_topology.proofs.LyingPieces.{all_append, PieceLies, AllLie, layer_lies}

@@ -1,9 +1,9 @@
 -- What is copied stands in the file: so of each piece of a topology that is made.
 use Rattle.kit_words.proofs.Common.{◌≡◌, ℕ, zero, suc, List, [], ◌∷◌, ◌++◌, Bool, true, false, cond, Option, Some, None, Result}
-use Rattle.kit_words.proofs.Common.{Ok, Err, refl, subst, AllByRecursion, codes, not, ◌||◌, ◌==◌, is_some}
+use Rattle.kit_words.proofs.Common.{Ok, subst, AllByRecursion, codes, not, ◌||◌, ◌==◌, is_some}
 use Rattle.std.specs.Prelude.{find, option_and_then}
 use Rattle.json_spans.specs.Common.{Node, items, members, decoded}
-use Rattle.topo_outline.specs.Common.{Fault, ◌>>=◌, demand, name_text, is_object, duplicate, unquoted}
+use Rattle.topo_outline.specs.Common.{Fault, demand, name_text, is_object, duplicate, unquoted}
 use Rattle.topo_outline.proofs.Steps.{step, demanded, same_ok}
 use Rattle.std.specs.List.{list_any}
 use Rattle.std.specs.Str.{bytes_eq}
@@ -15,10 +15,10 @@ use Rattle.geo_topology.specs.declared.members.Owner.{Owner}
 use Rattle.geo_topology.specs.declared.members.Owner.TheVariants as owner
 use Rattle.geo_topology.specs.declared.object.GeoObject.{GeoObject}
 use Rattle.geo_topology.specs.declared.object.GeoObject.TheVariants as object
-use Rattle.geo_topology.specs.Members.{Named, named, named_by, members_of, member, named_member, there, member_if, wrong, unless, is_known, code, barred}
+use Rattle.geo_topology.specs.Members.{Named, named, members_of, member, named_member, there, member_if, wrong, unless, is_known, code, barred}
 use Rattle.geo_topology.specs.Pieces.{Piece, words, copied, rings, polygons, comma, separated, value_behind, head, kept_one, before_inside, end_inside, foreign, inside}
 use Rattle.geo_topology.specs.Geometries.{typed, typed_value, geometry_type, value_of, other_word, has_shape, value_name, value_word, is_collection, coordinates, front, tail, single, grouped, shaped, geometry}
-use Rattle.geo_topology.specs.Features.{geometry_of, is_feature, may_be_geometry, empty, with_geometry, feature, name_if, layer_name, features_of, in_features, name_piece, layer_front, owner_of, layer_end, layered, collection, single_object, alone, layer}
+use Rattle.geo_topology.specs.Features.{geometry_of, is_feature, empty, feature, name_if, layer_name, features_of, in_features, name_piece, layer_front, owner_of, layered, collection, alone, layer}
 use Rattle.geo_topology.specs.Copies.{Lies}
 use Rattle.geo_topology.proofs.Lying.{BothLie, lies_items, lies_members}
 
@@ -66,11 +66,11 @@ module _ (file : List ℕ) where
 
   found_lies : (p : Named → Bool) (ms : List Named) → MembersLie ms → IfThere (find p ms)
   found_lies p [] h = tt
-  found_lies p (m ∷ ms) h = by_test (p m)
+  found_lies p (m ∷ ms) h = by_test (p m) (found_lies p ms h.1)
     where
-      by_test : (b : Bool) → IfThere (cond b (Some m) (find p ms))
-      by_test true = h.0
-      by_test false = found_lies p ms h.1
+      by_test : (b : Bool) → IfThere (find p ms) → IfThere (cond b (Some m) (find p ms))
+      by_test true l = h.0
+      by_test false l = l
 
   there_lies : (expected : List ℕ) (o : Option Named) (m : Named) → IfThere o → there expected o ≡ Ok m → MemberLies m
   there_lies expected None m h e = absurd cc
@@ -90,7 +90,7 @@ module _ (file : List ℕ) where
 
   value_lies : (before : List ℕ) (o : Option Named) → IfThere o → AllLie (value_behind before o)
   value_lies before None h = tt
-  value_lies before (Some m) h = (tt, h.1, tt)
+  value_lies before (Some m) h = (tt, (h.1, tt))
 
   head_lies : (ms : List Named) → MembersLie ms → AllLie (head ms)
   head_lies ms h =
@@ -100,7 +100,7 @@ module _ (file : List ℕ) where
 
   kept_lies : (b : Bool) (before : List ℕ) (m : Named) → MemberLies m → AllLie (kept_one b before m)
   kept_lies true before m h = tt
-  kept_lies false before m h = (tt, h.0, tt, h.1, tt)
+  kept_lies false before m h = (tt, (h.0, (tt, (h.1, tt))))
 
   foreign_lies : (o : Owner) (ms : List Named) → MembersLie ms → AllLie (foreign o ms)
   foreign_lies o [] h = tt
@@ -135,10 +135,10 @@ module _ (file : List ℕ) where
   tail_lies feature ms h k = join (foreign owner.Feature feature) _ (foreign_lies owner.Feature feature h) (join (inside false ms) _ (inside_lies false ms k) (tt, tt))
 
   coordinates_lie : (g : GeoType) (n : Node) → Lies file n → AllLie (coordinates g n)
-  coordinates_lie geo.Polygon n h = (tt, h, tt)
-  coordinates_lie geo.MultiPolygon n h = (tt, h, tt)
-  coordinates_lie geo.Point n h = (tt, h, tt)
-  coordinates_lie geo.MultiPoint n h = (tt, h, tt)
+  coordinates_lie geo.Polygon n h = (tt, (h, tt))
+  coordinates_lie geo.MultiPolygon n h = (tt, (h, tt))
+  coordinates_lie geo.Point n h = (tt, (h, tt))
+  coordinates_lie geo.MultiPoint n h = (tt, (h, tt))
   coordinates_lie _ n h = tt
 
   single_lies : (g : GeoType) (n : Node) (feature ms : List Named) → Lies file n → MembersLie feature → MembersLie ms → AllLie (single g n feature ms)
@@ -207,7 +207,7 @@ module _ (file : List ℕ) where
 
   layered_lie : (name : Option Named) (ms : List Named) (ps : List Piece) → IfThere name → MembersLie ms → AllLie ps → AllLie (layered name ms ps)
   layered_lie name ms ps h k l =
-      join (layer_front name ms) _ (tt, name_lies name h, tt, join (front geo.GeometryCollection ms) _ (front_lies geo.GeometryCollection ms k) (tt, tt))
+      join (layer_front name ms) _ (tt, (name_lies name h, (tt, join (front geo.GeometryCollection ms) _ (front_lies geo.GeometryCollection ms k) (tt, tt))))
       (join ps _ l (tt, foreign_lies (owner_of name) ms k))
 
   layer_name_lies : (ms : List Named) → MembersLie ms → IfThere (layer_name ms)

@@ -1,15 +1,16 @@
 -- Names, and members found by them.
 use Rattle.kit_words.proofs.Common.{◌≡◌, ℕ, ◌+◌, ◌<◌, ◌≤◌, List, [], ◌∷◌, ◌++◌, length, get_or, drop, map, refl, sym, ◌∙◌}
-use Rattle.kit_words.proofs.Common.{drop-cons, add-one, Bool, true, false, cond, Result, Ok, Err, Some, None, not, ◌==◌}
+use Rattle.kit_words.proofs.Common.{drop-cons, add-one, true, false, cond, Result, Ok, Err, Some, None, not, ◌==◌}
 use Rattle.kit_words.proofs.Common.{bytes_eq, list_any, append-nil, drop_all}
 use Rattle.json_spans.specs.Common.{Node}
-use Rattle.topo_outline.specs.Common.{Fault, duplicate, name_text, unquoted, Fails, OpenFault}
+use Rattle.topo_outline.specs.Common.{Fault, duplicate, name_text, unquoted, Fails}
+use Rattle.topo_outline.specs.declared.fault.OpenFault.{OpenFault}
 use Rattle.topo_outline.proofs.Walking.{with_front, regroup, carry}
 use Rattle.geo_topology.specs.declared.words.Word.{Word}
 use Rattle.geo_topology.specs.declared.members.Owner.{Owner}
 use Rattle.geo_topology.specs.declared.entry.Entry.{Entry}
 use Rattle.geo_topology.specs.Words.{word_of}
-use Rattle.geo_topology.specs.Members.{Named, named, named_by, code, member, barred, is_barred}
+use Rattle.geo_topology.specs.Members.{Named, named, code, member, barred, is_barred}
 use Rattle.geo_topology.specs.Views.{view_entry}
 
 pub member_step : (w : Word) (es : List Entry) (i : ℕ) (d : Entry) → i < length es → member w (map view_entry (drop i es)) ≡ cond (code (get_or es i d).word == code w) (Some (view_entry (get_or es i d))) (member w (map view_entry (drop (i + 1) es)))

@@ -1,7 +1,8 @@
 -- Objects that are put one by one, with commas between them.
 use Rattle.kit_words.proofs.Common.{◌≡◌, List, [], ◌∷◌, ◌++◌, Bool, false, Result, Ok, Err, refl, sym, ap, ◌∙◌, append_assoc}
 use Rattle.kit_words.proofs.Common.{append-nil}
-use Rattle.topo_outline.specs.Common.{Fault, Fails, OpenFault, ◌>>=◌}
+use Rattle.topo_outline.specs.Common.{Fault, Fails, ◌>>=◌}
+use Rattle.topo_outline.specs.declared.fault.OpenFault.{OpenFault}
 use Rattle.topo_outline.proofs.Walking.{with_front, carry}
 use Rattle.geo_topology.specs.Pieces.{Piece, comma, separated}
 

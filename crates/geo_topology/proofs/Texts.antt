@@ -1,7 +1,7 @@
 -- Texts that are put one behind the other.
 use Rattle.kit_words.proofs.Common.{◌≡◌, ℕ, ◌+◌, ◌<◌, ◌≤◌, List, [], ◌∷◌, ◌++◌, length, map, drop, get_or, Bool, true, false}
 use Rattle.kit_words.proofs.Common.{refl, sym, ap, ap₂, ◌∙◌, append_assoc, append-nil, length-append, length-map, arith}
-use Rattle.kit_words.proofs.Common.{drop-cons, add-one, drop_all, flat_map-append, suc, Result, Ok, codes}
+use Rattle.kit_words.proofs.Common.{drop_all, flat_map-append, Result, Ok, Err, OnOk, codes}
 use Rattle.std.specs.List.{flat_map}
 use Rattle.json_spans.specs.Common.{Node, items, node}
 use Rattle.json_spans.specs.declared.span.Span.{Span}
@@ -28,11 +28,11 @@ counted_all f old new bs h = omega (arith, sym (length-map new f) ∙ ap length 
 module _ (first : Bool) (t0 t1 t2 : List ℕ) (k k' : ℕ) (r : Node) (rs left : List Node) (whole : List ℕ) (e : left ≡ r ∷ rs) (c : t1 ≡ t0 ++ comma_text first) where
   pub ring_turn : k' ≡ k + 1 → t2 ≡ t1 ++ ring_text k → t0 ++ ring_texts k first left ≡ whole → t2 ++ ring_texts k' false rs ≡ whole
   unfolding ring_texts
-  ring_turn n i h = rw (i, c, n) (simp append_assoc at (rw e at h))
+  ring_turn n i h = rw n (more t1 (ring_text k) (ring_texts (k + 1) false rs) t2 whole i (more t0 (comma_text first) (ring_text k ++ ring_texts (k + 1) false rs) t1 whole c (rw e at h)))
 
   pub polygon_turn : k' ≡ k + length (items r) → t2 ≡ t1 ++ polygon_text k r → t0 ++ polygon_texts k first left ≡ whole → t2 ++ polygon_texts k' false rs ≡ whole
   unfolding polygon_texts
-  polygon_turn n i h = rw (i, c, n) (simp append_assoc at (rw e at h))
+  polygon_turn n i h = rw n (more t1 (polygon_text k r) (polygon_texts (k + length (items r)) false rs) t2 whole i (more t0 (comma_text first) (polygon_text k r ++ polygon_texts (k + length (items r)) false rs) t1 whole c (rw e at h)))
 
 pub rings_end : (first : Bool) (t whole : List ℕ) (k : ℕ) (left : List Node) → left ≡ [] → t ++ ring_texts k first left ≡ whole → t ≡ whole
 unfolding ring_texts
@@ -41,6 +41,13 @@ rings_end first t whole k left e h = sym (append-nil t) ∙ rw e at h
 pub polygons_end : (first : Bool) (t whole : List ℕ) (k : ℕ) (left : List Node) → left ≡ [] → t ++ polygon_texts k first left ≡ whole → t ≡ whole
 unfolding polygon_texts
 polygons_end first t whole k left e h = sym (append-nil t) ∙ rw e at h
+
+-- a list that is put between brackets
+pub bracketed : {X E : Type 0} (r : Result X E) (old t0 t1 t2 w : List ℕ) → t0 ≡ old ++ codes "[" → t1 ≡ t0 ++ w → OnOk r (t2 ≡ t1 ++ codes "]") → OnOk r (t2 ≡ old ++ (codes "[" ++ (w ++ codes "]")))
+bracketed (Ok x) old t0 t1 t2 w a b c =
+    c ∙ ap (λ (t : List ℕ). t ++ codes "]") (b ∙ ap (λ (t : List ℕ). t ++ w) a)
+    ∙ append_assoc (old ++ codes "[") w (codes "]") ∙ append_assoc old (codes "[") (w ++ codes "]")
+bracketed (Err e) old t0 t1 t2 w a b c = tt
 
 pub left_end : {A : Type 0} (old left whole : List A) → left ≡ [] → old ++ left ≡ whole → old ≡ whole
 left_end old left whole e h = sym (append-nil old) ∙ rw e at h
@@ -85,13 +92,29 @@ unfolding parts_from
 with_words old new w t p = made_both _ _ _ _ (t ∙ ap (λ u. old.text ++ u) (sym (append-nil w))) (p ∙ sym (append-nil old.parts))
 
 pub with_comma : (old new : MadeOf) (first : Bool) → new.text ≡ old.text ++ comma_text first → new.parts ≡ old.parts → new ≡ extended old (comma_segment first)
-with_comma old new true t p = made_both _ _ _ _ t p ∙ sym (extended-nil old)
+unfolding parts_from
+with_comma old new true t p = made_both _ _ _ _ t (p ∙ sym (append-nil old.parts))
 with_comma old new false t p = with_words old new _ t p
 
 -- a copy
 pub with_copy : (old new : MadeOf) (n : Node) → new.text ≡ old.text ++ n.bytes → new.parts ≡ old.parts ++ record { made = length old.text; file = n.at_byte; len = length n.bytes } ∷ [] → new ≡ extended old (copy n ∷ [])
 unfolding parts_from
 with_copy old new n t p = made_both _ _ _ _ (t ∙ ap (λ u. old.text ++ u) (sym (append-nil n.bytes))) p
+
+-- nothing
+pub nothing_made : (m : MadeOf) → m.text ≡ [] → m.parts ≡ [] → m ≡ made_of []
+unfolding parts_from
+nothing_made m t p = made_both _ _ _ _ t p
+
+-- words, where they were put
+pub made_put : {X E : Type 0} (r : Result X E) (old new : MadeOf) (s : Segment) (w : List ℕ) → s ≡ made w → OnOk r (new.text ≡ old.text ++ w) → OnOk r (new.parts ≡ old.parts) → OnOk r (new ≡ extended old (s ∷ []))
+made_put (Ok x) old new s w is t p = rw is (with_words old new w t p)
+made_put (Err e) old new s w is t p = tt
+
+-- a copy, where it was noted and then put
+pub copy_put : {X E : Type 0} (r : Result X E) (old mid new : MadeOf) (n : Node) → mid.text ≡ old.text → mid.parts ≡ old.parts ++ record { made = length old.text; file = n.at_byte; len = length n.bytes } ∷ [] → OnOk r (new.text ≡ mid.text ++ n.bytes) → OnOk r (new.parts ≡ mid.parts) → OnOk r (new ≡ extended old (copy n ∷ []))
+copy_put (Ok x) old mid new n t p u q = with_copy old new n (u ∙ ap (λ (v : List ℕ). v ++ n.bytes) t) (q ∙ p)
+copy_put (Err e) old mid new n t p u q = tt
 
 -- ---- the loops over arcs and pieces
 

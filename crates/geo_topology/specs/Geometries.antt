@@ -1,5 +1,5 @@
 -- Geometries (RFC 7946, 3.1), and the objects of the topology that they become.
-use Rattle.std.specs.Prelude.{ℕ, zero, suc, List, [], ◌∷◌, ◌++◌, Bool, true, false, if◌then◌else◌, codes, Option, Result, Ok, Err}
+use Rattle.std.specs.Prelude.{ℕ, zero, suc, List, [], ◌∷◌, ◌++◌, Bool, true, false, if◌then◌else◌, codes, Result, Ok, Err}
 use Rattle.json_spans.specs.Common.{Node, items, decoded}
 use Rattle.topo_outline.specs.Common.{Fault, too_deep, unsupported, demand, ◌>>=◌, text_from, unquoted, is_list, is_object, are_lists, are_lists_of_lists}
 use Rattle.geo_topology.specs.Words.{type_of}

@@ -75,6 +75,7 @@ impl<A: Allocator + Copy> MadeText<A> {
 }
 
 /// The place in the file of a place that one of these parts has.
+#[tactic(auto, using(crate::proofs::Placing::place_step, crate::proofs::Placing::place_end))]
 fn place_in_file(parts: &[Part], place: usize) -> Option<usize>
     ensures { result ≡ in_file (map view_part parts.now) place }
 {

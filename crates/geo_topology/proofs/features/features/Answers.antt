@@ -1,4 +1,4 @@
-use Rattle.kit_words.proofs.Common.{sym, refl, true}
+use Rattle.kit_words.proofs.Common.{sym, refl}
 use Rattle.topo_outline.specs.declared.fault.OpenFault.TheVariants as open_fault
 use Rattle.geo_topology.specs.Features.{in_features}
 use Rattle.geo_topology.specs.Views.{view_entry}

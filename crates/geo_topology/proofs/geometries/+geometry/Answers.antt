@@ -31,4 +31,4 @@ returns-in-Err-geometry g t c = collection_fails c.args.depth _ (node c.args.spa
 
 pub returns : goal.returns
 returns g t c = rw (collection c.args.depth _ (node c.args.span) _ _ _ c.in-Ok.ensures (rw c.as_slice.ensures.value at c.in-Ok-typed_value.ensures) (sym c.if-not-is_collection.ensures) c.if-depth-eq0.false)
-    (enclosed_gives _ (map view_entry c.in-Ok.value.items) _ _ _ _ _ c.in_ok-put_start.ensures (separated_end (within (view_entry c.in-Ok-typed_value.value.1) (c.args.depth - 1)) _ _ _ _ _ c.in-None.ensures.steps.0 c.loop-part.invariant) (rw c.as_slice-2.ensures.value at c.in_ok-put_finish.ensures))
+    (enclosed_gives (map view_entry c.args.feature.now) (map view_entry c.in-Ok.value.items) _ _ _ _ _ c.in_ok-put_start.ensures (separated_end (within (view_entry c.in-Ok-typed_value.value.1) (c.args.depth - 1)) _ _ _ _ _ c.in-None.ensures.steps.0 c.loop-part.invariant) (rw c.as_slice-2.ensures.value at c.in_ok-put_finish.ensures))
