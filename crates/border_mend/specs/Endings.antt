@@ -20,7 +20,7 @@ use Rattle.program_ends.specs.declared.diagnostic.Diagnostic.TheVariants.{Findin
 abbrev pub told_status : {A : Type 0} → Bool → Result (Report A) LookFault → ℕ
 told_status false outcome = report_status outcome
 told_status true (Ok report) = 1
-told_status true (Err fault) = report_status (Err fault)
+told_status {A = A} true (Err fault) = report_status {A = A} (Err fault)
 
 -- the line tells why there is no report
 abbrev pub TellsNoReport : LookFault → Diagnostic → Type 0
