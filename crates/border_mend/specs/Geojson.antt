@@ -1,6 +1,6 @@
 -- A map that is a GeoJSON object (RFC 7946, 3): the topology that is looked at in its place, and where its file has
 -- a place of that.
-use Rattle.std.specs.Prelude.{◌≡◌, ℕ, Bool, true, false, List, [], ◌++◌, drop, codes, nat_eq, if◌then◌else◌, Option, Some, None, unwrap_or, option_map, Result, Ok, Err, map}
+use Rattle.std.specs.Prelude.{◌≡◌, ℕ, Bool, true, false, List, [], ◌++◌, drop, codes, nat_eq, if◌then◌else◌, Option, Some, None, unwrap_or, Result, Ok, Err, map}
 use Rattle.std.specs.List.{starts_with}
 use Rattle.json_spans.specs.Common.{Node}
 use Rattle.topo_outline.specs.Common.{Fault, Fails, ◌>>=◌}
