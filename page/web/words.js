@@ -73,6 +73,7 @@ const FAULTS = [
  */
 const FINDINGS = [
   [/^opens$/, "Nothing stops the map from opening."],
+  [/^geojson$/, "The file is GeoJSON. Mending makes a map of it."],
   [/^decimals (\d+) digits (\d+) rounded (\d+)/, "Coordinates have up to $1 decimals. The grid keeps $2, and $3 positions are rounded."],
   [/^heights (\d+)/, "$1 positions have heights, which are left out."],
   [/^lines (\d+)/, "$1 lines are left out."],

@@ -1,2 +1,3 @@
 pub mod WordLemmas
 mod EndingExamples
+mod GeojsonExamples

@@ -1,5 +1,7 @@
--- The line on standard error that tells why there is no report.
-use Rattle.std.specs.Prelude.{◌≡◌}
+-- The status that a report ends the program with, and the line on standard error that tells why there is none.
+use Rattle.std.specs.Prelude.{◌≡◌, ℕ, Bool, true, false, Result, Ok, Err}
+use Rattle.mend_report.specs.Common.{report_status}
+use Rattle.mend_report.specs.declared.asked.Report.{Report}
 use Rattle.mend_report.specs.declared.looking.LookFault.{LookFault}
 use Rattle.mend_report.specs.declared.looking.LookFault.TheVariants as fault
 use Rattle.map_mending.specs.declared.fault.MendFault.{MendFault}
@@ -13,6 +15,12 @@ use Rattle.grid_geometry.specs.Common.{Segment}
 use Rattle.program_ends.specs.Common.{IsOpen}
 use Rattle.program_ends.specs.declared.diagnostic.Diagnostic.{Diagnostic}
 use Rattle.program_ends.specs.declared.diagnostic.Diagnostic.TheVariants.{Findings, TooLarge, Unmended, Unparted, NoMemory}
+
+-- the status of a report: as the map opens or not; a GeoJSON object does not as it is
+abbrev pub told_status : {A : Type 0} → Bool → Result (Report A) LookFault → ℕ
+told_status false outcome = report_status outcome
+told_status true (Ok report) = 1
+told_status {A = A} true (Err fault) = report_status {A = A} (Err fault)
 
 -- the line tells why there is no report
 abbrev pub TellsNoReport : LookFault → Diagnostic → Type 0

@@ -1,4 +1,6 @@
 pub mod Asked
 pub mod Endings
 pub mod Points
+pub mod Geojson
+pub mod Telling
 pub mod Common

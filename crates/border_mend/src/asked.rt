@@ -21,8 +21,8 @@ pub struct Words {
 }
 
 impl Words {
-    /// The files that the words name, those that are written first.
-    pub(crate) fn files(&self) -> [FileArgument<'_>; 3] {
+    /// The files that the words name, those that are written first. MAP is used so.
+    pub(crate) fn files(&self, map: Role) -> [FileArgument<'_>; 3] {
         [
             FileArgument {
                 argument: "--places",
@@ -37,7 +37,7 @@ impl Words {
             FileArgument {
                 argument: "MAP",
                 path: Some(self.map.as_str()),
-                role: Role::Edited,
+                role: map,
             },
         ]
     }

@@ -31,7 +31,7 @@ fn command<'a>(alloc: Global) -> Result<Command<'a>, clap::Error>
     ensures { IfOk result (λ command. app_of command ≡ mend_program) }
 {
     let map = Arg::new(alloc, "MAP")
-        .help("The TopoJSON topology to look at")
+        .help("The map to look at, TopoJSON or GeoJSON")
         .required(true)
         .action(ArgAction::Set);
     let command = Command::new(alloc, "border_mend")

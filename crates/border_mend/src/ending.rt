@@ -1,7 +1,8 @@
 //! How a report ends the program: with which status, with what on standard output, and with which line.
 ghost use Rattle.std.specs.Prelude.{◌≡◌, None, Some, option_map, OnOk, OnErr, IfErr, IsSomeAnd};
-ghost use Rattle.mend_report.specs.Common.{report_status, mended_status, unmended_status};
-ghost use Rattle.border_mend.specs.Endings.{TellsNoReport, TellsUnmade, TellsUnsaved, TellsUnmended};
+ghost use Rattle.mend_report.specs.Common.{mended_status, unmended_status};
+ghost use Rattle.mend_report.specs.declared.repair_fault.RepairFault.TheVariants.{Look};
+ghost use Rattle.border_mend.specs.Endings.{told_status, TellsNoReport, TellsUnmade, TellsUnsaved, TellsUnmended};
 
 use map_mending::MendFault;
 use mend_report::{LookFault, Remade, RepairFault, Report, SaveFault, is_open};
@@ -9,12 +10,12 @@ use program_ends::{Diagnostic, Ending};
 use std::alloc::Allocator;
 use topo_outline::Limit;
 
-/// The status that the program ends with after a report.
-fn status<A: Allocator + Copy>(outcome: &Result<Report<A>, LookFault<'_>>) -> u8
-    ensures { result ≡ report_status outcome.now }
+/// The status that the program ends with after a report. A GeoJSON object does not open as it is.
+fn status<A: Allocator + Copy>(outcome: &Result<Report<A>, LookFault<'_>>, is_geojson: bool) -> u8
+    ensures { result ≡ told_status is_geojson outcome.now }
 {
     match outcome {
-        Ok(report) if is_open(report) => 0,
+        Ok(report) if !is_geojson && is_open(report) => 0,
         Ok(_) => 1,
         Err(LookFault::Open(_) | LookFault::TooMany) => 2,
         Err(LookFault::OutOfMemory) => 3,
@@ -35,16 +36,17 @@ fn line_of<'a>(fault: &'a LookFault<'a>) -> Diagnostic<'a>
 /// The ending of a report: standard output gets it where it is whole, and nothing after a fault.
 pub(crate) fn ending_of_report<'a, A: Allocator + Copy>(
     outcome: &'a Result<Report<A>, LookFault<'a>>,
+    is_geojson: bool,
     report: &'a [u8],
 ) -> Ending<'a>
-    ensures status { result.status ≡ report_status outcome.now }
+    ensures status { result.status ≡ told_status is_geojson outcome.now }
     ensures printed { OnOk outcome.now
         (option_map (λ text. text.now) result.file ≡ Some report.now) }
     ensures silent { OnOk outcome.now (result.line ≡ None) }
     ensures kept { OnErr outcome.now (result.file ≡ None) }
     ensures told { IfErr outcome.now (λ fault. IsSomeAnd result.line (TellsNoReport fault)) }
 {
-    let status = status(outcome);
+    let status = status(outcome, is_geojson);
     match outcome {
         Ok(_) => Ending {
             status,
@@ -53,6 +55,19 @@ pub(crate) fn ending_of_report<'a, A: Allocator + Copy>(
         },
         Err(fault) => Ending::of_fault(status, line_of(fault)),
     }
+}
+
+/// The ending where no topology is made of a map: nothing is printed.
+pub(crate) fn ending_unmade<'a>(fault: &'a LookFault<'a>) -> Ending<'a>
+    ensures status { result.status ≡ unmended_status (Look fault.now) }
+    ensures kept { result.file ≡ None }
+    ensures told { IsSomeAnd result.line (TellsNoReport fault.now) }
+{
+    let status = match fault {
+        LookFault::Open(_) | LookFault::TooMany => 2,
+        LookFault::OutOfMemory => 3,
+    };
+    Ending::of_fault(status, line_of(fault))
 }
 
 /// The status that the program ends with where a map is not mended.

@@ -2,13 +2,14 @@
 
 /// What the program does.
 pub(crate) const ABOUT: &str =
-    "Lists every problem that keeps a TopoJSON map from opening in border_edit, and repairs it";
+    "Lists every problem that keeps a map from opening in border_edit, and repairs it; makes maps of GeoJSON";
 
 /// The lines of the report, the statuses, and examples. They are those of docs/MENDING.md.
 pub(crate) const LINES: &str = "\
 Lines of the report, in this order (F P R is ring R of polygon P of feature F, numbered from 0;
 X Y is a position on the grid):
   opens                    The map opens as it is
+  geojson                  MAP is GeoJSON, of which --out makes a TopoJSON map
   decimals D digits K rounded N
                            Coordinates have up to D decimals, the grid has K of them (--digits), and
                            N positions were rounded
@@ -34,6 +35,7 @@ is not a map that can be read or repaired; 3 a file or memory failed; 64 the arg
 Examples:
   border_mend map.json --most 20 --places places.json
   border_mend map.json --out mended.json
+  border_mend areas.geojson --out map.json
   border_mend map.json --digits 5 --out mended.json";
 
 // What each argument asks for.
@@ -43,7 +45,8 @@ pub(crate) const MOST: &str =
 pub(crate) const PLACES: &str =
     "Write the places of the problems to this file, as a topology of points and lines";
 
-pub(crate) const OUT: &str = "Save the repaired map in this file; it may be MAP";
+pub(crate) const OUT: &str =
+    "Save the repaired map in this file; it may be MAP, unless that is GeoJSON";
 
 pub(crate) const DIGITS: &str =
     "Keep at most K decimals of coordinates, from 0 to 24; by default all that fit";

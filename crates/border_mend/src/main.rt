@@ -5,14 +5,16 @@
 mod asked;
 mod command_line;
 mod ending;
+mod geojson;
 mod help;
+mod looking;
 mod points;
 mod seeds;
 mod telling;
 
 use asked::Words;
 use command_line::words;
-use program_ends::{Errors, Stop, check_apart, end_stopped, given_words};
+use program_ends::{Errors, Role, Stop, check_apart, end_stopped, given_words};
 use std::io::IsTerminal;
 use std::process::ExitCode;
 use telling::tell;
@@ -21,7 +23,7 @@ use telling::tell;
 fn words_given(rt: &HostRuntime) -> Result<Words, Stop> {
     let given = given_words(rt)?;
     let words = words(rt.alloc(), given.as_slice())?;
-    check_apart(rt, &words.files())?;
+    check_apart(rt, &words.files(Role::Edited))?;
     Ok(words)
 }
 

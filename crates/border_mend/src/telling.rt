@@ -1,14 +1,15 @@
 //! The files of the program: what is read, what is written, and in which order.
 ghost use Rattle.std.specs.Prelude.{◌≡◌, None, IsSome};
+ghost use Rattle.mend_report.specs.Common.{unmended_status};
+ghost use Rattle.mend_report.specs.declared.repair_fault.RepairFault.TheVariants.{Look};
 
 use crate::asked::Words;
-use crate::ending::{ending_of_mending, ending_of_report};
-use crate::points::{unread, with_points_on_grid};
+use crate::ending::{ending_of_mending, ending_of_report, ending_unmade};
+use crate::geojson::made_of;
+use crate::looking::{Looking, looking_at, mended, reported};
 use crate::seeds::report_seed;
-use decimal_texts::{Dropped, PointFault, without_lines};
-use mend_report::{Asked, LookFault, Remade, RepairFault, Report, Texts, mend_map, report_map};
+use mend_report::{LookFault, Texts};
 use program_ends::{Ending, Errors, Paths, Stop, hash_seed, map_bytes, replace_file};
-use std::alloc::Global;
 use std::hash::RandomState;
 use std::io::{Result as IoResult, Write};
 
@@ -53,47 +54,6 @@ fn print_and_place<'a, W: Write>(
     }
 }
 
-/// MAP as it is looked at, and what is asked of it: without its lines, where these are left out.
-fn map_asked(rt: &HostRuntime, words: &Words) -> Result<(Vec<u8>, Asked), Stop> {
-    let alloc = rt.alloc();
-    let map = map_bytes(rt, words.map.as_str())?;
-    if !words.drop_lines {
-        return Ok((map, words.asked));
-    }
-    let Dropped { text, lines } = without_lines(alloc, alloc, map.as_slice())?;
-    let asked = Asked {
-        dropped: lines,
-        ..words.asked
-    };
-    Ok((text, asked))
-}
-
-/// The report of a map, where its points were put on the grid that is asked for.
-fn reported<'a>(
-    alloc: Global,
-    seed: RandomState,
-    map: &'a Result<(Vec<u8>, Asked), PointFault>,
-    texts: &mut Texts,
-) -> Result<Report, LookFault<'a>> {
-    match map {
-        Ok((text, asked)) => report_map(alloc, alloc, seed, text.as_slice(), *asked, texts),
-        Err(fault) => Err(unread(*fault)),
-    }
-}
-
-/// What a map is mended to, where its points were put on the grid that is asked for.
-fn mended<'a>(
-    alloc: Global,
-    seed: RandomState,
-    map: &'a Result<(Vec<u8>, Asked), PointFault>,
-    texts: &mut Texts,
-) -> Result<Remade, RepairFault<'a>> {
-    match map {
-        Ok((text, asked)) => mend_map(alloc, alloc, seed, text.as_slice(), *asked, texts),
-        Err(fault) => Err(RepairFault::Look(unread(*fault))),
-    }
-}
-
 /// The paths of the files that the arguments name: of FILE and the places the only one.
 fn paths_of(words: &Words) -> Paths<'_> {
     let file = match (&words.out, &words.places) {
@@ -109,62 +69,89 @@ fn paths_of(words: &Words) -> Paths<'_> {
     }
 }
 
-/// Reads MAP, writes its report and its places, and ends as the report did.
+/// Writes the report of a map and its places, and ends as the report did.
 fn tell_file<W: Write, E: Write>(
     rt: &HostRuntime,
     words: &Words,
+    looking: &Looking,
     output: &mut W,
     errors: &mut Errors<'_, E>,
-) -> Result<u8, Stop> {
+) -> u8 {
     let alloc = rt.alloc();
-    let seed = report_seed(rt)?;
-    let (map, asked) = map_asked(rt, words)?;
-    let map = with_points_on_grid(alloc, seed, map, asked);
     let mut texts = Texts::new(alloc, words.places.is_some());
-    let outcome = reported(alloc, seed, &map, &mut texts);
-    let ending = ending_of_report(&outcome, texts.report.as_slice());
+    let outcome = reported(alloc, looking, &mut texts);
+    let is_geojson = looking.source.is_geojson();
+    let ending = ending_of_report(&outcome, is_geojson, texts.report.as_slice());
     let ending = print_and_place(rt, words, &texts, ending, output);
-    Ok(errors.end(ending, &paths_of(words)))
+    errors.end(ending, &paths_of(words))
 }
 
-/// Reads MAP, mends it, writes its report and its places, and at last the mended map in FILE.
+/// Mends a map, writes its report and its places, and at last the mended map in FILE.
 fn mend_file<W: Write, E: Write>(
     rt: &HostRuntime,
     words: &Words,
-    out: &str,
+    looking: &Looking,
+    output: &mut W,
+    errors: &mut Errors<'_, E>,
+) -> u8 {
+    let alloc = rt.alloc();
+    let mut texts = Texts::new(alloc, words.places.is_some());
+    let outcome = mended(alloc, looking, &mut texts);
+    let ending = ending_of_mending(&outcome, texts.report.as_slice());
+    let ending = print_and_place(rt, words, &texts, ending, output);
+    let ending = match (&outcome, &words.out) {
+        (Ok(remade), Some(out)) => save(rt, ending, out.as_str(), remade.text.as_slice()),
+        _ => ending,
+    };
+    errors.end(ending, &paths_of(words))
+}
+
+/// The seed that a map is hashed by: one of the operating system, where what it is mended to is saved.
+fn seed_asked(rt: &HostRuntime, words: &Words) -> Result<RandomState, Stop> {
+    match words.out {
+        Some(_) => hash_seed(rt),
+        None => report_seed(rt),
+    }
+}
+
+/// Ends where no topology is made of a map.
+fn end_unmade<E: Write>(words: &Words, fault: &LookFault<'_>, errors: &mut Errors<'_, E>) -> u8
+    ensures { result ≡ unmended_status (Look fault.now) }
+{
+    errors.end(ending_unmade(fault), &paths_of(words))
+}
+
+/// Reads MAP, and tells or mends it.
+fn tell_map<W: Write, E: Write>(
+    rt: &HostRuntime,
+    words: &Words,
     output: &mut W,
     errors: &mut Errors<'_, E>,
 ) -> Result<u8, Stop> {
-    let alloc = rt.alloc();
-    let seed = hash_seed(rt)?;
-    let (map, asked) = map_asked(rt, words)?;
-    let map = with_points_on_grid(alloc, seed, map, asked);
-    let mut texts = Texts::new(alloc, words.places.is_some());
-    let outcome = mended(alloc, seed, &map, &mut texts);
-    let ending = ending_of_mending(&outcome, texts.report.as_slice());
-    let ending = print_and_place(rt, words, &texts, ending, output);
-    let ending = match &outcome {
-        Ok(remade) => save(rt, ending, out, remade.text.as_slice()),
-        Err(_) => ending,
+    let seed = seed_asked(rt, words)?;
+    let map = map_bytes(rt, words.map.as_str())?;
+    let source = match made_of(rt.alloc(), map.as_slice()) {
+        Ok(source) => source,
+        Err(fault) => return Ok(end_unmade(words, &fault, errors)),
     };
-    Ok(errors.end(ending, &paths_of(words)))
+    let looking = looking_at(rt, words, seed, map, source)?;
+    match words.out {
+        Some(_) => Ok(mend_file(rt, words, &looking, output, errors)),
+        None => Ok(tell_file(rt, words, &looking, output, errors)),
+    }
 }
 
 /// Tells what the words ask. Answers the status that the program ends with; the report and the line
 /// that says why it ends go to these two writers. Faults are found in this order: a seed; the file
-/// of the map, the map, standard output, the file of the places, and FILE,
-/// which is written last.
+/// of the map; what keeps a GeoJSON object from becoming a topology, and one that FILE names too; the
+/// map, standard output, the file of the places, and FILE, which is written last.
 pub(crate) fn tell<W: Write, E: Write>(
     rt: &HostRuntime,
     words: &Words,
     output: &mut W,
     errors: &mut Errors<'_, E>,
 ) -> u8 {
-    let told = match &words.out {
-        Some(out) => mend_file(rt, words, out.as_str(), output, errors),
-        None => tell_file(rt, words, output, errors),
-    };
-    match told {
+    match tell_map(rt, words, output, errors) {
         Ok(status) => status,
         Err(stop) => errors.end(Ending::of_stop(&stop), &paths_of(words)),
     }

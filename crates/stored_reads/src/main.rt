@@ -3,6 +3,7 @@
 #![tactic(auto)]
 
 mod damage;
+mod geo;
 mod opening;
 mod outline;
 mod pieces;
@@ -15,13 +16,15 @@ use std::{fs, io};
 use tables::{Counts, Door, told};
 
 /// The files, and what answers to the texts of each.
-const FILES: [(&str, Door); 9] = [
+const FILES: [(&str, Door); 11] = [
     ("scans.txt", Door::Scan),
     ("spans.txt", Door::Spans),
     ("drawn.txt", Door::Spans),
     ("outlines.txt", Door::Outline),
     ("topologies.txt", Door::Read),
     ("walks.txt", Door::ReadBoth),
+    ("geojson.txt", Door::Geo),
+    ("geojson_read.txt", Door::GeoRead),
     ("damaged.txt", Door::Damaged),
     ("pairs.txt", Door::Pairs),
     ("damaged_maps.txt", Door::DamagedMaps),

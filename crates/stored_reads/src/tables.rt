@@ -1,5 +1,6 @@
 // The lines of a file: families of texts, and what is answered to each.
 use crate::damage::{Reader, of_pairs, of_places};
+use crate::geo::{Told, put_geo};
 use crate::opening::{put_opened, put_walks};
 use crate::outline::put_outlined;
 use crate::pieces::{decoded, filled};
@@ -20,6 +21,10 @@ pub(crate) enum Door {
     Read,
     /// `read`, and `read_walks`.
     ReadBoth,
+    /// The step from GeoJSON to a topology.
+    Geo,
+    /// `read_walks`, of the topology that GeoJSON becomes.
+    GeoRead,
     /// `scan`, of texts with a byte replaced.
     Damaged,
     /// `scan`, of each two bytes.
@@ -85,6 +90,8 @@ fn of_text(alloc: Global, door: Door, text: &[u8]) -> Result<String, AllocError>
     match door {
         Door::Spans => put_spans(&mut out, alloc, text)?,
         Door::Outline => put_outlined(&mut out, alloc, text)?,
+        Door::Geo => put_geo(&mut out, alloc, Told::Text, text)?,
+        Door::GeoRead => put_geo(&mut out, alloc, Told::Features, text)?,
         Door::Read => put_opened(&mut out, alloc, text)?,
         Door::ReadBoth => {
             put_opened(&mut out, alloc, text)?;

@@ -5,6 +5,8 @@
 #[cfg(test)]
 mod faults;
 #[cfg(test)]
+mod geojson;
+#[cfg(test)]
 mod huge;
 #[cfg(test)]
 mod kept;

@@ -1,0 +1,11 @@
+pub mod Naming
+pub mod Foreign
+pub mod Separated
+pub mod Depth
+pub mod Texts
+pub mod Featured
+pub mod Placing
+pub mod Lying
+pub mod LyingPieces
+pub mod LyingParts
+pub mod Examples

@@ -1,0 +1,10 @@
+pub mod Words
+pub mod Members
+pub mod Pieces
+pub mod Geometries
+pub mod Features
+pub mod Object
+pub mod Text
+pub mod Places
+pub mod Views
+pub mod Copies
