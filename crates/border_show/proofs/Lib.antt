@@ -1,0 +1,6 @@
+pub mod RuleLemmas
+pub mod WordLemmas
+mod Examples
+pub mod FoundLemmas
+pub mod MarkLemmas
+pub mod NumberLemmas
