@@ -4,3 +4,4 @@ mod Examples
 pub mod FoundLemmas
 pub mod MarkLemmas
 pub mod NumberLemmas
+pub mod ViewLemmas

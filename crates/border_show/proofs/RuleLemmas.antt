@@ -1,10 +1,12 @@
 -- What each setting of an argument changes of what a parse reads of it.
 use Rattle.kit_words.proofs.Common.{◌≡◌, ◌&&◌, ◌∙◌, ap, ap₂, refl, Bool, true, false, not, false≢true, ℕ, List, Option, Some, None}
-use Rattle.kit_words.proofs.Common.{IsSomeAnd, codes, Bor, is_some}
+use Rattle.kit_words.proofs.Common.{IsSomeAnd, codes, Bor, is_some, length}
 use Rattle.clap.specs.Walk.{is_empty, is_simple_arg}
 use Rattle.clap.specs.Words.{Rule, Text, new_rule, rule_of}
 use Rattle.clap.specs.declared.builder.action.ArgAction.{ArgAction}
 use Rattle.clap.specs.declared.builder.arg.Arg.{Arg}
+use Rattle.clap.specs.declared.builder.range.ValueRange.{ValueRange}
+use Rattle.clap.specs.declared.builder.texts.Texts.TheVariants.{Many}
 
 -- the help changes nothing of it
 abbrev pub with_action : ArgAction → Rule → Rule
@@ -23,6 +25,11 @@ pub long_is : (old new : Arg) (name : Bor Text) (r : Rule) (text : Text) → new
     → rule_of new ≡ record r { long = Some text }
 long_is old new name r text set is old_is =
     ap rule_of set ∙ ap₂ (λ (x : Rule) (t : Text). record x { long = Some t }) old_is is
+
+pub names_is : (old new : Arg) (names : Bor (List (Bor Text))) (r : Rule) (count : ℕ) → new ≡ record old { val_names = Many names } → length names.now ≡ count → rule_of old ≡ r
+    → rule_of new ≡ record r { value_names = count }
+names_is old new names r count set is old_is =
+    ap rule_of set ∙ ap₂ (λ (x : Rule) (n : ℕ). record x { value_names = n }) old_is is
 
 -- the last factor of a product that is true is exchanged
 last_of_seven : (a b c d e f y z v : Bool) → a && (b && (c && (d && (e && (f && y))))) ≡ true → (y ≡ true → z ≡ v)
@@ -60,6 +67,11 @@ signed_rule old new yes id set is =
     ap rule_of set ∙ ap₂ (λ (x : Rule) (b : Bool). record x { is_simple = b }) is (signed_is old yes (ap is_simple_rule is))
 
 -- an option of which a fact says what it has
-pub some_is : {X : Type 0} (o : Option X) (x : X) → IsSomeAnd o (λ y. y ≡ x) → o ≡ Some x
+some_is : {X : Type 0} (o : Option X) (x : X) → IsSomeAnd o (λ y. y ≡ x) → o ≡ Some x
 some_is (Some y) x is = ap (λ z. Some z) is
-some_is None x is = elim is [ ]
+some_is None x is = absurd is
+
+pub range_is : (old new : Arg) (range : ValueRange) (r : Rule) → new ≡ record old { num_vals = new.num_vals } → IsSomeAnd new.num_vals (λ y. y ≡ range) → rule_of old ≡ r
+    → rule_of new ≡ record r { range = Some range }
+range_is old new range r set is old_is =
+    ap rule_of set ∙ ap₂ (λ (x : Rule) (o : Option ValueRange). record x { range = o }) old_is (some_is new.num_vals range is)

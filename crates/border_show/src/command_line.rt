@@ -130,9 +130,9 @@ fn square_of(values: &[&str]) -> Option<Window>
     let [x, y, width] = values else {
         return None;
     };
-    let x = number_of(x)?;
-    let y = number_of(y)?;
-    let width = number_of(width)?;
+    let x = number_of(*x)?;
+    let y = number_of(*y)?;
+    let width = number_of(*width)?;
     let middle = Pos::new(x, y)?;
     if width < 1 || MOST_WIDTH < width {
         return None;

@@ -10,7 +10,7 @@ use crate::paths::push_line;
 use crate::seen::is_change_seen;
 use crate::view::View;
 use map_features::{
-    Bounds, FeatureChange, Run, Shape, Units, borders_beyond, bounds_of, changes_between, shapes_of,
+    FeatureChange, Run, Shape, Units, borders_beyond, bounds_of, changes_between, shapes_of,
     straight_features,
 };
 use std::alloc::{AllocError, Allocator, Global};
@@ -65,7 +65,7 @@ impl<A: Allocator + Copy> Picture<A> {
     fn meets(&self, shape: Option<&Shape<'_, A>>) -> bool {
         match shape.and_then(|shape| shape.bounds()) {
             Some(bounds) => self.layout.window.meets(&bounds),
-            None => self.view.part.is_none() && shape.is_some(),
+            None => self.is_whole && shape.is_some(),
         }
     }
 
@@ -192,14 +192,6 @@ impl<A: Allocator + Copy> Picture<A> {
     }
 }
 
-/// The bounds of the maps before and after an edit.
-fn bounds_of_both<A: Allocator + Copy>(
-    old: &[Shape<'_, A>],
-    new: &[Shape<'_, A>],
-) -> Option<Bounds> {
-    bounds_of(bounds_of(None, old), new)
-}
-
 /// The picture of what an edit did: the map after it, the features and borders that are gone and those that are
 /// new, the changed features filled, and a list of them. The two segments in conflict that the view
 /// names are marked.
@@ -221,8 +213,8 @@ pub fn draw_change<'m, 'a, A: Allocator + Copy>(
     let new_regions = straight_features(alloc, after.polygons.as_slice())?;
     let old = shapes_of(alloc, before, old_regions.as_slice())?;
     let new = shapes_of(alloc, after, new_regions.as_slice())?;
-    let bounds = bounds_of_both(old.as_slice(), new.as_slice());
+    let bounds = bounds_of(bounds_of(None, old.as_slice()), new.as_slice());
     let units = Units::of(after.transform, bounds, view.part);
-    let picture = Picture::of_part(alloc, heap, view, bounds, &units);
+    let picture = Picture::of_part(alloc, heap, view.part, bounds, &units);
     picture.with_features(view, &units, title, old.as_slice(), new.as_slice())
 }

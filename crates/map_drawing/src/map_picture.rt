@@ -70,8 +70,8 @@ pub(crate) struct Picture<A: Allocator + Copy> {
     pub(crate) alloc: A,
     /// What holds decoded ids.
     pub(crate) heap: Global,
-    /// What is asked to be seen.
-    pub(crate) view: View,
+    /// Whether all is drawn, and not a part alone.
+    pub(crate) is_whole: bool,
     /// Where the part of the grid that is drawn lies.
     pub(crate) layout: Layout,
     /// The text so far.
@@ -79,19 +79,19 @@ pub(crate) struct Picture<A: Allocator + Copy> {
 }
 
 impl<A: Allocator + Copy> Picture<A> {
-    /// A picture of what has these bounds, or of the part that the view names, with nothing in it.
+    /// A picture of what has these bounds, or of this part of the grid, with nothing in it.
     pub(crate) fn of_part(
         alloc: A,
         heap: Global,
-        view: View,
+        part: Option<Window>,
         bounds: Option<Bounds>,
         units: &Units,
     ) -> Picture<A> {
-        let window = view.part.unwrap_or(Window::of(bounds));
+        let window = part.unwrap_or(Window::of(bounds));
         Picture {
             alloc,
             heap,
-            view,
+            is_whole: part.is_none(),
             layout: Layout::new(window, units.ratio),
             text: Vec::new(alloc),
         }
@@ -297,6 +297,6 @@ pub fn draw_map<A: Allocator + Copy>(
     let shapes = shapes_of(alloc, map, map.polygons.as_slice())?;
     let bounds = bounds_of(None, shapes.as_slice());
     let units = Units::of(map.transform, bounds, view.part);
-    let picture = Picture::of_part(alloc, heap, view, bounds, &units);
+    let picture = Picture::of_part(alloc, heap, view.part, bounds, &units);
     picture.with_map(view, &units, title, shapes.as_slice())
 }

@@ -12,6 +12,6 @@ returns c =
       out = word_found m (codes "out") _ c.get_str-4.result _ c.unwrap_or-2.result _ (search rules) c.get_str-4.ensures (search rules) c.unwrap_or-2.ensures
           c.in_ok-from_str-2.ensures.ok;
       part = part_found m (codes "at") _ (codes "feature") _ c.get_strs.result c.get_str.result _ (search rules) (search rules) c.get_strs.ensures c.get_str.ensures
-          c.in_ok-part_of.ensures;
+          c.in_ok-part.ensures;
       ids = flag_found m (codes "ids") _ c.get_flag.result (search rules) c.get_flag.ensures.none c.get_flag.ensures.value c.get_flag.ensures.other;
     }

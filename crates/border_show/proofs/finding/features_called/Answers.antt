@@ -1,16 +1,16 @@
-use Rattle.kit_words.proofs.Common.{◌++◌, ◌∷◌, [], ap, ap₂, ◌∙◌, sym, take_all, filter_more, if◌then◌else◌}
+use Rattle.kit_words.proofs.Common.{Bool, List, ◌++◌, ◌∷◌, [], ap, ap₂, ◌∙◌, sym, take_all, filter_more, if◌then◌else◌}
 use Rattle.std.specs.List.{filter}
+use Rattle.std.specs.declared.alloc.Global.{Global}
 use Rattle.map_features.specs.declared.shapes.Shape.{Shape}
 use Rattle.border_show.specs.Found.{is_shape_called}
 use Rattle.border_show.proofs.finding.features_called.Goals as goal
 
 pub loop-shape-preserved : goal.loop-shape-preserved
 loop-shape-preserved c =
-    let called = is_shape_called c.args.id.now in
-    let found = filter called (take c.loop-shape.shape-index c.args.shapes.now) in
+    let called : Shape Global → Bool = is_shape_called c.args.id.now in
     c.in_ok-push_called.ensures
-    ∙ ap₂ (λ fs x. fs ++ (if called x then x ∷ [] else [])) c.loop-shape.invariant c.shape-item.is
-    ∙ sym (filter_more called c.args.shapes.now c.loop-shape.shape-index c.shape-item.result c.loop-shape-test.true)
+    ∙ (ap₂ (λ (fs : List (Shape Global)) (x : Shape Global). fs ++ (if called x then x ∷ [] else [])) c.loop-shape.invariant c.shape-item.is
+    ∙ sym (filter_more called c.args.shapes.now c.loop-shape.shape-index c.shape-item.result c.loop-shape-test.true))
 
 pub returns : goal.returns
 returns c =
