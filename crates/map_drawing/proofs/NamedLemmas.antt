@@ -4,11 +4,14 @@ use Rattle.svg_text.specs.Elements.{text_element}
 use Rattle.map_features.specs.declared.conflicts.Conflict.{Conflict}
 use Rattle.map_drawing.specs.Marks.{IsNamedAbove, IsNamedIn, NamesConflict, conflict_words}
 
-pub names : (c : Conflict) (front text words : List ℕ) (down : ℤ) → text ≡ front ++ text_element (codes "gone") (pos 20) down words → words ≡ conflict_words c → NamesConflict c text
-names c front text words down is words_are = record {
+pub names : (c : Conflict) (front text style words : List ℕ) (across down : ℤ) → text ≡ front ++ text_element style across down words
+    → style ≡ codes "gone" → across ≡ pos 20 → words ≡ conflict_words c → NamesConflict c text
+names c front text style words across down is style_is across_is words_is = record {
   front = front;
   down = down;
-  named = is ∙ ap (λ ws. front ++ text_element (codes "gone") (pos 20) down ws) words_are;
+  named = is ∙ (ap (λ (s : List ℕ). front ++ text_element s across down words) style_is
+      ∙ (ap (λ (x : ℤ). front ++ text_element (codes "gone") x down words) across_is
+      ∙ ap (λ (ws : List ℕ). front ++ text_element (codes "gone") (pos 20) down ws) words_is));
 }
 
 pub above : (conflict : Option Conflict) (map text list : List ℕ) → IfSome conflict (λ c. NamesConflict c map) → text ≡ map ++ list → IfSome conflict (λ c. IsNamedAbove c text)
