@@ -1,5 +1,5 @@
 -- The single feature that a search found is the one that is named.
-use Rattle.kit_words.proofs.Common.{◌≡◌, ◌==◌, ℕ, List, [], ◌∷◌, true, false, Option, Result, Ok, Err, IfOk, subst, sym, length, arith, eqb-true}
+use Rattle.kit_words.proofs.Common.{◌≡◌, ◌==◌, ℕ, List, [], ◌∷◌, true, false, Bor, None, Option, option_map, Result, Ok, Err, IfOk, subst, sym, length, arith, eqb-true}
 use Rattle.std.specs.declared.alloc.Global.{Global}
 use Rattle.topo_reader.specs.declared.document.RawDoc.{RawDoc}
 use Rattle.map_features.specs.declared.shapes.Shape.{Shape}
@@ -20,6 +20,11 @@ weaker_within (Err fault) P Q by h = h
 pub any_shown : (r : Result Shown NoFeature) → IfOk r (λ shown. Unit {0})
 any_shown (Ok shown) = tt
 any_shown (Err fault) = tt
+
+pub no_map_before : (before : Option (Bor (RawDoc Global))) (text : List ℕ) (r : Result Shown NoFeature) → before ≡ None
+    → IfOk r (IsEarlier (option_map (λ (b : Bor (RawDoc Global)). b.now) before) text)
+no_map_before before text r is =
+    subst (λ (o : Option (Bor (RawDoc Global))). IfOk r (IsEarlier (option_map (λ (b : Bor (RawDoc Global)). b.now) o) text)) (sym is) (any_shown r)
 
 none : {X : Type 0} (found : List X) → (length found == 0) ≡ true → found ≡ []
 none [] h = λ i. []

@@ -42,29 +42,29 @@ last_of_seven true true false d e f y z v all rest = absurd (false≢true all)
 last_of_seven true false c d e f y z v all rest = absurd (false≢true all)
 last_of_seven false b c d e f y z v all rest = absurd (false≢true all)
 
-exchanged_for : (yes y : Bool) → y ≡ true → not yes && y ≡ not yes
+exchanged_for : (signed y : Bool) → y ≡ true → not signed && y ≡ not signed
 exchanged_for true y rest = refl
 exchanged_for false y rest = rest
 
-exchanged : (n yes y : Bool) → not n && y ≡ true → not yes && y ≡ not yes
-exchanged true yes y all = absurd (false≢true all)
-exchanged false yes y all = exchanged_for yes y all
+exchanged : (n signed y : Bool) → not n && y ≡ true → not signed && y ≡ not signed
+exchanged true signed y all = absurd (false≢true all)
+exchanged false signed y all = exchanged_for signed y all
 
 -- an argument of which negative numbers may be values is not simple any more
-signed_is : (a : Arg) (yes : Bool) → is_simple_arg a ≡ true → is_simple_arg (record a { allow_negative_numbers = yes }) ≡ not yes
-signed_is a yes simple =
+signed_is : (a : Arg) (signed : Bool) → is_simple_arg a ≡ true → is_simple_arg (record a { allow_negative_numbers = signed }) ≡ not signed
+signed_is a signed simple =
     let rest : Bool = not a.require_equals && (not a.last && not a.global) in
     last_of_seven (is_empty a.overrides.items) (is_empty a.default_vals_ifs.items) (is_empty a.groups.items) (not (is_some a.val_delim))
-    (not (is_some a.terminator)) (not a.allow_hyphen_values) (not a.allow_negative_numbers && rest) (not yes && rest) (not yes) simple
-    (exchanged a.allow_negative_numbers yes rest)
+    (not (is_some a.terminator)) (not a.allow_hyphen_values) (not a.allow_negative_numbers && rest) (not signed && rest) (not signed) simple
+    (exchanged a.allow_negative_numbers signed rest)
 
 abbrev is_simple_rule : Rule → Bool
 is_simple_rule r = r.is_simple
 
-pub signed_rule : (old new : Arg) (yes : Bool) (id : Text) → new ≡ record old { allow_negative_numbers = yes } → rule_of old ≡ new_rule id
-    → rule_of new ≡ record (new_rule id) { is_simple = not yes }
-signed_rule old new yes id set is =
-    ap rule_of set ∙ ap₂ (λ (x : Rule) (b : Bool). record x { is_simple = b }) is (signed_is old yes (ap is_simple_rule is))
+pub signed_rule : (old new : Arg) (signed : Bool) (id : Text) → new ≡ record old { allow_negative_numbers = signed } → rule_of old ≡ new_rule id
+    → rule_of new ≡ record (new_rule id) { is_simple = not signed }
+signed_rule old new signed id set is =
+    ap rule_of set ∙ ap₂ (λ (x : Rule) (b : Bool). record x { is_simple = b }) is (signed_is old signed (ap is_simple_rule is))
 
 -- an option of which a fact says what it has
 some_is : {X : Type 0} (o : Option X) (x : X) → IsSomeAnd o (λ y. y ≡ x) → o ≡ Some x
