@@ -1,5 +1,6 @@
 //! The arguments of the program, as clap reads them.
-ghost use Rattle.std.specs.Prelude.{◌≡◌, IfOk, IfSome, false, map, option_map, string_bytes};
+ghost use Rattle.std.specs.Prelude.{◌≡◌, FitsSigned, IfOk, IfSome, false, map, option_map, string_bytes};
+ghost use Rattle.std.specs.Int.{w64};
 ghost use Rattle.std.specs.List.{list_any};
 ghost use Rattle.clap.specs.Words.{app_of, found_of, rows_of, rule_of};
 ghost use Rattle.border_show.specs.Asked.{AreAsked, IsPartAsked, IsSquareAsked, Writes, begins_short};
@@ -118,7 +119,8 @@ fn is_some_short(given: &[String]) -> bool
 
 /// The whole number that a text is.
 fn number_of(text: &str) -> Option<i64>
-    ensures { IfSome result (Writes text.now) }
+    ensures written { IfSome result (Writes text.now) }
+    ensures fits { IfSome result (FitsSigned w64) }
 {
     text.parse::<i64>().ok()
 }
