@@ -1,5 +1,5 @@
 -- The single feature that a search found is the one that is named.
-use Rattle.kit_words.proofs.Common.{◌≡◌, ◌==◌, ℕ, List, [], ◌∷◌, true, false, Bor, None, Option, option_map, Result, Ok, Err, IfOk, subst, sym, length, arith, eqb-true}
+use Rattle.kit_words.proofs.Common.{◌≡◌, ◌==◌, ℕ, List, [], ◌∷◌, true, Bor, None, Option, option_map, Result, Ok, Err, IfOk, subst, sym, length, arith, eqb-true}
 use Rattle.std.specs.declared.alloc.Global.{Global}
 use Rattle.topo_reader.specs.declared.document.RawDoc.{RawDoc}
 use Rattle.map_features.specs.declared.shapes.Shape.{Shape}

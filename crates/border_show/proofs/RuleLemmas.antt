@@ -1,6 +1,6 @@
 -- What each setting of an argument changes of what a parse reads of it.
 use Rattle.kit_words.proofs.Common.{◌≡◌, ◌&&◌, ◌∙◌, ap, ap₂, refl, Bool, true, false, not, false≢true, ℕ, List, Option, Some, None}
-use Rattle.kit_words.proofs.Common.{IsSomeAnd, codes, Bor, is_some, length}
+use Rattle.kit_words.proofs.Common.{IsSomeAnd, Bor, is_some, length}
 use Rattle.clap.specs.Walk.{is_empty, is_simple_arg}
 use Rattle.clap.specs.Words.{Rule, Text, new_rule, rule_of}
 use Rattle.clap.specs.declared.builder.action.ArgAction.{ArgAction}

@@ -1,8 +1,8 @@
 -- What clap found is what the arguments ask for.
-use Rattle.kit_words.proofs.Common.{◌≡◌, ◌∙◌, ap, refl, subst, sym, Bool, true, false, List, [], Option, Some, None}
+use Rattle.kit_words.proofs.Common.{◌≡◌, ◌∙◌, ap, refl, subst, Bool, true, false, List, [], Option, Some, None}
 use Rattle.kit_words.proofs.Common.{option_map, codes, Bor}
 use Rattle.std.specs.Prelude.{unwrap_or}
-use Rattle.clap.specs.Words.{App, HasMatchesOf, Row, Text, all_of, first_of, first_value, found_of, is_simple, matched_of}
+use Rattle.clap.specs.Words.{App, HasMatchesOf, Text, all_of, first_of, first_value, found_of, is_simple, matched_of}
 use Rattle.clap.specs.Words.{matches_of, one_of, one_text, raw_values, rows_of}
 use Rattle.clap.specs.declared.parser.matches.ArgMatches.{ArgMatches}
 use Rattle.clap.proofs.WalkLemmas.{first_value-rows, one_text-rows, raw_values-rows}

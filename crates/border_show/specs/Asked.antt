@@ -1,5 +1,5 @@
 -- What the words of the program ask for, as clap reads them.
-use Rattle.std.specs.Prelude.{◌≡◌, ◌&&◌, ◌==◌, ℕ, ℤ, Bool, true, false, not, nat_lt, List, [], ◌∷◌, length, map}
+use Rattle.std.specs.Prelude.{◌≡◌, ◌&&◌, ◌==◌, ℤ, Bool, true, false, not, nat_lt, List, [], ◌∷◌, length, map}
 use Rattle.std.specs.Prelude.{slice_index, Option, Some, None, option_map, unwrap_or, codes, string_bytes, String}
 use Rattle.std.specs.declared.alloc.Global.{Global}
 use Rattle.std.specs.Borrow.{Bor}

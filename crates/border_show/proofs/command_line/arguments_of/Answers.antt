@@ -1,4 +1,4 @@
-use Rattle.kit_words.proofs.Common.{◌≡◌, ap, ◌∙◌}
+use Rattle.kit_words.proofs.Common.{ap, ◌∙◌}
 use Rattle.clap.specs.Words.{found_of, rows_of}
 use Rattle.border_show.specs.Asked.{show_program}
 use Rattle.border_show.proofs.WordLemmas.{rows_found}
