@@ -4,3 +4,4 @@ pub mod Conflicts
 pub mod Found
 pub mod Shown
 pub mod Asked
+pub mod Given

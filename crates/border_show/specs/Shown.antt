@@ -1,24 +1,66 @@
 -- What part of a map is drawn, and why there is no picture.
-use Rattle.std.specs.Prelude.{◌≡◌, ◌⊎◌, ℕ, List, Option, Some, None, IsSomeAnd}
+use Rattle.std.specs.Prelude.{◌≡◌, ◌⊎◌, ℕ, List, Option, Some, None, IfSome, IsSomeAnd, string_bytes}
 use Rattle.std.specs.Borrow.{Bor}
-use Rattle.topo_reader.specs.Common.{IsFault}
-use Rattle.map_features.specs.declared.window.Window.{Window}
+use Rattle.std.specs.declared.alloc.Global.{Global}
+use Rattle.ring_machine.specs.Common.{Document, first_pair}
+use Rattle.map_drawing.specs.Marks.{IsNamedIn}
+use Rattle.topo_reader.specs.Common.{IsFault, Reads, document_of, view_raw}
+use Rattle.topo_reader.specs.declared.document.RawDoc.{RawDoc}
 use Rattle.map_drawing.specs.declared.view.View.{View}
 use Rattle.border_show.specs.declared.arguments.Arguments.{Arguments}
 use Rattle.border_show.specs.declared.arguments.Part.{Part}
 use Rattle.border_show.specs.declared.arguments.Part.TheVariants as part
+use Rattle.border_show.specs.Conflicts.{IsFirstConflict}
+use Rattle.border_show.specs.Found.{IsNamed}
+use Rattle.border_show.specs.declared.finding.Shown.{Shown}
+use Rattle.border_show.specs.declared.showing.Drawing.{Drawing}
 use Rattle.border_show.specs.declared.showing.ShowFault.{ShowFault}
 use Rattle.border_show.specs.declared.showing.ShowFault.TheVariants.{Open, Feature}
 
--- the part that is asked for is all, or this square; of a feature nothing is said here
-abbrev pub IsPartShown : Part → Option Window → Type 0
-IsPartShown part.Whole shown = shown ≡ None
-IsPartShown (part.Square square) shown = shown ≡ Some square
-IsPartShown (part.Feature name) shown = Unit {0}
+-- the part that is asked for is shown: all, this square, or the surroundings of the feature that is named, which is
+-- outlined where it is there
+pub record IsNamedShown (before : Option (RawDoc Global)) (raw : RawDoc Global) (name : List ℕ) (view : View) : Type 0 where
+  pub shown : Shown
+  pub named : IsNamed before raw name shown
+  pub part : view.part ≡ Some shown.part
+  pub outlined : view.feature ≡ shown.number
+
+abbrev pub IsFeatureView : Option (RawDoc Global) → RawDoc Global → List ℕ → View → View → Type 0
+IsFeatureView before raw name all view =
+    IsNamedShown before raw name view × (view.has_ids ≡ all.has_ids)
+
+abbrev pub IsPartShown : Option (RawDoc Global) → RawDoc Global → Part → View → Type 0
+IsPartShown before raw part.Whole view = (view.part ≡ None) × (view.feature ≡ None)
+IsPartShown before raw (part.Square square) view = (view.part ≡ Some square) × (view.feature ≡ None)
+IsPartShown before raw (part.Feature name) view = IsNamedShown before raw (string_bytes name) view
 
 -- the view has the part and the ids that the arguments ask for
-abbrev pub IsViewAsked : Arguments → View → Type 0
-IsViewAsked asked view = IsPartShown asked.part view.part × (view.has_ids ≡ asked.has_ids)
+abbrev pub IsViewAsked : Option (RawDoc Global) → RawDoc Global → Arguments → View → Type 0
+IsViewAsked before raw asked view =
+    IsPartShown before raw asked.part view × (view.has_ids ≡ asked.has_ids)
+
+-- the map is what the bytes mean
+abbrev pub IsRead : List ℕ → RawDoc Global → Type 0
+IsRead bytes map = Reads bytes (document_of (view_raw map))
+
+-- the map before an edit is what its bytes mean, and there is none where there are no bytes
+abbrev pub IsReadBefore : Option (Bor (List ℕ)) → Option (RawDoc Global) → Type 0
+IsReadBefore None None = Unit {0}
+IsReadBefore (Some bytes) (Some map) = IsRead bytes.now map
+IsReadBefore bytes map = ⊥
+
+-- what is drawn: the map that the second bytes mean, as the arguments ask, with its first conflict marked; beside the
+-- map that the first bytes mean, where there are any
+pub record IsDrawing (before : Option (Bor (List ℕ))) (bytes : List ℕ) (asked : Arguments) (drawn : Drawing) : Type 0 where
+  pub earlier : IsReadBefore before drawn.before
+  pub map : IsRead bytes drawn.map
+  pub view : IsViewAsked drawn.before drawn.map asked drawn.view
+  pub conflict : IsFirstConflict bytes drawn.view.conflict
+
+-- the picture has a line that names the first pair in conflict of the map that the bytes mean, if there is one
+abbrev pub IsMarked : List ℕ → List ℕ → Type 0
+IsMarked bytes picture = (d : Document) → Reads bytes d
+    → IfSome (first_pair d) (λ pair. IsNamedIn picture (record { first = pair.0; second = pair.1 }))
 
 -- the surroundings of a feature are asked for
 abbrev pub IsFeaturePart : Part → Type 0

@@ -1,20 +1,26 @@
 //! The feature that `--feature` names.
-ghost use Rattle.std.specs.Prelude.{◌≡◌, map, IfOk};
-ghost use Rattle.border_show.specs.Found.{is_shape_called, IsShownFeature};
+ghost use Rattle.std.specs.Prelude.{◌≡◌, ◌++◌, ◌∷◌, [], if◌then◌else◌, option_map, IfOk, OnOk};
+ghost use Rattle.std.specs.List.{filter};
+ghost use Rattle.border_show.specs.Found.{is_shape_called, IsEarlier, IsNamed, IsNamedBefore, IsShownBefore, IsShownEarlier, IsShownFeature};
 
 use map_features::{Shape, Window, has_id, shapes_of};
 use std::alloc::{AllocError, Global};
 use topo_reader::RawDoc;
 
-/// By feature, whether its `id` stands for this text.
-fn are_called(heap: Global, shapes: &[Shape<'_, Global>], id: &str) -> Result<Vec<bool>, AllocError>
-    ensures { IfOk result (λ flags. flags.items ≡ map (is_shape_called id.now) shapes.now) }
+/// Appends a feature if its `id` stands for this text.
+fn push_called<'r>(
+    heap: Global,
+    found: &mut Vec<Shape<'r, Global>>,
+    shape: &Shape<'r, Global>,
+    id: &str,
+) -> Result<(), AllocError>
+    ensures { OnOk result (found.new.items
+        ≡ found.old.items ++ (if is_shape_called id.now shape.now then shape.now ∷ [] else [])) }
 {
-    let mut flags = Vec::new(heap);
-    for shape in shapes {
-        flags.push(has_id(heap, shape, id)?)?;
+    if has_id(heap, shape, id)? {
+        found.push(*shape)?;
     }
-    Ok(flags)
+    Ok(())
 }
 
 /// The features whose `id` stands for this text, in their order.
@@ -22,13 +28,12 @@ fn features_called<'r>(
     heap: Global,
     shapes: &[Shape<'r, Global>],
     id: &str,
-) -> Result<Vec<Shape<'r, Global>>, AllocError> {
-    let flags = are_called(heap, shapes, id)?;
+) -> Result<Vec<Shape<'r, Global>>, AllocError>
+    ensures { IfOk result (λ found. found.items ≡ filter (is_shape_called id.now) shapes.now) }
+{
     let mut found = Vec::new(heap);
-    for (shape, flag) in shapes.iter().zip(flags.as_slice()) {
-        if *flag {
-            found.push(*shape)?;
-        }
+    for shape in shapes {
+        push_called(heap, &mut found, shape, id)?;
     }
     Ok(found)
 }
@@ -94,12 +99,59 @@ fn single_feature(found: &[Shape<'_, Global>]) -> Result<Shown, NoFeature>
 }
 
 /// The same, of a map before an edit.
-fn earlier_feature(found: &[Shape<'_, Global>]) -> Result<Shown, NoFeature> {
+fn earlier_feature(found: &[Shape<'_, Global>]) -> Result<Shown, NoFeature>
+    ensures { IfOk result (IsShownEarlier found.now) }
+{
     let shown = single_feature(found)?;
     Ok(Shown {
         number: None,
         ..shown
     })
+}
+
+/// The feature of a map before an edit that a search found, or another answer where it found none.
+fn earlier_or(
+    found: &[Shape<'_, Global>],
+    other: Result<Shown, NoFeature>,
+) -> Result<Shown, NoFeature>
+    ensures { IfOk result (IsShownBefore found.now) }
+{
+    if found.is_empty() {
+        other
+    } else {
+        earlier_feature(found)
+    }
+}
+
+/// The feature that this text names by an `id` of the map before an edit, or else by a number of these features.
+fn named_before(
+    heap: Global,
+    before: &RawDoc<'_, Global>,
+    shapes: &[Shape<'_, Global>],
+    name: &str,
+) -> Result<Result<Shown, NoFeature>, AllocError>
+    ensures { IfOk result (λ shown. IfOk shown (IsNamedBefore before.now name.now)) }
+{
+    let earlier = shapes_of(heap, before, before.polygons.as_slice())?;
+    let found = features_called(heap, earlier.as_slice(), name)?;
+    let numbered = single_feature(features_numbered(shapes, name));
+    Ok(earlier_or(found.as_slice(), numbered))
+}
+
+/// The same, where there may be no map before.
+fn named_elsewhere(
+    heap: Global,
+    before: Option<&RawDoc<'_, Global>>,
+    shapes: &[Shape<'_, Global>],
+    name: &str,
+) -> Result<Result<Shown, NoFeature>, AllocError>
+    ensures { IfOk result (λ shown. IfOk shown
+        (IsEarlier (option_map (λ b. b.now) before.entry) name.now)) }
+{
+    match before {
+        Some(before) => named_before(heap, before, shapes, name),
+        None => Ok(single_feature(features_numbered(shapes, name))),
+    }
 }
 
 /// The feature that this text names: by an `id` of the map, by an `id` of the map before an edit, or by a
@@ -109,18 +161,15 @@ pub(crate) fn named_feature(
     before: Option<&RawDoc<'_, Global>>,
     map: &RawDoc<'_, Global>,
     name: &str,
-) -> Result<Result<Shown, NoFeature>, AllocError> {
+) -> Result<Result<Shown, NoFeature>, AllocError>
+    ensures { IfOk result (λ shown. IfOk shown
+        (IsNamed (option_map (λ b. b.now) before.entry) map.now name.now)) }
+{
     let shapes = shapes_of(heap, map, map.polygons.as_slice())?;
     let found = features_called(heap, shapes.as_slice(), name)?;
-    if !found.is_empty() {
-        return Ok(single_feature(found.as_slice()));
+    if found.is_empty() {
+        named_elsewhere(heap, before, shapes.as_slice(), name)
+    } else {
+        Ok(single_feature(found.as_slice()))
     }
-    if let Some(before) = before {
-        let earlier = shapes_of(heap, before, before.polygons.as_slice())?;
-        let found = features_called(heap, earlier.as_slice(), name)?;
-        if !found.is_empty() {
-            return Ok(earlier_feature(found.as_slice()));
-        }
-    }
-    Ok(single_feature(features_numbered(shapes.as_slice(), name)))
 }

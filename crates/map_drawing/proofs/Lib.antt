@@ -1,2 +1,4 @@
 pub mod MappedLists
 pub mod ProductLemmas
+pub mod NamedLemmas
+mod Examples

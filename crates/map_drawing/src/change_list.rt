@@ -2,11 +2,10 @@
 ghost use Rattle.std.specs.Prelude.{◌≤◌, ◌≤ℤ◌, pos};
 
 use crate::layout::ROW;
-use crate::map_picture::Picture;
 use map_features::{
     FeatureChange, Shape, Units, area, feature_id, feature_name, feature_number, percent,
 };
-use std::alloc::{AllocError, Allocator};
+use std::alloc::{AllocError, Allocator, Global};
 use svg_text::push_words;
 
 /// The most changes that are listed.
@@ -47,7 +46,18 @@ pub(crate) fn rows_of(changes: usize) -> i64
     }
 }
 
-impl<A: Allocator + Copy> Picture<A> {
+/// A list of changes that grows.
+#[derive(Drop)]
+struct Listing<A: Allocator + Copy> {
+    /// What holds all but decoded ids.
+    alloc: A,
+    /// What holds decoded ids.
+    heap: Global,
+    /// The text so far.
+    text: Vec<u8, A>,
+}
+
+impl<A: Allocator + Copy> Listing<A> {
     /// Appends a line that says what the colours mean, and what the areas are in.
     fn push_legend(&mut self, y: i64, units: &Units) -> Result<(), AllocError> {
         push_words(&mut self.text, "gone", DONE, y, b"borders gone (dashed)")?;
@@ -196,20 +206,50 @@ impl<A: Allocator + Copy> Picture<A> {
         Ok(())
     }
 
-    /// Appends the list of changes, from the second line below the map down.
-    pub(crate) fn push_list(
+    /// Appends the lines of changes, from so far down, and answers how far down the next line is.
+    fn push_changes(
         &mut self,
+        top: i64,
         units: &Units,
         changes: &[FeatureChange<'_, A>],
-    ) -> Result<(), AllocError> {
-        let top = self.layout.first_line() + ROW;
-        self.push_legend(top, units)?;
-        self.push_head(top + ROW)?;
-        let mut y = top + 2 * ROW;
-        for change in &changes[..listed(changes.len())] {
+    ) -> Result<i64, AllocError> {
+        let mut y = top;
+        for change in changes {
             self.push_change(y, units, change)?;
             y = y.saturating_add(ROW);
         }
+        Ok(y)
+    }
+
+    /// Appends the list of changes, from so far down.
+    fn push_list(
+        &mut self,
+        top: i64,
+        units: &Units,
+        changes: &[FeatureChange<'_, A>],
+    ) -> Result<(), AllocError> {
+        self.push_legend(top, units)?;
+        self.push_head(top.saturating_add(ROW))?;
+        let listed = &changes[..listed(changes.len())];
+        let y = self.push_changes(top.saturating_add(2 * ROW), units, listed)?;
         self.push_others(y, changes.len())
     }
+}
+
+/// The list of changes, from so far down in the picture.
+pub(crate) fn list_text<A: Allocator + Copy>(
+    alloc: A,
+    heap: Global,
+    top: i64,
+    units: &Units,
+    changes: &[FeatureChange<'_, A>],
+) -> Result<Vec<u8, A>, AllocError> {
+    let mut list = Listing {
+        alloc,
+        heap,
+        text: Vec::new(alloc),
+    };
+    list.push_list(top, units, changes)?;
+    let Listing { text, .. } = list;
+    Ok(text)
 }

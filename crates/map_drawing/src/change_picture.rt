@@ -1,6 +1,10 @@
 // The picture of what an edit did.
-use crate::change_list::rows_of;
+ghost use Rattle.std.specs.Prelude.{◌≡◌, ◌++◌, ℕ, List, IfOk, IfSome, OnOk};
+ghost use Rattle.map_drawing.specs.Marks.{IsNamedAbove, IsNamedIn};
+
+use crate::change_list::{list_text, rows_of};
 use crate::cutting::cut_line;
+use crate::layout::ROW;
 use crate::map_picture::{Look, Picture};
 use crate::paths::push_line;
 use crate::seen::is_change_seen;
@@ -61,7 +65,7 @@ impl<A: Allocator + Copy> Picture<A> {
     fn meets(&self, shape: Option<&Shape<'_, A>>) -> bool {
         match shape.and_then(|shape| shape.bounds()) {
             Some(bounds) => self.layout.window.meets(&bounds),
-            None => self.view.part.is_none() && shape.is_some(),
+            None => self.is_whole && shape.is_some(),
         }
     }
 
@@ -136,22 +140,56 @@ impl<A: Allocator + Copy> Picture<A> {
     }
 }
 
-/// The picture of what an edit did to features whose regions have corners alone.
-fn draw_features<A: Allocator + Copy>(
-    picture: Picture<A>,
-    units: &Units,
-    title: &str,
-    old: &[Shape<'_, A>],
-    new: &[Shape<'_, A>],
-) -> Result<Vec<u8, A>, AllocError> {
-    let mut picture = picture;
-    let changes = changes_between(picture.alloc, old, new)?;
-    let list = picture.in_sight(changes.as_slice())?;
-    picture.open(units, title, rows_of(list.len()) + 1)?;
-    picture.push_edit(old, new, changes.as_slice())?;
-    picture.close_map(new)?;
-    picture.push_list(units, list.as_slice())?;
-    picture.close()
+impl<A: Allocator + Copy> Picture<A> {
+    /// Appends the list of changes, from the second line below the map down.
+    fn push_list(
+        &mut self,
+        units: &Units,
+        changes: &[FeatureChange<'_, A>],
+    ) -> Result<(), AllocError>
+        ensures { OnOk result ((list : List ℕ)
+            × (self.new.text.items ≡ self.old.text.items ++ list)) }
+    {
+        let top = self.layout.first_line() + ROW;
+        let list = list_text(self.alloc, self.heap, top, units, changes)?;
+        self.text.extend_from_slice(list.as_slice())?;
+        Ok(())
+    }
+
+    /// Appends what an edit did to features whose regions have corners alone: the map, and the list of changes.
+    fn push_features(
+        &mut self,
+        view: View,
+        units: &Units,
+        title: &str,
+        old: &[Shape<'_, A>],
+        new: &[Shape<'_, A>],
+    ) -> Result<(), AllocError>
+        ensures { OnOk result (IfSome view.conflict (λ c. IsNamedAbove c self.new.text.items)) }
+    {
+        let changes = changes_between(self.alloc, old, new)?;
+        let list = self.in_sight(changes.as_slice())?;
+        self.open(units, title, rows_of(list.len()) + 1)?;
+        self.push_edit(old, new, changes.as_slice())?;
+        self.close_map(view, new)?;
+        self.push_list(units, list.as_slice())
+    }
+
+    /// The same as a whole picture.
+    fn with_features(
+        self,
+        view: View,
+        units: &Units,
+        title: &str,
+        old: &[Shape<'_, A>],
+        new: &[Shape<'_, A>],
+    ) -> Result<Vec<u8, A>, AllocError>
+        ensures { IfOk result (λ picture. IfSome view.conflict (IsNamedIn picture.items)) }
+    {
+        let mut picture = self;
+        picture.push_features(view, units, title, old, new)?;
+        picture.close()
+    }
 }
 
 /// The picture of what an edit did: the map after it, the features and borders that are gone and those that are
@@ -168,13 +206,15 @@ pub fn draw_change<'m, 'a, A: Allocator + Copy>(
     after: &'m RawDoc<'a, A>,
     view: View,
     title: &str,
-) -> Result<Vec<u8, A>, AllocError> {
+) -> Result<Vec<u8, A>, AllocError>
+    ensures { IfOk result (λ picture. IfSome view.conflict (IsNamedIn picture.items)) }
+{
     let old_regions = straight_features(alloc, before.polygons.as_slice())?;
     let new_regions = straight_features(alloc, after.polygons.as_slice())?;
     let old = shapes_of(alloc, before, old_regions.as_slice())?;
     let new = shapes_of(alloc, after, new_regions.as_slice())?;
     let bounds = bounds_of(bounds_of(None, old.as_slice()), new.as_slice());
     let units = Units::of(after.transform, bounds, view.part);
-    let picture = Picture::of_part(alloc, heap, view, bounds, &units);
-    draw_features(picture, &units, title, old.as_slice(), new.as_slice())
+    let picture = Picture::of_part(alloc, heap, view.part, bounds, &units);
+    picture.with_features(view, &units, title, old.as_slice(), new.as_slice())
 }

@@ -1,5 +1,6 @@
 // The picture of a map.
-ghost use Rattle.std.specs.Prelude.{◌≤ℤ◌, pos};
+ghost use Rattle.std.specs.Prelude.{◌≡◌, ◌≤ℤ◌, ◌++◌, codes, pos, IfOk, IfSome, OnOk};
+ghost use Rattle.map_drawing.specs.Marks.{IsNamedIn, NamesConflict};
 
 use crate::labels::{Label, place_in, rows_inside};
 use crate::layout::{Layout, MARGIN, PIXEL, ROW, WIDTH};
@@ -26,7 +27,7 @@ const TITLE: i64 = 30;
 const MOST_TITLE: usize = 76;
 
 /// How a feature or a border looks.
-#[derive(Clone, Copy, Debug, PartialEq, Eq)]
+#[derive(Clone, Copy, PartialEq, Eq)]
 pub(crate) enum Look {
     /// A feature of a map.
     Plain,
@@ -69,8 +70,8 @@ pub(crate) struct Picture<A: Allocator + Copy> {
     pub(crate) alloc: A,
     /// What holds decoded ids.
     pub(crate) heap: Global,
-    /// What is asked to be seen.
-    pub(crate) view: View,
+    /// Whether all is drawn, and not a part alone.
+    pub(crate) is_whole: bool,
     /// Where the part of the grid that is drawn lies.
     pub(crate) layout: Layout,
     /// The text so far.
@@ -78,19 +79,19 @@ pub(crate) struct Picture<A: Allocator + Copy> {
 }
 
 impl<A: Allocator + Copy> Picture<A> {
-    /// A picture of what has these bounds, or of the part that the view names, with nothing in it.
+    /// A picture of what has these bounds, or of this part of the grid, with nothing in it.
     pub(crate) fn of_part(
         alloc: A,
         heap: Global,
-        view: View,
+        part: Option<Window>,
         bounds: Option<Bounds>,
         units: &Units,
     ) -> Picture<A> {
-        let window = view.part.unwrap_or(Window::of(bounds));
+        let window = part.unwrap_or(Window::of(bounds));
         Picture {
             alloc,
             heap,
-            view,
+            is_whole: part.is_none(),
             layout: Layout::new(window, units.ratio),
             text: Vec::new(alloc),
         }
@@ -220,29 +221,64 @@ impl<A: Allocator + Copy> Picture<A> {
 
     /// Ends the map, and appends what is written over it: the names of features where the view has
     /// them. What is in conflict is marked, and named in the first line below the map.
-    pub(crate) fn close_map(&mut self, shapes: &[Shape<'_, A>]) -> Result<(), AllocError> {
-        if let Some(number) = self.view.feature {
+    pub(crate) fn close_map(
+        &mut self,
+        view: View,
+        shapes: &[Shape<'_, A>],
+    ) -> Result<(), AllocError>
+        ensures { OnOk result (IfSome view.conflict (λ c. NamesConflict c self.new.text.items)) }
+    {
+        if let Some(number) = view.feature {
             self.push_named(shapes.get(number))?;
         }
-        if let Some(conflict) = self.view.conflict {
-            self.push_conflict(conflict)?;
-        }
+        self.push_segments(view.conflict)?;
         close_group(&mut self.text)?;
         close_picture(&mut self.text)?;
-        if self.view.has_ids {
+        if view.has_ids {
             self.push_labels(shapes)?;
         }
-        if let Some(conflict) = self.view.conflict {
-            self.push_fault(conflict)?;
+        self.push_place(view.conflict)
+    }
+
+    /// Appends a map.
+    fn push_map(
+        &mut self,
+        view: View,
+        units: &Units,
+        title: &str,
+        shapes: &[Shape<'_, A>],
+    ) -> Result<(), AllocError>
+        ensures { OnOk result (IfSome view.conflict (λ c. NamesConflict c self.new.text.items)) }
+    {
+        self.open(units, title, 0)?;
+        for shape in shapes {
+            self.push_shape(shape, Look::Plain)?;
         }
-        Ok(())
+        self.close_map(view, shapes)
     }
 
     /// Ends the picture, and answers its text.
-    pub(crate) fn close(self) -> Result<Vec<u8, A>, AllocError> {
+    pub(crate) fn close(self) -> Result<Vec<u8, A>, AllocError>
+        ensures { IfOk result (λ text. text.items ≡ self.text.items ++ codes "</svg>\n") }
+    {
         let Picture { mut text, .. } = self;
         close_picture(&mut text)?;
         Ok(text)
+    }
+
+    /// A map as a whole picture.
+    fn with_map(
+        self,
+        view: View,
+        units: &Units,
+        title: &str,
+        shapes: &[Shape<'_, A>],
+    ) -> Result<Vec<u8, A>, AllocError>
+        ensures { IfOk result (λ picture. IfSome view.conflict (IsNamedIn picture.items)) }
+    {
+        let mut picture = self;
+        picture.push_map(view, units, title, shapes)?;
+        picture.close()
     }
 }
 
@@ -255,15 +291,12 @@ pub fn draw_map<A: Allocator + Copy>(
     map: &RawDoc<'_, A>,
     view: View,
     title: &str,
-) -> Result<Vec<u8, A>, AllocError> {
+) -> Result<Vec<u8, A>, AllocError>
+    ensures { IfOk result (λ picture. IfSome view.conflict (IsNamedIn picture.items)) }
+{
     let shapes = shapes_of(alloc, map, map.polygons.as_slice())?;
     let bounds = bounds_of(None, shapes.as_slice());
     let units = Units::of(map.transform, bounds, view.part);
-    let mut picture = Picture::of_part(alloc, heap, view, bounds, &units);
-    picture.open(&units, title, 0)?;
-    for shape in &shapes {
-        picture.push_shape(shape, Look::Plain)?;
-    }
-    picture.close_map(shapes.as_slice())?;
-    picture.close()
+    let picture = Picture::of_part(alloc, heap, view.part, bounds, &units);
+    picture.with_map(view, &units, title, shapes.as_slice())
 }

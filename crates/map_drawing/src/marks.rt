@@ -1,4 +1,7 @@
 // What is drawn over the borders.
+ghost use Rattle.std.specs.Prelude.{IfSome, OnOk};
+ghost use Rattle.map_drawing.specs.Marks.{NamesConflict};
+
 use crate::cutting::{Side, cut_line};
 use crate::layout::PIXEL;
 use crate::map_picture::{Look, Picture};
@@ -43,7 +46,7 @@ impl<A: Allocator + Copy> Picture<A> {
     }
 
     /// Appends both segments of a conflict.
-    pub(crate) fn push_conflict(&mut self, conflict: Conflict) -> Result<(), AllocError> {
+    fn push_conflict(&mut self, conflict: Conflict) -> Result<(), AllocError> {
         let sides = self.layout.sides();
         self.open_lines(Look::Conflict)?;
         self.push_segment(&sides, conflict.first)?;
@@ -51,9 +54,16 @@ impl<A: Allocator + Copy> Picture<A> {
         self.text.extend_from_slice(b"\"/>\n")
     }
 
-    /// Appends a ring round the place of a conflict, where it is shown, and the line that says which
-    /// segments are in conflict.
-    pub(crate) fn push_fault(&mut self, conflict: Conflict) -> Result<(), AllocError> {
+    /// The same for the conflict that there is.
+    pub(crate) fn push_segments(&mut self, conflict: Option<Conflict>) -> Result<(), AllocError> {
+        match conflict {
+            Some(conflict) => self.push_conflict(conflict),
+            None => Ok(()),
+        }
+    }
+
+    /// Appends a ring round the place of a conflict, where it is shown.
+    fn push_circle(&mut self, conflict: Conflict) -> Result<(), AllocError> {
         if let Some(middle) = conflict.middle()
             && self.layout.window.has(middle)
         {
@@ -64,13 +74,27 @@ impl<A: Allocator + Copy> Picture<A> {
             push_attribute(&mut self.text, "r", RADIUS)?;
             self.text.extend_from_slice(b"/>\n")?;
         }
+        Ok(())
+    }
+
+    /// Appends a ring round the place of a conflict, and the line that says which segments are in conflict.
+    fn push_fault(&mut self, conflict: Conflict) -> Result<(), AllocError>
+        ensures { OnOk result (NamesConflict conflict self.new.text.items) }
+    {
+        self.push_circle(conflict)?;
         let words = format!(in self.alloc; "conflict {} / {}", conflict.first, conflict.second)?;
-        push_words(
-            &mut self.text,
-            "gone",
-            20,
-            self.layout.first_line(),
-            words.as_bytes(),
-        )
+        let down = self.layout.first_line();
+        push_words(&mut self.text, "gone", 20, down, words.as_bytes())?;
+        Ok(())
+    }
+
+    /// The same for the conflict that there is.
+    pub(crate) fn push_place(&mut self, conflict: Option<Conflict>) -> Result<(), AllocError>
+        ensures { OnOk result (IfSome conflict (λ c. NamesConflict c self.new.text.items)) }
+    {
+        match conflict {
+            Some(conflict) => self.push_fault(conflict),
+            None => Ok(()),
+        }
     }
 }
