@@ -140,7 +140,7 @@ ONE_FILE = [
     (EDIT, "squares.json accepted.txt --out sub/new --refused real/new", LINKED, "--refused --out"),
     (EDIT, "squares.json accepted.txt --out link --refused new", {"link": Link("new")}, "--refused --out"),
     (EDIT, "squares.json accepted.txt --out squares.json --refused squares.json", {}, "--refused --out|MAP"),
-    (MEND, "wards.json --places wards.json", {}, "--places MAP"),
+    (MEND, "wards.json --places wards.json", {}, "--places MAP|map"),
     (MEND, "wards.json --places ./wards.json", {}, "--places MAP"),
     (MEND, "wards.json --places link", {"link": Link("wards.json")}, "--places MAP"),
     (MEND, "wards.json --places saved --out saved", {}, "--places --out"),
@@ -285,10 +285,11 @@ def entry_faults(found, wanted):
 
 
 def says(said, wanted):
-    """Whether standard error has this text, or else some lines, with all these names where there are any."""
+    """Whether standard error has this text, or else some lines, the first with all these names where there are any."""
     if isinstance(wanted, str):
         return said == wanted
-    named = all(any(name in said for name in names.split("|")) for names in wanted)
+    first = said.partition("\n")[0]
+    named = all(any(name in first for name in names.split("|")) for names in wanted)
     return bool(said) and named and (not wanted or said.count("\n") == 1 or said.startswith("error: "))
 
 
