@@ -177,10 +177,10 @@ export class Talk {
     navigator.sendBeacon("leave", new Blob([JSON.stringify({ owner: this.owner })], { type: "application/json" }));
   }
 
-  /** The map, which is read while it comes. */
+  /** The map, which is read while it comes. Where that breaks off, since border_edit has ended meanwhile, it is asked for again. */
   async document() {
-    const { body } = await this.get("document");
-    return parsedStream(/** @type {ReadableStream<Uint8Array>} */ (body));
+    const read = async () => parsedStream(/** @type {ReadableStream<Uint8Array>} */ ((await this.get("document")).body));
+    return read().catch(fault => { if (fault instanceof TalkFault) throw fault; return read(); });
   }
 
   /** The map as its file has it, which need not be open for that; nothing where it was edited. */
