@@ -37,6 +37,7 @@ import time
 from bundle import bundled
 from child import Ended
 from connection import BadRequest, Connection
+from growing import Growing
 from session import MOST_EDITS, MOST_LINE, Lost, Refusal
 from visits import NoPage, Visits
 
@@ -202,9 +203,9 @@ class Handler(Connection):
             self.wfile.write(body)
 
     def _send_head(self, status, size, kind=JSON, policy=POLICY):
-        """Sends the head of an answer, whose body has so many bytes."""
-        own = {"Content-Type": kind, "Content-Length": str(size), "Content-Security-Policy": policy}
-        self.send_head(status, {**own, **HEADERS})
+        """Sends the head of an answer, whose body has so many bytes, or comes in chunks."""
+        length = {"Transfer-Encoding": "chunked"} if size is None else {"Content-Length": str(size)}
+        self.send_head(status, {"Content-Type": kind, **length, "Content-Security-Policy": policy, **HEADERS})
 
     # ---- who may ask
 
@@ -272,11 +273,7 @@ class Handler(Connection):
         elif name == "map":
             self._send_map()
         elif name == "document":
-            with server.lock:
-                file = server.session.document()
-                server.visits.hear()
-            with file:
-                self._send_file(file)
+            self._send_document()
         elif name == "script":
             with server.lock:
                 text = server.session.script()
@@ -294,6 +291,31 @@ class Handler(Connection):
             return
         with open(path, "rb") as file:
             self._send_file(file)
+
+    def _send_document(self):
+        """Sends the text of the map, while border_edit gives it. Whoever asks in an old way has it once it is whole."""
+        server, is_new = self.server, self.request_version > "HTTP/1.0"
+        text = Growing(self.connection, self._begin_chunks)
+        try:
+            with server.lock:
+                file = server.session.document(text.grown) if is_new else server.session.document()
+                server.visits.hear()
+            with file:
+                if is_new:
+                    text.finish()
+                else:
+                    self._send_file(file)
+        except Exception as fault:
+            if text.file is None:
+                raise
+            # half of it was sent, and the browser sees no end of it
+            self.close_connection = True
+            raise ConnectionAbortedError from fault
+
+    def _begin_chunks(self):
+        """Sends the head of an answer that comes in chunks."""
+        self._send_head(200, None)
+        self.wfile.flush()
 
     def _send_file(self, file):
         """Sends a file whole."""

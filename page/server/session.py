@@ -147,18 +147,21 @@ class Session:
         """The answers to questions."""
         return self._with_child(lambda: self.child.ask(lines))
 
-    def document(self):
-        """The text of the map, as a file that is gone once it is closed."""
-        return self._with_child(self._text)
+    def document(self, grown=lambda file: None):
+        """The text of the map, as a file that is gone once it is closed. `grown` is given the file each time that there is
+        more in it; another one where border_edit ends meanwhile."""
+        return self._with_child(lambda: self._text(grown))
 
-    def _text(self):
+    def _text(self, grown):
         """A file without a name, with the text of the map."""
         file = open(self.scratch / "text.json", "w+b")
         try:
             os.unlink(file.name)
             with contextlib.closing(self.child.document()) as pieces:
-                file.writelines(pieces)
-            file.flush()
+                for piece in filter(None, pieces):
+                    file.write(piece)
+                    file.flush()
+                    grown(file)
         except BaseException:
             file.close()
             raise

@@ -1,10 +1,13 @@
 """border_edit ends while it is needed."""
 import contextlib
+import http.client
 import os
 import signal
 
 from server_maps import SQUARES
 from server_runs import PATHS, TESTS, Served, folder, run, until
+
+from child import MOST_COUNT
 
 RENAMES = ['rename 0 "x"', 'rename 1 "y"', 'rename 0 "z"']
 # When the stand-in ends: its cue, the request, its answer, and what is in the log afterwards behind the first edit.
@@ -91,6 +94,21 @@ def ends_always(checks):
         checks.same("until it can be had again", page.post("save")[0], 200)
 
 
+def ends_within(checks):
+    """border_edit ends within the text of the map, of which some was sent: the connection is closed before the end."""
+    with stood_in() as (page, cues):
+        status, text = page.get("document")
+        checks.same("the text", (status, len(text) > MOST_COUNT), (200, True))
+        cues.write_text("1\tlate\tdocument\n")
+        try:
+            begin, is_whole = page.get("document")[1], True
+        except http.client.IncompleteRead as broken:
+            begin, is_whole = broken.partial, False
+        checks.same("it breaks off", (0 < len(begin) < len(text), text.startswith(begin), is_whole), (True, True, False))
+        checks.same("the cue was taken", cues.read_text(), "0\tlate\tdocument\n")
+        checks.same("then it is there again", page.get("document"), (status, text))
+
+
 def answers_differ(checks):
     """Started again, border_edit gives other answers: nothing is saved any more, and the log is not lost."""
     with stood_in() as (page, cues):
@@ -120,4 +138,4 @@ def wrong_undo(checks):
         checks.same("not saved", (page.post("save")[0], cues.with_name("out.json").exists()), (500, False))
 
 
-GROUPS = [killed, ends_once, ends_always, answers_differ, wrong_undo]
+GROUPS = [killed, ends_once, ends_always, ends_within, answers_differ, wrong_undo]

@@ -1,5 +1,7 @@
 """Maps as large as maps may be."""
+import http.client
 import pathlib
+import socket
 import time
 
 from server_maps import of_squares
@@ -70,6 +72,26 @@ def half_taken(checks):
             child.end()
 
 
+def slowly_taken(checks):
+    """While a browser does not take the text that it asked for, another one is answered. Then it has all of it."""
+    text = of_bytes(20_000_000, 1000).encode()
+    with folder() as files:
+        (files / "map.json").write_bytes(text)
+        with Served(files / "map.json") as page:
+            counts = page.begin()["counts"]
+            slow = http.client.HTTPConnection("127.0.0.1", page.port, timeout=PATIENCE)
+            slow.request("GET", page.base + "document")
+            answer = slow.getresponse()
+            checks.same("the text comes in chunks", answer.getheader("Transfer-Encoding"), "chunked")
+            checks.same("a question", page.questions("count"), [counts])
+            checks.same("the text", answer.read() == text, True)
+            slow.close()
+            with socket.create_connection(("127.0.0.1", page.port), PATIENCE) as old:
+                old.sendall(f"GET {page.base}document HTTP/1.0\r\nHost: 127.0.0.1:{page.port}\r\n\r\n".encode())
+                head, _, body = old.makefile("rb").read().partition(b"\r\n\r\n")
+            checks.same("asked for in an old way", (b"chunked" in head, body == text), (False, True))
+
+
 def larger(checks):
     """Of a file of a tebibyte no more is read than shows that it is too large."""
     with folder() as files:
@@ -80,4 +102,4 @@ def larger(checks):
             checks.same("the fault", page.begin()["fault"], "too large bytes")
 
 
-GROUPS = [as_large_as_may_be, half_taken, larger]
+GROUPS = [as_large_as_may_be, half_taken, slowly_taken, larger]

@@ -2,7 +2,8 @@
 """border_edit, but for what the file CUES says: a test makes it end, or answer wrongly, at a line of its choice.
 
 Each line of CUES is COUNT<TAB>WHAT<TAB>LINE. For COUNT times at LINE the program ends before it answers, if WHAT is
-`end`, or its answer is WHAT. The program itself, in REAL_BORDER_EDIT, answers all other lines.
+`end`, or before the last byte of its answer, if WHAT is `late`; else its answer is WHAT. The program itself, in
+REAL_BORDER_EDIT, answers all other lines.
 """
 import os
 import pathlib
@@ -33,6 +34,10 @@ def main():
             real.end()
             sys.exit("out of memory")
         answer = b"".join(real.document()).decode() if line == "document" else real.ask([line])[0]
+        if what == "late":
+            print(answer[:-1], end="", flush=True)
+            real.end()
+            sys.exit("out of memory")
         print(what or answer, flush=True)
 
 

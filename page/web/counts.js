@@ -9,22 +9,31 @@
  * Counts by walking the map. Between its two ends a piece has vertices that no other piece has, since arcs are cut where
  * borders meet; ends may stand in several pieces.
  * @param {Pieces} map
+ * @param {number=} vertices how many there are; they are counted where that is not given
  * @returns {Counts}
  */
-export function countAll(map) {
-  const { pieces } = map, ends = new Float64Array(4 * pieces.length);
-  let inner = 0, segments = 0, at = 0;
+export function countAll(map, vertices) {
+  const { features, pieces } = map, segments = pieces.reduce((sum, piece) => sum + segmentsOf(piece), 0);
+  return { features: features.size, vertices: vertices ?? countVertices(pieces), segments };
+}
+
+/** @param {Piece} piece */
+const segmentsOf = ({ from, to, users }) => users.length ? (to - from) / 2 - 1 : 0;
+
+/** @param {Piece[]} pieces */
+function countVertices(pieces) {
+  const ends = new Float64Array(4 * pieces.length);
+  let inner = 0, at = 0;
   for (let i = 0; i < pieces.length; i++) {
     const piece = pieces[i], { xy, from, to } = piece;
     if (!piece.users.length) continue;
     inner += innerVertices(piece);
-    segments += (to - from) / 2 - 1;
     ends[at++] = xy[from];
     ends[at++] = xy[from + 1];
     ends[at++] = xy[to - 2];
     ends[at++] = xy[to - 1];
   }
-  return { features: map.features.size, vertices: inner + distinct(ends.subarray(0, at)), segments };
+  return inner + distinct(ends.subarray(0, at));
 }
 
 /**

@@ -277,9 +277,9 @@ export class Editor {
    * @param {boolean} isKept whether it is a change of the model that can be taken back
    */
   async reload(isKept) {
-    const topology = await this.talk.document();
-    if (isKept) this.model.replace(topology, this.order());
-    else { this.model.past = []; this.model.load(topology, this.order()); }
+    const topology = await this.talk.document(), { vertices } = countsIn(this.counts);
+    if (isKept) this.model.replace(topology, this.order(), vertices);
+    else { this.model.past = []; this.model.load(topology, this.order(), vertices); }
   }
 
   /** Why what is drawn is not what border_edit has; nothing where it is. */

@@ -26,6 +26,11 @@ import { countAll, recounted } from "./counts.js";
  */
 /** @typedef {{name: string, isShown: boolean}} Layer */
 /**
+ * How arcs are cut into pieces: the first piece of each arc, and the end of the last one; whether each arc is one piece, which then
+ * has its number; and how many pieces all further rings may have.
+ * @typedef {{firsts: Int32Array, isWhole: boolean, left: number}} Cut
+ */
+/**
  * What was there before a change.
  * @typedef {{pieces: Map<number, Piece | undefined>, features: Map<number, Feature | undefined>,
  *   order: number[], counts: Counts}} Before
@@ -37,6 +42,8 @@ const PIECE = 64;
 const MOST_FEATURES = 200000, MOST_POSITIONS = 4000000;
 /** @type {number[]} */
 const NOBODY = [];
+/** the number of no feature */
+const NONE = -1;
 
 /**
  * The piece that a ring takes, whichever way it goes.
@@ -88,43 +95,42 @@ export class Pieces {
    * Takes another text of the map. A layer that was hidden stays so.
    * @param {any} topology
    * @param {number[]=} numbers
+   * @param {number=} vertices how many there are; they are counted where that is not given
    */
-  load(topology, numbers) {
+  load(topology, numbers, vertices) {
     this.features = new Map();
     this.order = [];
     const hidden = new Set(this.layers.filter(layer => !layer.isShown).map(layer => layer.name));
     this.layers = layerNames(topology).map(name => ({ name, isShown: !hidden.has(name) }));
-    const firsts = this.loadPieces(topology), room = { left: MOST_POSITIONS };
+    const arcs = arcsOf(topology), cut = cutOf(arcs.ends), users = new Users(cut.firsts[arcs.ends.length]);
     eachFeature(topology, (object, collection, layer) => {
       if (this.order.length === MOST_FEATURES) throw new Error("too many features");
       const num = numbers ? numbers[this.order.length] : this.order.length;
-      const polygons = polygonsOf(object).map(polygon => polygon.map(ring => refsOf(ring, firsts, room)));
+      const polygons = polygonsOf(object).map(polygon => polygon.map(ring => refsOf(ring, cut)));
       const feature = { num, id: object.id, properties: object.properties, polygons, collection, layer, box: NOTHING };
       this.features.set(num, feature);
       this.order.push(num);
-      this.useFirst(feature);
+      users.add(feature);
     });
-    this.counts = countAll(this);
+    this.loadPieces(arcs, users);
+    this.counts = countAll(this, vertices);
     this.loadIndexes();
   }
 
   /**
-   * Cuts the arcs into pieces.
-   * @param {any} topology
-   * @returns {Int32Array} the first piece of each arc, and the end of the last one
+   * The pieces of the arcs, each with its users.
+   * @param {import("./topology.js").Arcs} arcs
+   * @param {Users} users
    */
-  loadPieces(topology) {
+  loadPieces({ xy, ends }, users) {
     this.pieces = [];
-    const { xy, ends } = arcsOf(topology), firsts = new Int32Array(ends.length + 1);
     let first = 0;
-    ends.forEach((end, arc) => {
+    for (const end of ends) {
       for (let from = first; from + 2 < end; from += 2 * PIECE) {
-        this.pieces.push({ xy, from, to: Math.min(from + 2 * PIECE + 2, end), users: NOBODY });
+        this.pieces.push({ xy, from, to: Math.min(from + 2 * PIECE + 2, end), users: users.of(this.pieces.length) });
       }
       first = end;
-      firsts[arc + 1] = this.pieces.length;
-    });
-    return firsts;
+    }
   }
 
   loadIndexes() {
@@ -250,19 +256,6 @@ export class Pieces {
       this.notePiece(pieceOf(ref));
       const piece = this.pieces[pieceOf(ref)];
       piece.users = piece.users.length ? [...piece.users, feature.num] : [feature.num];
-    }
-  }
-
-  /**
-   * As `use`, while a map is loaded: nobody keeps the lists of users yet, so they grow in place, but from one to two, as
-   * most have, since a list that grows in place gets room for many.
-   * @param {Feature} feature
-   */
-  useFirst({ num, polygons }) {
-    const { pieces } = this;
-    for (const polygon of polygons) for (const ring of polygon) for (let i = 0; i < ring.length; i++) {
-      const ref = ring[i], piece = pieces[ref < 0 ? ~ref : ref], { users } = piece;
-      if (users.length === 0) piece.users = [num]; else if (users.length === 1) piece.users = [users[0], num]; else users.push(num);
     }
   }
 
@@ -442,22 +435,40 @@ function boxOfRings(feature, boxes) {
 }
 
 /**
+ * Where arcs are cut: each has pieces of at most so many segments.
+ * @param {number[]} ends
+ * @returns {Cut}
+ */
+function cutOf(ends) {
+  const firsts = new Int32Array(ends.length + 1);
+  let first = 0, isWhole = true;
+  for (let arc = 0; arc < ends.length; arc++) {
+    const pieces = Math.max(0, Math.ceil(((ends[arc] - first) / 2 - 1) / PIECE));
+    firsts[arc + 1] = firsts[arc] + pieces;
+    isWhole &&= pieces === 1;
+    first = ends[arc];
+  }
+  return { firsts, isWhole, left: MOST_POSITIONS };
+}
+
+/**
  * A ring of arc indexes as a ring of pieces.
  * @param {number[]} arcs
- * @param {Int32Array} firsts the first piece of each arc, and the end of the last one
- * @param {{left: number}} room how many pieces all further rings may have
+ * @param {Cut} cut
  * @returns {Ring}
  */
-function refsOf(arcs, firsts, room) {
+function refsOf(arcs, cut) {
   if (!Array.isArray(arcs)) throw new Error("a ring is no list");
+  const { firsts } = cut;
   let size = 0;
   for (let k = 0; k < arcs.length; k++) {
     const arc = arcs[k] < 0 ? ~arcs[k] : arcs[k];
     size += firsts[arc + 1] - firsts[arc];
   }
-  room.left -= size;
+  cut.left -= size;
   // also where an index is none
-  if (!(room.left >= 0)) throw new Error("no such arc, or too many positions");
+  if (!(cut.left >= 0)) throw new Error("no such arc, or too many positions");
+  if (cut.isWhole) return arcs;
   const refs = new Array(size);
   let at = 0;
   for (let k = 0; k < arcs.length; k++) {
@@ -466,4 +477,39 @@ function refsOf(arcs, firsts, room) {
     else for (let i = end - 1; i >= first; i--) refs[at++] = ~i;
   }
   return refs;
+}
+
+/** Who takes each piece, while a map is loaded. Most pieces are taken by one ring or by two. */
+class Users {
+  /** @param {number} count of the pieces */
+  constructor(count) {
+    this.first = new Int32Array(count).fill(NONE);
+    this.second = new Int32Array(count).fill(NONE);
+    /** @type {Map<number, number[]>} */
+    this.others = new Map();
+  }
+
+  /** @param {Feature} feature */
+  add({ num, polygons }) {
+    const { first, second, others } = this;
+    for (const polygon of polygons) for (const ring of polygon) for (let k = 0; k < ring.length; k++) {
+      const i = ring[k] < 0 ? ~ring[k] : ring[k];
+      if (first[i] === NONE) first[i] = num;
+      else if (second[i] === NONE) second[i] = num;
+      else if (others.has(i)) others.get(i)?.push(num);
+      else others.set(i, [num]);
+    }
+  }
+
+  /**
+   * @param {number} i
+   * @returns {number[]} the numbers of the features that take a piece
+   */
+  of(i) {
+    const { first, second } = this;
+    if (first[i] === NONE) return NOBODY;
+    if (second[i] === NONE) return [first[i]];
+    const others = this.others.get(i);
+    return others ? [first[i], second[i], ...others] : [first[i], second[i]];
+  }
 }

@@ -3,6 +3,7 @@
  * What the page asks of the server. Edits go one after the other, so that lines keep their order; no edit waits for the answer
  * to a question.
  */
+import { post } from "./early.js";
 import { parsedStream } from "./topology.js";
 
 /** @typedef {{line: string, answer: string, act: number}} LogEntry */
@@ -41,7 +42,7 @@ export class TalkFault extends Error {
 }
 
 export class Talk {
-  /** @param {Map<string, Promise<Response>>} early answers to requests that were sent before there was this class */
+  /** @param {Map<string, Promise<any>>} early answers to requests that were sent before there was this class */
   constructor(early) {
     this.early = early;
     this.owner = 0;
@@ -82,22 +83,28 @@ export class Talk {
    * @param {object} body
    */
   async postNow(name, body) {
-    const headers = { "Content-Type": "application/json" };
-    const answer = await this.reach(name, { method: "POST", headers, body: JSON.stringify({ owner: this.owner, ...body }) });
-    const said = await answer.json().catch(() => ({}));
-    if (!answer.ok) throw new TalkFault(answer.status, said);
+    const { status, said } = await (this.takeEarly(name) ?? post(name, { owner: this.owner, ...body }));
+    if (status !== 200) throw new TalkFault(status, said);
     return said;
   }
 
   /**
+   * The answer that is on its way; nothing where that was taken.
    * @param {string} name
-   * @param {RequestInit=} request
    */
-  async reach(name, request) {
-    const early = this.early.get(name);
+  takeEarly(name) {
+    const answer = this.early.get(name);
     this.early.delete(name);
+    return answer;
+  }
+
+  /**
+   * @param {string} name
+   * @returns {Promise<Response>}
+   */
+  async reach(name) {
     try {
-      return await (early || fetch(name, request));
+      return await (this.takeEarly(name) ?? fetch(name));
     } catch (fault) {
       throw new TalkFault(0, {});
     }
@@ -170,10 +177,10 @@ export class Talk {
     navigator.sendBeacon("leave", new Blob([JSON.stringify({ owner: this.owner })], { type: "application/json" }));
   }
 
-  /** The map, which is read while it comes. */
+  /** The map, which is read while it comes. Where that breaks off, since border_edit has ended meanwhile, it is asked for again. */
   async document() {
-    const { body } = await this.get("document");
-    return parsedStream(/** @type {ReadableStream<Uint8Array>} */ (body));
+    const read = async () => parsedStream(/** @type {ReadableStream<Uint8Array>} */ ((await this.get("document")).body));
+    return read().catch(fault => { if (fault instanceof TalkFault) throw fault; return read(); });
   }
 
   /** The map as its file has it, which need not be open for that; nothing where it was edited. */
