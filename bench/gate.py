@@ -39,9 +39,9 @@ def check_of(words, folder):
         return None
     begun = re.search(r"--incremental \S+/(\w+)(?: |$)", words)
     if "/rt-edit-" in folder:
-        if begun is None or begun[1] == "seed":
-            return Check(name[1], "edits" if begun is None else "begun", None)
-        return Check(name[1], "edits", int(begun[1]))
+        if begun is None:
+            return Check(name[1], "edits", None)
+        return Check(name[1], "edits", int(begun[1])) if begun[1].isdigit() else Check(name[1], "begun", None)
     return Check(name[1], "tests" if " --test" in words else "proof", None)
 
 
