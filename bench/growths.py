@@ -1,5 +1,5 @@
 #!/usr/bin/env python3
-"""Runs the built programs border_edit and border_mend with each growth of their memory refused in turn.
+"""Runs the built programs border_edit, border_mend and border_show with each growth of their memory refused in turn.
 
 The tests of the gate refuse growths of one allocator. Here the C library's `malloc` and `realloc` are
 refused under the whole program, one call a run: also those for the words, for the files, and for what is
@@ -8,7 +8,8 @@ answers, and FILE as it was; or with `save fault` and all answers, where the sav
 where the growth was not needed, as it would have ended. The script has an edit of each kind, as many
 undos, and questions. So it is with `--refused` and two lines more that are refused, where the run may also
 end so when FILE holds the map and FILE2 a front of the list. border_mend mends a map that has decimals, a line,
-points and sides that cross: such a run ends with the same statuses and lines, and FILE is as it was.
+points and sides that cross: such a run ends with the same statuses and lines, and FILE is as it was. So it is with
+border_show, which draws the surroundings of a feature that an edit has removed.
 
 It needs a C compiler, for the few lines that stand before the C library. The programs have to stand already
 (`rt ci` leaves them); others can be named. bench/program.py runs this too. The status is 0 where each run ended so.
@@ -42,6 +43,10 @@ BEFORE = "what was saved before\n"
 BROKEN = """{"type":"Topology","objects":{"land":{"type":"Polygon","arcs":[[0]]},"way":{"type":"LineString","arcs":[0]},
 "posts":{"type":"MultiPoint","coordinates":[[0.25,1],[1e1,-0.5]]}},
 "arcs":[[[0,0],[10.5,10],[10.5,0],[0,10],[0,0]]]}"""
+# Two squares of which one goes, and the other has a side that crosses another one then.
+GONE = """{"type":"Topology","objects":{"land":{"type":"GeometryCollection","geometries":[{"type":"Polygon","id":"A","arcs":[[0]]},
+{"type":"Polygon","id":"\\u0042","arcs":[[1]]}]}},"arcs":[[[0,0],[10,0],[10,10],[0,10],[0,0]],[[20,0],[30,0],[30,10],[20,10],[20,0]]]}"""
+LEFT = """{"type":"Topology","objects":{"land":{"type":"Polygon","id":"A","arcs":[[0]]}},"arcs":[[[0,0],[10,10],[10,0],[0,10],[0,0]]]}"""
 # More than the growths of the run.
 MANY = 100_000
 REFUSING = r"""
@@ -157,8 +162,46 @@ def mended(program, folder, library):
     return nth - 1, wanting, wrong
 
 
-def refused(edit, mend):
-    """The counts of each of the three runs."""
+Drawn = collections.namedtuple("Drawn", "status answers said file")
+
+
+def draw(program, folder, more):
+    """The status, what stands on standard output and standard error, and what FILE holds."""
+    out = folder / "drawn.svg"
+    out.write_text(BEFORE)
+    words = [program, folder / "gone.json", folder / "left.json", "--feature", "B", "--ids", "--out", out]
+    ran = subprocess.run(words, capture_output=True, text=True, timeout=60, env={**os.environ, **more})
+    return Drawn(ran.returncode, ran.stdout, ran.stderr, out.read_text())
+
+
+def drawing_wants(done):
+    """Whether a run of border_show ended as one for want of memory is to end."""
+    return done in (Drawn(3, "", said, BEFORE) for said in ("out of memory\n", "save fault\n"))
+
+
+def drawn(program, folder, library):
+    """The same counts of border_show."""
+    (folder / "gone.json").write_text(GONE)
+    (folder / "left.json").write_text(LEFT)
+    whole = draw(program, folder, {})
+    if whole.status != 0 or "left.json: B" not in whole.file or "conflict" not in whole.file:
+        print(f"the map is not drawn: {whole}")
+        return 0, 0, 1
+    wrong = wanting = 0
+    for nth in range(1, MANY):
+        done = draw(program, folder, {"LD_PRELOAD": str(library), "REFUSED": str(nth)})
+        if done.status == 100:  # there are fewer growths
+            break
+        if drawing_wants(done):
+            wanting += 1
+        elif done != whole:
+            wrong += 1
+            print(f"growth {nth}: {done}")
+    return nth - 1, wanting, wrong
+
+
+def refused(edit, mend, show):
+    """The counts of each of the four runs."""
     with tempfile.TemporaryDirectory() as name:
         folder = pathlib.Path(name)
         shutil.copy(MAP, folder / "squares.json")
@@ -166,12 +209,13 @@ def refused(edit, mend):
         for is_listed in (False, True):
             yield tried(edit, folder, library, is_listed)
         yield mended(mend, folder, library)
+        yield drawn(show, folder, library)
 
 
 def told(programs):
     """Runs all, writes what differs, and counts the runs and those that differ."""
-    tries = list(refused(programs["edit"], programs["mend"]))
-    for what, (_, wanting, _) in zip(("border_edit", "border_edit --refused", "border_mend"), tries):
+    tries = list(refused(programs["edit"], programs["mend"], programs["show"]))
+    for what, (_, wanting, _) in zip(("border_edit", "border_edit --refused", "border_mend", "border_show"), tries):
         if not wanting:
             print(f"{what}: no growth was wanting")
     return sum(growths for growths, _, _ in tries), sum(wrong or int(not wanting) for _, wanting, wrong in tries)
@@ -179,7 +223,7 @@ def told(programs):
 
 def main():
     words = argparse.ArgumentParser(description=__doc__.split("\n", 1)[0])
-    running.add_programs(words, "edit", "mend")
+    running.add_programs(words, "edit", "mend", "show")
     if not file_ends.compiler():
         print("no compiler")
         return 2

@@ -1,7 +1,7 @@
 #!/usr/bin/env python3
 """Runs the built program border_edit to each of its ends, and looks at FILE before and after; and runs border_mend and
 border_show to each of theirs (bench/mend_ends.py, bench/show_ends.py), all three programs on files of all kinds
-(bench/file_ends.py), and border_edit and border_mend with each growth of their memory refused in turn (bench/growths.py).
+(bench/file_ends.py), and all three with each growth of their memory refused in turn (bench/growths.py).
 
 Tests of the crates call what `main` calls. Here the program itself is called: with arguments, on files, on devices
 that are full, with little memory, and with a terminal as standard error. The rows of bench/edit_ends.txt are run, and
@@ -85,6 +85,9 @@ FILES = {
 # And less memory than the list of the second one takes.
 LINES, BAD_LINES, LITTLE = 210_000, 1_000_000, 20_000_000
 LONG = {"three.txt": "area 0\nmove 900 900 1 1\nmend\n" * (LINES // 3), "many.txt": "x\n" * BAD_LINES}
+# Lines that cut along as many positions as a path may have, and along one more; the id of both is no JSON string.
+PATHS = ['split 0 "\\q" ' + " ".join(f"{n} 0" for n in range(length)) for length in (256, 257)]
+LONG["paths.txt"] = "\n".join(PATHS) + "\n"
 # What is listed of mixed.txt.
 LISTED = ("3\trefused no vertex\tmove 1 1 2 2\t1 1\n7\tbad line\t mend\tspace at the start\n"
           "8\trefused no feature\tarea 9\t9\n")
@@ -163,11 +166,14 @@ def ends():
 
 def long_lists(listing):
     """Lists of scripts of 2 MB: one of lines of three kinds; and one of so many rows that there is no memory for them. A list
-    that lacks rows is written nowhere, and FILE stays; without the list the same script needs no more memory."""
+    that lacks rows is written nowhere, and FILE stays; without the list the same script needs no more memory. And a list of
+    the longest paths."""
     answers = "200\nrefused no vertex\nbad line\n" * (LINES // 3)
     rows = [f"{n + 1}\trefused no vertex\tmove 900 900 1 1\t900 900\n{n + 2}\tbad line\tmend\tunknown word\n" for n in range(1, LINES, 3)]
     yield Row("a long script, listed", listing("-"), 1, answers, "", SAVED, given="three.txt", listed="".join(rows))
     yield Row("many rows, little memory", listing("-"), 3, None, "out of memory\n", KEPT, given="many.txt", memory=LITTLE)
+    told = f"1\tbad line\t{PATHS[0]}\tnot a JSON string\n2\tbad line\t{PATHS[1]}\ttoo many arguments\n"
+    yield Row("long paths", listing("-"), 1, "bad line\n" * 2, "", SAVED, given="paths.txt", listed=told)
     bad = "bad line\n" * BAD_LINES
     yield Row("no rows, little memory", listing("-")[:-2], 1, bad, "", SAVED, given="many.txt", memory=LITTLE)
 
@@ -192,6 +198,7 @@ def advised_ends(words, listing):
     full = words("squares.json", "refused.txt")
     yield Row("no advice, full output", full, 3, None, "write fault\n", KEPT, output="/dev/full", terminal=True)
     yield from mending_advised()
+    yield from drawing_advised()
 
 
 def mending_advised():
@@ -201,6 +208,7 @@ def mending_advised():
     for words, status, report, said, path, advice in (
         (["cut.json"], 2, "", "open: not json at 1", "cut.json", "not json"),
         (["no_number.json"], 2, "", "open: not whole at 79", "no_number.json", "formats"),
+        (["no_number.json", "--out", "saved.json"], 2, "", "open: not whole at 79", "no_number.json", "formats"),
         (["none.json", "--out", "saved.json"], 3, "", "map fault", "none.json", "read"),
         (["squares.json", "--places", "."], 3, f"{opens}\n", "save fault", ".", "write"),
         (["squares.json", "--out", "."], 3, mended, "save fault", ".", "write"),
@@ -208,6 +216,22 @@ def mending_advised():
     ):
         told = f"{said}\n" + (f"{path}: {ADVICE[advice]}\n" if path else "")
         yield Row(f"border_mend {' '.join(words)}, advice", words, status, report, told, KEPT, terminal=True, program="mend")
+
+
+def drawing_advised():
+    """The same of border_show, which does not say which of two maps can't be read."""
+    for words, status, said, path, advice in (
+        (["cut.json", "--out", "saved.json"], 2, "open: not json at 1", "cut.json", "not json"),
+        (["halves.json", "--out", "saved.json"], 2, "open: not whole at 79", "halves.json", "not whole"),
+        (["none.json", "--out", "saved.json"], 3, "map fault", "none.json", "read"),
+        (["squares.json", "--out", "."], 3, "save fault", ".", "write"),
+        (["cut.json", "squares.json", "--out", "saved.json"], 2, "open: not json at 1", None, None),
+        (["squares.json", "cut.json", "--out", "saved.json"], 2, "open: not json at 1", None, None),
+        (["squares.json", "none.json", "--out", "saved.json"], 3, "map fault", None, None),
+        (["squares.json", "--feature", "9", "--out", "saved.json"], 1, "no feature: none has this id or number", None, None),
+    ):
+        told = f"{said}\n" + (f"{path}: {ADVICE[advice]}\n" if path else "")
+        yield Row(f"border_show {' '.join(words)}, advice", words, status, "", told, KEPT, terminal=True, program="show")
 
 
 def strict_ends(words):
