@@ -1,0 +1,14 @@
+pub mod Wants
+pub mod Faults
+pub mod Names
+pub mod Rings
+pub mod Points
+pub mod Features
+pub mod Items
+pub mod Layer
+pub mod Text
+pub mod Places
+pub mod Gives
+pub mod Seen
+pub mod Exported
+pub mod Common

@@ -1,0 +1,197 @@
+// The items of a layer, sent to a device one after another.
+ghost use Rattle.std.specs.Prelude.{◌≡◌, false};
+
+use crate::fault::ExportFault;
+use crate::features::{
+    not_of_form, push_collection_begin, push_collection_end, push_feature_begin, push_own,
+    push_point, push_shape,
+};
+use crate::members::is_bare;
+use crate::names::NOT_OF_FEATURE;
+use crate::points::Point;
+use crate::progress::Progress;
+use crate::style::Style;
+use crate::texts::{push_comma, push_line_begin, push_list_end};
+use device_io::{Sink, put_all};
+use grid_geometry::Pos;
+use std::alloc::{Allocator, Global};
+use topo_outline::{Form, Head, Item, KeptMember, RawFeature};
+
+/// The polygons of the features of a map.
+type Polygons<A> = [Vec<Vec<Vec<Pos, A>, A>, A>];
+
+/// What the items of a layer are written with.
+#[derive(Clone, Copy)]
+pub(crate) struct Writer<'r, A: Allocator + Copy> {
+    pub(crate) heap: Global,
+    pub(crate) style: Style,
+    /// Whether collections are taken apart, so that each geometry in them is a Feature.
+    pub(crate) flattens: bool,
+    /// The polygons of all features of the map.
+    pub(crate) polygons: &'r Polygons<A>,
+}
+
+impl<'r, A: Allocator + Copy> Writer<'r, A> {
+    /// Appends what stands before a geometry: the begin of its Feature, or within a collection a comma. There nothing of
+    /// its own may stand beside it.
+    fn push_before<'a>(
+        &self,
+        text: &mut Vec<u8, A>,
+        at: &Progress<'_, 'a, A>,
+        head: &Head<'a, A>,
+        is_null: bool,
+    ) -> Result<(), ExportFault<'a>> {
+        if at.is_outside() {
+            push_line_begin(text, at.feature)?;
+            push_feature_begin(text, head)?;
+            return Ok(());
+        }
+        if is_null || !is_bare(self.heap, head)? {
+            return Err(ExportFault::Nested {
+                feature: at.feature,
+            });
+        }
+        push_comma(text, at.more)?;
+        Ok(())
+    }
+
+    /// Appends what stands after a geometry: the end of its Feature.
+    fn push_after<'a>(
+        &self,
+        text: &mut Vec<u8, A>,
+        at: &Progress<'_, 'a, A>,
+        words: &[&str],
+        members: &[KeptMember<'a>],
+    ) -> Result<(), ExportFault<'a>> {
+        if at.is_outside() {
+            push_own(text, self.heap, words, members)
+        } else {
+            Ok(())
+        }
+    }
+
+    /// The polygons of the feature of the map with this number.
+    fn polygons_of(&self, leaf: usize) -> &'r [Vec<Vec<Pos, A>, A>] {
+        match self.polygons.get(leaf) {
+            Some(polygons) => polygons.as_slice(),
+            None => &[],
+        }
+    }
+
+    /// Appends a feature.
+    fn push_leaf<'a>(
+        &self,
+        text: &mut Vec<u8, A>,
+        at: &Progress<'_, 'a, A>,
+        feature: &RawFeature<'a, A>,
+    ) -> Result<(), ExportFault<'a>> {
+        let head = &feature.head;
+        let polygons = self.polygons_of(at.leaf);
+        or_return!(self.push_before(text, at, head, feature.form == Form::Null));
+        or_return!(push_shape(text, self.heap, &self.style, feature, polygons));
+        self.push_after(
+            text,
+            at,
+            not_of_form(feature.form),
+            head.members.as_slice(),
+        )
+    }
+
+    /// Appends a point.
+    fn push_kept<'a>(
+        &self,
+        text: &mut Vec<u8, A>,
+        at: &Progress<'_, 'a, A>,
+        point: &Point<'a, A>,
+    ) -> Result<(), ExportFault<'a>> {
+        let head = &point.head;
+        or_return!(self.push_before(text, at, head, false));
+        or_return!(push_point(text, self.heap, &self.style, point));
+        self.push_after(text, at, NOT_OF_FEATURE, head.members.as_slice())
+    }
+
+    /// Appends the begin of a collection, which is then the innermost one.
+    fn push_open<'m, 'a>(
+        &self,
+        text: &mut Vec<u8, A>,
+        at: &mut Progress<'m, 'a, A>,
+        head: &'m Head<'a, A>,
+    ) -> Result<(), ExportFault<'a>> {
+        or_return!(self.push_before(text, at, head, false));
+        push_collection_begin(text)?;
+        at.heads.push(head)?;
+        at.more = false;
+        Ok(())
+    }
+
+    /// Appends the end of the innermost collection.
+    fn push_close<'m, 'a>(
+        &self,
+        text: &mut Vec<u8, A>,
+        at: &mut Progress<'m, 'a, A>,
+    ) -> Result<(), ExportFault<'a>> {
+        let Some(head) = at.heads.pop() else {
+            return Ok(());
+        };
+        let members = head.members.as_slice();
+        or_return!(push_collection_end(text, self.heap, members));
+        or_return!(self.push_after(text, at, NOT_OF_FEATURE, members));
+        at.pass();
+        Ok(())
+    }
+
+    /// Appends an item, and passes it.
+    fn push_item<'m, 'a>(
+        &self,
+        text: &mut Vec<u8, A>,
+        at: &mut Progress<'m, 'a, A>,
+        item: &'m Item<'a, A>,
+    ) -> Result<(), ExportFault<'a>> {
+        match item {
+            Item::Open(head) => if self.flattens {
+                Ok(())
+            } else {
+                self.push_open(text, at, head)
+            },
+            Item::Close => if self.flattens {
+                Ok(())
+            } else {
+                self.push_close(text, at)
+            },
+            Item::Leaf(feature) => {
+                or_return!(self.push_leaf(text, at, feature));
+                at.leaf = at.leaf.saturating_add(1);
+                at.pass();
+                Ok(())
+            }
+            Item::Kept(kept) => {
+                let point = Point::of(*text.allocator(), self.heap, at.point, kept)?;
+                or_return!(self.push_kept(text, at, &point));
+                at.point = at.point.saturating_add(1);
+                at.pass();
+                Ok(())
+            }
+        }
+    }
+
+    /// Sends the items of a layer, and the end of the text.
+    pub(crate) fn send_items<'m, 'a, W: Sink>(
+        &self,
+        text: &mut Vec<u8, A>,
+        at: &mut Progress<'m, 'a, A>,
+        items: &'m [Item<'a, A>],
+        out: &mut W,
+    ) -> Result<(), ExportFault<'a>>
+        requires { W.has_failed out.old ≡ false }
+    {
+        for item in items {
+            text.clear();
+            or_return!(self.push_item(text, at, item));
+            put_all(out, text.as_slice())?;
+        }
+        text.clear();
+        push_list_end(text, at.feature)?;
+        put_all(out, text.as_slice())?;
+        Ok(())
+    }
+}
