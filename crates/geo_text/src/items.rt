@@ -17,9 +17,6 @@ use grid_geometry::Pos;
 use std::alloc::{Allocator, Global};
 use topo_outline::{Form, Head, Item, KeptMember, RawFeature};
 
-/// The polygons of the features of a map.
-type Polygons<A> = [Vec<Vec<Vec<Pos, A>, A>, A>];
-
 /// What the items of a layer are written with.
 #[derive(Clone, Copy)]
 pub(crate) struct Writer<'r, A: Allocator + Copy> {
@@ -28,7 +25,7 @@ pub(crate) struct Writer<'r, A: Allocator + Copy> {
     /// Whether collections are taken apart, so that each geometry in them is a Feature.
     pub(crate) flattens: bool,
     /// The polygons of all features of the map.
-    pub(crate) polygons: &'r Polygons<A>,
+    pub(crate) polygons: &'r [Vec<Vec<Vec<Pos, A>, A>, A>],
 }
 
 impl<'r, A: Allocator + Copy> Writer<'r, A> {
