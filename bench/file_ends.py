@@ -18,7 +18,7 @@ import xml.dom.minidom
 import xml.parsers.expat
 
 TOP = pathlib.Path(__file__).resolve().parent.parent
-EDIT, SHOW, MEND = "edit", "show", "mend"
+EDIT, SHOW, MEND, EXPORT = "edit", "show", "mend", "export"
 NOBODY = 65534
 LIMIT = 60
 
@@ -47,6 +47,8 @@ FILES = {
 FIELDS = "what program words status said before after user output fails"
 Row = collections.namedtuple("Row", FIELDS, defaults=({}, {}, None, None, None))
 PIPE, FULL, MEMORY, SEED = "pipe", "full", "memory", "seed"
+# What is said where the operating system gives no seed.
+FAULT_OF_SEED = "no random seed\n"
 # The call by which the operating system gives random bytes, which gives none.
 UNSEEDED = "int getentropy(void *bytes, unsigned long count) { (void)bytes; (void)count; return -1; }\n"
 # The call by which a program writes, which has no memory for standard output.
@@ -72,6 +74,7 @@ WRITERS = [
     Writer("FILE of border_mend", MEND, ["wards.json", "--out", "PATH"], 0, "save fault\n", WHOLE),
     Writer("places", MEND, ["wards.json", "--places", "PATH"], 1, "save fault\n", WHOLE),
     Writer("picture", SHOW, ["squares.json", "--out", "PATH"], 0, "save fault\n", WHOLE),
+    Writer("FILE of border_export", EXPORT, ["squares.json", "--out", "PATH"], 0, "save fault\n", WHOLE),
 ]
 LONG, LONG_UMLAUTS = "n" * 255, "ä" * 127
 NEW_MODE, MODES = 0o666 & ~0o022, (0o600, 0o640, 0o664, 0o755)
@@ -151,6 +154,9 @@ ONE_FILE = [
     (SHOW, "squares.json --out link", {"link": Link("squares.json")}, "--out MAP|BEFORE"),
     (SHOW, "squares.json after.json --out squares.json", {"after.json": Text(FILES["squares.json"])}, "--out MAP|BEFORE"),
     (SHOW, "squares.json after.json --out ./after.json", {"after.json": Text(FILES["squares.json"])}, "--out AFTER"),
+    (EXPORT, "squares.json --out squares.json", {}, "--out MAP"),
+    (EXPORT, "squares.json --out ./squares.json", {}, "--out MAP"),
+    (EXPORT, "squares.json --out link", {"link": Link("squares.json")}, "--out MAP"),
 ]
 # FILE may be MAP, however it is named, and a hard link is another file: a run with status 0, and the name that gets the text.
 APART = [
@@ -178,6 +184,8 @@ NOT_UTF8 = [
     (MEND, [b"wards.json", b"--places", b"\xff"]),
     (SHOW, [b"\xff.json", b"--out", b"saved"]),
     (SHOW, [b"squares.json", b"--out", b"\xff"]),
+    (EXPORT, [b"\xff.json", b"--out", b"saved"]),
+    (EXPORT, [b"squares.json", b"--out", b"saved", b"--layer", b"\xff"]),
 ]
 
 
