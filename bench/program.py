@@ -1,7 +1,7 @@
 #!/usr/bin/env python3
-"""Runs the built program border_edit to each of its ends, and looks at FILE before and after; and runs border_mend and
-border_show to each of theirs (bench/mend_ends.py, bench/show_ends.py), all three programs on files of all kinds
-(bench/file_ends.py), and border_edit and border_mend with each growth of their memory refused in turn (bench/growths.py).
+"""Runs the built program border_edit to each of its ends, and looks at FILE before and after; and runs border_mend,
+border_show and border_export to each of theirs (bench/mend_ends.py, show_ends.py, export_ends.py), all four programs on
+files of all kinds (bench/file_ends.py), and border_edit and border_mend with each growth of their memory refused in turn (bench/growths.py).
 
 Tests of the crates call what `main` calls. Here the program itself is called: with arguments, on files, on devices
 that are full, with little memory, and with a terminal as standard error. The rows of bench/edit_ends.txt are run, and
@@ -26,6 +26,7 @@ import sys
 import tempfile
 
 import edit_ends
+import export_ends
 import file_ends
 import growths
 import mend_ends
@@ -327,9 +328,9 @@ def faults(program, row):
 
 def main():
     words = argparse.ArgumentParser(description=__doc__.split("\n", 1)[0])
-    running.add_programs(words, "edit", "show", "mend")
+    running.add_programs(words, "edit", "show", "mend", "export")
     programs = vars(words.parse_args())
-    rows = [*file_ends.rows(), *mend_ends.rows(), *show_ends.rows()]
+    rows = [*file_ends.rows(), *mend_ends.rows(), *show_ends.rows(), *export_ends.rows()]
     parts = [file_ends.told(programs, rows), edit_ends.told(programs["edit"])]
     if file_ends.compiler():
         parts.append(growths.told(programs))
