@@ -1,5 +1,5 @@
 -- Why a layer is not written.
-use Rattle.std.specs.Prelude.{ℕ, Bool, true, false, List, [], ◌∷◌, Option, Some, None, Result, Ok, Err}
+use Rattle.std.specs.Prelude.{ℕ, ◌+◌, Bool, true, false, List, [], ◌∷◌, Result, Ok, Err}
 use Rattle.topo_outline.specs.Common.{Fault}
 
 -- what is wrong: a fault of the map; no layer, or more than one, is the one that is asked for; so many decimals are asked
@@ -26,6 +26,14 @@ each f [] = Ok []
 each f (a ∷ as') = do
   b ← f a
   bs ← each f as'
+  Ok (b ∷ bs)
+
+-- the same, each with its number
+abbrev pub each_at : {A B : Type 0} → (ℕ → A → Result B GeoFault) → ℕ → List A → Result (List B) GeoFault
+each_at f i [] = Ok []
+each_at f i (a ∷ as') = do
+  b ← f i a
+  bs ← each_at f (i + 1) as'
   Ok (b ∷ bs)
 
 -- r, where the test holds

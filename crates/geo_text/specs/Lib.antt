@@ -10,5 +10,6 @@ pub mod Text
 pub mod Places
 pub mod Gives
 pub mod Seen
+pub mod Pointed
 pub mod Exported
 pub mod Common

@@ -1,6 +1,6 @@
 -- The text of a point, or of several, that is kept in a document (TopoJSON 1.0, 2.2.1 and 2.2.2), as a geometry
 -- (RFC 7946, 3.1.2 and 3.1.3). Points have numbers of their own, from 0 in the order of the map's text.
-use Rattle.std.specs.Prelude.{ℕ, ℤ, ◌^◌, nat_le, unsigned_abs, Bool, not, if◌then◌else◌, List, [], ◌∷◌, map, filter, find, codes}
+use Rattle.std.specs.Prelude.{ℕ, zero, suc, ℤ, ◌^◌, nat_le, unsigned_abs, Bool, not, if◌then◌else◌, List, [], ◌∷◌, map, filter, find, codes}
 use Rattle.std.specs.Prelude.{Option, Some, None, option_map, Result, Ok, Err}
 use Rattle.json_spans.specs.Common.{Node, items, members, whole_of, NotWhole, Form, Huge}
 use Rattle.ring_machine.specs.Common.{Text, Member, Head}
@@ -9,7 +9,7 @@ use Rattle.decimal_texts.specs.Common.{has_type, says}
 use Rattle.map_text.specs.Common.{list_text}
 use Rattle.grid_decimals.specs.Common.{x_text, y_text}
 use Rattle.geo_text.specs.Wants.{Style}
-use Rattle.geo_text.specs.Faults.{GeoFault, of_map, point_not_whole, point_out_of_range, ◌>>=◌, each, demand}
+use Rattle.geo_text.specs.Faults.{GeoFault, of_map, point_not_whole, point_out_of_range, ◌>>=◌, each, each_at, demand}
 use Rattle.geo_text.specs.Names.{is_one_of}
 
 -- ---- one position
@@ -23,20 +23,19 @@ number_from n place (Err Huge) = Err (point_out_of_range n place)
 abbrev pub point_number : ℕ → Node → Result ℤ GeoFault
 point_number n coordinate = number_from n coordinate.at_byte (whole_of coordinate.bytes)
 
--- x and y where they lie on the map, and further numbers as they stand
-abbrev pub point_numbers : Style → ℕ → List Node → Result (List Text) GeoFault
-point_numbers s n [] = Ok []
-point_numbers s n (a ∷ []) = do
-  x ← point_number n a
-  Ok (x_text s.grid s.decimals x ∷ [])
-point_numbers s n (a ∷ b ∷ further) = do
-  x ← point_number n a
-  y ← point_number n b
-  Ok (x_text s.grid s.decimals x ∷ y_text s.grid s.decimals y ∷ map (λ c. c.bytes) further)
+-- a number of a position, by its place: the first and the second where they lie on the map, others as they stand
+abbrev pub number_at : Style → ℕ → ℕ → Node → Result Text GeoFault
+number_at s n zero c = do
+  x ← point_number n c
+  Ok (x_text s.grid s.decimals x)
+number_at s n (suc zero) c = do
+  y ← point_number n c
+  Ok (y_text s.grid s.decimals y)
+number_at s n (suc (suc i)) c = Ok c.bytes
 
 unfoldable pub point_position : Style → ℕ → Node → Result Text GeoFault
 point_position s n position = do
-  numbers ← point_numbers s n (items position)
+  numbers ← each_at (number_at s n) 0 (items position)
   Ok (list_text numbers)
 
 -- ---- the coordinates

@@ -23,10 +23,14 @@ abbrev pub turned : List Position → List Position
 turned [] = []
 turned (p ∷ ps) = p ∷ reverse ps
 
+-- a ring is written the other way round
+abbrev pub is_turned : Style → Bool → List Position → Bool
+is_turned s is_outer ring = not s.keeps_winding && is_wrong_way (is_flipped s.grid) is_outer (signed_area ring)
+
 -- in the direction that is written: the right-hand rule's, or the one that it has
 abbrev pub directed : Style → Bool → List Position → List Position
 directed s is_outer ring =
-    if not s.keeps_winding && is_wrong_way (is_flipped s.grid) is_outer (signed_area ring) then turned ring else ring
+    if is_turned s is_outer ring then turned ring else ring
 
 -- with its first position again at its end
 abbrev pub closed : List Position → List Position

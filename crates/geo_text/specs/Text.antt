@@ -1,5 +1,5 @@
 -- The text of a layer of a document as GeoJSON (RFC 7946): one line a Feature, and every coordinate an exact decimal.
-use Rattle.std.specs.Prelude.{ℕ, ℤ, ◌-ℤ◌, max, min, nat_le, unsigned_abs, Bool, false, List, [], ◌++◌, codes, Option, Some, None, Result, Ok, Err}
+use Rattle.std.specs.Prelude.{ℕ, ℤ, ◌-ℤ◌, max, min, nat_le, unsigned_abs, List, ◌++◌, codes, Option, Some, None, Result, Ok, Err}
 use Rattle.std.specs.List.{flat_map, fold}
 use Rattle.grid_geometry.specs.Common.{Position, edges}
 use Rattle.ring_machine.specs.Common.{Text, Document, rings}
@@ -7,7 +7,7 @@ use Rattle.topo_outline.specs.Common.{bad_member}
 use Rattle.grid_decimals.specs.Common.{GridOf, grid_of, least_decimals, safe_decimals}
 use Rattle.geo_text.specs.Wants.{Wants, Style}
 use Rattle.geo_text.specs.Faults.{GeoFault, of_map, few_decimals, ◌>>=◌, demand}
-use Rattle.geo_text.specs.Items.{At, items_text}
+use Rattle.geo_text.specs.Items.{begin_at, items_text}
 use Rattle.geo_text.specs.Layer.{asked_layer, collection_members, front_text, layer_head, layer_items}
 
 -- ---- how many decimals
@@ -39,9 +39,6 @@ style_of wants d = do
   Ok (record { grid = g; decimals = k; keeps_winding = wants.keeps_winding })
 
 -- ---- the text
-
-abbrev pub begin_at : ℕ → At
-begin_at point = record { heads = []; more = false; feature = 0; point = point }
 
 -- the text of the layer that is asked for, or the first fault
 abbrev pub geo_text : Wants → Document → Result Text GeoFault

@@ -1,9 +1,14 @@
 // The texts of Features and of what stands within them (RFC 7946, 3.1 and 3.2).
-ghost use Rattle.std.specs.Prelude.{◌≡◌, ◌++◌, map, OnOk};
+ghost use Rattle.std.specs.Prelude.{◌≡◌, ◌≤◌, ◌++◌, ℕ, List, All, codes, length, map, OnOk};
 ghost use Rattle.topo_outline.specs.Common.{form_of, view_head, view_kept};
-ghost use Rattle.map_text.specs.Common.{type_text};
-ghost use Rattle.geo_text.specs.Features.{collection_begin, collection_end, feature_begin, feature_end, not_of_form};
+ghost use Rattle.topo_reader.specs.Common.{polygon_positions};
+ghost use Rattle.ring_machine.specs.Common.{Feature};
+ghost use Rattle.map_text.specs.Common.{further, member_text, type_text};
+ghost use Rattle.geo_text.specs.Features.{collection_begin, collection_end, feature_begin, geometry_begin};
+ghost use Rattle.geo_text.specs.Features.{leaf_geometry, not_of_form, others_text, own_text, point_geometry};
+ghost use Rattle.geo_text.specs.Seen.{view_style};
 ghost use Rattle.geo_text.specs.Gives.{Appends};
+ghost use Rattle.geo_text.specs.Pointed.{IsPoint};
 
 use crate::fault::ExportFault;
 use crate::members::{feature_members, geometry_members};
@@ -38,15 +43,15 @@ pub(crate) fn push_feature_begin<A: Allocator, B: Allocator + Copy>(
     text.extend_from_slice(b",\"geometry\":")
 }
 
-/// Appends the end of a Feature, with members of its own.
-fn push_feature_end<A: Allocator>(
+/// Appends the last members of an object, and its end.
+fn push_end<A: Allocator>(
     text: &mut Vec<u8, A>,
-    own: &[KeptMember<'_>],
+    members: &[KeptMember<'_>],
 ) -> Result<(), AllocError>
-    ensures { OnOk result (text.new.items
-        ≡ text.old.items ++ feature_end (map view_kept own.now)) }
+    ensures { OnOk result (text.new.items ≡ text.old.items
+        ++ (further (map member_text (map view_kept members.now)) ++ codes "}")) }
 {
-    push_members(text, own)?;
+    push_members(text, members)?;
     text.extend_from_slice(b"}")
 }
 
@@ -56,9 +61,12 @@ pub(crate) fn push_own<'a, A: Allocator + Copy>(
     heap: Global,
     words: &[&str],
     members: &[KeptMember<'a>],
-) -> Result<(), ExportFault<'a>> {
+) -> Result<(), ExportFault<'a>>
+    ensures { Appends text.old.items text.new.items result
+        (own_text (map (λ word. word.now) words.now) (map view_kept members.now)) }
+{
     let own = or_return!(feature_members(*text.allocator(), heap, words, members));
-    push_feature_end(text, own.as_slice())?;
+    push_end(text, own.as_slice())?;
     Ok(())
 }
 
@@ -74,10 +82,11 @@ fn push_others<'a, A: Allocator + Copy>(
     text: &mut Vec<u8, A>,
     heap: Global,
     members: &[KeptMember<'a>],
-) -> Result<(), ExportFault<'a>> {
+) -> Result<(), ExportFault<'a>>
+    ensures { Appends text.old.items text.new.items result (others_text (map view_kept members.now)) }
+{
     let others = or_return!(geometry_members(*text.allocator(), heap, members));
-    push_members(text, others.as_slice())?;
-    text.extend_from_slice(b"}")?;
+    push_end(text, others.as_slice())?;
     Ok(())
 }
 
@@ -86,7 +95,9 @@ pub(crate) fn push_collection_end<'a, A: Allocator + Copy>(
     text: &mut Vec<u8, A>,
     heap: Global,
     members: &[KeptMember<'a>],
-) -> Result<(), ExportFault<'a>> {
+) -> Result<(), ExportFault<'a>>
+    ensures { Appends text.old.items text.new.items result (collection_end (map view_kept members.now)) }
+{
     text.extend_from_slice(b"]")?;
     push_others(text, heap, members)
 }
@@ -103,7 +114,12 @@ fn type_token(form: Form) -> &'static [u8]
 }
 
 /// Appends a geometry up to its coordinates.
-fn push_type<A: Allocator>(text: &mut Vec<u8, A>, token: &[u8]) -> Result<(), AllocError> {
+fn push_geometry_begin<A: Allocator>(
+    text: &mut Vec<u8, A>,
+    token: &[u8],
+) -> Result<(), AllocError>
+    ensures { OnOk result (text.new.items ≡ text.old.items ++ geometry_begin token.now) }
+{
     text.extend_from_slice(b"{\"type\":")?;
     text.extend_from_slice(token)?;
     text.extend_from_slice(b",\"coordinates\":")
@@ -116,12 +132,18 @@ pub(crate) fn push_shape<'a, A: Allocator + Copy>(
     style: &Style,
     feature: &RawFeature<'a, A>,
     polygons: &[Vec<Vec<Pos, A>, A>],
-) -> Result<(), ExportFault<'a>> {
+) -> Result<(), ExportFault<'a>>
+    requires { All (λ polygon. All (λ ring. length ring.items ≤ 4000000) polygon.items) polygons.now }
+    ensures { (f : Feature) → f.form ≡ form_of feature.now.form
+        → f.members ≡ (view_head feature.now.head).members
+        → f.polygons ≡ map polygon_positions polygons.now
+        → Appends text.old.items text.new.items result (leaf_geometry (view_style style.now) f) }
+{
     if feature.form == Form::Null {
         text.extend_from_slice(b"null")?;
         return Ok(());
     }
-    push_type(text, type_token(feature.form))?;
+    push_geometry_begin(text, type_token(feature.form))?;
     style.push_shape(text, feature.form, polygons)?;
     push_others(text, heap, feature.head.members.as_slice())
 }
@@ -132,8 +154,11 @@ pub(crate) fn push_point<'a, A: Allocator + Copy>(
     heap: Global,
     style: &Style,
     point: &Point<'a, A>,
-) -> Result<(), ExportFault<'a>> {
-    push_type(text, point.type_token())?;
+) -> Result<(), ExportFault<'a>>
+    ensures { (t : List ℕ) → IsPoint point.now t → Appends text.old.items text.new.items result
+        (point_geometry (view_style style.now) point.now.number t) }
+{
+    push_geometry_begin(text, point.type_token())?;
     or_return!(point.push_coordinates(text, style));
     push_others(text, heap, point.head.members.as_slice())
 }

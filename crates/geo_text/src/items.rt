@@ -1,5 +1,14 @@
 // The items of a layer, sent to a device one after another.
-ghost use Rattle.std.specs.Prelude.{◌≡◌, false};
+ghost use Rattle.std.specs.Prelude.{◌≡◌, ◌+◌, ℕ, List, [], ◌∷◌, false, length, map, OnOk};
+ghost use Rattle.ring_machine.specs.Common.{Close, Kept, Open};
+ghost use Rattle.topo_outline.specs.Common.{at_most_one, items_from, leaf_of, view_head, view_item, view_kept};
+ghost use Rattle.topo_reader.specs.Common.{feature_positions};
+ghost use Rattle.geo_text.specs.Exported.{SendsGiven};
+ghost use Rattle.geo_text.specs.Gives.{Appends};
+ghost use Rattle.geo_text.specs.Items.{after_item, after_items, after_text, before_text, close_text, item_text, items_text};
+ghost use Rattle.geo_text.specs.Items.{items_texts, open_text};
+ghost use Rattle.geo_text.specs.Pointed.{IsPoint};
+ghost use Rattle.geo_text.specs.Seen.{view_progress, view_style};
 
 use crate::fault::ExportFault;
 use crate::features::{
@@ -37,7 +46,10 @@ impl<'r, A: Allocator + Copy> Writer<'r, A> {
         at: &Progress<'_, 'a, A>,
         head: &Head<'a, A>,
         is_null: bool,
-    ) -> Result<(), ExportFault<'a>> {
+    ) -> Result<(), ExportFault<'a>>
+        ensures { Appends text.old.items text.new.items result
+            (before_text (view_progress at.now) (view_head head.now) is_null) }
+    {
         if at.is_outside() {
             push_line_begin(text, at.feature)?;
             push_feature_begin(text, head)?;
@@ -59,7 +71,10 @@ impl<'r, A: Allocator + Copy> Writer<'r, A> {
         at: &Progress<'_, 'a, A>,
         words: &[&str],
         members: &[KeptMember<'a>],
-    ) -> Result<(), ExportFault<'a>> {
+    ) -> Result<(), ExportFault<'a>>
+        ensures { Appends text.old.items text.new.items result
+            (after_text (view_progress at.now).heads (map (λ word. word.now) words.now) (map view_kept members.now)) }
+    {
         if at.is_outside() {
             push_own(text, self.heap, words, members)
         } else {
@@ -100,7 +115,11 @@ impl<'r, A: Allocator + Copy> Writer<'r, A> {
         text: &mut Vec<u8, A>,
         at: &Progress<'_, 'a, A>,
         point: &Point<'a, A>,
-    ) -> Result<(), ExportFault<'a>> {
+    ) -> Result<(), ExportFault<'a>>
+        requires { point.now.number ≡ at.now.point }
+        ensures { (t : List ℕ) → IsPoint point.now t → Appends text.old.items text.new.items result
+            (item_text self.now.flattens (view_style self.now.style) (view_progress at.now) (Kept t)) }
+    {
         let head = &point.head;
         or_return!(self.push_before(text, at, head, false));
         or_return!(push_point(text, self.heap, &self.style, point));
@@ -113,7 +132,13 @@ impl<'r, A: Allocator + Copy> Writer<'r, A> {
         text: &mut Vec<u8, A>,
         at: &mut Progress<'m, 'a, A>,
         head: &'m Head<'a, A>,
-    ) -> Result<(), ExportFault<'a>> {
+    ) -> Result<(), ExportFault<'a>>
+        ensures text { Appends text.old.items text.new.items result
+            (open_text (view_progress at.old) (view_head head.now)) }
+        ensures after { OnOk result (view_progress at.new
+            ≡ after_item false (view_progress at.old) (Open (view_head head.now))) }
+        ensures leaf { at.new.leaf ≡ at.old.leaf }
+    {
         or_return!(self.push_before(text, at, head, false));
         push_collection_begin(text)?;
         at.heads.push(head)?;
@@ -126,7 +151,13 @@ impl<'r, A: Allocator + Copy> Writer<'r, A> {
         &self,
         text: &mut Vec<u8, A>,
         at: &mut Progress<'m, 'a, A>,
-    ) -> Result<(), ExportFault<'a>> {
+    ) -> Result<(), ExportFault<'a>>
+        ensures text { Appends text.old.items text.new.items result
+            (close_text (view_progress at.old).heads) }
+        ensures after { OnOk result (view_progress at.new
+            ≡ after_item false (view_progress at.old) Close) }
+        ensures leaf { at.new.leaf ≡ at.old.leaf }
+    {
         let Some(head) = at.heads.pop() else {
             return Ok(());
         };
@@ -143,7 +174,14 @@ impl<'r, A: Allocator + Copy> Writer<'r, A> {
         text: &mut Vec<u8, A>,
         at: &mut Progress<'m, 'a, A>,
         item: &'m Item<'a, A>,
-    ) -> Result<(), ExportFault<'a>> {
+    ) -> Result<(), ExportFault<'a>>
+        ensures text { Appends text.old.items text.new.items result (items_texts self.now.flattens
+            (view_style self.now.style) (view_progress at.old)
+            (items_from at.old.leaf (map feature_positions self.now.polygons.now) (view_item item.now ∷ []))) }
+        ensures after { OnOk result (view_progress at.new ≡ after_items self.now.flattens (view_progress at.old)
+            (items_from at.old.leaf (map feature_positions self.now.polygons.now) (view_item item.now ∷ []))) }
+        ensures leaf { OnOk result (at.new.leaf ≡ at.old.leaf + length (at_most_one (leaf_of (view_item item.now)))) }
+    {
         match item {
             Item::Open(head) => if self.flattens {
                 Ok(())
@@ -180,6 +218,9 @@ impl<'r, A: Allocator + Copy> Writer<'r, A> {
         out: &mut W,
     ) -> Result<(), ExportFault<'a>>
         requires { W.has_failed out.old ≡ false }
+        ensures { SendsGiven W.Sink out.old out.new result (items_text self.now.flattens
+            (view_style self.now.style) (view_progress at.old)
+            (items_from at.old.leaf (map feature_positions self.now.polygons.now) (map view_item items.now))) }
     {
         for item in items {
             text.clear();

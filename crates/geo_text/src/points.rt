@@ -1,8 +1,12 @@
 // The texts of points (RFC 7946, 3.1.2 and 3.1.3).
-ghost use Rattle.std.specs.Prelude.{◌≡◌, ◌≤◌, ◌^◌, ◌++◌, map, unsigned_abs, IfOk, OnOk};
-ghost use Rattle.json_spans.specs.Common.{node, items};
-ghost use Rattle.topo_outline.specs.Common.{are_lists, view_head};
-ghost use Rattle.geo_text.specs.Points.{coordinates_from, point_head, point_number, point_numbers, point_position};
+ghost use Rattle.std.specs.Prelude.{◌≡◌, ◌≤◌, ◌^◌, false, filter, find, map, not, option_map, unsigned_abs, IfOk};
+ghost use Rattle.json_spans.specs.Common.{members, node, nodes};
+ghost use Rattle.topo_outline.specs.Common.{view_kept};
+ghost use Rattle.decimal_texts.specs.Common.{says};
+ghost use Rattle.geo_text.specs.Names.{is_one_of};
+ghost use Rattle.geo_text.specs.Points.{are_positions, known_of_point, member_of_pair, number_at, placed_text, point_number};
+ghost use Rattle.geo_text.specs.Points.{point_position, positions_text};
+ghost use Rattle.geo_text.specs.Seen.{view_style};
 ghost use Rattle.geo_text.specs.Gives.{Appends, Gives};
 
 use crate::fault::ExportFault;
@@ -37,7 +41,10 @@ fn named<'a>(
     heap: Global,
     name: &'static str,
     object: Span<'a>,
-) -> Result<Option<(Span<'a>, Span<'a>)>, AllocError> {
+) -> Result<Option<(Span<'a>, Span<'a>)>, AllocError>
+    ensures { IfOk result (λ found. option_map nodes found
+        ≡ find (λ m. says name.now m.0) (members (node object.entry))) }
+{
     for member in members(object) {
         if is_one_of(heap, &[name], member.0.text)? {
             return Ok(Some(member));
@@ -47,7 +54,10 @@ fn named<'a>(
 }
 
 /// The text of the value of a member.
-fn value_text<'a>(member: Option<(Span<'a>, Span<'a>)>) -> Option<&'a [u8]> {
+fn value_text<'a>(member: Option<(Span<'a>, Span<'a>)>) -> Option<&'a [u8]>
+    ensures { option_map (λ t. t.now) result
+        ≡ option_map (λ m. m.1.bytes) (option_map nodes member.entry) }
+{
     match member {
         Some((_, value)) => Some(value.text),
         None => None,
@@ -59,7 +69,10 @@ fn kept<'a, A: Allocator + Copy>(
     alloc: A,
     heap: Global,
     object: Span<'a>,
-) -> Result<Vec<KeptMember<'a>, A>, AllocError> {
+) -> Result<Vec<KeptMember<'a>, A>, AllocError>
+    ensures { IfOk result (λ v. map view_kept v.items ≡ filter (λ m. not (is_one_of known_of_point m.name))
+        (map member_of_pair (members (node object.entry)))) }
+{
     let mut found = Vec::new(alloc);
     for (name, value) in members(object) {
         if !is_one_of(heap, KNOWN, name.text)? {
@@ -73,13 +86,20 @@ fn kept<'a, A: Allocator + Copy>(
 }
 
 impl<'a, A: Allocator + Copy> Point<'a, A> {
+    ghost use Rattle.std.specs.Prelude.{ℕ, List};
+    ghost use Rattle.geo_text.specs.Points.{point_coordinates, point_type};
+    ghost use Rattle.geo_text.specs.Pointed.{IsPoint};
+
     /// The point of this text, with its number.
     pub(crate) fn of(
         alloc: A,
         heap: Global,
         number: usize,
         text: &'a [u8],
-    ) -> Result<Point<'a, A>, AllocError> {
+    ) -> Result<Point<'a, A>, AllocError>
+        ensures parts { IfOk result (λ point. IsPoint point text.now) }
+        ensures number { IfOk result (λ point. point.number ≡ number) }
+    {
         let object = Span { text, at: 0 };
         let is_one = has_type(heap, "Point", object)?;
         let coordinates = named(heap, "coordinates", object)?;
@@ -99,7 +119,9 @@ impl<'a, A: Allocator + Copy> Point<'a, A> {
     }
 
     /// The value of its `type`.
-    pub(crate) fn type_token(&self) -> &'static [u8] {
+    pub(crate) fn type_token(&self) -> &'static [u8]
+        ensures { (t : List ℕ) → IsPoint self.now t → result.now ≡ point_type t }
+    {
         if self.is_one {
             b"\"Point\""
         } else {
@@ -112,7 +134,10 @@ impl<'a, A: Allocator + Copy> Point<'a, A> {
         &self,
         text: &mut Vec<u8, B>,
         style: &Style,
-    ) -> Result<(), ExportFault<'a>> {
+    ) -> Result<(), ExportFault<'a>>
+        ensures { (t : List ℕ) → IsPoint self.now t → Appends text.old.items text.new.items result
+            (point_coordinates (view_style style.now) self.now.number t) }
+    {
         match self.coordinates {
             Some((name, value)) => if are_positions(self.is_one, value) {
                 push_placed(text, style, self.number, self.is_one, value)
@@ -129,7 +154,9 @@ impl<'a, A: Allocator + Copy> Point<'a, A> {
 }
 
 /// Whether a position is a list, or several are a list of lists.
-fn are_positions(is_one: bool, value: Span<'_>) -> bool {
+fn are_positions(is_one: bool, value: Span<'_>) -> bool
+    ensures { result ≡ are_positions is_one (node value.entry) }
+{
     kind(value) == Kind::List && (is_one || items(value).all(|part| kind(part) == Kind::List))
 }
 
@@ -158,7 +185,10 @@ fn push_number<'a, A: Allocator>(
     number: usize,
     i: usize,
     part: Span<'a>,
-) -> Result<(), ExportFault<'a>> {
+) -> Result<(), ExportFault<'a>>
+    ensures { Appends text.old.items text.new.items result
+        (number_at (view_style style.now) number i (node part.entry)) }
+{
     match i {
         0 => {
             let x = or_return!(point_number(number, part));
@@ -179,7 +209,10 @@ fn push_position<'a, A: Allocator>(
     style: &Style,
     number: usize,
     position: Span<'a>,
-) -> Result<(), ExportFault<'a>> {
+) -> Result<(), ExportFault<'a>>
+    ensures { Appends text.old.items text.new.items result
+        (point_position (view_style style.now) number (node position.entry)) }
+{
     text.push(b'[')?;
     for (i, part) in items(position).enumerate() {
         if i > 0 {
@@ -197,7 +230,10 @@ fn push_positions<'a, A: Allocator>(
     style: &Style,
     number: usize,
     value: Span<'a>,
-) -> Result<(), ExportFault<'a>> {
+) -> Result<(), ExportFault<'a>>
+    ensures { Appends text.old.items text.new.items result
+        (positions_text (view_style style.now) number false (node value.entry)) }
+{
     text.push(b'[')?;
     for (i, position) in items(value).enumerate() {
         if i > 0 {
@@ -216,7 +252,10 @@ fn push_placed<'a, A: Allocator>(
     number: usize,
     is_one: bool,
     value: Span<'a>,
-) -> Result<(), ExportFault<'a>> {
+) -> Result<(), ExportFault<'a>>
+    ensures { Appends text.old.items text.new.items result
+        (placed_text (view_style style.now) number is_one (node value.entry)) }
+{
     if !style.coordinates.grid.is_given() {
         text.extend_from_slice(bytes(value))?;
         return Ok(());

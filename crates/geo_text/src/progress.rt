@@ -18,8 +18,15 @@ pub(crate) struct Progress<'m, 'a, A: Allocator + Copy> {
 }
 
 impl<'m, 'a, A: Allocator + Copy> Progress<'m, 'a, A> {
+    ghost use Rattle.std.specs.Prelude.{◌≡◌, ◌<◌, ◌+◌, ◌^◌, ◌==◌, length};
+    ghost use Rattle.geo_text.specs.Items.{begin_at, passed};
+    ghost use Rattle.geo_text.specs.Seen.{view_progress};
+
     /// Before the first item of a layer that these numbers of the map come to.
-    pub(crate) fn new(alloc: A, leaf: usize, point: usize) -> Progress<'m, 'a, A> {
+    pub(crate) fn new(alloc: A, leaf: usize, point: usize) -> Progress<'m, 'a, A>
+        ensures at { view_progress result ≡ begin_at point }
+        ensures leaf { result.leaf ≡ leaf }
+    {
         Progress {
             heads: Vec::new(alloc),
             more: false,
@@ -30,14 +37,20 @@ impl<'m, 'a, A: Allocator + Copy> Progress<'m, 'a, A> {
     }
 
     /// Whether the next geometry is a Feature's, and stands in no other one.
-    pub(crate) fn is_outside(&self) -> bool {
+    pub(crate) fn is_outside(&self) -> bool
+        ensures { result ≡ (length (view_progress self.now).heads == 0) }
+    {
         self.heads.is_empty()
     }
 
     /// Passes a geometry.
-    pub(crate) fn pass(&mut self) {
+    pub(crate) fn pass(&mut self)
+        requires { self.old.feature + 1 < 2 ^ 64 }
+        ensures at { view_progress self.new ≡ passed (view_progress self.old) }
+        ensures leaf { self.new.leaf ≡ self.old.leaf }
+    {
         if self.heads.is_empty() {
-            self.feature = self.feature.saturating_add(1);
+            self.feature += 1;
         } else {
             self.more = true;
         }

@@ -1,10 +1,9 @@
 // The texts of rings and of polygons (RFC 7946, 3.1.6 and 3.1.7).
-ghost use Rattle.std.specs.Prelude.{◌≡◌, ◌≤◌, ◌++◌, ℤ, map, reverse, length, OnOk};
-ghost use Rattle.std.specs.List.{All};
+ghost use Rattle.std.specs.Prelude.{◌≡◌, ◌≤◌, ◌++◌, All, map, reverse, length, OnOk};
 ghost use Rattle.topo_outline.specs.Common.{form_of};
-ghost use Rattle.topo_reader.specs.Common.{feature_positions, polygon_positions, positions_of};
-ghost use Rattle.map_text.specs.Common.{further};
-ghost use Rattle.geo_text.specs.Rings.{is_wrong_way, polygon_text, position_text, ring_text, shape_text};
+ghost use Rattle.topo_reader.specs.Common.{polygon_positions, positions_of};
+ghost use Rattle.map_text.specs.Common.{further, list_text};
+ghost use Rattle.geo_text.specs.Rings.{is_turned, is_wrong_way, polygon_text, position_text, ring_text, shape_text};
 ghost use Rattle.geo_text.specs.Seen.{view_style};
 
 use crate::style::Style;
@@ -77,6 +76,7 @@ impl Style {
     /// Whether a ring is written the other way round.
     fn is_turned(&self, is_outer: bool, ring: &[Pos]) -> bool
         requires { length ring.now ≤ 4000000 }
+        ensures { result ≡ is_turned (view_style self.now) is_outer ring.now }
     {
         !self.keeps_winding && is_wrong_way(self.coordinates.grid.is_flipped(), is_outer, area2(ring))
     }
@@ -132,7 +132,11 @@ impl Style {
         &self,
         text: &mut Vec<u8, A>,
         polygons: &[Vec<Vec<Pos, B>, B>],
-    ) -> Result<(), AllocError> {
+    ) -> Result<(), AllocError>
+        requires { All (λ polygon. All (λ ring. length ring.items ≤ 4000000) polygon.items) polygons.now }
+        ensures { OnOk result (text.new.items ≡ text.old.items
+            ++ list_text (map (polygon_text (view_style self.now)) (map polygon_positions polygons.now))) }
+    {
         text.push(b'[')?;
         for (i, polygon) in polygons.iter().enumerate() {
             push_comma(text, i > 0)?;
@@ -148,7 +152,11 @@ impl Style {
         text: &mut Vec<u8, A>,
         form: Form,
         polygons: &[Vec<Vec<Pos, B>, B>],
-    ) -> Result<(), AllocError> {
+    ) -> Result<(), AllocError>
+        requires { All (λ polygon. All (λ ring. length ring.items ≤ 4000000) polygon.items) polygons.now }
+        ensures { OnOk result (text.new.items ≡ text.old.items
+            ++ shape_text (view_style self.now) (form_of form) (map polygon_positions polygons.now)) }
+    {
         match (form, polygons) {
             (Form::MultiPolygon, _) => self.push_polygons(text, polygons),
             (_, [polygon, ..]) => self.push_polygon(text, polygon.as_slice()),

@@ -5,7 +5,7 @@ use Rattle.grid_decimals.specs.Grid.{GridOf}
 -- as few decimals as keep so many units of the last one within a length; at most d, of which the units are given
 unfoldable pub fewest : ℕ → ℕ → ℕ → ℕ
 fewest zero units length = 0
-fewest (suc d) units length = if nat_le (10 * units) length then fewest d (10 * units) length else suc d
+fewest (suc d) units length = if nat_le (units * 10) length then fewest d (units * 10) length else suc d
 
 -- the lesser scale
 abbrev pub least_scale : GridOf → ℕ

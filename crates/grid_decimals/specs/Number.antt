@@ -1,13 +1,16 @@
 -- A number of a JSON text (RFC 8259, 6) as a whole number times a power of ten, and in units of its last decimal.
-use Rattle.std.specs.Prelude.{ℕ, ℤ, pos, negsuc, ◌*◌, ◌^◌, ◌-◌, ◌+ℤ◌, ◌-ℤ◌, ◌==◌, Bool, if◌then◌else◌, List, ◌++◌, length, reverse, drop}
-use Rattle.std.specs.List.{prefix_len}
+use Rattle.std.specs.Prelude.{ℕ, ℤ, pos, negsuc, ◌*◌, ◌^◌, ◌-◌, ◌+ℤ◌, ◌-ℤ◌, ◌==◌, Bool, if◌then◌else◌, List, ◌++◌, length, reverse, take, take_while}
 use Rattle.json_spans.specs.Common.{is_zero, value_from}
 use Rattle.json_spans.specs.Whole.{minus}
 use Rattle.decimal_texts.specs.Common.{Parts}
 
+-- how many zeros stand behind digits
+abbrev pub zeros_at_end : List ℕ → ℕ
+zeros_at_end ds = length (take_while is_zero (reverse ds))
+
 -- digits without the zeros behind them
 abbrev pub without_zeros_behind : List ℕ → List ℕ
-without_zeros_behind ds = reverse (drop (prefix_len is_zero (reverse ds)) (reverse ds))
+without_zeros_behind ds = take (length ds - zeros_at_end ds) ds
 
 -- all digits of a number, without the zeros behind them
 abbrev pub significant : Parts → List ℕ

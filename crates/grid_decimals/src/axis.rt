@@ -39,9 +39,7 @@ impl Axis {
     /// The axis of these numbers, which have at most so many decimals. `None` comes where they are too large, or the
     /// scale is 0.
     pub(crate) fn of(decimals: usize, scale: Number, translate: Number) -> Option<Axis>
-        requires few { decimals ≤ 36 }
-        requires scale { scale.size ≤ 10 ^ 37 }
-        requires translate { translate.size ≤ 10 ^ 37 }
+        requires { decimals ≤ 36 }
         ensures { (p q : Parts) → HasParts scale p → HasParts translate q → MatchOption result
             (fits_axis (axis_of decimals p q) ≡ false)
             (λ a. (view_axis a ≡ axis_of decimals p q) × (fits_axis (axis_of decimals p q) ≡ true)) }

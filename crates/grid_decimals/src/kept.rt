@@ -12,9 +12,9 @@ fn fewest(most: usize, units: u128, length: u128) -> usize
     ensures bound { result ≤ most }
 {
     let mut decimals = most;
-    let mut wider = units * 10;
-    while decimals > 0 && wider <= length {
-        wider *= 10;
+    let mut units = units;
+    while decimals > 0 && units * 10 <= length {
+        units *= 10;
         decimals -= 1;
     }
     decimals

@@ -1,7 +1,7 @@
 // A number as a whole number times a power of ten.
-ghost use Rattle.std.specs.Prelude.{◌≡◌, ◌≤◌, ◌<◌, ◌*◌, ◌^◌, ◌++◌, length, IfSome, MatchOption, unsigned_abs};
+ghost use Rattle.std.specs.Prelude.{◌≡◌, ◌≤◌, ◌<◌, ◌+◌, ◌*◌, ◌^◌, length, IfSome, MatchOption, unsigned_abs};
 ghost use Rattle.json_spans.specs.Common.{value_from};
-ghost use Rattle.grid_decimals.specs.Number.{without_zeros_behind, with_sign, at_least_zero};
+ghost use Rattle.grid_decimals.specs.Number.{at_least_zero, with_sign, without_zeros_behind, zeros_at_end};
 
 /// The largest number that is read.
 pub(crate) const LIMIT: u128 = 10_000_000_000_000_000_000_000_000_000_000_000_000;
@@ -11,7 +11,20 @@ pub(crate) const LIMIT: u128 = 10_000_000_000_000_000_000_000_000_000_000_000_00
 pub(crate) struct Number {
     pub(crate) is_negative: bool,
     pub(crate) size: u128,
-    pub(crate) power: i64,
+    pub(crate) power: i128,
+    ghost small_size: { size ≤ 10 ^ 37 },
+    ghost small_power: { unsigned_abs power ≤ 2 ^ 63 + 1000 },
+}
+
+/// How many zeros stand behind digits.
+fn zeros_at_end(digits: &[u8]) -> usize
+    ensures { result ≡ zeros_at_end digits.now }
+{
+    digits
+        .iter()
+        .rev()
+        .take_while(|x| **x == b'0')
+        .count()
 }
 
 /// The digits without the zeros behind them.
@@ -19,8 +32,7 @@ pub(crate) fn without_zeros_behind(digits: &[u8]) -> &[u8]
     ensures value { result.now ≡ without_zeros_behind digits.now }
     ensures short { length result.now ≤ length digits.now }
 {
-    let zeros = digits.iter().rev().take_while(|x| **x == b'0').count();
-    &digits[..digits.len().saturating_sub(zeros)]
+    &digits[..digits.len().saturating_sub(zeros_at_end(digits))]
 }
 
 /// The number whose digits are those of another, and these after them, where it is at most 10^37.
@@ -66,7 +78,8 @@ pub(crate) fn power_of_ten(exponent: usize) -> u128
 }
 
 /// A number, and 0 in the place of a negative one.
-pub(crate) fn at_least_zero(number: i64) -> usize
+pub(crate) fn at_least_zero(number: i128) -> usize
+    requires { unsigned_abs number < 2 ^ 64 }
     ensures { result ≡ at_least_zero number }
 {
     if number < 0 { 0 } else { number as usize }
@@ -103,12 +116,11 @@ impl Number {
     /// The number in units of the last of so many decimals, where it has no more. `None` comes where there are more
     /// than 10^37.
     pub(crate) fn units(&self, decimals: usize) -> Option<i128>
-        requires size { self.now.size ≤ 10 ^ 37 }
-        requires few { decimals ≤ 36 }
+        requires { decimals ≤ 36 }
         ensures { (p : Parts) → HasParts self.now p → MatchOption result
             (10 ^ 37 < unsigned_abs (units_of decimals p)) (λ z. z ≡ units_of decimals p) }
     {
-        let power = at_least_zero(decimals as i64 + self.power);
+        let power = at_least_zero(decimals as i128 + self.power);
         let size = times_power(self.size, power)?;
         Some(with_sign(self.is_negative, size))
     }

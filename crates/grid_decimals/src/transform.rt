@@ -1,5 +1,5 @@
 // The grid of a map, by its transform (TopoJSON 1.0, 2.1.2).
-ghost use Rattle.std.specs.Prelude.{◌≡◌, ◌≤◌, ◌^◌, option_map, IfOk, IfSome};
+ghost use Rattle.std.specs.Prelude.{◌≡◌, option_map, IfOk};
 ghost use Rattle.decimal_texts.specs.Common.{Parts};
 ghost use Rattle.grid_decimals.specs.Grid.{fitting, grid_of, grid_with, most_decimals, numbers_in, two_parts};
 ghost use Rattle.grid_decimals.specs.Seen.{AreRead, HasParts, view_found};
@@ -21,8 +21,7 @@ fn two_numbers(
     name: &str,
     text: &[u8],
 ) -> Result<Option<(Number, Number)>, AllocError>
-    ensures value { IfOk result (λ found. AreRead found (two_parts (numbers_in name.now text.now))) }
-    ensures bound { IfOk result (λ found. IfSome found (λ n. (n.0.size ≤ 10 ^ 37) × (n.1.size ≤ 10 ^ 37))) }
+    ensures { IfOk result (λ found. AreRead found (two_parts (numbers_in name.now text.now))) }
 {
     let Some(value) = value_in(heap, name, Span { text, at: 0 })? else {
         return Ok(None);
@@ -39,8 +38,6 @@ fn two_numbers(
 
 /// The grid of a scale and a translation.
 fn grid_with(scale: (Number, Number), translate: (Number, Number)) -> Option<Grid>
-    requires scale { (scale.0.size ≤ 10 ^ 37) × (scale.1.size ≤ 10 ^ 37) }
-    requires translate { (translate.0.size ≤ 10 ^ 37) × (translate.1.size ≤ 10 ^ 37) }
     ensures { (p q : Parts × Parts) → HasParts scale.0 p.0 → HasParts scale.1 p.1
         → HasParts translate.0 q.0 → HasParts translate.1 q.1
         → view_found result ≡ fitting (grid_with (most_decimals p q) p q) }

@@ -1,0 +1,5 @@
+pub mod Powers
+pub mod Fewest
+pub mod Shortest
+pub mod Nearest
+pub mod Common
