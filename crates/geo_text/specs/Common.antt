@@ -1,5 +1,5 @@
 -- The words of this crate that others cite most, passed on from one place. Declares nothing.
-pub use Rattle.geo_text.specs.Exported.{IsExported, SendsGiven, TookAll, TookSome}
+pub use Rattle.geo_text.specs.Exported.{IsPlaced, IsRefused, IsSent, IsUnwritten, SendsGiven, TookAll, TookSome}
 pub use Rattle.geo_text.specs.Faults.{GeoFault, few_decimals, nested, no_layer, of_map, point_not_whole}
 pub use Rattle.geo_text.specs.Faults.{point_out_of_range, several_layers}
 pub use Rattle.geo_text.specs.Gives.{Appends, Gives, IsGeoFault, IsMapFault, of_device}

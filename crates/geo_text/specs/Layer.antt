@@ -5,7 +5,7 @@ use Rattle.std.specs.List.{list_any, sum_by}
 use Rattle.std.specs.Str.{bytes_eq}
 use Rattle.json_spans.specs.Common.{decoded}
 use Rattle.ring_machine.specs.Common.{Text, Member, Head, Item, Open, Close, Leaf, Kept, Layer, Document}
-use Rattle.map_text.specs.Common.{commas, member, member_if, member_text}
+use Rattle.map_text.specs.Common.{further, member, member_if, member_text}
 use Rattle.topo_outline.specs.Common.{duplicate}
 use Rattle.decimal_texts.specs.Geometries.{is_string_of}
 use Rattle.geo_text.specs.Faults.{GeoFault, of_map, no_layer, several_layers, ◌>>=◌, demand}
@@ -21,19 +21,19 @@ is_point item = false
 abbrev pub points_in : List Item → ℕ
 points_in items = length (filter is_point items)
 
--- it has the name that is asked for, or none is asked for
-abbrev pub is_asked : Option Text → Layer → Bool
-is_asked None l = true
-is_asked (Some name) l = is_string_of name (decoded l.name)
+-- a layer's name, by its token, is the one that is asked for, or none is asked for
+abbrev pub is_asked : Option Text → Text → Bool
+is_asked None token = true
+is_asked (Some name) token = is_string_of name (decoded token)
 
 -- the layers that are asked for, each with the number of points before it
 unfoldable pub asked_from : Option Text → ℕ → List Layer → List (ℕ × Layer)
 asked_from name n [] = []
 asked_from name n (l ∷ ls) =
-    if is_asked name l then ((n, l) ∷ asked_from name (n + points_in l.items) ls)
+    if is_asked name l.name then ((n, l) ∷ asked_from name (n + points_in l.items) ls)
     else asked_from name (n + points_in l.items) ls
 
-abbrev pub the_only : List (ℕ × Layer) → Result (ℕ × Layer) GeoFault
+abbrev pub the_only : {A : Type 0} → List A → Result A GeoFault
 the_only [] = Err no_layer
 the_only (one ∷ []) = Ok one
 the_only (one ∷ another ∷ others) = Err several_layers
@@ -72,29 +72,36 @@ has_already h token =
     (is_some h.id && is_one_of (codes "id" ∷ []) token)
     || ((is_some h.properties && is_one_of (codes "properties" ∷ []) token) || has_named h.members token)
 
--- its own members, and then those of the topology that it does not have
+-- those of the topology that it does not have
+abbrev pub missing_members : Head → List Member → List Member
+missing_members h of_topology = filter (λ m. not (has_already h m.name)) of_topology
+
+-- its own members, and then those of the topology
 abbrev pub collection_members : Head → List Member → List Member
-collection_members h of_topology = h.members ++ filter (λ m. not (has_already h m.name)) of_topology
+collection_members h of_topology = h.members ++ missing_members h of_topology
 
 -- one of them is called `name`
 abbrev pub has_name : List Member → Bool
 has_name ms = list_any (λ m. is_one_of (codes "name" ∷ []) m.name) ms
 
 -- the layer's name; where a member has that name, the layer has the name of one that was read without
-abbrev pub name_members : Text → List Member → Result (List Member) GeoFault
-name_members token ms =
+abbrev pub name_text : Text → List Member → Result Text GeoFault
+name_text token ms =
     if has_name ms then demand (is_one_of (codes "features" ∷ []) token) (of_map (duplicate (codes "name"))) (Ok [])
-    else Ok (member (codes "\"name\"") token ∷ [])
+    else Ok (further (map member_text (member (codes "\"name\"") token ∷ [])))
 
--- all members before the list of Features
-abbrev pub front_members : List Member → Head → List Member → List Member
-front_members name h ms =
-    member (codes "\"type\"") (codes "\"FeatureCollection\"")
-    ∷ (name ++ (member_if (codes "\"id\"") h.id ++ (member_if (codes "\"properties\"") h.properties ++ ms)))
+-- the other members before the list of Features
+abbrev pub front_members : Head → List Member → List Member
+front_members h ms = member_if (codes "\"id\"") h.id ++ (member_if (codes "\"properties\"") h.properties ++ ms)
 
 -- the collection up to its first Feature
 abbrev pub front_text : Text → Head → List Member → Result Text GeoFault
 front_text token h ms = do
-  name ← name_members token ms
+  name ← name_text token ms
   rest ← unless_wrong (first_of not_of_collection ms) ms
-  Ok (codes "{" ++ (commas (map member_text (front_members name h rest)) ++ codes ",\"features\":["))
+  Ok (codes "{\"type\":\"FeatureCollection\"" ++ (name
+      ++ (further (map member_text (front_members h rest)) ++ codes ",\"features\":[")))
+
+-- with the members of the topology that come along
+abbrev pub front_of : Text → Head → List Member → Result Text GeoFault
+front_of token h of_topology = front_text token h (collection_members h of_topology)

@@ -6,6 +6,7 @@ pub mod Points
 pub mod Features
 pub mod Items
 pub mod Layer
+pub mod Found
 pub mod Text
 pub mod Places
 pub mod Gives

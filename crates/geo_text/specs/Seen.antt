@@ -1,5 +1,5 @@
 -- What the code holds while it writes, as the definitions see it.
-use Rattle.std.specs.Prelude.{List, map, reverse}
+use Rattle.std.specs.Prelude.{◌<◌, ◌+◌, ◌^◌, List, map, reverse}
 use Rattle.std.specs.Borrow.{Bor}
 use Rattle.ring_machine.specs.Common.{Head}
 use Rattle.topo_outline.specs.declared.document.Head.{Head as CodeHead}
@@ -28,3 +28,7 @@ view_progress p = record {
   feature = p.feature;
   point = p.point;
 }
+
+-- one more of each can be counted
+abbrev pub HasRoom : {A : Type 0} → Progress A → Type 0
+HasRoom p = (p.feature + 1 < 2 ^ 64) × (p.leaf + 1 < 2 ^ 64) × (p.point + 1 < 2 ^ 64)

@@ -8,7 +8,7 @@ use Rattle.grid_decimals.specs.Common.{GridOf, grid_of, least_decimals, safe_dec
 use Rattle.geo_text.specs.Wants.{Wants, Style}
 use Rattle.geo_text.specs.Faults.{GeoFault, of_map, few_decimals, ◌>>=◌, demand}
 use Rattle.geo_text.specs.Items.{begin_at, items_text}
-use Rattle.geo_text.specs.Layer.{asked_layer, collection_members, front_text, layer_head, layer_items}
+use Rattle.geo_text.specs.Layer.{asked_layer, front_of, layer_head, layer_items}
 
 -- ---- how many decimals
 
@@ -45,6 +45,6 @@ abbrev pub geo_text : Wants → Document → Result Text GeoFault
 geo_text wants d = do
   found ← asked_layer wants.layer d
   s ← style_of wants d
-  front ← front_text found.1.name (layer_head found.1.items) (collection_members (layer_head found.1.items) d.members)
+  front ← front_of found.1.name (layer_head found.1.items) d.members
   rest ← items_text wants.flattens s (begin_at found.0) (layer_items found.1.items)
   Ok (front ++ rest)

@@ -1,9 +1,15 @@
 // From the bytes of a map to the text of one of its layers.
-ghost use Rattle.std.specs.Prelude.{◌≡◌, ◌≤◌, false, option_map, IfOk, IfErr, OnOk};
-ghost use Rattle.topo_reader.specs.Common.{document_of, view_raw, IsFault, IsOfRings};
+ghost use Rattle.std.specs.Prelude.{◌≡◌, ◌≤◌, ◌<◌, ◌+◌, ◌*◌, ◌^◌, false, length, IfOk, IfErr, OnOk};
+ghost use Rattle.json_spans.specs.Common.{Json};
+ghost use Rattle.grid_decimals.specs.Common.{view_grid};
+ghost use Rattle.topo_reader.specs.Common.{document_of, view_raw, IsOfRings};
 ghost use Rattle.geo_text.specs.Wants.{view_asked};
-ghost use Rattle.geo_text.specs.Text.{geo_text};
-ghost use Rattle.geo_text.specs.Exported.{SendsGiven};
+ghost use Rattle.geo_text.specs.Text.{decimals_for, geo_text, style_of};
+ghost use Rattle.geo_text.specs.Exported.{IsPlaced, IsRefused, IsSent, SendsGiven, layer_text};
+ghost use Rattle.geo_text.specs.Found.{view_found};
+ghost use Rattle.geo_text.specs.Gives.{Gives, of_device};
+ghost use Rattle.geo_text.specs.Places.{point_place};
+ghost use Rattle.geo_text.specs.Seen.{view_style};
 
 use crate::asked::Asked;
 use crate::fault::ExportFault;
@@ -29,6 +35,8 @@ fn decimals_for<'a>(
     grid: &Grid,
 ) -> Result<usize, ExportFault<'a>>
     requires { longest ≤ 2 * 10 ^ 12 }
+    ensures value { Gives (λ k. k) result (decimals_for asked longest (view_grid grid.now)) }
+    ensures bound { IfOk result (λ k. k ≤ grid.now.decimals) }
 {
     let Some(asked) = asked else {
         return Ok(grid.safe_decimals(longest));
@@ -45,7 +53,10 @@ fn style_of<'a, A: Allocator + Copy>(
     heap: Global,
     raw: &RawDoc<'a, A>,
     asked: &Asked<'_>,
-) -> Result<Style, ExportFault<'a>> {
+) -> Result<Style, ExportFault<'a>>
+    requires { IsOfRings (view_raw raw.now) }
+    ensures { Gives view_style result (style_of (view_asked asked.now) (document_of (view_raw raw.now))) }
+{
     let Some(grid) = grid_of(heap, raw.transform)? else {
         return Err(ExportFault::Open(OpenFault::BadMember {
             name: Token { text: b"transform" },
@@ -67,7 +78,12 @@ fn send_found<'a, A: Allocator + Copy, W: Sink>(
     writer: &Writer<'_, A>,
     out: &mut W,
 ) -> Result<(), ExportFault<'a>>
-    requires { W.has_failed out.old ≡ false }
+    requires working { W.has_failed out.old ≡ false }
+    requires leaves { found.leaves + length found.layer.now.items.items < 2 ^ 64 }
+    requires points { found.points + length found.layer.now.items.items < 2 ^ 64 }
+    requires polygons { writer.now.polygons.now ≡ raw.now.polygons.items }
+    ensures { SendsGiven W.Sink out.old out.new result (layer_text (view_style writer.now.style)
+        writer.now.flattens (view_found found) (view_raw raw.now)) }
 {
     let (head, items) = parts(found.layer);
     let mut text = Vec::new(alloc);
@@ -117,7 +133,10 @@ fn point_place<A: Allocator + Copy>(
     heap: Global,
     bytes: &[u8],
     point: usize,
-) -> Result<usize, AllocError> {
+) -> Result<usize, AllocError>
+    requires { Json 100 bytes.now }
+    ensures { IfOk result (λ place. place ≡ point_place bytes.now point) }
+{
     let root = match scan(alloc, bytes) {
         Ok(root) => root,
         Err(ScanFault::OutOfMemory) => return Err(AllocError),
@@ -136,7 +155,10 @@ fn placed<'a, A: Allocator + Copy>(
     heap: Global,
     bytes: &[u8],
     fault: ExportFault<'a>,
-) -> Result<ExportFault<'a>, AllocError> {
+) -> Result<ExportFault<'a>, AllocError>
+    requires { Json 100 bytes.now }
+    ensures { IfOk result (IsPlaced bytes.now fault) }
+{
     match fault {
         ExportFault::PointNotWhole { point, place } => {
             let from = point_place(alloc, heap, bytes, point)?;
@@ -167,6 +189,9 @@ pub fn export<'a, A: Allocator + Copy, W: Sink>(
     out: &mut W,
 ) -> Result<(), ExportFault<'a>>
     requires { W.has_failed out.old ≡ false }
+    ensures written { OnOk result (IsSent W.Sink (view_asked asked) bytes.now out.old out.new) }
+    ensures refused { IfErr result (IsRefused (view_asked asked) bytes.now) }
+    ensures stands { IfErr result (λ fault. W.has_failed out.new ≡ of_device fault) }
 {
     let raw = match read(alloc, heap, seed, bytes) {
         Ok(raw) => raw,

@@ -1,4 +1,11 @@
 // A FeatureCollection up to the list of its Features (RFC 7946, 3.3).
+ghost use Rattle.std.specs.Prelude.{◌≡◌, ◌||◌, ◌&&◌, [], ◌∷◌, ◌++◌, codes, is_some, map, option_map, IfOk, OnOk};
+ghost use Rattle.topo_outline.specs.Common.{view_head, view_kept};
+ghost use Rattle.geo_text.specs.Names.{is_one_of};
+ghost use Rattle.geo_text.specs.Layer.{collection_members, front_of, front_text, missing_members, name_text};
+ghost use Rattle.geo_text.specs.Found.{head_or_none};
+ghost use Rattle.geo_text.specs.Gives.{Appends};
+
 use crate::fault::ExportFault;
 use crate::names::{NOT_OF_COLLECTION, Names, bad_member, first_of, is_one_of, names_of};
 use crate::texts::{push_member, push_member_if, push_members};
@@ -24,7 +31,10 @@ fn is_taken<A: Allocator + Copy>(
     heap: Global,
     head: &Head<'_, A>,
     name: &[u8],
-) -> Result<bool, AllocError> {
+) -> Result<bool, AllocError>
+    ensures { IfOk result (λ is. is ≡ ((is_some (view_head head.now).id && is_one_of (codes "id" ∷ []) name.now)
+        || (is_some (view_head head.now).properties && is_one_of (codes "properties" ∷ []) name.now))) }
+{
     let has_id = head.id.is_some() && is_one_of(heap, &["id"], name)?;
     let has_properties = head.properties.is_some() && is_one_of(heap, &["properties"], name)?;
     Ok(has_id || has_properties)
@@ -36,7 +46,10 @@ fn push_missing<'a, A: Allocator + Copy>(
     heap: Global,
     head: &Head<'a, A>,
     of_topology: &[KeptMember<'a>],
-) -> Result<(), AllocError> {
+) -> Result<(), AllocError>
+    ensures { OnOk result (map view_kept found.new.items ≡ map view_kept found.old.items
+        ++ missing_members (view_head head.now) (map view_kept of_topology.now)) }
+{
     let names = names_of(*found.allocator(), heap, head.members.as_slice())?;
     for member in of_topology {
         if !is_taken(heap, head, member.name)? && !is_among(heap, &names, member.name)? {
@@ -52,7 +65,10 @@ fn collection_members<'a, A: Allocator + Copy>(
     heap: Global,
     head: Option<&Head<'a, A>>,
     of_topology: &[KeptMember<'a>],
-) -> Result<Vec<KeptMember<'a>, A>, AllocError> {
+) -> Result<Vec<KeptMember<'a>, A>, AllocError>
+    ensures { IfOk result (λ v. map view_kept v.items ≡ collection_members
+        (head_or_none (option_map (λ h. view_head h.now) head.entry)) (map view_kept of_topology.now)) }
+{
     let mut found = Vec::new(alloc);
     match head {
         Some(head) => {
@@ -70,7 +86,9 @@ fn push_name<'a, A: Allocator>(
     heap: Global,
     token: &[u8],
     members: &[KeptMember<'a>],
-) -> Result<(), ExportFault<'a>> {
+) -> Result<(), ExportFault<'a>>
+    ensures { Appends text.old.items text.new.items result (name_text token.now (map view_kept members.now)) }
+{
     if first_of(heap, &["name"], members)?.is_none() {
         push_member(text, b"\"name\"", token)?;
         return Ok(());
@@ -90,7 +108,10 @@ fn push_front_with<'a, A: Allocator + Copy>(
     token: &[u8],
     head: Option<&Head<'a, A>>,
     members: &[KeptMember<'a>],
-) -> Result<(), ExportFault<'a>> {
+) -> Result<(), ExportFault<'a>>
+    ensures { Appends text.old.items text.new.items result (front_text token.now
+        (head_or_none (option_map (λ h. view_head h.now) head.entry)) (map view_kept members.now)) }
+{
     text.extend_from_slice(b"{\"type\":\"FeatureCollection\"")?;
     or_return!(push_name(text, heap, token, members));
     if let Some(wrong) = first_of(heap, NOT_OF_COLLECTION, members)? {
@@ -112,7 +133,10 @@ pub(crate) fn push_front<'a, A: Allocator + Copy>(
     token: &[u8],
     head: Option<&Head<'a, A>>,
     of_topology: &[KeptMember<'a>],
-) -> Result<(), ExportFault<'a>> {
+) -> Result<(), ExportFault<'a>>
+    ensures { Appends text.old.items text.new.items result (front_of token.now
+        (head_or_none (option_map (λ h. view_head h.now) head.entry)) (map view_kept of_topology.now)) }
+{
     let members = collection_members(*text.allocator(), heap, head, of_topology)?;
     push_front_with(text, heap, token, head, members.as_slice())
 }

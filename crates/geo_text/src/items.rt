@@ -1,14 +1,15 @@
 // The items of a layer, sent to a device one after another.
-ghost use Rattle.std.specs.Prelude.{◌≡◌, ◌+◌, ℕ, List, [], ◌∷◌, false, length, map, OnOk};
+ghost use Rattle.std.specs.Prelude.{◌≡◌, ◌<◌, ◌+◌, ◌^◌, ℕ, List, [], ◌∷◌, false, length, map, OnOk};
 ghost use Rattle.ring_machine.specs.Common.{Close, Kept, Open};
 ghost use Rattle.topo_outline.specs.Common.{at_most_one, items_from, leaf_of, view_head, view_item, view_kept};
+ghost use Rattle.topo_outline.specs.declared.document.Item.TheVariants as code_item;
 ghost use Rattle.topo_reader.specs.Common.{feature_positions};
 ghost use Rattle.geo_text.specs.Exported.{SendsGiven};
 ghost use Rattle.geo_text.specs.Gives.{Appends};
 ghost use Rattle.geo_text.specs.Items.{after_item, after_items, after_text, before_text, close_text, item_text, items_text};
 ghost use Rattle.geo_text.specs.Items.{items_texts, open_text};
 ghost use Rattle.geo_text.specs.Pointed.{IsPoint};
-ghost use Rattle.geo_text.specs.Seen.{view_progress, view_style};
+ghost use Rattle.geo_text.specs.Seen.{HasRoom, view_progress, view_style};
 
 use crate::fault::ExportFault;
 use crate::features::{
@@ -96,7 +97,12 @@ impl<'r, A: Allocator + Copy> Writer<'r, A> {
         text: &mut Vec<u8, A>,
         at: &Progress<'_, 'a, A>,
         feature: &RawFeature<'a, A>,
-    ) -> Result<(), ExportFault<'a>> {
+    ) -> Result<(), ExportFault<'a>>
+        ensures { Appends text.old.items text.new.items result (items_texts self.now.flattens
+            (view_style self.now.style) (view_progress at.now)
+            (items_from at.now.leaf (map feature_positions self.now.polygons.now)
+            (view_item (code_item.Leaf feature.now) ∷ []))) }
+    {
         let head = &feature.head;
         let polygons = self.polygons_of(at.leaf);
         or_return!(self.push_before(text, at, head, feature.form == Form::Null));
@@ -152,6 +158,7 @@ impl<'r, A: Allocator + Copy> Writer<'r, A> {
         text: &mut Vec<u8, A>,
         at: &mut Progress<'m, 'a, A>,
     ) -> Result<(), ExportFault<'a>>
+        requires { HasRoom at.old }
         ensures text { Appends text.old.items text.new.items result
             (close_text (view_progress at.old).heads) }
         ensures after { OnOk result (view_progress at.new
@@ -175,6 +182,7 @@ impl<'r, A: Allocator + Copy> Writer<'r, A> {
         at: &mut Progress<'m, 'a, A>,
         item: &'m Item<'a, A>,
     ) -> Result<(), ExportFault<'a>>
+        requires { HasRoom at.old }
         ensures text { Appends text.old.items text.new.items result (items_texts self.now.flattens
             (view_style self.now.style) (view_progress at.old)
             (items_from at.old.leaf (map feature_positions self.now.polygons.now) (view_item item.now ∷ []))) }
@@ -195,14 +203,14 @@ impl<'r, A: Allocator + Copy> Writer<'r, A> {
             },
             Item::Leaf(feature) => {
                 or_return!(self.push_leaf(text, at, feature));
-                at.leaf = at.leaf.saturating_add(1);
+                at.leaf += 1;
                 at.pass();
                 Ok(())
             }
             Item::Kept(kept) => {
                 let point = Point::of(*text.allocator(), self.heap, at.point, kept)?;
                 or_return!(self.push_kept(text, at, &point));
-                at.point = at.point.saturating_add(1);
+                at.point += 1;
                 at.pass();
                 Ok(())
             }
@@ -217,7 +225,10 @@ impl<'r, A: Allocator + Copy> Writer<'r, A> {
         items: &'m [Item<'a, A>],
         out: &mut W,
     ) -> Result<(), ExportFault<'a>>
-        requires { W.has_failed out.old ≡ false }
+        requires working { W.has_failed out.old ≡ false }
+        requires begin { at.old.feature ≡ 0 }
+        requires leaves { at.old.leaf + length items.now < 2 ^ 64 }
+        requires points { at.old.point + length items.now < 2 ^ 64 }
         ensures { SendsGiven W.Sink out.old out.new result (items_text self.now.flattens
             (view_style self.now.style) (view_progress at.old)
             (items_from at.old.leaf (map feature_positions self.now.polygons.now) (map view_item items.now))) }

@@ -18,9 +18,9 @@ pub(crate) struct Progress<'m, 'a, A: Allocator + Copy> {
 }
 
 impl<'m, 'a, A: Allocator + Copy> Progress<'m, 'a, A> {
-    ghost use Rattle.std.specs.Prelude.{◌≡◌, ◌<◌, ◌+◌, ◌^◌, ◌==◌, length};
+    ghost use Rattle.std.specs.Prelude.{◌≡◌, ◌==◌, length};
     ghost use Rattle.geo_text.specs.Items.{begin_at, passed};
-    ghost use Rattle.geo_text.specs.Seen.{view_progress};
+    ghost use Rattle.geo_text.specs.Seen.{HasRoom, view_progress};
 
     /// Before the first item of a layer that these numbers of the map come to.
     pub(crate) fn new(alloc: A, leaf: usize, point: usize) -> Progress<'m, 'a, A>
@@ -45,7 +45,7 @@ impl<'m, 'a, A: Allocator + Copy> Progress<'m, 'a, A> {
 
     /// Passes a geometry.
     pub(crate) fn pass(&mut self)
-        requires { self.old.feature + 1 < 2 ^ 64 }
+        requires { HasRoom self.old }
         ensures at { view_progress self.new ≡ passed (view_progress self.old) }
         ensures leaf { self.new.leaf ≡ self.old.leaf }
     {
