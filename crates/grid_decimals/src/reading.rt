@@ -1,7 +1,8 @@
 // The numbers of a transform, from their bytes (RFC 8259, 6).
-ghost use Rattle.std.specs.Prelude.{◌≡◌, ◌≤◌, ◌<◌, ◌^◌, length, option_map, pos, unsigned_abs, IfSome, Some};
+ghost use Rattle.std.specs.Prelude.{◌≡◌, ◌==◌, ◌≤◌, ◌<◌, length, if◌then◌else◌, unsigned_abs, IfSome, Some};
 ghost use Rattle.json_spans.specs.Common.{digits_len};
-ghost use Rattle.decimal_texts.specs.Common.{exponent_of, parts_of, signed_small, small, unsigned, with_exponent};
+ghost use Rattle.decimal_texts.specs.Common.{behind_integer, exponent_of, parts_of, signed_small, small, unsigned, with_exponent};
+ghost use Rattle.grid_decimals.specs.Number.{without_zeros_behind};
 ghost use Rattle.grid_decimals.specs.Seen.{IsRead};
 
 use crate::number::{Number, read_digits, without_zeros_behind};
@@ -15,18 +16,15 @@ fn digits_len(bytes: &[u8]) -> usize
 }
 
 /// The number that at most three digits are, and nothing else.
-fn small(bytes: &[u8]) -> Option<i64>
-    ensures value { result ≡ option_map pos (small bytes.now) }
-    ensures bound { IfSome result (λ z. unsigned_abs z < 1000) }
+fn small(bytes: &[u8]) -> Option<u16>
+    ensures value { result ≡ small bytes.now }
+    ensures bound { IfSome result (λ n. n < 1000) }
 {
-    match bytes {
-        [a @ b'0'..=b'9'] => Some(i64::from(*a - b'0')),
-        [a @ b'0'..=b'9', b @ b'0'..=b'9'] => Some(i64::from(*a - b'0') * 10 + i64::from(*b - b'0')),
-        [a @ b'0'..=b'9', b @ b'0'..=b'9', c @ b'0'..=b'9'] => {
-            Some(i64::from(*a - b'0') * 100 + i64::from(*b - b'0') * 10 + i64::from(*c - b'0'))
-        }
-        _ => None,
+    let len = digits_len(bytes);
+    if len == 0 || len > 3 || len < bytes.len() {
+        return None;
     }
+    Some(read_digits(0, bytes)? as u16)
 }
 
 /// The number that at most three digits are, perhaps after a sign.
@@ -35,9 +33,9 @@ fn signed_small(bytes: &[u8]) -> Option<i64>
     ensures bound { IfSome result (λ z. unsigned_abs z < 1000) }
 {
     match bytes {
-        [b'-', digits @ ..] => Some(-small(digits)?),
-        [b'+', digits @ ..] => small(digits),
-        _ => small(bytes),
+        [b'-', digits @ ..] => Some(-i64::from(small(digits)?)),
+        [b'+', digits @ ..] => Some(i64::from(small(digits)?)),
+        _ => Some(i64::from(small(bytes)?)),
     }
 }
 
@@ -53,6 +51,20 @@ fn exponent_of(bytes: &[u8]) -> Option<i64>
     }
 }
 
+/// The digits before a point, where these stand behind it without the zeros behind them: where there are none, they lose
+/// theirs too.
+fn kept_integer<'a>(integer: &'a [u8], fraction: &[u8]) -> &'a [u8]
+    ensures value { result.now ≡ (if length fraction.now == 0 then without_zeros_behind integer.now
+        else integer.now) }
+    ensures short { length result.now ≤ length integer.now }
+{
+    if fraction.is_empty() {
+        without_zeros_behind(integer)
+    } else {
+        integer
+    }
+}
+
 /// The number of these digits before and after its point. `None` comes for one over 10^37 without its zeros behind.
 fn number_of_digits(
     is_negative: bool,
@@ -65,11 +77,7 @@ fn number_of_digits(
         (with_exponent is_negative integer.now fraction.now (Some exponent)) }
 {
     let fraction = without_zeros_behind(fraction);
-    let kept = if fraction.is_empty() {
-        without_zeros_behind(integer)
-    } else {
-        integer
-    };
+    let kept = kept_integer(integer, fraction);
     let size = read_digits(read_digits(0, kept)?, fraction)?;
     let zeros = integer.len() as i128 - kept.len() as i128;
     Some(Number {
@@ -79,28 +87,44 @@ fn number_of_digits(
     })
 }
 
-/// The digits at the start, if there are any, and what follows them.
-fn split_digits(bytes: &[u8]) -> Option<(&[u8], &[u8])> {
-    let (digits, rest) = bytes.split_at(digits_len(bytes));
-    if digits.is_empty() {
-        None
-    } else {
-        Some((digits, rest))
+/// The number of these digits, with what follows them.
+fn with_exponent(
+    is_negative: bool,
+    integer: &[u8],
+    fraction: &[u8],
+    rest: &[u8],
+) -> Option<Number>
+    ensures { IsRead result
+        (with_exponent is_negative integer.now fraction.now (exponent_of rest.now)) }
+{
+    number_of_digits(is_negative, integer, fraction, exponent_of(rest)?)
+}
+
+/// The number of these digits before the point, with what follows them.
+fn behind_integer(is_negative: bool, integer: &[u8], rest: &[u8]) -> Option<Number>
+    ensures { IsRead result (behind_integer is_negative integer.now rest.now) }
+{
+    match rest {
+        [b'.', rest @ ..] => {
+            let (fraction, power) = rest.split_at(digits_len(rest));
+            if fraction.is_empty() {
+                return None;
+            }
+            with_exponent(is_negative, integer, fraction, power)
+        }
+        _ => with_exponent(is_negative, integer, &[], rest),
     }
 }
 
-/// A number without its sign.
+/// The number whose digits stand at the start.
 fn unsigned(is_negative: bool, bytes: &[u8]) -> Option<Number>
     ensures { IsRead result (unsigned is_negative bytes.now) }
 {
-    let (integer, rest) = split_digits(bytes)?;
-    match rest {
-        [b'.', rest @ ..] => {
-            let (fraction, rest) = split_digits(rest)?;
-            number_of_digits(is_negative, integer, fraction, exponent_of(rest)?)
-        }
-        _ => number_of_digits(is_negative, integer, &[], exponent_of(rest)?),
+    let (integer, rest) = bytes.split_at(digits_len(bytes));
+    if integer.is_empty() {
+        return None;
     }
+    behind_integer(is_negative, integer, rest)
 }
 
 /// A number of a JSON text. `None` comes for bytes that are none, for an exponent of more than three digits, and for a
