@@ -9,6 +9,7 @@ pub mod Layer
 pub mod Found
 pub mod Text
 pub mod Places
+pub mod Back
 pub mod Gives
 pub mod Seen
 pub mod Pointed

@@ -1,9 +1,10 @@
 -- Coordinates as decimals, worked out.
-use Rattle.kit_words.proofs.Common.{refl, ◌≡◌, ℕ, ℤ, pos, negsuc, ◌*◌, List, Option, Some, None, option_map, codes, true, false}
+use Rattle.kit_words.proofs.Common.{refl, arith, ◌≡◌, ℕ, ℤ, pos, negsuc, ◌*◌, List, Option, Some, None, option_map, codes, true, false}
 use Rattle.kit_words.proofs.Common.{digits}
 use Rattle.json_spans.specs.Common.{value_from}
 use Rattle.decimal_texts.specs.Common.{parts_of}
-use Rattle.grid_decimals.specs.Common.{decimals_of, fewest, nearest, number_text, shortest, units_of}
+use Rattle.grid_decimals.specs.Common.{IsNear, IsReadBack, decimals_of, fewest, nearest, number_text}
+use Rattle.grid_decimals.specs.Common.{shortest, units_of}
 
 -- ---- numbers of a transform
 
@@ -86,3 +87,30 @@ whole = refl
 zero_without_minus : number_text 4 (pos 0) ≡ codes "0"
 unfolding digits shortest
 zero_without_minus = refl
+
+-- ---- and read again
+
+back_below_zero : IsReadBack 2 (negsuc 4)
+unfolding digits shortest value_from
+back_below_zero = refl
+
+back_without_zeros : IsReadBack 3 (pos 1500)
+unfolding digits shortest value_from
+back_without_zeros = refl
+
+back_whole : IsReadBack 2 (pos 1000)
+unfolding digits shortest value_from
+back_whole = refl
+
+back_zero : IsReadBack 4 (pos 0)
+unfolding digits shortest value_from
+back_zero = refl
+
+-- ---- near
+
+-- a third of the way is rounded down, and two thirds up
+near_below : IsNear 2 0 (pos 133)
+near_below = omega arith
+
+near_above : IsNear 2 0 (negsuc 166)
+near_above = omega arith
