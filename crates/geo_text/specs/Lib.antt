@@ -2,6 +2,7 @@ pub mod Wants
 pub mod Faults
 pub mod Names
 pub mod Rings
+pub mod Small
 pub mod Points
 pub mod Features
 pub mod Items

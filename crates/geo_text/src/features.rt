@@ -1,5 +1,5 @@
 // The texts of Features and of what stands within them (RFC 7946, 3.1 and 3.2).
-ghost use Rattle.std.specs.Prelude.{◌≡◌, ◌≤◌, ◌++◌, ℕ, List, All, codes, length, map, OnOk};
+ghost use Rattle.std.specs.Prelude.{◌≡◌, ◌++◌, ℕ, List, codes, map, IsTrue, OnOk};
 ghost use Rattle.topo_outline.specs.Common.{form_of, view_head, view_kept};
 ghost use Rattle.topo_reader.specs.Common.{polygon_positions};
 ghost use Rattle.ring_machine.specs.Common.{Feature};
@@ -7,6 +7,7 @@ ghost use Rattle.map_text.specs.Common.{further, member_text, type_text};
 ghost use Rattle.geo_text.specs.Features.{collection_begin, collection_end, feature_begin, geometry_begin};
 ghost use Rattle.geo_text.specs.Features.{leaf_geometry, not_of_form, others_text, own_text, point_geometry};
 ghost use Rattle.geo_text.specs.Seen.{view_style};
+ghost use Rattle.geo_text.specs.Small.{all_small};
 ghost use Rattle.geo_text.specs.Gives.{Appends};
 ghost use Rattle.geo_text.specs.Pointed.{IsPoint};
 
@@ -133,7 +134,7 @@ pub(crate) fn push_shape<'a, A: Allocator + Copy>(
     feature: &RawFeature<'a, A>,
     polygons: &[Vec<Vec<Pos, A>, A>],
 ) -> Result<(), ExportFault<'a>>
-    requires { All (λ polygon. All (λ ring. length ring.items ≤ 4000000) polygon.items) polygons.now }
+    requires { IsTrue (all_small polygons.now) }
     ensures { (f : Feature) → f.form ≡ form_of feature.now.form
         → f.members ≡ (view_head feature.now.head).members
         → f.polygons ≡ map polygon_positions polygons.now

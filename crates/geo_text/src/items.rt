@@ -1,15 +1,16 @@
 // The items of a layer, sent to a device one after another.
-ghost use Rattle.std.specs.Prelude.{◌≡◌, ◌<◌, ◌+◌, ◌^◌, ℕ, List, [], ◌∷◌, false, length, map, OnOk};
+ghost use Rattle.std.specs.Prelude.{◌≡◌, ◌<◌, ◌+◌, ◌^◌, ℕ, List, [], ◌∷◌, false, length, map, IsTrue, OnOk};
 ghost use Rattle.ring_machine.specs.Common.{Close, Kept, Open};
-ghost use Rattle.topo_outline.specs.Common.{at_most_one, items_from, leaf_of, view_head, view_item, view_kept};
+ghost use Rattle.topo_outline.specs.Common.{at_most_one, items_from, leaf_of, polygons_at, view_head, view_item, view_kept};
 ghost use Rattle.topo_outline.specs.declared.document.Item.TheVariants as code_item;
-ghost use Rattle.topo_reader.specs.Common.{feature_positions};
+ghost use Rattle.topo_reader.specs.Common.{feature_positions, polygon_positions};
 ghost use Rattle.geo_text.specs.Exported.{SendsGiven};
 ghost use Rattle.geo_text.specs.Gives.{Appends};
 ghost use Rattle.geo_text.specs.Items.{after_item, after_items, after_text, before_text, close_text, item_text, items_text};
 ghost use Rattle.geo_text.specs.Items.{items_texts, open_text};
 ghost use Rattle.geo_text.specs.Pointed.{IsPoint};
 ghost use Rattle.geo_text.specs.Seen.{HasRoom, view_progress, view_style};
+ghost use Rattle.geo_text.specs.Small.{all_small, each_small};
 
 use crate::fault::ExportFault;
 use crate::features::{
@@ -36,6 +37,7 @@ pub(crate) struct Writer<'r, A: Allocator + Copy> {
     pub(crate) flattens: bool,
     /// The polygons of all features of the map.
     pub(crate) polygons: &'r [Vec<Vec<Vec<Pos, A>, A>, A>],
+    ghost small: { IsTrue (each_small polygons.now) },
 }
 
 impl<'r, A: Allocator + Copy> Writer<'r, A> {
@@ -84,7 +86,11 @@ impl<'r, A: Allocator + Copy> Writer<'r, A> {
     }
 
     /// The polygons of the feature of the map with this number.
-    fn polygons_of(&self, leaf: usize) -> &'r [Vec<Vec<Pos, A>, A>] {
+    fn polygons_of(&self, leaf: usize) -> &'r [Vec<Vec<Pos, A>, A>]
+        ensures value { map polygon_positions result.now
+            ≡ polygons_at (map feature_positions self.now.polygons.now) leaf }
+        ensures small { IsTrue (all_small result.now) }
+    {
         match self.polygons.get(leaf) {
             Some(polygons) => polygons.as_slice(),
             None => &[],

@@ -1,10 +1,11 @@
 // The texts of rings and of polygons (RFC 7946, 3.1.6 and 3.1.7).
-ghost use Rattle.std.specs.Prelude.{◌≡◌, ◌≤◌, ◌++◌, All, map, reverse, length, OnOk};
+ghost use Rattle.std.specs.Prelude.{◌≡◌, ◌≤◌, ◌++◌, map, reverse, length, IsTrue, OnOk};
 ghost use Rattle.topo_outline.specs.Common.{form_of};
 ghost use Rattle.topo_reader.specs.Common.{polygon_positions, positions_of};
 ghost use Rattle.map_text.specs.Common.{further, list_text};
 ghost use Rattle.geo_text.specs.Rings.{is_turned, is_wrong_way, polygon_text, position_text, ring_text, shape_text};
 ghost use Rattle.geo_text.specs.Seen.{view_style};
+ghost use Rattle.geo_text.specs.Small.{all_small, are_small};
 
 use crate::style::Style;
 use crate::texts::push_comma;
@@ -114,7 +115,7 @@ impl Style {
         text: &mut Vec<u8, A>,
         rings: &[Vec<Pos, B>],
     ) -> Result<(), AllocError>
-        requires { All (λ ring. length ring.items ≤ 4000000) rings.now }
+        requires { IsTrue (are_small rings.now) }
         ensures { OnOk result (text.new.items
             ≡ text.old.items ++ polygon_text (view_style self.now) (map positions_of rings.now)) }
     {
@@ -133,7 +134,7 @@ impl Style {
         text: &mut Vec<u8, A>,
         polygons: &[Vec<Vec<Pos, B>, B>],
     ) -> Result<(), AllocError>
-        requires { All (λ polygon. All (λ ring. length ring.items ≤ 4000000) polygon.items) polygons.now }
+        requires { IsTrue (all_small polygons.now) }
         ensures { OnOk result (text.new.items ≡ text.old.items
             ++ list_text (map (polygon_text (view_style self.now)) (map polygon_positions polygons.now))) }
     {
@@ -153,7 +154,7 @@ impl Style {
         form: Form,
         polygons: &[Vec<Vec<Pos, B>, B>],
     ) -> Result<(), AllocError>
-        requires { All (λ polygon. All (λ ring. length ring.items ≤ 4000000) polygon.items) polygons.now }
+        requires { IsTrue (all_small polygons.now) }
         ensures { OnOk result (text.new.items ≡ text.old.items
             ++ shape_text (view_style self.now) (form_of form) (map polygon_positions polygons.now)) }
     {
