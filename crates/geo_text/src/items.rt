@@ -29,7 +29,7 @@ use std::alloc::{Allocator, Global};
 use topo_outline::{Form, Head, Item, KeptMember, RawFeature};
 
 /// What the items of a layer are written with.
-#[derive(Clone, Copy)]
+#[derive(Drop)]
 pub(crate) struct Writer<'r, A: Allocator + Copy> {
     pub(crate) heap: Global,
     pub(crate) style: Style,
