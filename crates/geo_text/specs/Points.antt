@@ -2,7 +2,9 @@
 -- (RFC 7946, 3.1.2 and 3.1.3). Points have numbers of their own, from 0 in the order of the map's text.
 use Rattle.std.specs.Prelude.{ℕ, zero, suc, ℤ, ◌^◌, nat_le, unsigned_abs, Bool, not, if◌then◌else◌, List, [], ◌∷◌, map, filter, find, codes}
 use Rattle.std.specs.Prelude.{Option, Some, None, option_map, Result, Ok, Err}
-use Rattle.json_spans.specs.Common.{Node, items, members, whole_of, NotWhole, Form, Huge}
+use Rattle.json_spans.specs.Common.{Node, items, members, whole_of}
+use Rattle.json_spans.specs.declared.number.NotWhole.{NotWhole}
+use Rattle.json_spans.specs.declared.number.NotWhole.TheVariants as is_not
 use Rattle.ring_machine.specs.Common.{Text, Member, Head}
 use Rattle.topo_outline.specs.Common.{are_lists, bad_member, is_list, unquoted}
 use Rattle.decimal_texts.specs.Common.{has_type, says}
@@ -17,8 +19,8 @@ use Rattle.geo_text.specs.Names.{is_one_of}
 -- a coordinate of point n, at this place of its text: a whole number of the grid
 abbrev pub number_from : ℕ → ℕ → Result ℤ NotWhole → Result ℤ GeoFault
 number_from n place (Ok z) = demand (nat_le (unsigned_abs z) (10 ^ 12)) (point_out_of_range n place) (Ok z)
-number_from n place (Err Form) = Err (point_not_whole n place)
-number_from n place (Err Huge) = Err (point_out_of_range n place)
+number_from n place (Err is_not.Form) = Err (point_not_whole n place)
+number_from n place (Err is_not.Huge) = Err (point_out_of_range n place)
 
 abbrev pub point_number : ℕ → Node → Result ℤ GeoFault
 point_number n coordinate = number_from n coordinate.at_byte (whole_of coordinate.bytes)

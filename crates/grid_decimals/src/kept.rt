@@ -12,9 +12,9 @@ fn fewest(most: usize, units: u128, length: u128) -> usize
     ensures bound { result ≤ most }
 {
     let mut decimals = most;
-    let mut units = units;
-    while decimals > 0 && units * 10 <= length {
-        units *= 10;
+    let mut wider = units;
+    while decimals > 0 && wider * 10 <= length {
+        wider *= 10;
         decimals -= 1;
     }
     decimals

@@ -13,13 +13,13 @@ fn shortest(decimals: usize, units: u128) -> (usize, u128)
     ensures value { result ≡ shortest decimals units }
     ensures bound { result.0 ≤ decimals }
 {
-    let mut decimals = decimals;
-    let mut units = units;
-    while decimals > 0 && units % 10 == 0 {
-        units /= 10;
-        decimals -= 1;
+    let mut kept = decimals;
+    let mut short = units;
+    while kept > 0 && short % 10 == 0 {
+        short /= 10;
+        kept -= 1;
     }
-    (decimals, units)
+    (kept, short)
 }
 
 /// Appends a whole number. Most are small, and shorter numbers are written faster.

@@ -4,9 +4,9 @@ use Rattle.grid_decimals.proofs.kept.fewest.Given as goal
 
 abbrev pub invariant-loop-decimals : goal.invariant-loop-decimals
 invariant-loop-decimals l = record {
-  value : fewest l.decimals l.units l.length ≡ fewest l.fn.most l.fn.units l.length;
+  value : fewest l.decimals l.wider l.length ≡ fewest l.most l.units l.length;
   bound : l.decimals ≤ l.most;
-  small : l.units ≤ 10 ^ 25;
+  small : l.wider ≤ 10 ^ 25;
 }
 
 abbrev pub decreases-loop-decimals : goal.decreases-loop-decimals

@@ -2,11 +2,11 @@ use Rattle.kit_words.proofs.Common.{◌≡◌, ◌≤◌}
 use Rattle.grid_decimals.specs.Common.{shortest}
 use Rattle.grid_decimals.proofs.writing.shortest.Given as goal
 
-abbrev pub invariant-loop-decimals : goal.invariant-loop-decimals
-invariant-loop-decimals l = record {
-  value : shortest l.decimals l.units ≡ shortest l.fn.decimals l.fn.units;
-  bound : l.decimals ≤ l.fn.decimals;
+abbrev pub invariant-loop-kept : goal.invariant-loop-kept
+invariant-loop-kept l = record {
+  value : shortest l.kept l.short ≡ shortest l.decimals l.units;
+  bound : l.kept ≤ l.decimals;
 }
 
-abbrev pub decreases-loop-decimals : goal.decreases-loop-decimals
-decreases-loop-decimals l = l.decimals
+abbrev pub decreases-loop-kept : goal.decreases-loop-kept
+decreases-loop-kept l = l.kept
