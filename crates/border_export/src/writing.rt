@@ -73,7 +73,14 @@ fn write_read<E: Write>(
     let seed = hash_seed(rt)?;
     let map = map_bytes(rt, paths.map)?;
     let mut text = ToWriter::new(room_for_text(alloc, map.len()));
-    match export(alloc, alloc, seed, map.as_slice(), arguments.asked(), &mut text) {
+    match export(
+        alloc,
+        alloc,
+        seed,
+        map.as_slice(),
+        arguments.asked(),
+        &mut text,
+    ) {
         Ok(()) => Ok(save(rt, text.writer.as_slice(), &paths, errors)),
         Err(fault) => Ok(end_of_fault(&fault, &paths, errors)),
     }

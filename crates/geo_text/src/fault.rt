@@ -66,7 +66,10 @@ impl<'a> fmt::Display for ExportFault<'a> {
             ExportFault::Open(fault) => write!(f, "open: {fault}"),
             ExportFault::NoLayer => f.write_str("no layer"),
             ExportFault::SeveralLayers => f.write_str("several layers"),
-            ExportFault::FewDecimals { asked, least } => write!(f, "few decimals {asked} of {least}"),
+            ExportFault::FewDecimals { asked, least } => write!(
+                f,
+                "few decimals {asked} of {least}"
+            ),
             ExportFault::Nested { feature } => write!(f, "nested {feature}"),
             ExportFault::PointNotWhole { point, place } => {
                 write!(f, "not whole at {place} of point {point}")

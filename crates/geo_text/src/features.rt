@@ -115,10 +115,7 @@ fn type_token(form: Form) -> &'static [u8]
 }
 
 /// Appends a geometry up to its coordinates.
-fn push_geometry_begin<A: Allocator>(
-    text: &mut Vec<u8, A>,
-    token: &[u8],
-) -> Result<(), AllocError>
+fn push_geometry_begin<A: Allocator>(text: &mut Vec<u8, A>, token: &[u8]) -> Result<(), AllocError>
     ensures { OnOk result (text.new.items ≡ text.old.items ++ geometry_begin token.now) }
 {
     text.extend_from_slice(b"{\"type\":")?;

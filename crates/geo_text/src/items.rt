@@ -113,12 +113,7 @@ impl<'r, A: Allocator + Copy> Writer<'r, A> {
         let polygons = self.polygons_of(at.leaf);
         or_return!(self.push_before(text, at, head, feature.form == Form::Null));
         or_return!(push_shape(text, self.heap, &self.style, feature, polygons));
-        self.push_after(
-            text,
-            at,
-            not_of_form(feature.form),
-            head.members.as_slice(),
-        )
+        self.push_after(text, at, not_of_form(feature.form), head.members.as_slice())
     }
 
     /// Appends a point.

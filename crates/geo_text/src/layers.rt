@@ -107,9 +107,7 @@ pub(crate) fn parts<'r, 'a, A: Allocator + Copy>(
         ≡ inside_pieces (map view_item layer.now.items.items) }
 {
     match layer.items.as_slice() {
-        [Item::Open(head), items @ ..] => {
-            (Some(head), &items[..items.len().saturating_sub(1)])
-        }
+        [Item::Open(head), items @ ..] => { (Some(head), &items[..items.len().saturating_sub(1)]) }
         items => (None, items),
     }
 }

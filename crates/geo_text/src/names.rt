@@ -16,14 +16,23 @@ use std::collections::BTreeSet;
 use topo_outline::{KeptMember, OpenFault, Token};
 
 // The names that another object's members have (RFC 7946, 7.1).
-pub(crate) const NOT_OF_COLLECTION: &[&str] =
-    &["features", "coordinates", "geometries", "geometry"];
+pub(crate) const NOT_OF_COLLECTION: &[&str] = &[
+    "features",
+    "coordinates",
+    "geometries",
+    "geometry",
+];
 
 pub(crate) const NOT_OF_FEATURE: &[&str] = &["coordinates", "geometries", "features", "arcs"];
 
 /// A Feature without a geometry has nowhere to put its members.
-pub(crate) const NOT_OF_NULL: &[&str] =
-    &["geometry", "coordinates", "geometries", "features", "arcs"];
+pub(crate) const NOT_OF_NULL: &[&str] = &[
+    "geometry",
+    "coordinates",
+    "geometries",
+    "features",
+    "arcs",
+];
 
 pub(crate) const NOT_OF_GEOMETRY: &[&str] = &[
     "type",
@@ -142,11 +151,14 @@ pub(crate) fn members_of<'a, A: Allocator + Copy>(
     object: &'a [u8],
 ) -> Result<Vec<KeptMember<'a>, A>, ExportFault<'a>>
     ensures { Gives (λ v. map view_kept v.items) result
-        (of_opening (members_of (record { at_byte = 0; bytes = object.now })) ) }
+        (of_opening (members_of (record { at_byte = 0; bytes = object.now }))) }
 {
     let mut seen: Names<A> = BTreeSet::new(alloc);
     let mut found = Vec::new(alloc);
-    for (name, value) in members(Span { text: object, at: 0 }) {
+    for (name, value) in members(Span {
+        text: object,
+        at: 0,
+    }) {
         or_return!(see_name(heap, &mut seen, name.text));
         found.push(KeptMember {
             name: name.text,
@@ -164,7 +176,13 @@ pub(crate) fn names_of<A: Allocator + Copy>(
 ) -> Result<Names<A>, AllocError> {
     let mut names: Names<A> = BTreeSet::new(alloc);
     for member in members {
-        match text(heap, Span { text: member.name, at: 0 }) {
+        match text(
+            heap,
+            Span {
+                text: member.name,
+                at: 0,
+            },
+        ) {
             Ok(decoded) => {
                 note(&mut names, decoded)?;
             }

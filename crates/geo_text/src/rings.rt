@@ -79,7 +79,8 @@ impl Style {
         requires { length ring.now ≤ 4000000 }
         ensures { result ≡ is_turned (view_style self.now) is_outer ring.now }
     {
-        !self.keeps_winding && is_wrong_way(self.coordinates.grid.is_flipped(), is_outer, area2(ring))
+        !self.keeps_winding
+            && is_wrong_way(self.coordinates.grid.is_flipped(), is_outer, area2(ring))
     }
 
     /// Appends a ring, with its first position again at its end.

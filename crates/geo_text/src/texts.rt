@@ -8,10 +8,7 @@ use std::alloc::{AllocError, Allocator};
 use topo_outline::KeptMember;
 
 /// Appends a comma where something stands before.
-pub(crate) fn push_comma<A: Allocator>(
-    text: &mut Vec<u8, A>,
-    more: bool,
-) -> Result<(), AllocError>
+pub(crate) fn push_comma<A: Allocator>(text: &mut Vec<u8, A>, more: bool) -> Result<(), AllocError>
     ensures { OnOk result (text.new.items ≡ text.old.items ++ comma_if more) }
 {
     if more {

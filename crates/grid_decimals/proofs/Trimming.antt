@@ -25,7 +25,7 @@ passing_both p [] ys h = refl
 passing_both p (x ∷ xs) ys h =
     elim (cases_Bool (p x)) [
       | inl e ↦ (let whole : length (take_while p xs) ≡ length xs = omega (arith, rw e at h) in
-      rw e (omega (arith, passing_both p xs ys whole)))
+          rw e (omega (arith, passing_both p xs ys whole)))
       | inr e ↦ absurd (omega (arith, rw e at h))
     ]
 
@@ -35,7 +35,7 @@ passing_first p [] ys h = absurd (omega arith)
 passing_first p (x ∷ xs) ys h =
     elim (cases_Bool (p x)) [
       | inl e ↦ (let some : length (take_while p xs) < length xs = omega (arith, rw e at h) in
-      rw (e, e) (omega (arith, passing_first p xs ys some)))
+          rw (e, e) (omega (arith, passing_first p xs ys some)))
       | inr e ↦ rw (e, e) refl
     ]
 
@@ -81,12 +81,12 @@ kept_digits xs ys us vs e f =
     let left : length vs ≡ length ys - zeros_at_end ys = ap length e ∙ length_trimmed ys in
     elim (cases_Bool (length vs == 0)) [
       | inl none ↦ (let empty : length vs ≡ 0 = eqb-true (length vs) 0 none in
-      let whole : zeros_at_end ys ≡ length ys = omega (arith, left, zeros_within ys) in
-      trimmed_first xs ys whole ∙ (sym (f ∙ cond-true _ _ _ none) ∙ (sym (append-nil us)
-      ∙ ap (λ zs. us ++ zs) (sym (nil_from_length vs empty)))))
+          let whole : zeros_at_end ys ≡ length ys = omega (arith, left, zeros_within ys) in
+          trimmed_first xs ys whole ∙ (sym (f ∙ cond-true _ _ _ none) ∙ (sym (append-nil us)
+          ∙ ap (λ zs. us ++ zs) (sym (nil_from_length vs empty)))))
       | inr some ↦ (let not_empty : 0 < length vs = omega (arith, eqb-false (length vs) 0 some) in
-      let part : zeros_at_end ys < length ys = omega (arith, left) in
-      trimmed_second xs ys part ∙ ap₂ ◌++◌ (sym (f ∙ cond-false _ _ _ some)) (sym e))
+          let part : zeros_at_end ys < length ys = omega (arith, left) in
+          trimmed_second xs ys part ∙ ap₂ ◌++◌ (sym (f ∙ cond-false _ _ _ some)) (sym e))
     ]
 
 -- the number that they are

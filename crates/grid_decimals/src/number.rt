@@ -20,11 +20,7 @@ pub(crate) struct Number {
 fn zeros_at_end(digits: &[u8]) -> usize
     ensures { result ≡ zeros_at_end digits.now }
 {
-    digits
-        .iter()
-        .rev()
-        .take_while(|x| **x == b'0')
-        .count()
+    digits.iter().rev().take_while(|x| **x == b'0').count()
 }
 
 /// The digits without the zeros behind them.

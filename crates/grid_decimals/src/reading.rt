@@ -88,12 +88,7 @@ fn number_of_digits(
 }
 
 /// The number of these digits, with what follows them.
-fn with_exponent(
-    is_negative: bool,
-    integer: &[u8],
-    fraction: &[u8],
-    rest: &[u8],
-) -> Option<Number>
+fn with_exponent(is_negative: bool, integer: &[u8], fraction: &[u8], rest: &[u8]) -> Option<Number>
     ensures { IsRead result
         (with_exponent is_negative integer.now fraction.now (exponent_of rest.now)) }
 {

@@ -77,4 +77,3 @@ pub fn grid_of(heap: Global, transform: Option<&[u8]>) -> Result<Option<Grid>, A
         _ => Ok(None),
     }
 }
-
