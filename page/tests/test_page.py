@@ -46,6 +46,20 @@ HOSTILE = {
 }
 
 
+# Reads the text of the map, of which the first answer breaks off: how it differs from what is drawn, and what was asked for.
+BROKEN_OFF = """(async () => {
+  const { talk } = editor, get = talk.get.bind(talk), asked = [];
+  talk.get = async name => {
+    const answer = await get(name);
+    asked.push(name);
+    return asked.length > 1 ? answer : new Response(new ReadableStream({ start: text => text.error(new TypeError()) }));
+  };
+  const why = await editor.check();
+  delete talk.get;
+  return [why, asked];
+})()"""
+
+
 def saved_by_program(page, map_path, folder):
     """What border_edit makes of the page's script, and what it answers."""
     script = folder / "script.txt"
@@ -290,6 +304,10 @@ def test_thinning(page):
     page.keys(Keys.CONTROL, "y")
     same("redo thins again", page.js("return editor.vertices"), kept)
     is_map(page, "a thinning made again")
+
+
+def test_broken_off(page):
+    same("a text that breaks off is asked for again", page.later(BROKEN_OFF), [None, ["document", "document"]])
 
 
 def test_measuring(page):
@@ -794,6 +812,7 @@ def edits_by_mouse(page):
     test_reshape(page)
     test_names_and_deleting(page)
     test_thinning(page)
+    test_broken_off(page)
     test_measuring(page)
 
 

@@ -2,12 +2,12 @@
 """Measures how long the page of ./edit takes for what a user does, in Chromium without a window.
 
 For examples/columbus.json there is the time from the start of ./edit until the map is drawn and can be edited; the
-browser runs already. For maps that bench/maps.py makes there are also the memory of the page, of border_edit and of
-the server, then drags of vertices, splits, merges and undos, saving, which has to give what border_edit makes of the
-page's script, and a thinning that leaves out most vertices. Times of drags, splits, merges and undos are medians. An
-edit ends when the page has its answers and has changed its map; `request` is the part until the server has answered,
-and `drawn` is when the screen shows the edit, with some features in sight. With --largest there is also a map almost as
-large as one may be.
+browser runs already, and Python has kept what it compiled of the server, as it does unless it is told not to. For maps
+that bench/maps.py makes there are also the memory of the page, of border_edit and of the server, then drags of vertices,
+splits, merges and undos, saving, which has to give what border_edit makes of the page's script, and a thinning that
+leaves out most vertices. Times of starts, drags, splits, merges and undos are medians. An edit ends when the page has
+its answers and has changed its map; `request` is the part until the server has answered, and `drawn` is when the screen
+shows the edit, with some features in sight. With --largest there is also a map almost as large as one may be.
 
 Each figure stands beside what is wanted for a map of that size. The script fails where a figure is over three
 times what is wanted, since machines differ, where border_edit refuses an edit, or where the page reports an
@@ -33,7 +33,7 @@ import programs  # noqa: E402
 from browser import OPEN, Page, STILL, new_folder, start_browser  # noqa: E402
 
 PROGRAMS = ("border_edit", "border_show", "border_mend")
-DRAGS, CUTS = 20, 5
+STARTS, DRAGS, CUTS = 5, 20, 5
 # How many times what is wanted a figure may be.
 TOLERANCE = 3
 # Seconds that one act may take.
@@ -180,18 +180,28 @@ def medians(figures, made, name, all_found):
 
 # ---- what is measured
 
-def measure_start(driver, figures, made, path):
-    """Starts the server, and waits until the map is drawn."""
+def started(driver, path):
+    """A page whose map is drawn, and the seconds since the server was started."""
     begun = time.time()
     page = Page(driver, path)
     try:
         driver.get(page.url)
         page.wait("window.drawnAt", PATIENCE)
-        drawn = page.js("return drawnAt") / 1000
+        return page, page.js("return drawnAt") / 1000 - begun
     except BaseException:
         page.end()
         raise
-    figures.give(made, "./edit started, to map drawn", drawn - begun)
+
+
+def measure_starts(driver, figures, made, path):
+    """Starts the server some times. The last page."""
+    times = []
+    while len(times) < STARTS - 1:
+        page, seconds = started(driver, path)
+        page.end()
+        times.append(seconds)
+    page, seconds = started(driver, path)
+    figures.give(made, "./edit started, to map drawn", statistics.median([*times, seconds]))
     return page
 
 
@@ -286,7 +296,7 @@ def measure_memory(page, figures, made):
 
 def measure_page(driver, figures, made, path):
     """Measures the page of a map's copy; of a map that is made its edits too."""
-    page = measure_start(driver, figures, made, path)
+    page = measure_starts(driver, figures, made, path)
     try:
         if made.size:
             measure_memory(page, figures, made)
@@ -339,6 +349,7 @@ def main():
     given = parser.parse_args()
     # so that the server and the browser end too
     signal.signal(signal.SIGTERM, lambda number, _: sys.exit(128 + number))
+    os.environ.pop("PYTHONDONTWRITEBYTECODE", None)
     # so that a program that has to be built is not built while time is taken
     os.environ.update({name.upper(): programs.find(name)[0] for name in PROGRAMS})
     made, figures = [Map(maps.made_map("bricks", size, 1).path, size) for size in given.sizes], Figures()
