@@ -45,34 +45,47 @@ def check_of(words, folder):
     return Check(name[1], "tests" if " --test" in words else "proof", None)
 
 
+def fields_of(process):
+    """What the system tells of a process in one line, from its state on."""
+    return (process / "stat").read_text().rsplit(")", 1)[1].split()
+
+
 def seconds_of(process):
     """The processor seconds that a process itself has used. What a check does in other processes is seen as theirs."""
-    fields = (process / "stat").read_text().rsplit(")", 1)[1].split()
-    return sum(int(field) for field in fields[11:13]) / TICKS
+    return sum(int(field) for field in fields_of(process)[11:13]) / TICKS
 
 
-def provers():
-    """The processes of the prover, each with a name that no other one has, and what it checks."""
+def is_of(process, first):
+    """Whether a process is `first`, or one that this one began, or one that those began."""
+    while process.name not in ("0", "1"):
+        if process.name == str(first):
+            return True
+        process = PROC / fields_of(process)[1]
+    return False
+
+
+def provers(first):
+    """The processes of the prover that `first` began, each with a name that no other one has, and what it checks."""
     for process in PROC.iterdir():
         if not process.name.isdigit():
             continue
         try:
             words = (process / "cmdline").read_bytes().replace(b"\0", b" ").decode(errors="replace")
-            if words.split(" ", 1)[0].endswith("/rattle"):
-                begun = (process / "stat").read_text().rsplit(")", 1)[1].split()[19]
+            if words.split(" ", 1)[0].endswith("/rattle") and is_of(process, first):
+                begun = fields_of(process)[19]
                 yield process, (process.name, begun), check_of(words, os.readlink(process / "cwd"))
         except (OSError, IndexError):
             pass
 
 
 class Used:
-    """The seconds that each check has used."""
+    """The seconds that each check has used, of those that a process began."""
 
-    def __init__(self):
-        self.checks, self.seconds = {}, {}
+    def __init__(self, first):
+        self.first, self.checks, self.seconds = first, {}, {}
 
     def look(self):
-        for process, name, check in provers():
+        for process, name, check in provers(self.first):
             try:
                 used = seconds_of(process)
             except (OSError, IndexError):
@@ -119,7 +132,7 @@ def main():
     parser = argparse.ArgumentParser(description=__doc__, formatter_class=argparse.RawDescriptionHelpFormatter)
     parser.add_argument("command", nargs=argparse.REMAINDER, help="what is run: rt ci --anew, if nothing is said")
     command = parser.parse_args().command or ["rt", "ci", "--anew"]
-    used, done = Used(), threading.Event()
+    used, done = Used(os.getpid()), threading.Event()
 
     def watch():
         while not done.wait(PAUSE):
