@@ -17,9 +17,10 @@ of comment. Those of the crates below are not among them, though the crate is pr
 definitions: where a definition changes that its contracts cite, its edits are tried --anew. A crate after `to try:` has
 edits that were not tried yet.
 
-To try edits, the crates are copied, these edits put in the place of the others, and `rt must-fail` called, which proves
-a crate first unless it was proved before on this machine. RT_JOBS=1 has it try one at a time. The page is written after
-every eighth edit, so that not much is lost where this is ended. The status is 0 where each of them is refused.
+To try edits, the crates are copied, and each is proved by `rt check`, so that a try begins with what that kept. Then
+these edits are put in the place of the others, and `rt must-fail` called. RT_JOBS=1 has it try one at a time. The page
+is written after every eighth edit, so that not much is lost where this is ended. The status is 0 where each of them is
+refused.
 
 --compare fails, with a line for each, where an edit was not tried on what stands (unless its crate is to try), or was
 not refused; where a row has no edit, and where a crate is to try that has no edits, or none that is untried. The last
@@ -184,12 +185,15 @@ def copy_crates(top, room):
         shutil.copy(top / file, room / file)
 
 
+def how_in(room):
+    """How `rt` is called in a copy: what it leaves when it is ended is removed with the copy."""
+    return {"env": {**os.environ, "TMPDIR": str(room.parent)}, "stdout": subprocess.PIPE, "text": True}
+
+
 def verdicts(crate, room):
     """What came of the edits of a crate in a copy. What is said of them is passed on."""
     found = {}
-    # what `rt` leaves when it is ended is removed with the copy
-    how = {"cwd": room, "env": {**os.environ, "TMPDIR": str(room.parent)}, "stdout": subprocess.PIPE, "text": True}
-    with subprocess.Popen(["rt", "must-fail", crate], **how) as child:
+    with subprocess.Popen(["rt", "must-fail", crate], cwd=room, **how_in(room)) as child:
         try:
             for line in child.stdout:
                 print(line, end="", flush=True)
@@ -225,6 +229,9 @@ def try_crate(top, crate, names, room, kit, anew):
     untried = [name for name in names if anew or page.lack(f"{crate}/{name}", stands[f"{crate}/{name}"])]
     if untried and not room.exists():
         copy_crates(top, room)
+    if untried:
+        # (where that fails, `rt must-fail` says why)
+        subprocess.run(["rt", "check"], cwd=room / "crates" / crate, **how_in(room))
     for start in range(0, len(untried), PORTION):
         try_portion(top, crate, untried[start:start + PORTION], room, kit)
     page, stands = Page(top), what_stands(top, crate, names, kit)
