@@ -8,6 +8,7 @@ import collections
 import decimal
 import itertools
 import json
+import re
 from math import gcd
 from xml.sax.saxutils import escape
 
@@ -19,6 +20,9 @@ LABEL, RISE, LETTER, PIXEL, BEYOND, RADIUS, MOST_PAIRED = 1300, 1000, 720, 100, 
 # title are shown.
 FINE, RATIO, MOST_BYTES, MOST_TITLE = 10**24, 10_000, 48, 76
 QUOTES = {'"': "&quot;", "'": "&apos;", "\r": "&#13;"}
+
+# What XML 1.0 has no character for (2.2).
+FORBIDDEN = re.compile("[^\t\n\r\x20-\ud7ff\ue000-\ufffd\U00010000-\U0010ffff]")
 
 STYLE = """<style>
 path{fill:#d9d4b8;fill-opacity:.5;stroke:#555;fill-rule:evenodd;stroke-linejoin:round}
@@ -82,10 +86,10 @@ def leaves_of(geometry):
 
 
 def first_bytes(words, most=MOST_BYTES):
-    """What is shown of a text: at most so many bytes, and three dots where these are not all."""
-    if len(words.encode()) <= most:
-        return words
-    return words.encode()[:most].decode(errors="ignore") + "\u2026"
+    """What is shown of a text: at most so many bytes, and three dots where these are not all; U+FFFD for what XML lacks."""
+    if len(words.encode()) > most:
+        words = words.encode()[:most].decode(errors="ignore") + "\u2026"
+    return FORBIDDEN.sub("\ufffd", words)
 
 
 def title_of(leaf, name):

@@ -46,9 +46,6 @@ PIECES = ["<", "&", ">", "\"", "'", "]]>", "<![CDATA[", "&lt;", "&#0;", "<!--", 
 # Values that are no string: they are shown as they stand.
 VALUES = ["0", "-12", "1.50", "1e9", "null", "true", "[]", "{\"<\":\"&\"}", "[1,[2,\"'\"]]"]
 
-# What XML 1.0 has no character for (2.2).
-FORBIDDEN = re.compile("[^\t\n\r\x20-\ud7ff\ue000-\ufffd\U00010000-\U0010ffff]")
-
 MOST_BYTES = 48
 
 
@@ -102,7 +99,7 @@ def shown(token):
     bytes_ = text.encode()
     if len(bytes_) > MOST_BYTES:
         text = bytes_[:MOST_BYTES].decode(errors="ignore") + "\u2026"
-    return FORBIDDEN.sub("\ufffd", text)
+    return drawn.FORBIDDEN.sub("\ufffd", text)
 
 
 def drawn_map(draw, ids):

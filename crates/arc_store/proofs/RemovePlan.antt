@@ -1,6 +1,6 @@
 -- The plan of a removal from between two vertices: what comes and goes, and what is kept.
 use Rattle.kit_words.proofs.Common.{◌≡◌, ◌≢◌, ◌≤◌, ◌+◌, ◌-◌, ℕ, true, false, refl, sym, ap, ap₂, ◌∙◌, subst, List, [], ◌∷◌}
-use Rattle.kit_words.proofs.Common.{inl, inr, arith, Option, Some, false≢true, false_from_ne_true}
+use Rattle.kit_words.proofs.Common.{inl, inr, arith, Option, Some, None, IsSome, IsSomeAnd, false≢true, false_from_ne_true}
 use Rattle.std.specs.FinMap as table
 use Rattle.std.specs.FinSet as set
 use Rattle.grid_geometry.specs.Common.{Position, Segment, segment}
@@ -10,6 +10,7 @@ use Rattle.vertex_index.specs.Common.{Placement, place}
 use Rattle.segment_index.specs.Common.{SegmentSet, AreAmong, AreSingle, segment_is}
 use Rattle.segment_index.specs.Frames.{Frame as GridFrame}
 use Rattle.segment_index.proofs.Common.{same_segment}
+use Rattle.ring_store.specs.declared.changes.Bridging.{Bridging}
 use Rattle.ring_store.specs.declared.neighbours.Neighbours.{Neighbours}
 use Rattle.ring_store.specs.declared.neighbours.Neighbours.TheVariants as neighbours
 use Rattle.ring_store.specs.declared.neighbours.Neighbours.TheVariants.{One, Two, More}
@@ -68,16 +69,26 @@ pub record IsFound (frame : Framed) (rings : Rings) (places : Placement) (held :
   pub long : are_long (stored_document (stored frame rings places)) p ≡ true
   pub unjoined : is_bridged (stored_document (stored frame rings places)) p ≡ false
 
+-- what was read is there
+pub is_read : {T : Type 0} (P : T → Type 0) (o : Option T) → IsSomeAnd o P → IsSome o
+is_read P None h = absurd h
+is_read P (Some r) h = refl
+
+-- what was read around p, where it may be left out
+abbrev IsRead : Placement → Rings → Position → Bridging → Type 0
+IsRead places rings p r =
+    IsBridging places rings p r.key r.ends.0 r.ends.1 (r.before.0 ∷ r.before.1 ∷ []) r.after
+
 -- as the map's callers see it
 pub found : {frame : Framed} {rings : Rings} {places : Placement} {held : SegmentSet} {positions l : ℕ}
-    {cells : Option GridFrame} {o : Option Record} {now : State} {p : Position} {m j k : ℕ} {read before : List Segment} {after : Segment}
+    {cells : Option GridFrame} {o : Option Record} {now : State} {p : Position} {read : Option Bridging} {r : Bridging}
     → IsKept frame rings places held positions → state_of frame rings places l cells o ≡ now
-    → IsBridging places rings p m j k read after → before ≡ read
+    → read ≡ Some r → IsSomeAnd read (IsRead places rings p)
     → is_junction now.doc p ≡ false → are_long now.doc p ≡ true → is_bridged now.doc p ≡ false
-    → IsFound frame rings places held positions p m j k before after
-found {rings = rings} {places = places} {p = p} {m = m} {j = j} {k = k} {after = after} kept is read same inner long unjoined = record {
+    → IsFound frame rings places held positions p r.key r.ends.0 r.ends.1 (r.before.0 ∷ r.before.1 ∷ []) r.after
+found {rings = rings} {places = places} {p = p} kept is same read inner long unjoined = record {
   kept = kept;
-  read = subst (λ z. IsBridging places rings p m j k z after) (sym same) read;
+  read = subst (λ z. IsSomeAnd z (IsRead places rings p)) same read;
   inner = ap (λ (s : State). is_junction s.doc p) is ∙ inner;
   long = ap (λ (s : State). are_long s.doc p) is ∙ long;
   unjoined = ap (λ (s : State). is_bridged s.doc p) is ∙ unjoined;

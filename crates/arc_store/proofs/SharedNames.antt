@@ -13,14 +13,14 @@ use Rattle.map_frame.specs.declared.names.RingName.{RingName}
 use Rattle.ring_store.proofs.Common.{IsKept, kept_place}
 use Rattle.feature_exchange.specs.Common.{IsWhole, stored, Stored, stored_document, ring_under}
 use Rattle.feature_exchange.proofs.Common.{framed, rings_are, segment_between, joined_kept}
-use Rattle.arc_store.specs.Common.{ListsNames, RingHas, HasOne, ListsUsers}
+use Rattle.arc_store.specs.Common.{ListsNames, RingHas, HasOne, ListsRingNames}
 use Rattle.arc_store.proofs.FrameNames.{name_there, number_there}
 use Rattle.arc_store.proofs.Insertions.{has_segment, is_segment_by}
 use Rattle.arc_store.proofs.NamedRings.{has_of, of_has, of_name, to_name}
 use Rattle.arc_store.proofs.Numbers.{any_times, ring_has}
 
 -- no edge has a ring
-pub users_none : (d : Document) (old : List RingName) → ListsUsers d [] old old
+pub users_none : (d : Document) (old : List RingName) → ListsRingNames d [] old old
 users_none d old = record {
   found = [];
   appended = sym (append-nil old);
@@ -96,7 +96,7 @@ module _ (f : Framed) (m : Rings) (places : Placement) (whole : IsWhole (stored 
 
     -- the names of the rings that were listed
     pub sharing_listed : (numbers : List ℕ) → ListsSharing m r [] numbers → (old new : List RingName)
-        → ListsNames f.doc numbers old new → ListsUsers (stored_document s) es old new
+        → ListsNames f.doc numbers old new → ListsRingNames (stored_document s) es old new
     sharing_listed numbers l old new names = record {
       found = names.found;
       appended = names.appended;

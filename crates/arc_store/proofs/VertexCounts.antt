@@ -1,6 +1,6 @@
--- A kept map has as many vertices as keys.
+-- The vertices of a kept map are the positions of its keys, and as many.
 use Rattle.kit_words.proofs.Common.{◌≡◌, ℕ, Bool, true, false, refl, sym, ap, ap₂, ◌∙◌, subst, List, [], ◌∷◌, map}
-use Rattle.kit_words.proofs.Common.{length, ◌||◌, ◌&&◌, arith, Some, ◌==◌, not, T, list_any, fold, AllByRecursion}
+use Rattle.kit_words.proofs.Common.{length, ◌||◌, ◌&&◌, arith, Some, ◌==◌, not, T, list_any, fold, AllByRecursion, inl, inr}
 use Rattle.kit_words.proofs.Common.{IsDistinct, nat_cmp, is_lt, is_eq, eq_by_cmp, Ordering, Less, Equal}
 use Rattle.kit_words.proofs.Common.{eq_by_cmp_equiv, below_all, false≢true, nat_tests, length-map}
 use Rattle.kit_words.proofs.Common.{length-from_same_keys, and_parts, or_parts, not-true}
@@ -9,15 +9,26 @@ use Rattle.grid_geometry.specs.Common.{Position, position_cmp, position_eq, posi
 use Rattle.ring_machine.specs.Common.{rings, positions, is_vertex, add_position, vertices, has, is_distinct}
 use Rattle.ring_machine.specs.Common.{are_distinct}
 use Rattle.ring_machine.proofs.Common.{In, any_in, in_any, in_mapped, in_flat, same_answer, in-map, in-flat_map, has-in}
-use Rattle.ring_machine.proofs.Common.{in-has, Rising, position_total, ties}
-use Rattle.vertex_index.specs.Common.{place}
+use Rattle.ring_machine.proofs.Common.{in-has, Rising, position_total, ties, same_rising, all_rise, in_all, contains_in}
+use Rattle.ring_machine.proofs.Common.{in_contains}
+use Rattle.ring_machine.proofs.SortedOnce.{all_in}
+use Rattle.vertex_index.specs.Common.{place, ArePlaces}
 use Rattle.ring_store.proofs.Common.{has_key, kept_place, place_is, place_kept, distinct_places, IsKept, first_of_two}
 use Rattle.ring_store.proofs.Common.{second_of_two}
 use Rattle.feature_exchange.specs.Common.{IsWhole, Stored, stored_document}
 use Rattle.feature_exchange.proofs.Common.{key_vertex, vertex_key}
-use Rattle.feature_exchange.proofs.VertexLists.{vertices_rise, in_vertices, of_vertices}
 
 -- ---- positions, each once
+
+-- positions of a document, ascending and each once, rise, and are the same positions
+vertices_rise : (ps : List Position) → Rising (fold add_position [] ps)
+vertices_rise ps = all_rise ps [] tt
+
+in_vertices : (ps : List Position) (p : Position) → In p ps → In p (fold add_position [] ps)
+in_vertices ps p i = all_in ps [] p (inr i)
+
+of_vertices : (ps : List Position) (p : Position) → In p (fold add_position [] ps) → In p ps
+of_vertices ps p i = elim (in_all ps [] p i) [ inl j ↦ absurd j | inr j ↦ j ]
 
 -- the order of positions as a test of equality
 abbrev same : Position → Position → Bool
@@ -127,3 +138,16 @@ module _ (s : Stored) (w : IsWhole s) where
       (λ p i.
       let k = vertex_key s w p (position_vertex p (of_vertices qs p i)) in
       subst (λ z. In z (map (place s.places) ks)) (place_is s.places k.0 p k.1) (in-map (place s.places) k.0 ks (kept_key k.0 (place_kept s.places k.0 p k.1))))
+
+  -- the positions of all keys, ascending and each once, are the vertices
+  pub vertices_listed : (ps sorted : List Position) → ArePlaces s.places ps → sorted ≡ fold add_position [] ps
+      → sorted ≡ vertices (stored_document s)
+  vertices_listed ps sorted places is =
+      let qs = positions (stored_document s) in
+      is
+      ∙ same_rising (fold add_position [] ps) (fold add_position [] qs) (vertices_rise ps) (vertices_rise qs)
+      (λ p i.
+      let k = (places p).0 (in_contains ps p (of_vertices ps p i)) in
+      in_vertices qs p (vertex_position p (key_vertex s w k.0 p k.1)))
+      (λ p i.
+      in_vertices ps p (contains_in ps p ((places p).1 (vertex_key s w p (position_vertex p (of_vertices qs p i))))))

@@ -11,5 +11,5 @@ pub use Rattle.arc_store.specs.Recorded.{thinning_record}
 pub use Rattle.arc_store.specs.Splits.{IsCuttable, IsFirstCut, IsFound, IsTested, has_room}
 pub use Rattle.arc_store.specs.Spots.{IsBetween, IsShortest, IsSpot, users}
 pub use Rattle.arc_store.specs.State.{State}
-pub use Rattle.arc_store.specs.Users.{HasOne, ListsUsers}
+pub use Rattle.arc_store.specs.Users.{HasOne, ListsRingNames}
 pub use Rattle.arc_store.specs.declared.fault.EditFault.{EditFault}

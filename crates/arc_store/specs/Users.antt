@@ -12,7 +12,7 @@ pub record HasOne (d : Document) (es : List Edge) (name : RingName) : Type 0 whe
   pub has : RingHas d (segment edge.0 edge.1) name
 
 -- what was appended are the rings that have the segment of one of these edges, and no others
-pub record ListsUsers (d : Document) (es : List Edge) (old new : List RingName) : Type 0 where
+pub record ListsRingNames (d : Document) (es : List Edge) (old new : List RingName) : Type 0 where
   pub found : List RingName
   pub appended : new ≡ old ++ found
   pub all : (name : RingName) → Contains found name ↔ HasOne d es name

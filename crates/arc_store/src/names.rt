@@ -5,7 +5,7 @@ ghost use Rattle.map_frame.specs.Common.{number_at, frame_ring};
 ghost use Rattle.map_frame.specs.declared.names.RingName.{RingName};
 ghost use Rattle.arc_store.specs.Named.{ListsNames, ListsRings};
 ghost use Rattle.arc_store.specs.Spots.{users};
-ghost use Rattle.arc_store.specs.Users.{ListsUsers};
+ghost use Rattle.arc_store.specs.Users.{ListsRingNames};
 
 use crate::map::Map;
 use grid_geometry::{Pos, Seg};
@@ -98,7 +98,7 @@ impl<'a, I: SegIndex, A: Allocator + Copy> Map<'a, I, A> {
         ring: usize,
         out: &mut Vec<RingName, B>,
     ) -> Result<(), AllocError>
-        ensures { OnOk result (ListsUsers self.now.doc
+        ensures { OnOk result (ListsRingNames self.now.doc
             (edges (unwrap_or (frame_ring self.now.doc feature polygon ring) []))
             out.old.items out.new.items) }
     {

@@ -4,7 +4,7 @@ ghost use Rattle.ring_parts.specs.Common.{polygons_seen};
 ghost use Rattle.map_frame.specs.Common.{frame_ring};
 
 use crate::map::Map;
-use feature_exchange::{RingIter, read_polygons, read_vertices};
+use feature_exchange::{RingIter, read_polygons};
 use grid_geometry::Pos;
 use segment_index::SegIndex;
 use std::alloc::{AllocError, Allocator};
@@ -29,10 +29,15 @@ impl<'a, I: SegIndex, A: Allocator + Copy> Map<'a, I, A> {
         RingIter::begin(self.rings.borders.keys(number)?, &self.rings.vertices)
     }
 
-    /// The positions of all vertices, ascending, each once. Walks the map.
+    /// The positions of all vertices, ascending, each once. Goes through the map. Fails only on
+    /// allocation failure.
     pub fn vertices(&self) -> Result<Vec<Pos, A>, AllocError>
         ensures { IfOk result (λ found. found.items ≡ vertices self.now.doc) }
     {
-        read_vertices(&self.frame, &self.rings)
+        let mut found = Vec::new(self.rings.alloc);
+        found.extend_from_slice(self.rings.vertices.positions())?;
+        found.sort_unstable();
+        found.dedup();
+        Ok(found)
     }
 }

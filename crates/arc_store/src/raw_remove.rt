@@ -70,12 +70,12 @@ impl<'a, I: SegIndex, A: Allocator + Copy> Map<'a, I, A> {
         ensures few { self.new.tests ≤ self.old.tests
             + most_for (times_by self.old.cells) self.old.doc (del self.old.doc p) }
     {
-        let bridging = read_bridging(&self.rings, p)?;
+        let bridging = read_bridging(&self.rings, p).unwrap();
         let (k, ends, after) = (bridging.key, bridging.ends, bridging.after);
-        let before = bridging.before.as_slice();
+        let before = [bridging.before.0, bridging.before.1];
         let (index, tests) = (&self.rings.index, &mut self.tests);
         test_remove(self.rings.alloc, index, p, after, tests)?;
-        let rings = take_out(&mut self.rings, k, ends, before, after)?;
+        let rings = take_out(&mut self.rings, k, ends, &before, after)?;
         self.positions -= rings;
         Ok(Removal {
             at: p,
@@ -114,10 +114,10 @@ impl<'a, I: SegIndex, A: Allocator + Copy> Map<'a, I, A> {
         ensures removed { OnOk result (self.new ≡ record self.old { doc = del self.old.doc p }) }
         ensures unchanged { OnErr result (self.new ≡ self.old) }
     {
-        let bridging = read_bridging(&self.rings, p)?;
+        let bridging = read_bridging(&self.rings, p).unwrap();
         let (k, ends, after) = (bridging.key, bridging.ends, bridging.after);
-        let before = bridging.before.as_slice();
-        let rings = take_out(&mut self.rings, k, ends, before, after)?;
+        let before = [bridging.before.0, bridging.before.1];
+        let rings = take_out(&mut self.rings, k, ends, &before, after)?;
         self.positions -= rings;
         Ok(())
     }

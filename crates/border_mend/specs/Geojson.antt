@@ -8,7 +8,7 @@ use Rattle.topo_outline.specs.declared.fault.OpenFault.{OpenFault}
 use Rattle.topo_outline.specs.declared.fault.OpenFault.TheVariants as open_fault
 use Rattle.geo_topology.specs.Object.{geo_object}
 use Rattle.geo_topology.specs.Places.{in_file}
-use Rattle.geo_topology.specs.Text.{MadeOf, CopiedPart, topology_text}
+use Rattle.geo_topology.specs.Text.{MadeOf, CopiedPart, topology_made}
 use Rattle.geo_topology.specs.Views.{view_made, view_part}
 use Rattle.geo_topology.specs.declared.object.GeoObject.{GeoObject}
 use Rattle.mend_report.specs.declared.looking.LookFault.{LookFault}
@@ -23,7 +23,7 @@ use Rattle.border_mend.specs.declared.geojson.Source.TheVariants as source
 -- the topology that a value becomes which is this object, and none where it is no object of GeoJSON
 abbrev pub object_made : Node → Option GeoObject → Result (Option MadeOf) Fault
 object_made root None = Ok None
-object_made root (Some object) = topology_text object root >>= λ made. Ok (Some made)
+object_made root (Some object) = topology_made object root >>= λ made. Ok (Some made)
 
 -- the topology that the root of a text becomes, told by its `type`, or its first fault
 abbrev pub root_made : Node → Result (Option MadeOf) Fault

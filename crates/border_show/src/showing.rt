@@ -8,7 +8,7 @@ ghost use Rattle.border_show.specs.Shown.{IsDrawing, IsFeaturePart, IsFeatureVie
 use crate::arguments::{Arguments, Part};
 use crate::conflicts::first_conflict;
 use crate::finding::{NoFeature, named_feature};
-use map_drawing::{Conflict, View, draw_change, draw_map};
+use map_drawing::{Conflict, Edit, View, draw_change, draw_map};
 use std::alloc::{AllocError, Global};
 use std::hash::RandomState;
 use topo_outline::OpenFault;
@@ -158,7 +158,13 @@ impl Drawing<'_> {
             IfSome self.now.view.conflict (IsNamedIn picture.items)) }
     {
         match &self.before {
-            Some(before) => draw_change(heap, heap, before, &self.map, self.view, title),
+            Some(before) => {
+                let edit = Edit {
+                    before,
+                    after: &self.map,
+                };
+                draw_change(heap, heap, edit, self.view, title)
+            }
             None => draw_map(heap, heap, &self.map, self.view, title),
         }
     }

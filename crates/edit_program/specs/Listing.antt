@@ -14,7 +14,7 @@ use Rattle.edit_program.specs.declared.refused_lines.RefusedLines.{RefusedLines}
 -- ---- lines
 
 -- the line with these bytes too, or so many of them as there is room for
-pub record Gains (old : ScriptLine) (more : List ℕ) (new : ScriptLine) : Type 0 where
+pub record TakesMore (old : ScriptLine) (more : List ℕ) (new : ScriptLine) : Type 0 where
   pub number : new.number ≡ old.number
   pub bytes : new.bytes.items ≡ old.bytes.items ++ take (8192 - length old.bytes.items) more
   pub ended : new.is_ended ≡ old.is_ended

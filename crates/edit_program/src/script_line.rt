@@ -24,7 +24,7 @@ pub(crate) struct ScriptLine {
 
 impl ScriptLine {
     ghost use Rattle.std.specs.Prelude.{[], false, MatchBool, OnOk};
-    ghost use Rattle.edit_program.specs.Listing.{Gains, IsSkipped, listed_text};
+    ghost use Rattle.edit_program.specs.Listing.{TakesMore, IsSkipped, listed_text};
 
     /// A line of this number that has no bytes yet.
     pub(crate) fn new(alloc: Global, number: u64) -> ScriptLine
@@ -43,7 +43,7 @@ impl ScriptLine {
 
     /// Gains its next bytes, none of them a line feed.
     pub(crate) fn gain(&mut self, bytes: &[u8]) -> Result<(), AllocError>
-        ensures { OnOk result (Gains self.old bytes.now self.new) }
+        ensures { OnOk result (TakesMore self.old bytes.now self.new) }
     {
         let kept = bytes.len().min(MAX_LINE - self.bytes.len());
         self.bytes.extend_from_slice(&bytes[..kept])?;

@@ -14,8 +14,6 @@ pub mod Exchanges
 pub mod Gathering
 pub mod Renaming
 pub mod KeyLists
-pub mod KeysByNumber
-pub mod VertexLists
 pub mod PolygonsRead
 pub mod Placed
 pub mod Readied

@@ -2,14 +2,14 @@
 use Rattle.kit_words.proofs.Common.{◌≡◌, ℕ, true, refl, sym, ap, ◌∙◌, subst, List, [], ◌++◌, map, Option, None, Some}
 use Rattle.kit_words.proofs.Common.{option_map, Contains, Vec, unwrap_or, IfSome, flat_map}
 use Rattle.std.specs.FinMap as table
-use Rattle.ring_machine.specs.Common.{FeatureOf, feature, in_feature, feature_at, or_else, no_feature}
-use Rattle.ring_machine.proofs.Common.{feature-in_rings, contains_in, there}
+use Rattle.ring_machine.specs.Common.{DocumentOf, FeatureOf, feature, in_feature, feature_at, or_else, no_feature, rings}
+use Rattle.ring_machine.proofs.Common.{In, feature-in_rings, contains_in, in_contains, there}
 use Rattle.arc_tables.specs.Common.{Rings, begins, Edge}
 use Rattle.map_frame.specs.Common.{polygon_numbers}
 use Rattle.feature_exchange.specs.Common.{IsWhole, Stored, stored_document, edges_under, ring_under, AlongVertices, ring_in}
+use Rattle.feature_exchange.specs.Common.{rings_under}
 use Rattle.feature_exchange.proofs.KeyLists.{AreHeld}
-use Rattle.feature_exchange.proofs.KeysByNumber.{at_held}
-use Rattle.feature_exchange.proofs.Under.{numbers_read}
+use Rattle.feature_exchange.proofs.Under.{numbers_read, under_in}
 
 -- the keys that were read are those along the ring
 pub keys_found : (m : Rings) (r : ℕ) → table.contains_key m r ≡ true → (old new : List ℕ) → old ≡ []
@@ -18,6 +18,12 @@ keys_found m r h old new e f =
     let es = there (table.get m r) h in
     subst (λ o. IfSome o (λ es. new ≡ old ++ begins es)) es.1 f
     ∙ ap (λ z. z ++ begins es.0) e ∙ sym (ap (λ o. begins (unwrap_or o [])) es.1)
+
+-- the rings of feature n are held where all are
+at_held : (d : DocumentOf ℕ) (m : Rings) → AreHeld m (rings d) → (n : ℕ) (part : List ℕ) → part ≡ rings_under d n
+    → AreHeld m part
+at_held d m held n part e r c =
+    held r (in_contains (rings d) r (under_in d n r (subst (In r) e (contains_in part r c))))
 
 module _ (s : Stored) (w : IsWhole s) where
   pub along : AlongVertices s.places s.rings

@@ -1,16 +1,11 @@
--- What is read along rings: the keys along all rings of a frame, and the ring under a number.
-use Rattle.std.specs.Prelude.{ℕ, ◌↔◌, List, IsTrue, Contains}
+-- What is read along rings: the ring under a number, and that its keys are those of vertices.
+use Rattle.std.specs.Prelude.{ℕ, List, IsTrue, Contains}
 use Rattle.std.specs.FinMap as table
 use Rattle.grid_geometry.specs.Common.{Position}
-use Rattle.ring_machine.specs.Common.{DocumentOf, canonical, rings}
+use Rattle.ring_machine.specs.Common.{canonical}
 use Rattle.vertex_index.specs.Common.{Placement}
 use Rattle.arc_tables.specs.Common.{Rings, begins}
 use Rattle.feature_exchange.specs.Stored.{edges_under, positions_along}
-
--- these are the keys along the rings of a frame, in any order
-abbrev pub AreAlong : Rings → DocumentOf ℕ → List ℕ → Type 0
-AreAlong m frame keys = (k : ℕ)
-    → Contains keys k ↔ ((r : ℕ) × Contains (rings frame) r × Contains (begins (edges_under m r)) k)
 
 -- the ring with this number, from its least position on
 abbrev pub ring_in : Placement → Rings → ℕ → List Position

@@ -1,5 +1,5 @@
 -- The words of this crate that others cite most, passed on from one place. Declares nothing.
-pub use Rattle.feature_exchange.specs.Along.{AlongVertices, AreAlong, ring_in}
+pub use Rattle.feature_exchange.specs.Along.{AlongVertices, ring_in}
 pub use Rattle.feature_exchange.specs.Changed.{MayGrow, changed_as, feature_seen, frame_after, next_after}
 pub use Rattle.feature_exchange.specs.Changed.{number_after, places_after, seen, trees_after}
 pub use Rattle.feature_exchange.specs.Holds.{Holds, IsIndexed, IsWhole, Visits}

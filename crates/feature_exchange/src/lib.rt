@@ -17,7 +17,6 @@ mod reading;
 mod ring_iter;
 mod ring_laying;
 mod taking;
-mod vertex_list;
 
 pub use change::{Change, WholeFeature, one_change, one_polygon, two_changes};
 pub use counting::count_changes;
@@ -28,4 +27,3 @@ pub use reading::read_polygons;
 pub use ring_iter::RingIter;
 pub use ring_laying::lay_rings;
 pub use taking::take_out_rings;
-pub use vertex_list::read_vertices;

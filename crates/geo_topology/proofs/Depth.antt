@@ -7,53 +7,53 @@ use Rattle.topo_outline.specs.declared.fault.OpenFault.{OpenFault}
 use Rattle.topo_outline.proofs.Walking.{with_front, carry}
 use Rattle.geo_topology.specs.declared.words.GeoType.{GeoType}
 use Rattle.geo_topology.specs.declared.words.GeoType.TheVariants as geo
-use Rattle.geo_topology.specs.Members.{Named, members_of, wrong}
-use Rattle.geo_topology.specs.Pieces.{Piece, words, separated}
-use Rattle.geo_topology.specs.Geometries.{typed_value, is_collection, front, tail, single, grouped, geometry}
+use Rattle.geo_topology.specs.Members.{Named, members_once, wrong_member}
+use Rattle.geo_topology.specs.Pieces.{TextPiece, words, separated}
+use Rattle.geo_topology.specs.Geometries.{typed_value, is_geometry_collection, front_pieces, tail, single_pieces, collection_pieces, geometry_pieces}
 
-abbrev pub within : Named → ℕ → Node → Result (List Piece) Fault
-within list d part = demand (is_object part) (wrong list) (geometry d [] part)
+abbrev pub within : Named → ℕ → Node → Result (List TextPiece) Fault
+within list d part = demand (is_object part) (wrong_member list) (geometry_pieces d [] part)
 
-abbrev pub enclosed : List Named → List Named → Result (List Piece) Fault → Result (List Piece) Fault
-enclosed feature ms r = r >>= λ ps. Ok (grouped feature ms ps)
+abbrev pub enclosed : List Named → List Named → Result (List TextPiece) Fault → Result (List TextPiece) Fault
+enclosed feature ms r = r >>= λ ps. Ok (collection_pieces feature ms ps)
 
-pub names_fail : (o : OpenFault) (d : ℕ) (feature : List Named) (n : Node) → Fails o (members_of n) → Fails o (geometry d feature n)
-unfolding geometry
-names_fail o zero feature n h = carry o (members_of n) _ (λ f e. rw e refl) h
-names_fail o (suc d) feature n h = carry o (members_of n) _ (λ f e. rw e refl) h
+pub names_fail : (o : OpenFault) (d : ℕ) (feature : List Named) (n : Node) → Fails o (members_once n) → Fails o (geometry_pieces d feature n)
+unfolding geometry_pieces
+names_fail o zero feature n h = carry o (members_once n) _ (λ f e. rw e refl) h
+names_fail o (suc d) feature n h = carry o (members_once n) _ (λ f e. rw e refl) h
 
-pub typed_fails : (o : OpenFault) (d : ℕ) (feature : List Named) (n : Node) (ms : List Named) → members_of n ≡ Ok ms → Fails o (typed_value ms) → Fails o (geometry d feature n)
-unfolding geometry
+pub typed_fails : (o : OpenFault) (d : ℕ) (feature : List Named) (n : Node) (ms : List Named) → members_once n ≡ Ok ms → Fails o (typed_value ms) → Fails o (geometry_pieces d feature n)
+unfolding geometry_pieces
 typed_fails o zero feature n ms m h = carry o (typed_value ms) _ (λ f e. rw (m, e) refl) h
 typed_fails o (suc d) feature n ms m h = carry o (typed_value ms) _ (λ f e. rw (m, e) refl) h
 
-module _ (d : ℕ) (feature : List Named) (n : Node) (ms : List Named) (g : GeoType) (v : Named) (m : members_of n ≡ Ok ms) (k : typed_value ms ≡ Ok (g, v)) where
-  pub single_gives : (old new : List Piece) → is_collection g ≡ false → new ≡ old ++ single g v.value feature ms → with_front old (geometry d feature n) ≡ Ok new
-  unfolding geometry
+module _ (d : ℕ) (feature : List Named) (n : Node) (ms : List Named) (g : GeoType) (v : Named) (m : members_once n ≡ Ok ms) (k : typed_value ms ≡ Ok (g, v)) where
+  pub single_gives : (old new : List TextPiece) → is_geometry_collection g ≡ false → new ≡ old ++ single_pieces g v.value feature ms → with_front old (geometry_pieces d feature n) ≡ Ok new
+  unfolding geometry_pieces
   single_gives old new c e = by_depth d
     where
-      by_depth : (d' : ℕ) → with_front old (geometry d' feature n) ≡ Ok new
+      by_depth : (d' : ℕ) → with_front old (geometry_pieces d' feature n) ≡ Ok new
       by_depth zero = rw (m, k, c, e) refl
       by_depth (suc d') = rw (m, k, c, e) refl
 
-  pub deep : is_collection g ≡ true → d ≡ 0 → geometry d feature n ≡ Err (too_deep n.at_byte)
-  unfolding geometry
+  pub deep : is_geometry_collection g ≡ true → d ≡ 0 → geometry_pieces d feature n ≡ Err (too_deep n.at_byte)
+  unfolding geometry_pieces
   deep c z = rw (z, m, k, c) refl
 
   -- a collection is what stands in it, enclosed
-  pub collection : is_collection g ≡ true → d ≢ 0 → geometry d feature n ≡ enclosed feature ms (separated (within v (d - 1)) true (items v.value))
-  unfolding geometry
+  pub collection : is_geometry_collection g ≡ true → d ≢ 0 → geometry_pieces d feature n ≡ enclosed feature ms (separated (within v (d - 1)) true (items v.value))
+  unfolding geometry_pieces
   collection c z = by_depth d z
     where
-      by_depth : (d' : ℕ) → d' ≢ 0 → geometry d' feature n ≡ enclosed feature ms (separated (within v (d' - 1)) true (items v.value))
+      by_depth : (d' : ℕ) → d' ≢ 0 → geometry_pieces d' feature n ≡ enclosed feature ms (separated (within v (d' - 1)) true (items v.value))
       by_depth zero z' = absurd (z' refl)
       by_depth (suc d') z' = let back : suc d' - 1 ≡ d' = sub-one (suc d') in rw (m, k, c, back) refl
 
-  pub collection_fails : (o : OpenFault) → is_collection g ≡ true → d ≢ 0 → Fails o (separated (within v (d - 1)) true (items v.value)) → Fails o (geometry d feature n)
+  pub collection_fails : (o : OpenFault) → is_geometry_collection g ≡ true → d ≢ 0 → Fails o (separated (within v (d - 1)) true (items v.value)) → Fails o (geometry_pieces d feature n)
   collection_fails o c z h = rw (collection c z) (carry o (separated (within v (d - 1)) true (items v.value)) (enclosed feature ms (separated (within v (d - 1)) true (items v.value))) (λ f e. rw e refl) h)
 
-pub enclosed_gives : (feature ms : List Named) (r : Result (List Piece) Fault) (first start done new : List Piece) → start ≡ first ++ (front geo.GeometryCollection feature ++ words (codes ",\"geometries\":[") ∷ []) → with_front start r ≡ Ok done → new ≡ done ++ words (codes "]") ∷ tail feature ms → with_front first (enclosed feature ms r) ≡ Ok new
+pub enclosed_gives : (feature ms : List Named) (r : Result (List TextPiece) Fault) (first start done new : List TextPiece) → start ≡ first ++ (front_pieces geo.GeometryCollection feature ++ words (codes ",\"geometries\":[") ∷ []) → with_front start r ≡ Ok done → new ≡ done ++ words (codes "]") ∷ tail feature ms → with_front first (enclosed feature ms r) ≡ Ok new
 enclosed_gives feature ms (Ok xs) first start done new s e d =
     let same : start ++ xs ≡ done = cc in
-    rw (d, ← same, s) (ap (λ (zs : List Piece). Ok zs) (simp append_assoc))
+    rw (d, ← same, s) (ap (λ (zs : List TextPiece). Ok zs) (simp append_assoc))
 enclosed_gives feature ms (Err f) first start done new s e d = absurd cc

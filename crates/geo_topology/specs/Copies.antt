@@ -1,13 +1,13 @@
 -- A text that is extended, and what is copied of a file.
 use Rattle.std.specs.Prelude.{◌≡◌, List, ◌++◌, length, take, drop, ℕ}
 use Rattle.json_spans.specs.Common.{Node}
-use Rattle.geo_topology.specs.Text.{Segment, MadeOf, CopiedPart, text_of, parts_from}
+use Rattle.geo_topology.specs.Text.{TextSegment, MadeOf, CopiedPart, segments_text, copies_from}
 
 -- a text and its copied parts, once these segments were put behind it
-abbrev pub extended : MadeOf → List Segment → MadeOf
+abbrev pub extended : MadeOf → List TextSegment → MadeOf
 extended m ss = record {
-  text = m.text ++ text_of ss;
-  parts = m.parts ++ parts_from (length m.text) ss;
+  text = m.text ++ segments_text ss;
+  parts = m.parts ++ copies_from (length m.text) ss;
 }
 
 -- the value stands in the file, at its place

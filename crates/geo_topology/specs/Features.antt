@@ -1,4 +1,4 @@
--- Features and collections of them (RFC 7946, 3.2 and 3.3), and the layer that they become.
+-- Features and collections of them (RFC 7946, 3.2 and 3.3), and the layer_pieces that they become.
 use Rattle.std.specs.Prelude.{List, [], ◌∷◌, ◌++◌, Bool, true, false, if◌then◌else◌, is_some, codes, Option, Some, None, option_and_then, Result, Ok}
 use Rattle.json_spans.specs.Common.{Node, items, kind_of, decoded}
 use Rattle.json_spans.specs.declared.kinds.Kind.{Kind}
@@ -11,9 +11,9 @@ use Rattle.geo_topology.specs.declared.members.Owner.{Owner}
 use Rattle.geo_topology.specs.declared.members.Owner.TheVariants as owner
 use Rattle.geo_topology.specs.declared.object.GeoObject.{GeoObject}
 use Rattle.geo_topology.specs.declared.object.GeoObject.TheVariants as object
-use Rattle.geo_topology.specs.Members.{Named, members_of, member, named_member, member_if, wrong, unless, barred}
-use Rattle.geo_topology.specs.Pieces.{Piece, words, copied, separated, foreign}
-use Rattle.geo_topology.specs.Geometries.{typed, front, geometry}
+use Rattle.geo_topology.specs.Members.{Named, members_once, member_with_word, expected_member, right_member, wrong_member, unless_member, barred}
+use Rattle.geo_topology.specs.Pieces.{TextPiece, words, copied, separated, foreign}
+use Rattle.geo_topology.specs.Geometries.{typed, front_pieces, geometry_pieces}
 
 -- ---- a Feature
 
@@ -26,26 +26,26 @@ may_be_geometry kind.Null = true
 may_be_geometry kind.Object = true
 may_be_geometry _ = false
 
--- the member `geometry`, an object or null
-abbrev pub geometry_of : List Named → Result Named Fault
-geometry_of ms = do
+-- the member_with_word `geometry`, an object or null
+abbrev pub geometry_member : List Named → Result Named Fault
+geometry_member ms = do
   p ← typed ms
-  m ← member_if (is_feature p.0) p.1
-  unless (barred owner.Feature ms) (do
-    v ← named_member (codes "geometry") word.Geometry ms
-    member_if (may_be_geometry (kind_of v.value.bytes)) v)
+  m ← right_member (is_feature p.0) p.1
+  unless_member (barred owner.Feature ms) (do
+    v ← expected_member (codes "geometry") word.Geometry ms
+    right_member (may_be_geometry (kind_of v.value.bytes)) v)
 
--- a Feature without geometry
-abbrev pub empty : List Named → List Piece
-empty ms = front geo.Other ms ++ (foreign owner.Feature ms ++ words (codes "}") ∷ [])
+-- a Feature without geometry_pieces
+abbrev pub empty : List Named → List TextPiece
+empty ms = front_pieces geo.Other ms ++ (foreign owner.Feature ms ++ words (codes "}") ∷ [])
 
-abbrev pub with_geometry : List Named → Node → Result (List Piece) Fault
-with_geometry ms value = if is_object value then geometry 100 ms value else Ok (empty ms)
+abbrev pub with_geometry : List Named → Node → Result (List TextPiece) Fault
+with_geometry ms value = if is_object value then geometry_pieces 100 ms value else Ok (empty ms)
 
-unfoldable pub feature : Node → Result (List Piece) Fault
-feature n = do
-  ms ← members_of n
-  v ← geometry_of ms
+unfoldable pub feature_pieces : Node → Result (List TextPiece) Fault
+feature_pieces n = do
+  ms ← members_once n
+  v ← geometry_member ms
   with_geometry ms v.value
 
 -- ---- a FeatureCollection
@@ -57,57 +57,57 @@ name_if false m = None
 
 abbrev pub layer_name : List Named → Option Named
 layer_name ms =
-    option_and_then (λ m. name_if (is_some (decoded m.value.bytes)) m) (member word.Name ms)
+    option_and_then (λ m. name_if (is_some (decoded m.value.bytes)) m) (member_with_word word.Name ms)
 
 -- its `features`, a list
 abbrev pub features_of : List Named → Result Named Fault
-features_of ms = unless (barred owner.Collection ms) (do
-  list ← named_member (codes "features") word.Features ms
-  member_if (is_list list.value) list)
+features_of ms = unless_member (barred owner.Collection ms) (do
+  list ← expected_member (codes "features") word.Features ms
+  right_member (is_list list.value) list)
 
-abbrev pub in_features : Named → Node → Result (List Piece) Fault
-in_features list part = demand (is_object part) (wrong list) (feature part)
+abbrev pub feature_in_list : Named → Node → Result (List TextPiece) Fault
+feature_in_list list part = demand (is_object part) (wrong_member list) (feature_pieces part)
 
--- ---- the layer
+-- ---- the layer_pieces
 
-abbrev pub name_piece : Option Named → Piece
+abbrev pub name_piece : Option Named → TextPiece
 name_piece None = words (codes "\"features\"")
 name_piece (Some m) = copied m.value
 
--- how the topology begins, up to the objects of its layer
-abbrev pub layer_front : Option Named → List Named → List Piece
+-- how the topology begins, up to the objects of its layer_pieces
+abbrev pub layer_front : Option Named → List Named → List TextPiece
 layer_front name ms =
     words (codes "{\"type\":\"Topology\",\"objects\":{") ∷ name_piece name ∷ words (codes ":")
-    ∷ front geo.GeometryCollection ms ++ words (codes ",\"geometries\":[") ∷ []
+    ∷ front_pieces geo.GeometryCollection ms ++ words (codes ",\"geometries\":[") ∷ []
 
-abbrev pub owner_of : Option Named → Owner
-owner_of None = owner.Collection
-owner_of (Some m) = owner.NamedCollection
+abbrev pub collection_owner : Option Named → Owner
+collection_owner None = owner.Collection
+collection_owner (Some m) = owner.NamedCollection
 
 -- what stands behind them
-abbrev pub layer_end : Option Named → List Named → List Piece
-layer_end name ms = words (codes "]") ∷ foreign (owner_of name) ms
+abbrev pub layer_end : Option Named → List Named → List TextPiece
+layer_end name ms = words (codes "]") ∷ foreign (collection_owner name) ms
 
-abbrev pub layered : Option Named → List Named → List Piece → List Piece
+abbrev pub layered : Option Named → List Named → List TextPiece → List TextPiece
 layered name ms ps = layer_front name ms ++ (ps ++ layer_end name ms)
 
-abbrev pub collection : Node → Result (List Piece) Fault
+abbrev pub collection : Node → Result (List TextPiece) Fault
 collection n = do
-  ms ← members_of n
+  ms ← members_once n
   list ← features_of ms
-  ps ← separated (in_features list) true (items list.value)
+  ps ← separated (feature_in_list list) true (items list.value)
   Ok (layered (layer_name ms) ms ps)
 
--- a Feature, or a geometry without one
-abbrev pub single_object : GeoObject → Node → Result (List Piece) Fault
-single_object object.Feature n = feature n
-single_object _ n = geometry 100 [] n
+-- a Feature, or a geometry_pieces without one
+abbrev pub single_object : GeoObject → Node → Result (List TextPiece) Fault
+single_object object.Feature n = feature_pieces n
+single_object _ n = geometry_pieces 100 [] n
 
-abbrev pub alone : Result (List Piece) Fault → Result (List Piece) Fault
+abbrev pub alone : Result (List TextPiece) Fault → Result (List TextPiece) Fault
 alone r = r >>= λ ps. Ok (layered None [] ps)
 
--- the topology up to its arcs: one layer, which a collection is, or in which a Feature or a geometry
+-- the topology up to its arcs: one layer_pieces, which a collection is, or in which a Feature or a geometry_pieces
 -- stands alone
-abbrev pub layer : GeoObject → Node → Result (List Piece) Fault
-layer object.FeatureCollection n = collection n
-layer o n = alone (single_object o n)
+abbrev pub layer_pieces : GeoObject → Node → Result (List TextPiece) Fault
+layer_pieces object.FeatureCollection n = collection n
+layer_pieces o n = alone (single_object o n)

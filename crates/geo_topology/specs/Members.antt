@@ -4,74 +4,74 @@ use Rattle.std.specs.List.{list_any}
 use Rattle.std.specs.Str.{bytes_eq}
 use Rattle.json_spans.specs.Common.{Node, members}
 use Rattle.topo_outline.specs.Common.{Fault, bad_member, duplicate, demand, ◌>>=◌, name_text, unquoted}
-use Rattle.geo_topology.specs.Words.{word_of}
+use Rattle.geo_topology.specs.Words.{word_named}
 use Rattle.geo_topology.specs.declared.words.Word.{Word}
 use Rattle.geo_topology.specs.declared.words.Word.TheVariants as word
 use Rattle.geo_topology.specs.declared.members.Owner.{Owner}
 use Rattle.geo_topology.specs.declared.members.Owner.TheVariants as owner
 
--- a member of an object (RFC 8259, 4): what its decoded name says, its name and its value
+-- a member_with_word of an object (RFC 8259, 4): what its decoded name says, its name and its value
 pub record Named : Type 0 where
   pub word : Word
   pub name : Node
   pub value : Node
 
--- the member whose name stands for this text
-abbrev pub named_by : List ℕ → Node × Node → Named
-named_by t m = record { word = word_of t; name = m.0; value = m.1 }
+-- the member_with_word whose name stands for this text
+abbrev pub member_named : List ℕ → Node × Node → Named
+member_named t m = record { word = word_named t; name = m.0; value = m.1 }
 
 -- the members in order, each tested against the texts of those before it
-unfoldable pub named : List (List ℕ) → List (Node × Node) → Result (List Named) Fault
-named seen [] = Ok []
-named seen (m ∷ ms) = do
+unfoldable pub distinct_members : List (List ℕ) → List (Node × Node) → Result (List Named) Fault
+distinct_members seen [] = Ok []
+distinct_members seen (m ∷ ms) = do
   t ← name_text m.0
   rest ← demand (not (list_any (bytes_eq t) seen)) (duplicate (unquoted m.0.bytes))
-      (named (seen ++ t ∷ []) ms)
-  Ok (named_by t m ∷ rest)
+      (distinct_members (seen ++ t ∷ []) ms)
+  Ok (member_named t m ∷ rest)
 
 -- the members, where their decoded names differ
-abbrev pub members_of : Node → Result (List Named) Fault
-members_of n = named [] (members n)
+abbrev pub members_once : Node → Result (List Named) Fault
+members_once n = distinct_members [] (members n)
 
 -- the place of a word in the list of words
-abbrev pub code : Word → ℕ
-code word.Type = 0
-code word.Features = 1
-code word.Geometry = 2
-code word.Geometries = 3
-code word.Coordinates = 4
-code word.Id = 5
-code word.Properties = 6
-code word.Bbox = 7
-code word.Name = 8
-code word.Arcs = 9
-code word.Other = 10
+abbrev pub word_code : Word → ℕ
+word_code word.Type = 0
+word_code word.Features = 1
+word_code word.Geometry = 2
+word_code word.Geometries = 3
+word_code word.Coordinates = 4
+word_code word.Id = 5
+word_code word.Properties = 6
+word_code word.Bbox = 7
+word_code word.Name = 8
+word_code word.Arcs = 9
+word_code word.Other = 10
 
--- the member with this name
-abbrev pub member : Word → List Named → Option Named
-member w ms = find (λ m. code m.word == code w) ms
+-- the member_with_word with this name
+abbrev pub member_with_word : Word → List Named → Option Named
+member_with_word w ms = find (λ m. word_code m.word == word_code w) ms
 
 -- ---- faults
 
--- a wrong member is named as it stands
-abbrev pub wrong : Named → Fault
-wrong m = bad_member (unquoted m.name.bytes)
+-- a wrong_member member_with_word is distinct_members as it stands
+abbrev pub wrong_member : Named → Fault
+wrong_member m = bad_member (unquoted m.name.bytes)
 
-abbrev pub member_if : Bool → Named → Result Named Fault
-member_if right m = demand right (wrong m) (Ok m)
+abbrev pub right_member : Bool → Named → Result Named Fault
+right_member right m = demand right (wrong_member m) (Ok m)
 
 -- a missing one by the name expected
-abbrev pub there : List ℕ → Option Named → Result Named Fault
-there expected None = Err (bad_member expected)
-there expected (Some m) = Ok m
+abbrev pub member_expected : List ℕ → Option Named → Result Named Fault
+member_expected expected None = Err (bad_member expected)
+member_expected expected (Some m) = Ok m
 
-abbrev pub named_member : List ℕ → Word → List Named → Result Named Fault
-named_member expected w ms = there expected (member w ms)
+abbrev pub expected_member : List ℕ → Word → List Named → Result Named Fault
+expected_member expected w ms = member_expected expected (member_with_word w ms)
 
--- r, where there is no such member
-abbrev pub unless : {A : Type 0} → Option Named → Result A Fault → Result A Fault
-unless None r = r
-unless (Some m) r = Err (wrong m)
+-- r, where member_expected is no such member_with_word
+abbrev pub unless_member : {A : Type 0} → Option Named → Result A Fault → Result A Fault
+unless_member None r = r
+unless_member (Some m) r = Err (wrong_member m)
 
 -- ---- names of another object (RFC 7946, 7.1)
 
@@ -91,26 +91,26 @@ is_barred owner.Geometry word.Properties = true
 is_barred owner.Geometry word.Features = true
 is_barred _ _ = false
 
--- the first member whose name is another object's
+-- the first member_with_word whose name is another object's
 abbrev pub barred : Owner → List Named → Option Named
 barred o ms = find (λ m. is_barred o m.word) ms
 
 -- ---- foreign members (RFC 7946, 6.1)
 
--- the member has its own place in the made text, or is dropped as a `bbox`; any other is foreign
-abbrev pub is_known : Owner → Word → Bool
-is_known o word.Type = true
-is_known o word.Bbox = true
-is_known owner.Collection word.Id = true
-is_known owner.Collection word.Properties = true
-is_known owner.Collection word.Features = true
-is_known owner.NamedCollection word.Id = true
-is_known owner.NamedCollection word.Properties = true
-is_known owner.NamedCollection word.Features = true
-is_known owner.NamedCollection word.Name = true
-is_known owner.Feature word.Id = true
-is_known owner.Feature word.Properties = true
-is_known owner.Feature word.Geometry = true
-is_known owner.Geometry word.Coordinates = true
-is_known owner.Geometry word.Geometries = true
-is_known _ _ = false
+-- the member_with_word has its own place in the made text, or is dropped as a `bbox`; any other is foreign
+abbrev pub has_own_place : Owner → Word → Bool
+has_own_place o word.Type = true
+has_own_place o word.Bbox = true
+has_own_place owner.Collection word.Id = true
+has_own_place owner.Collection word.Properties = true
+has_own_place owner.Collection word.Features = true
+has_own_place owner.NamedCollection word.Id = true
+has_own_place owner.NamedCollection word.Properties = true
+has_own_place owner.NamedCollection word.Features = true
+has_own_place owner.NamedCollection word.Name = true
+has_own_place owner.Feature word.Id = true
+has_own_place owner.Feature word.Properties = true
+has_own_place owner.Feature word.Geometry = true
+has_own_place owner.Geometry word.Coordinates = true
+has_own_place owner.Geometry word.Geometries = true
+has_own_place _ _ = false

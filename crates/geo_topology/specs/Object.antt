@@ -3,7 +3,7 @@ use Rattle.std.specs.Prelude.{List, [], ◌∷◌, if◌then◌else◌, codes, O
 use Rattle.json_spans.specs.Common.{Node, decoded}
 use Rattle.decimal_texts.specs.Common.{value_in}
 use Rattle.topo_outline.specs.Common.{is_object}
-use Rattle.geo_topology.specs.Words.{type_of}
+use Rattle.geo_topology.specs.Words.{type_named}
 use Rattle.geo_topology.specs.declared.words.GeoType.{GeoType}
 use Rattle.geo_topology.specs.declared.words.GeoType.TheVariants as geo
 use Rattle.geo_topology.specs.declared.object.GeoObject.{GeoObject}
@@ -18,7 +18,7 @@ object_of _ = Some object.Geometry
 -- the object whose `type` is a string that stands for this text, or for none
 abbrev pub object_named : List Node → Option GeoObject
 object_named [] = None
-object_named (v ∷ vs) = option_and_then (λ t. object_of (type_of t)) (decoded v.bytes)
+object_named (v ∷ vs) = option_and_then (λ t. object_of (type_named t)) (decoded v.bytes)
 
 -- the object that the root is, by its first member `type` (1.4)
 abbrev pub geo_object : Node → Option GeoObject

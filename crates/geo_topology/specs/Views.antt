@@ -7,13 +7,13 @@ use Rattle.geo_topology.specs.declared.chunk.Chunk.TheVariants as chunk
 use Rattle.geo_topology.specs.declared.part.Part.{Part}
 use Rattle.geo_topology.specs.declared.made.MadeText.{MadeText}
 use Rattle.geo_topology.specs.Members.{Named}
-use Rattle.geo_topology.specs.Pieces.{Piece, words, copied, rings, polygons}
+use Rattle.geo_topology.specs.Pieces.{TextPiece, words, copied, rings, polygons}
 use Rattle.geo_topology.specs.Text.{CopiedPart, MadeOf}
 
-abbrev pub view_entry : Entry → Named
-view_entry e = record { word = e.word; name = node e.name; value = node e.value }
+abbrev pub view_named : Entry → Named
+view_named e = record { word = e.word; name = node e.name; value = node e.value }
 
-abbrev pub view_chunk : Chunk → Piece
+abbrev pub view_chunk : Chunk → TextPiece
 view_chunk (chunk.Words w) = words w.now
 view_chunk (chunk.Copied n) = copied (node n)
 view_chunk (chunk.Rings n) = rings (node n)

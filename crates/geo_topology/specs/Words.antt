@@ -6,8 +6,8 @@ use Rattle.geo_topology.specs.declared.words.Word.TheVariants as word
 use Rattle.geo_topology.specs.declared.words.GeoType.{GeoType}
 use Rattle.geo_topology.specs.declared.words.GeoType.TheVariants as geo
 
-unfoldable pub word_of : List ℕ → Word
-word_of t =
+unfoldable pub word_named : List ℕ → Word
+word_named t =
     if bytes_eq t (codes "type") then word.Type
     else (if bytes_eq t (codes "features") then word.Features
     else (if bytes_eq t (codes "geometry") then word.Geometry
@@ -20,8 +20,8 @@ word_of t =
     else (if bytes_eq t (codes "arcs") then word.Arcs
     else word.Other)))))))))
 
-unfoldable pub type_of : List ℕ → GeoType
-type_of t =
+unfoldable pub type_named : List ℕ → GeoType
+type_named t =
     if bytes_eq t (codes "FeatureCollection") then geo.FeatureCollection
     else (if bytes_eq t (codes "Feature") then geo.Feature
     else (if bytes_eq t (codes "Point") then geo.Point

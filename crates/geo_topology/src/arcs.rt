@@ -2,7 +2,7 @@
 ghost use Rattle.std.specs.Prelude.{◌≡◌, ◌++◌, ◌∷◌, [], map, length, true, OnOk};
 ghost use Rattle.std.specs.List.{flat_map};
 ghost use Rattle.json_spans.specs.Common.{node, items};
-ghost use Rattle.geo_topology.specs.Text.{comma_text, ring_text, polygon_text, polygons_text, rings_in, segment, arc_segments};
+ghost use Rattle.geo_topology.specs.Text.{comma_text, ring_index_text, polygon_index_text, polygons_index_text, rings_of_piece, segment_of_piece, ring_segments};
 ghost use Rattle.geo_topology.specs.Copies.{extended};
 ghost use Rattle.geo_topology.specs.Views.{view_chunk, view_made};
 
@@ -34,7 +34,7 @@ fn keep_ring<'a, A: Allocator + Copy>(
 
 /// Appends the index of an arc, as the list of that one.
 fn put_index<A: Allocator + Copy>(index: usize, made: &mut MadeText<A>) -> Result<(), AllocError>
-    ensures text { OnOk result (made.new.text.items ≡ made.old.text.items ++ ring_text index) }
+    ensures text { OnOk result (made.new.text.items ≡ made.old.text.items ++ ring_index_text index) }
     ensures parts { OnOk result (made.new.parts ≡ made.old.parts) }
 {
     let mut buffer = Buffer::new();
@@ -50,7 +50,7 @@ fn put_ring<'a, A: Allocator + Copy>(
     rings: &mut Vec<Span<'a>, A>,
 ) -> Result<(), AllocError>
     ensures text { OnOk result (made.new.text.items ≡ made.old.text.items
-        ++ ring_text (length rings.old.items)) }
+        ++ ring_index_text (length rings.old.items)) }
     ensures parts { OnOk result (made.new.parts ≡ made.old.parts) }
     ensures rings { OnOk result (map node rings.new.items ≡ map node rings.old.items
         ++ node ring.entry ∷ []) }
@@ -66,7 +66,7 @@ fn put_rings<'a, A: Allocator + Copy>(
     rings: &mut Vec<Span<'a>, A>,
 ) -> Result<(), AllocError>
     ensures text { OnOk result (made.new.text.items ≡ made.old.text.items
-        ++ polygon_text (length rings.old.items) (node polygon.entry)) }
+        ++ polygon_index_text (length rings.old.items) (node polygon.entry)) }
     ensures parts { OnOk result (made.new.parts ≡ made.old.parts) }
     ensures rings { OnOk result (map node rings.new.items ≡ map node rings.old.items
         ++ items (node polygon.entry)) }
@@ -88,7 +88,7 @@ fn put_polygons<'a, A: Allocator + Copy>(
     rings: &mut Vec<Span<'a>, A>,
 ) -> Result<(), AllocError>
     ensures text { OnOk result (made.new.text.items ≡ made.old.text.items
-        ++ polygons_text (length rings.old.items) (node polygons.entry)) }
+        ++ polygons_index_text (length rings.old.items) (node polygons.entry)) }
     ensures parts { OnOk result (made.new.parts ≡ made.old.parts) }
     ensures rings { OnOk result (map node rings.new.items ≡ map node rings.old.items
         ++ flat_map items (items (node polygons.entry))) }
@@ -111,9 +111,9 @@ pub(crate) fn put_chunk<'a, A: Allocator + Copy>(
 ) -> Result<(), AllocError>
     ensures made { OnOk result (view_made made.new
         ≡ extended (view_made made.old)
-        (segment (length rings.old.items) (view_chunk chunk.entry) ∷ [])) }
+        (segment_of_piece (length rings.old.items) (view_chunk chunk.entry) ∷ [])) }
     ensures rings { OnOk result (map node rings.new.items ≡ map node rings.old.items
-        ++ rings_in (view_chunk chunk.entry)) }
+        ++ rings_of_piece (view_chunk chunk.entry)) }
 {
     match chunk {
         Chunk::Words(words) => made.put(words),
@@ -129,7 +129,7 @@ pub(crate) fn put_arcs<A: Allocator + Copy>(
     made: &mut MadeText<A>,
 ) -> Result<(), AllocError>
     ensures { OnOk result (view_made made.new
-        ≡ extended (view_made made.old) (arc_segments true (map node rings.now))) }
+        ≡ extended (view_made made.old) (ring_segments true (map node rings.now))) }
 {
     let mut is_first = true;
     for ring in rings {

@@ -4,9 +4,9 @@ ghost use Rattle.json_spans.specs.Common.{node, items, kind_of};
 ghost use Rattle.topo_outline.specs.Common.{Gives};
 ghost use Rattle.topo_outline.specs.Gives.{Appends};
 ghost use Rattle.geo_topology.specs.Pieces.{separated};
-ghost use Rattle.geo_topology.specs.Geometries.{geometry};
-ghost use Rattle.geo_topology.specs.Features.{is_feature, may_be_geometry, geometry_of, empty, with_geometry, feature, layer_name, features_of, in_features, name_piece, layer_front, owner_of, layer_end, collection, single_object, layer};
-ghost use Rattle.geo_topology.specs.Views.{view_entry, view_chunk};
+ghost use Rattle.geo_topology.specs.Geometries.{geometry_pieces};
+ghost use Rattle.geo_topology.specs.Features.{is_feature, may_be_geometry, geometry_member, empty, with_geometry, feature_pieces, layer_name, features_of, feature_in_list, name_piece, layer_front, collection_owner, layer_end, collection, single_object, layer_pieces};
+ghost use Rattle.geo_topology.specs.Views.{view_named, view_chunk};
 
 use crate::chunk::Chunk;
 use crate::entry::Entry;
@@ -37,7 +37,7 @@ fn may_be_geometry(span: Span<'_>) -> bool
 
 /// The member `geometry` of a Feature, an object or null.
 fn geometry_of<'a>(heap: Global, entries: &[Entry<'a>]) -> Result<Entry<'a>, OpenFault<'a>>
-    ensures { Gives view_entry result (geometry_of (map view_entry entries.now)) }
+    ensures { Gives view_named result (geometry_member (map view_named entries.now)) }
 {
     let (says, named) = or_return!(typed(heap, entries));
     let _ = or_return!(member_if(is_feature(says), named));
@@ -56,7 +56,7 @@ fn put_empty<'a, A: Allocator + Copy>(
     out: &mut Vec<Chunk<'a>, A>,
 ) -> Result<(), AllocFailed<Chunk<'a>>>
     ensures { OnOk result (map view_chunk out.new.items ≡ map view_chunk out.old.items
-        ++ empty (map view_entry feature.now)) }
+        ++ empty (map view_named feature.now)) }
 {
     put_front(GeoType::Other, feature, out)?;
     put_foreign(Owner::Feature, feature, out)?;
@@ -70,7 +70,7 @@ pub(crate) fn feature<'a, A: Allocator + Copy>(
     out: &mut Vec<Chunk<'a>, A>,
 ) -> Result<(), OpenFault<'a>>
     ensures { Appends (map view_chunk out.old.items) (map view_chunk out.new.items) result
-        (feature (node span.entry)) }
+        (feature_pieces (node span.entry)) }
 {
     let members = or_return!(entries(*out.allocator(), heap, span));
     let value = or_return!(geometry_of(heap, members.as_slice())).value;
@@ -83,7 +83,7 @@ pub(crate) fn feature<'a, A: Allocator + Copy>(
 
 /// The member `name` of a FeatureCollection, where it is a string that stands for a text.
 fn layer_name<'a>(heap: Global, entries: &[Entry<'a>]) -> Result<Option<Entry<'a>>, OpenFault<'a>>
-    ensures { Gives (option_map view_entry) result (Ok (layer_name (map view_entry entries.now))) }
+    ensures { Gives (option_map view_named) result (Ok (layer_name (map view_named entries.now))) }
 {
     let Some(entry) = find(entries, Word::Name) else {
         return Ok(None);
@@ -97,7 +97,7 @@ fn layer_name<'a>(heap: Global, entries: &[Entry<'a>]) -> Result<Option<Entry<'a
 
 /// The member `features` of a FeatureCollection, a list.
 fn features_of<'a>(entries: &[Entry<'a>]) -> Result<Entry<'a>, OpenFault<'a>>
-    ensures { Gives view_entry result (features_of (map view_entry entries.now)) }
+    ensures { Gives view_named result (features_of (map view_named entries.now)) }
 {
     if let Some(entry) = barred(Owner::Collection, entries) {
         return Err(OpenFault::BadMember {
@@ -114,7 +114,7 @@ fn put_name<'a, A: Allocator + Copy>(
     out: &mut Vec<Chunk<'a>, A>,
 ) -> Result<(), AllocFailed<Chunk<'a>>>
     ensures { OnOk result (map view_chunk out.new.items ≡ map view_chunk out.old.items
-        ++ name_piece (option_map view_entry name.entry) ∷ []) }
+        ++ name_piece (option_map view_named name.entry) ∷ []) }
 {
     match name {
         Some(entry) => put_copy(entry.value, out),
@@ -129,7 +129,7 @@ fn put_layer<'a, A: Allocator + Copy>(
     out: &mut Vec<Chunk<'a>, A>,
 ) -> Result<(), AllocFailed<Chunk<'a>>>
     ensures { OnOk result (map view_chunk out.new.items ≡ map view_chunk out.old.items
-        ++ layer_front (option_map view_entry name.entry) (map view_entry collection.now)) }
+        ++ layer_front (option_map view_named name.entry) (map view_named collection.now)) }
 {
     put_words(b"{\"type\":\"Topology\",\"objects\":{", out)?;
     put_name(name, out)?;
@@ -145,7 +145,7 @@ fn features<'a, A: Allocator + Copy>(
     out: &mut Vec<Chunk<'a>, A>,
 ) -> Result<(), OpenFault<'a>>
     ensures { Appends (map view_chunk out.old.items) (map view_chunk out.new.items) result
-        (separated (in_features (view_entry list.entry)) true
+        (separated (feature_in_list (view_named list.entry)) true
         (items (node list.entry.value))) }
 {
     let mut is_first = true;
@@ -164,7 +164,7 @@ fn features<'a, A: Allocator + Copy>(
 
 /// What the members of a FeatureCollection are to the layer, whose name is that of the collection or not.
 fn owner_of(name: Option<Entry<'_>>) -> Owner
-    ensures { result ≡ owner_of (option_map view_entry name.entry) }
+    ensures { result ≡ collection_owner (option_map view_named name.entry) }
 {
     match name {
         Some(_) => Owner::NamedCollection,
@@ -179,7 +179,7 @@ fn put_behind<'a, A: Allocator + Copy>(
     out: &mut Vec<Chunk<'a>, A>,
 ) -> Result<(), AllocFailed<Chunk<'a>>>
     ensures { OnOk result (map view_chunk out.new.items ≡ map view_chunk out.old.items
-        ++ layer_end (option_map view_entry name.entry) (map view_entry collection.now)) }
+        ++ layer_end (option_map view_named name.entry) (map view_named collection.now)) }
 {
     put_words(b"]", out)?;
     put_foreign(owner_of(name), collection, out)
@@ -228,7 +228,7 @@ pub(crate) fn layer<'a, A: Allocator + Copy>(
     out: &mut Vec<Chunk<'a>, A>,
 ) -> Result<(), OpenFault<'a>>
     ensures { Appends (map view_chunk out.old.items) (map view_chunk out.new.items) result
-        (layer object (node root.entry)) }
+        (layer_pieces object (node root.entry)) }
 {
     if matches!(object, GeoObject::FeatureCollection) {
         return collection(heap, root, out);

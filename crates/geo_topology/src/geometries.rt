@@ -4,9 +4,9 @@ ghost use Rattle.json_spans.specs.Common.{node};
 ghost use Rattle.topo_outline.specs.Common.{Gives};
 ghost use Rattle.topo_outline.specs.Gives.{Appends};
 ghost use Rattle.geo_topology.specs.Pieces.{words, rings, polygons};
-ghost use Rattle.geo_topology.specs.Geometries.{typed, geometry_type, value_of, typed_value, coordinates, tail, front, single, geometry};
+ghost use Rattle.geo_topology.specs.Geometries.{typed, geometry_type, value_member, typed_value, coordinates_pieces, tail, front_pieces, single_pieces, geometry_pieces};
 ghost use Rattle.geo_topology.specs.declared.words.GeoType.{GeoType};
-ghost use Rattle.geo_topology.specs.Views.{view_entry, view_chunk};
+ghost use Rattle.geo_topology.specs.Views.{view_named, view_chunk};
 
 use crate::chunk::Chunk;
 use crate::entry::Entry;
@@ -25,7 +25,7 @@ pub(crate) fn typed<'a>(
     heap: Global,
     entries: &[Entry<'a>],
 ) -> Result<(GeoType, Entry<'a>), OpenFault<'a>>
-    ensures { Gives (λ p. (p.0, view_entry p.1)) result (typed (map view_entry entries.now)) }
+    ensures { Gives (λ p. (p.0, view_named p.1)) result (typed (map view_named entries.now)) }
 {
     let entry = or_return!(named_member(entries, Word::Type, b"type"));
     match text(heap, entry.value) {
@@ -39,7 +39,7 @@ pub(crate) fn typed<'a>(
 
 /// The type of a geometry, or Unsupported.
 fn geometry_type<'a>(heap: Global, entries: &[Entry<'a>]) -> Result<GeoType, OpenFault<'a>>
-    ensures { Gives (λ g. g) result (geometry_type (map view_entry entries.now)) }
+    ensures { Gives (λ g. g) result (geometry_type (map view_named entries.now)) }
 {
     let (says, entry) = or_return!(typed(heap, entries));
     if is_geometry(says) {
@@ -56,7 +56,7 @@ fn geometry_type<'a>(heap: Global, entries: &[Entry<'a>]) -> Result<GeoType, Ope
 /// The member that a geometry of this type has its value in, where no other one of its names is
 /// another object's, and the value has the shape that the type asks.
 fn value_of<'a>(says: GeoType, entries: &[Entry<'a>]) -> Result<Entry<'a>, OpenFault<'a>>
-    ensures { Gives view_entry result (value_of says (map view_entry entries.now)) }
+    ensures { Gives view_named result (value_member says (map view_named entries.now)) }
 {
     let value = or_return!(named_member(entries, value_word(says), value_name(says)));
     match find(entries, other_word(says)) {
@@ -72,8 +72,8 @@ fn typed_value<'a>(
     heap: Global,
     entries: &[Entry<'a>],
 ) -> Result<(GeoType, Entry<'a>), OpenFault<'a>>
-    ensures { Gives (λ p. (p.0, view_entry p.1)) result
-        (typed_value (map view_entry entries.now)) }
+    ensures { Gives (λ p. (p.0, view_named p.1)) result
+        (typed_value (map view_named entries.now)) }
 {
     if let Some(entry) = barred(Owner::Geometry, entries) {
         return Err(OpenFault::BadMember {
@@ -114,7 +114,7 @@ fn put_coordinates<'a, A: Allocator + Copy>(
     out: &mut Vec<Chunk<'a>, A>,
 ) -> Result<(), AllocFailed<Chunk<'a>>>
     ensures { OnOk result (map view_chunk out.new.items ≡ map view_chunk out.old.items
-        ++ coordinates says (node value.entry)) }
+        ++ coordinates_pieces says (node value.entry)) }
 {
     match says {
         GeoType::Polygon => {
@@ -141,7 +141,7 @@ fn put_tail<'a, A: Allocator + Copy>(
     out: &mut Vec<Chunk<'a>, A>,
 ) -> Result<(), AllocFailed<Chunk<'a>>>
     ensures { OnOk result (map view_chunk out.new.items ≡ map view_chunk out.old.items
-        ++ tail (map view_entry feature.now) (map view_entry geometry.now)) }
+        ++ tail (map view_named feature.now) (map view_named geometry.now)) }
 {
     put_foreign(Owner::Feature, feature, out)?;
     put_inside(geometry, out)?;
@@ -155,7 +155,7 @@ pub(crate) fn put_front<'a, A: Allocator + Copy>(
     out: &mut Vec<Chunk<'a>, A>,
 ) -> Result<(), AllocFailed<Chunk<'a>>>
     ensures { OnOk result (map view_chunk out.new.items ≡ map view_chunk out.old.items
-        ++ front says (map view_entry feature.now)) }
+        ++ front_pieces says (map view_named feature.now)) }
 {
     put_words(opening(says), out)?;
     put_head(feature, out)
@@ -169,8 +169,8 @@ fn put_single<'a, A: Allocator + Copy>(
     out: &mut Vec<Chunk<'a>, A>,
 ) -> Result<(), AllocFailed<Chunk<'a>>>
     ensures { OnOk result (map view_chunk out.new.items ≡ map view_chunk out.old.items
-        ++ single typed.entry.0 (node typed.entry.1) (map view_entry feature.now)
-        (map view_entry geometry.now)) }
+        ++ single_pieces typed.entry.0 (node typed.entry.1) (map view_named feature.now)
+        (map view_named geometry.now)) }
 {
     put_front(typed.0, feature, out)?;
     put_coordinates(typed.0, typed.1, out)?;
@@ -183,7 +183,7 @@ fn put_start<'a, A: Allocator + Copy>(
     out: &mut Vec<Chunk<'a>, A>,
 ) -> Result<(), AllocFailed<Chunk<'a>>>
     ensures { OnOk result (map view_chunk out.new.items ≡ map view_chunk out.old.items
-        ++ (front GeoType.GeometryCollection (map view_entry feature.now)
+        ++ (front_pieces GeoType.GeometryCollection (map view_named feature.now)
         ++ words (codes ",\"geometries\":[") ∷ [])) }
 {
     put_front(GeoType::GeometryCollection, feature, out)?;
@@ -197,7 +197,7 @@ fn put_finish<'a, A: Allocator + Copy>(
     out: &mut Vec<Chunk<'a>, A>,
 ) -> Result<(), AllocFailed<Chunk<'a>>>
     ensures { OnOk result (map view_chunk out.new.items ≡ map view_chunk out.old.items
-        ++ words (codes "]") ∷ tail (map view_entry feature.now) (map view_entry geometry.now)) }
+        ++ words (codes "]") ∷ tail (map view_named feature.now) (map view_named geometry.now)) }
 {
     put_words(b"]", out)?;
     put_tail(feature, geometry, out)
@@ -220,7 +220,7 @@ pub(crate) fn geometry<'a, A: Allocator + Copy>(
     out: &mut Vec<Chunk<'a>, A>,
 ) -> Result<(), OpenFault<'a>>
     ensures { Appends (map view_chunk out.old.items) (map view_chunk out.new.items) result
-        (geometry depth (map view_entry feature.now) (node span.entry)) }
+        (geometry_pieces depth (map view_named feature.now) (node span.entry)) }
 {
     let members = or_return!(entries(*out.allocator(), heap, span));
     let (says, member) = or_return!(typed_value(heap, members.as_slice()));

@@ -1,7 +1,7 @@
 // The made text, and which of its parts are copies.
 ghost use Rattle.std.specs.Prelude.{◌≡◌, ◌++◌, ◌∷◌, [], map, length, IfOk, OnOk};
 ghost use Rattle.json_spans.specs.Common.{node};
-ghost use Rattle.geo_topology.specs.Text.{copy, made_of};
+ghost use Rattle.geo_topology.specs.Text.{copy, made_by_segments};
 ghost use Rattle.geo_topology.specs.Copies.{extended};
 ghost use Rattle.geo_topology.specs.Places.{in_file};
 ghost use Rattle.geo_topology.specs.Views.{view_part, view_made};
@@ -20,7 +20,7 @@ pub struct MadeText<A: Allocator + Copy = Global> {
 impl<A: Allocator + Copy> MadeText<A> {
     /// An empty text, with room for so many bytes.
     pub(crate) fn with_room(alloc: A, room: usize) -> Result<Self, AllocError>
-        ensures { IfOk result (λ made. view_made made ≡ made_of []) }
+        ensures { IfOk result (λ made. view_made made ≡ made_by_segments []) }
     {
         let text = Vec::with_capacity(alloc, room)?;
         Ok(MadeText {

@@ -4,8 +4,8 @@ ghost use Rattle.std.specs.BTreeSet.{contains_text};
 ghost use Rattle.std.specs.Str.{bytes_eq};
 ghost use Rattle.json_spans.specs.Common.{node};
 ghost use Rattle.topo_outline.specs.Common.{Gives, unquoted, name_text};
-ghost use Rattle.geo_topology.specs.Members.{code, member, members_of, named_member, member_if, is_barred, barred, is_known};
-ghost use Rattle.geo_topology.specs.Views.{view_entry};
+ghost use Rattle.geo_topology.specs.Members.{word_code, member_with_word, members_once, expected_member, right_member, is_barred, barred, has_own_place};
+ghost use Rattle.geo_topology.specs.Views.{view_named};
 
 use crate::entry::Entry;
 use crate::words::{Word, word_of};
@@ -61,7 +61,7 @@ pub(crate) fn entries<'a, A: Allocator + Copy>(
     heap: Global,
     span: Span<'a>,
 ) -> Result<Vec<Entry<'a>, A>, OpenFault<'a>>
-    ensures { Gives (λ v. map view_entry v.items) result (members_of (node span.entry)) }
+    ensures { Gives (λ v. map view_named v.items) result (members_once (node span.entry)) }
 {
     let mut seen: Names<A> = BTreeSet::new(alloc);
     let mut found = Vec::new(alloc);
@@ -87,7 +87,7 @@ pub(crate) fn entries<'a, A: Allocator + Copy>(
 
 /// The place of a word in the list of words.
 fn code(word: Word) -> u8
-    ensures { result ≡ code word }
+    ensures { result ≡ word_code word }
 {
     match word {
         Word::Type => 0,
@@ -107,7 +107,7 @@ fn code(word: Word) -> u8
 /// The member with this name, if it is there.
 #[tactic(auto, using(crate::proofs::Naming::member_step, crate::proofs::Naming::member_end))]
 pub(crate) fn find<'a>(entries: &[Entry<'a>], word: Word) -> Option<Entry<'a>>
-    ensures { option_map view_entry result ≡ member word (map view_entry entries.now) }
+    ensures { option_map view_named result ≡ member_with_word word (map view_named entries.now) }
 {
     for entry in entries {
         if code(entry.word) == code(word) {
@@ -128,7 +128,7 @@ pub(crate) fn token_of(entry: Entry<'_>) -> Token<'_>
 
 /// The member where it is right, else BadMember.
 pub(crate) fn member_if(right: bool, entry: Entry<'_>) -> Result<Entry<'_>, OpenFault<'_>>
-    ensures { Gives view_entry result (member_if right (view_entry entry.entry)) }
+    ensures { Gives view_named result (right_member right (view_named entry.entry)) }
 {
     if right {
         Ok(entry)
@@ -145,8 +145,8 @@ pub(crate) fn named_member<'a>(
     word: Word,
     expected: &'static [u8],
 ) -> Result<Entry<'a>, OpenFault<'a>>
-    ensures { Gives view_entry result
-        (named_member expected.now word (map view_entry entries.now)) }
+    ensures { Gives view_named result
+        (expected_member expected.now word (map view_named entries.now)) }
 {
     match find(entries, word) {
         Some(entry) => Ok(entry),
@@ -187,7 +187,7 @@ fn is_barred(owner: Owner, word: Word) -> bool
 /// The first member whose name is another object's.
 #[tactic(auto, using(crate::proofs::Naming::barred_step, crate::proofs::Naming::barred_end))]
 pub(crate) fn barred<'a>(owner: Owner, entries: &[Entry<'a>]) -> Option<Entry<'a>>
-    ensures { option_map view_entry result ≡ barred owner (map view_entry entries.now) }
+    ensures { option_map view_named result ≡ barred owner (map view_named entries.now) }
 {
     for entry in entries {
         if is_barred(owner, entry.word) {
@@ -200,7 +200,7 @@ pub(crate) fn barred<'a>(owner: Owner, entries: &[Entry<'a>]) -> Option<Entry<'a
 /// Whether the member has its own place in the made text, or is dropped as a `bbox`. Any other is a
 /// foreign member (RFC 7946, 6.1), which is kept.
 pub(crate) fn is_known(owner: Owner, word: Word) -> bool
-    ensures { result ≡ is_known owner word }
+    ensures { result ≡ has_own_place owner word }
 {
     match word {
         Word::Type | Word::Bbox => true,

@@ -1,7 +1,7 @@
 // What the root of a JSON text is.
 ghost use Rattle.std.specs.Prelude.{◌≡◌, option_and_then, IfOk};
 ghost use Rattle.json_spans.specs.Common.{node, decoded};
-ghost use Rattle.geo_topology.specs.Words.{type_of};
+ghost use Rattle.geo_topology.specs.Words.{type_named};
 ghost use Rattle.geo_topology.specs.Object.{object_of, geo_object};
 
 use crate::shapes::is_object;
@@ -33,7 +33,7 @@ fn object_of(says: GeoType) -> Option<GeoObject>
 
 /// The object whose `type` has this value.
 fn named_object(heap: Global, value: Span<'_>) -> Result<Option<GeoObject>, AllocError>
-    ensures { IfOk result (λ o. o ≡ option_and_then (λ t. object_of (type_of t))
+    ensures { IfOk result (λ o. o ≡ option_and_then (λ t. object_of (type_named t))
         (decoded (node value.entry).bytes)) }
 {
     match text(heap, value) {

@@ -1,9 +1,9 @@
 // The members of an object of the topology, piece by piece.
 ghost use Rattle.std.specs.Prelude.{◌≡◌, ◌++◌, ◌∷◌, [], map, codes, option_map, OnOk, false};
 ghost use Rattle.json_spans.specs.Common.{node};
-ghost use Rattle.geo_topology.specs.Pieces.{words, copied, comma, member_behind, value_behind, head, kept_one, foreign, before_inside, end_inside, inside};
-ghost use Rattle.geo_topology.specs.Members.{is_known};
-ghost use Rattle.geo_topology.specs.Views.{view_entry, view_chunk};
+ghost use Rattle.geo_topology.specs.Pieces.{words, copied, comma, member_behind, value_behind, id_and_properties, kept_one, foreign, before_inside, end_inside, inside};
+ghost use Rattle.geo_topology.specs.Members.{has_own_place};
+ghost use Rattle.geo_topology.specs.Views.{view_named, view_chunk};
 
 use crate::chunk::Chunk;
 use crate::entry::Entry;
@@ -56,7 +56,7 @@ fn put_member<'a, A: Allocator + Copy>(
     out: &mut Vec<Chunk<'a>, A>,
 ) -> Result<(), AllocFailed<Chunk<'a>>>
     ensures { OnOk result (map view_chunk out.new.items ≡ map view_chunk out.old.items
-        ++ member_behind before.now (view_entry entry.entry)) }
+        ++ member_behind before.now (view_named entry.entry)) }
 {
     put_words(before, out)?;
     put_copy(entry.name, out)?;
@@ -71,7 +71,7 @@ pub(crate) fn put_value<'a, A: Allocator + Copy>(
     out: &mut Vec<Chunk<'a>, A>,
 ) -> Result<(), AllocFailed<Chunk<'a>>>
     ensures { OnOk result (map view_chunk out.new.items ≡ map view_chunk out.old.items
-        ++ value_behind before.now (option_map view_entry member.entry)) }
+        ++ value_behind before.now (option_map view_named member.entry)) }
 {
     match member {
         Some(entry) => {
@@ -88,7 +88,7 @@ pub(crate) fn put_head<'a, A: Allocator + Copy>(
     out: &mut Vec<Chunk<'a>, A>,
 ) -> Result<(), AllocFailed<Chunk<'a>>>
     ensures { OnOk result (map view_chunk out.new.items ≡ map view_chunk out.old.items
-        ++ head (map view_entry entries.now)) }
+        ++ id_and_properties (map view_named entries.now)) }
 {
     put_value(b",\"id\":", find(entries, Word::Id), out)?;
     put_value(b",\"properties\":", find(entries, Word::Properties), out)
@@ -102,7 +102,7 @@ fn put_kept<'a, A: Allocator + Copy>(
     out: &mut Vec<Chunk<'a>, A>,
 ) -> Result<(), AllocFailed<Chunk<'a>>>
     ensures { OnOk result (map view_chunk out.new.items ≡ map view_chunk out.old.items
-        ++ kept_one (is_known owner entry.entry.word) before.now (view_entry entry.entry)) }
+        ++ kept_one (has_own_place owner entry.entry.word) before.now (view_named entry.entry)) }
 {
     if is_known(owner, entry.word) {
         Ok(())
@@ -119,7 +119,7 @@ pub(crate) fn put_foreign<'a, A: Allocator + Copy>(
     out: &mut Vec<Chunk<'a>, A>,
 ) -> Result<(), AllocFailed<Chunk<'a>>>
     ensures { OnOk result (map view_chunk out.new.items ≡ map view_chunk out.old.items
-        ++ foreign owner (map view_entry entries.now)) }
+        ++ foreign owner (map view_named entries.now)) }
 {
     for entry in entries {
         put_kept(owner, b",", *entry, out)?;
@@ -157,7 +157,7 @@ pub(crate) fn put_inside<'a, A: Allocator + Copy>(
     out: &mut Vec<Chunk<'a>, A>,
 ) -> Result<(), AllocFailed<Chunk<'a>>>
     ensures { OnOk result (map view_chunk out.new.items ≡ map view_chunk out.old.items
-        ++ inside false (map view_entry entries.now)) }
+        ++ inside false (map view_named entries.now)) }
 {
     let mut is_open = false;
     for entry in entries {

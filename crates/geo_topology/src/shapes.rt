@@ -2,7 +2,7 @@
 ghost use Rattle.std.specs.Prelude.{◌≡◌};
 ghost use Rattle.json_spans.specs.Common.{node};
 ghost use Rattle.topo_outline.specs.Common.{is_list, is_object, are_lists, are_lists_of_lists};
-ghost use Rattle.geo_topology.specs.Geometries.{has_shape, is_geometry, is_collection, value_word, value_name, other_word, opening};
+ghost use Rattle.geo_topology.specs.Geometries.{has_shape, is_geometry_type, is_geometry_collection, value_word, value_name, other_word, object_front};
 
 use crate::words::{GeoType, Word};
 use json_spans::{Kind, Span, items, kind};
@@ -63,7 +63,7 @@ pub(crate) fn has_shape(says: GeoType, value: Span<'_>) -> bool
 }
 
 pub(crate) fn is_geometry(says: GeoType) -> bool
-    ensures { result ≡ is_geometry says }
+    ensures { result ≡ is_geometry_type says }
 {
     !matches!(
         says,
@@ -72,7 +72,7 @@ pub(crate) fn is_geometry(says: GeoType) -> bool
 }
 
 pub(crate) fn is_collection(says: GeoType) -> bool
-    ensures { result ≡ is_collection says }
+    ensures { result ≡ is_geometry_collection says }
 {
     matches!(says, GeoType::GeometryCollection)
 }
@@ -112,7 +112,7 @@ pub(crate) fn other_word(says: GeoType) -> Word
 
 /// How an object of the topology begins that is a geometry of this type.
 pub(crate) fn opening(says: GeoType) -> &'static [u8]
-    ensures { result.now ≡ opening says }
+    ensures { result.now ≡ object_front says }
 {
     match says {
         GeoType::Point => b"{\"type\":\"Point\"",

@@ -3,8 +3,8 @@ ghost use Rattle.std.specs.Prelude.{◌≡◌, ◌++◌, ℕ, List, map, length,
 ghost use Rattle.std.specs.List.{flat_map, AllByRecursion};
 ghost use Rattle.json_spans.specs.Common.{node};
 ghost use Rattle.topo_outline.specs.Common.{Gives};
-ghost use Rattle.geo_topology.specs.Features.{layer};
-ghost use Rattle.geo_topology.specs.Text.{rings_in, segments_from, segments, topology_text};
+ghost use Rattle.geo_topology.specs.Features.{layer_pieces};
+ghost use Rattle.geo_topology.specs.Text.{rings_of_piece, segments_from, text_segments, topology_made};
 ghost use Rattle.geo_topology.specs.Copies.{extended, Lies, IsCopy};
 ghost use Rattle.geo_topology.specs.Views.{view_chunk, view_part, view_made};
 
@@ -27,7 +27,7 @@ fn put_chunks<'a, A: Allocator + Copy>(
         ≡ extended (view_made made.old)
         (segments_from (length rings.old.items) (map view_chunk chunks.now))) }
     ensures rings { OnOk result (map node rings.new.items ≡ map node rings.old.items
-        ++ flat_map rings_in (map view_chunk chunks.now)) }
+        ++ flat_map rings_of_piece (map view_chunk chunks.now)) }
 {
     for chunk in chunks {
         put_chunk(*chunk, made, rings)?;
@@ -41,7 +41,7 @@ fn put_all<'a, A: Allocator + Copy>(
     made: &mut MadeText<A>,
 ) -> Result<(), AllocError>
     ensures { OnOk result (view_made made.new
-        ≡ extended (view_made made.old) (segments (map view_chunk chunks.now))) }
+        ≡ extended (view_made made.old) (text_segments (map view_chunk chunks.now))) }
 {
     let mut rings = Vec::new(*made.text.allocator());
     put_chunks(chunks, made, &mut rings)?;
@@ -57,7 +57,7 @@ fn chunks_of<'a, A: Allocator + Copy>(
     object: GeoObject,
     root: Span<'a>,
 ) -> Result<Vec<Chunk<'a>, A>, OpenFault<'a>>
-    ensures { Gives (λ chunks. map view_chunk chunks.items) result (layer object (node root.entry)) }
+    ensures { Gives (λ chunks. map view_chunk chunks.items) result (layer_pieces object (node root.entry)) }
 {
     let mut chunks = Vec::new(alloc);
     or_return!(layer(heap, object, root, &mut chunks));
@@ -75,7 +75,7 @@ pub fn topology_text<'a, A: Allocator + Copy>(
     object: GeoObject,
     root: Span<'a>,
 ) -> Result<MadeText<A>, OpenFault<'a>>
-    ensures text { Gives view_made result (topology_text object (node root.entry)) }
+    ensures text { Gives view_made result (topology_made object (node root.entry)) }
     ensures copies { IfOk result (λ made. (file : List ℕ) → Lies file (node root.entry) →
         AllByRecursion (IsCopy file made.text.items) (map view_part made.parts.items)) }
 {

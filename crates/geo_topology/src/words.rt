@@ -1,6 +1,6 @@
 // The words of the format, told by their decoded texts.
 ghost use Rattle.std.specs.Prelude.{◌≡◌};
-ghost use Rattle.geo_topology.specs.Words.{word_of, type_of};
+ghost use Rattle.geo_topology.specs.Words.{word_named, type_named};
 
 /// A member's name that GeoJSON defines (RFC 7946, 3), GDAL's `name` of a collection, TopoJSON's `arcs`,
 /// or any other.
@@ -35,9 +35,9 @@ pub(crate) enum GeoType {
 }
 
 /// The word that a decoded name is.
-#[tactic(auto, unfolding(crate::specs::Words::word_of))]
+#[tactic(auto, unfolding(crate::specs::Words::word_named))]
 pub(crate) fn word_of(text: &str) -> Word
-    ensures { result ≡ word_of text.now }
+    ensures { result ≡ word_named text.now }
 {
     if text == "type" {
         Word::Type
@@ -65,9 +65,9 @@ pub(crate) fn word_of(text: &str) -> Word
 }
 
 /// What a decoded `type` says.
-#[tactic(auto, unfolding(crate::specs::Words::type_of))]
+#[tactic(auto, unfolding(crate::specs::Words::type_named))]
 pub(crate) fn type_of(text: &str) -> GeoType
-    ensures { result ≡ type_of text.now }
+    ensures { result ≡ type_named text.now }
 {
     if text == "FeatureCollection" {
         GeoType::FeatureCollection

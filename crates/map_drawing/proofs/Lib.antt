@@ -1,4 +1,7 @@
 pub mod MappedLists
 pub mod ProductLemmas
 pub mod NamedLemmas
+pub mod LabelLemmas
+pub mod LabelledLemmas
+pub mod DrawnLemmas
 mod Examples

@@ -3,6 +3,7 @@ use Rattle.kit_words.proofs.Common.{◌≡◌, ◌++◌, ap, sym, ◌∙◌, app
 use Rattle.svg_text.specs.Elements.{text_element}
 use Rattle.map_features.specs.declared.conflicts.Conflict.{Conflict}
 use Rattle.map_drawing.specs.Marks.{IsNamedAbove, IsNamedIn, NamesConflict, conflict_words}
+use Rattle.map_drawing.specs.Names.{AddsList, list_head}
 
 pub names : (c : Conflict) (front text style words : List ℕ) (across down : ℤ) → text ≡ front ++ text_element style across down words
     → style ≡ codes "gone" → across ≡ pos 20 → words ≡ conflict_words c → NamesConflict c text
@@ -20,8 +21,8 @@ above (Some c) map text list line is = record { map = map; line = line; below = 
 
 -- a list below the map, or nothing
 pub with_list : {T E : Type 0} (r : Result T E) (conflict : Option Conflict) (map text : List ℕ) → IfSome conflict (λ c. NamesConflict c map)
-    → OnOk r ((list : List ℕ) × (text ≡ map ++ list)) → OnOk r (IfSome conflict (λ c. IsNamedAbove c text))
-with_list (Ok x) conflict map text line is = above conflict map text is.0 line is.1
+    → OnOk r (AddsList map text) → OnOk r (IfSome conflict (λ c. IsNamedAbove c text))
+with_list (Ok x) conflict map text line list = above conflict map text (list_head list.down ++ list.rows) line list.added
 with_list (Err e) conflict map text line is = tt
 
 pub alone : (conflict : Option Conflict) (text : List ℕ) → IfSome conflict (λ c. NamesConflict c text) → IfSome conflict (λ c. IsNamedAbove c text)

@@ -1,3 +1,5 @@
 pub mod Paths
 pub mod Common
 pub mod Marks
+pub mod Labels
+pub mod Names

@@ -1,5 +1,6 @@
 // The list of what an edit changed.
-ghost use Rattle.std.specs.Prelude.{◌≤◌, ◌≤ℤ◌, pos};
+ghost use Rattle.std.specs.Prelude.{◌≤◌, ◌≤ℤ◌, pos, OnOk};
+ghost use Rattle.map_drawing.specs.Names.{AddsList};
 
 use crate::layout::ROW;
 use map_features::{
@@ -58,21 +59,6 @@ struct Listing<A: Allocator + Copy> {
 }
 
 impl<A: Allocator + Copy> Listing<A> {
-    /// Appends a line that says what the colours mean, and what the areas are in.
-    fn push_legend(&mut self, y: i64, units: &Units) -> Result<(), AllocError> {
-        push_words(&mut self.text, "gone", DONE, y, b"borders gone (dashed)")?;
-        push_words(&mut self.text, "new", 220, y, b"borders new")?;
-        push_words(
-            &mut self.text,
-            "plain",
-            360,
-            y,
-            b"changed features filled, gone ones pale",
-        )?;
-        let words = units.unit.square_words();
-        push_words(&mut self.text, "number", PERCENT, y, words.as_bytes())
-    }
-
     /// Appends the heads of the columns.
     fn push_head(&mut self, y: i64) -> Result<(), AllocError> {
         push_words(&mut self.text, "head", DONE, y, b"edit")?;
@@ -221,14 +207,13 @@ impl<A: Allocator + Copy> Listing<A> {
         Ok(y)
     }
 
-    /// Appends the list of changes, from so far down.
+    /// Appends the list of changes, of which the line so far down says what its colours mean.
     fn push_list(
         &mut self,
         top: i64,
         units: &Units,
         changes: &[FeatureChange<'_, A>],
     ) -> Result<(), AllocError> {
-        self.push_legend(top, units)?;
         self.push_head(top.saturating_add(ROW))?;
         let listed = &changes[..listed(changes.len())];
         let y = self.push_changes(top.saturating_add(2 * ROW), units, listed)?;
@@ -236,7 +221,29 @@ impl<A: Allocator + Copy> Listing<A> {
     }
 }
 
-/// The list of changes, from so far down in the picture.
+/// Appends the first line of a list, so far down: what the colours mean, and what the areas are in.
+pub(crate) fn push_legend<A: Allocator>(
+    text: &mut Vec<u8, A>,
+    y: i64,
+    units: &Units,
+) -> Result<(), AllocError>
+    ensures { OnOk result (AddsList text.old.items text.new.items) }
+{
+    push_words(text, "gone", DONE, y, b"borders gone (dashed)")?;
+    push_words(text, "new", 220, y, b"borders new")?;
+    push_words(
+        text,
+        "plain",
+        360,
+        y,
+        b"changed features filled, gone ones pale",
+    )?;
+    let words = units.unit.square_words();
+    push_words(text, "number", PERCENT, y, words.as_bytes())?;
+    Ok(())
+}
+
+/// The list of changes below its first line, which is so far down in the picture.
 pub(crate) fn list_text<A: Allocator + Copy>(
     alloc: A,
     heap: Global,

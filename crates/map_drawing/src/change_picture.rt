@@ -1,8 +1,9 @@
 // The picture of what an edit did.
-ghost use Rattle.std.specs.Prelude.{◌≡◌, ◌++◌, ℕ, List, IfOk, IfSome, OnOk};
+ghost use Rattle.std.specs.Prelude.{IfOk, IfSome, OnOk};
 ghost use Rattle.map_drawing.specs.Marks.{IsNamedAbove, IsNamedIn};
+ghost use Rattle.map_drawing.specs.Names.{AddsList, IsLabelledAbove, IsLabelledIn};
 
-use crate::change_list::{list_text, rows_of};
+use crate::change_list::{list_text, push_legend, rows_of};
 use crate::cutting::cut_line;
 use crate::layout::ROW;
 use crate::map_picture::{Look, Picture};
@@ -147,10 +148,10 @@ impl<A: Allocator + Copy> Picture<A> {
         units: &Units,
         changes: &[FeatureChange<'_, A>],
     ) -> Result<(), AllocError>
-        ensures { OnOk result ((list : List ℕ)
-            × (self.new.text.items ≡ self.old.text.items ++ list)) }
+        ensures { OnOk result (AddsList self.old.text.items self.new.text.items) }
     {
         let top = self.layout.first_line() + ROW;
+        push_legend(&mut self.text, top, units)?;
         let list = list_text(self.alloc, self.heap, top, units, changes)?;
         self.text.extend_from_slice(list.as_slice())?;
         Ok(())
@@ -165,7 +166,9 @@ impl<A: Allocator + Copy> Picture<A> {
         old: &[Shape<'_, A>],
         new: &[Shape<'_, A>],
     ) -> Result<(), AllocError>
-        ensures { OnOk result (IfSome view.conflict (λ c. IsNamedAbove c self.new.text.items)) }
+        ensures named { OnOk result (IfSome view.conflict (λ c. IsNamedAbove c self.new.text.items)) }
+        ensures labelled { OnOk result
+            (IsLabelledAbove view.has_ids view.conflict self.new.text.items) }
     {
         let changes = changes_between(self.alloc, old, new)?;
         let list = self.in_sight(changes.as_slice())?;
@@ -184,12 +187,23 @@ impl<A: Allocator + Copy> Picture<A> {
         old: &[Shape<'_, A>],
         new: &[Shape<'_, A>],
     ) -> Result<Vec<u8, A>, AllocError>
-        ensures { IfOk result (λ picture. IfSome view.conflict (IsNamedIn picture.items)) }
+        ensures named { IfOk result (λ picture. IfSome view.conflict (IsNamedIn picture.items)) }
+        ensures labelled { IfOk result (λ picture.
+            IsLabelledIn picture.items view.has_ids view.conflict) }
     {
         let mut picture = self;
         picture.push_features(view, units, title, old, new)?;
         picture.close()
     }
+}
+
+/// An edit: the map before it, and the map after it.
+#[derive_where(Clone, Copy)]
+pub struct Edit<'m, 'a, A: Allocator + Copy> {
+    /// The map before it.
+    pub before: &'m RawDoc<'a, A>,
+    /// The map after it.
+    pub after: &'m RawDoc<'a, A>,
 }
 
 /// The picture of what an edit did: the map after it, the features and borders that are gone and those that are
@@ -199,16 +213,17 @@ impl<A: Allocator + Copy> Picture<A> {
 /// A feature is changed where the other map has none with the same `id` and the same region, wherever
 /// their vertices are. One whose change is less than a pixel is listed and not filled. `heap` holds
 /// decoded ids; `alloc` all else. An error says that an allocation failed.
-pub fn draw_change<'m, 'a, A: Allocator + Copy>(
+pub fn draw_change<A: Allocator + Copy>(
     alloc: A,
     heap: Global,
-    before: &'m RawDoc<'a, A>,
-    after: &'m RawDoc<'a, A>,
+    edit: Edit<'_, '_, A>,
     view: View,
     title: &str,
 ) -> Result<Vec<u8, A>, AllocError>
-    ensures { IfOk result (λ picture. IfSome view.conflict (IsNamedIn picture.items)) }
+    ensures named { IfOk result (λ picture. IfSome view.conflict (IsNamedIn picture.items)) }
+    ensures labelled { IfOk result (λ picture. IsLabelledIn picture.items view.has_ids view.conflict) }
 {
+    let Edit { before, after } = edit;
     let old_regions = straight_features(alloc, before.polygons.as_slice())?;
     let new_regions = straight_features(alloc, after.polygons.as_slice())?;
     let old = shapes_of(alloc, before, old_regions.as_slice())?;

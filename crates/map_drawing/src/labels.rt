@@ -1,4 +1,7 @@
 // The places of labels.
+ghost use Rattle.std.specs.Prelude.{◌≡◌, ◌≤◌, ◌*◌, length};
+ghost use Rattle.map_drawing.specs.Labels.{drawn_byte, drawn_text, label_width, letters_in};
+
 use crate::points::Point;
 use crate::rows::{Row, Stretch};
 use crate::seen::rows_of;
@@ -10,8 +13,8 @@ const LABEL: i64 = 1_300;
 /// How far its letters go up from its base line, in hundredths of a pixel.
 const RISE: i64 = 1_000;
 
-/// How wide a character is at most as a rule, in hundredths of a pixel.
-const LETTER: i64 = 720;
+/// How wide a letter is at most as a rule, in hundredths of a pixel.
+const LETTER: u128 = 720;
 
 /// How many rows of a feature are looked at for the widest one.
 const ROWS: i64 = 9;
@@ -25,17 +28,40 @@ pub(crate) struct Label {
     stretch: Stretch,
 }
 
-/// How many characters a text of UTF-8 has, each from U+0800 on twice: many of those are twice as wide.
-fn letters(words: &[u8]) -> usize {
-    let all = words.iter().filter(|byte| **byte & 0xC0 != 0x80).count();
-    let wide = words.iter().filter(|byte| 0xE0 <= **byte).count();
-    all.saturating_add(wide)
+/// For how many letters a byte of UTF-8 stands where it is drawn: for two if a character from U+0800 on begins
+/// there, since many of those are twice as wide, for one if another one does. What XML lacks is drawn as U+FFFD.
+fn letters_at(byte: u8) -> u8
+    ensures drawn { result ≡ letters_in (drawn_byte byte) }
+    ensures most { result ≤ 2 }
+{
+    match byte {
+        b'\t' | b'\n' | b'\r' => 1,
+        0..=0x1F => 2,
+        0x20..=0x7F => 1,
+        0x80..=0xBF => 0,
+        0xC0..=0xDF => 1,
+        _ => 2,
+    }
+}
+
+/// How many letters wide a text of UTF-8 is where it is drawn.
+fn letters(words: &[u8]) -> u128
+    ensures drawn { result ≡ letters_in (drawn_text words.now) }
+    ensures most { result ≤ 2 * length words.now }
+{
+    let mut count: u128 = 0;
+    for byte in words {
+        count += u128::from(letters_at(*byte));
+    }
+    count
 }
 
 /// How wide a text is, in hundredths of a pixel.
-fn width_of(words: &[u8]) -> i64 {
-    let count = i64::try_from(letters(words)).unwrap_or(i64::MAX);
-    count.saturating_add(1).saturating_mul(LETTER)
+fn width_of(words: &[u8]) -> i64
+    ensures { result ≡ label_width words.now }
+{
+    let width = LETTER * (letters(words) + 1);
+    i64::try_from(width).unwrap_or(i64::MAX)
 }
 
 impl Label {

@@ -22,7 +22,7 @@ mod seen;
 mod styles;
 mod view;
 
-pub use change_picture::draw_change;
+pub use change_picture::{Edit, draw_change};
 pub use map_features::{Bounds, Conflict, Window};
 pub use map_picture::draw_map;
 pub use view::View;

@@ -1,6 +1,7 @@
 // The picture of a map.
 ghost use Rattle.std.specs.Prelude.{◌≡◌, ◌≤ℤ◌, ◌++◌, codes, pos, IfOk, IfSome, OnOk};
 ghost use Rattle.map_drawing.specs.Marks.{IsNamedIn, NamesConflict};
+ghost use Rattle.map_drawing.specs.Names.{AddsNames, AddsNamesAsked, IsLabelled, IsLabelledIn, IsNumberAndId};
 
 use crate::labels::{Label, place_in, rows_inside};
 use crate::layout::{Layout, MARGIN, PIXEL, ROW, WIDTH};
@@ -159,19 +160,24 @@ impl<A: Allocator + Copy> Picture<A> {
         Ok(rings)
     }
 
-    /// Appends words at the place of a label, if it covers none of the labels so far.
+    /// Appends the name of a feature at the place of a label, if it covers none of the labels so far.
     fn push_at(
         &mut self,
         label: Label,
-        words: &[u8],
+        name: &[u8],
         labels: &mut Vec<Label, A>,
-    ) -> Result<(), AllocError> {
+    ) -> Result<(), AllocError>
+        requires { IsNumberAndId name.now }
+        ensures { OnOk result (AddsNames self.old.text.items self.new.text.items) }
+    {
         if label.is_free(labels.as_slice()) {
             let (x, y) = self.layout.pixel(label.base());
-            push_words(&mut self.text, "name", x, y, words)?;
+            push_words(&mut self.text, "name", x, y, name)?;
             labels.push(label)?;
+            Ok(())
+        } else {
+            Ok(())
         }
-        Ok(())
     }
 
     /// Appends the number and the `id` of a feature in one of these rows, or the number alone, if there is room
@@ -181,14 +187,18 @@ impl<A: Allocator + Copy> Picture<A> {
         shape: &Shape<'_, A>,
         rows: &[(Row, Stretch)],
         labels: &mut Vec<Label, A>,
-    ) -> Result<(), AllocError> {
+    ) -> Result<(), AllocError>
+        ensures { OnOk result (AddsNames self.old.text.items self.new.text.items) }
+    {
         let whole = number_and_id(self.alloc, self.heap, shape)?;
-        if let Some(label) = place_in(rows, whole.as_slice()) {
-            return self.push_at(label, whole.as_slice(), labels);
+        let name = whole.as_slice();
+        if let Some(label) = place_in(rows, name) {
+            return self.push_at(label, name, labels);
         }
         let short = feature_number(self.alloc, shape)?;
-        match place_in(rows, short.as_slice()) {
-            Some(label) => self.push_at(label, short.as_slice(), labels),
+        let number = short.as_slice();
+        match place_in(rows, number) {
+            Some(label) => self.push_at(label, number, labels),
             None => Ok(()),
         }
     }
@@ -198,7 +208,9 @@ impl<A: Allocator + Copy> Picture<A> {
         &mut self,
         shape: &Shape<'_, A>,
         labels: &mut Vec<Label, A>,
-    ) -> Result<(), AllocError> {
+    ) -> Result<(), AllocError>
+        ensures { OnOk result (AddsNames self.old.text.items self.new.text.items) }
+    {
         let rings = self.outline(shape)?;
         let ends = Stretch {
             left: 0,
@@ -210,13 +222,26 @@ impl<A: Allocator + Copy> Picture<A> {
     }
 
     /// Appends the labels of features, the largest features first.
-    fn push_labels(&mut self, shapes: &[Shape<'_, A>]) -> Result<(), AllocError> {
+    fn push_labels(&mut self, shapes: &[Shape<'_, A>]) -> Result<(), AllocError>
+        ensures { OnOk result (AddsNames self.old.text.items self.new.text.items) }
+    {
         let shapes = by_size(self.alloc, shapes)?;
         let mut labels = Vec::new(self.alloc);
         for shape in &shapes {
             self.push_label(shape, &mut labels)?;
         }
         Ok(())
+    }
+
+    /// The same where labels are asked for, and else nothing.
+    fn push_asked(&mut self, asked: bool, shapes: &[Shape<'_, A>]) -> Result<(), AllocError>
+        ensures { OnOk result (AddsNamesAsked asked self.old.text.items self.new.text.items) }
+    {
+        if asked {
+            self.push_labels(shapes)
+        } else {
+            Ok(())
+        }
     }
 
     /// Ends the map, and appends what is written over it: the names of features where the view has
@@ -226,7 +251,8 @@ impl<A: Allocator + Copy> Picture<A> {
         view: View,
         shapes: &[Shape<'_, A>],
     ) -> Result<(), AllocError>
-        ensures { OnOk result (IfSome view.conflict (λ c. NamesConflict c self.new.text.items)) }
+        ensures named { OnOk result (IfSome view.conflict (λ c. NamesConflict c self.new.text.items)) }
+        ensures labelled { OnOk result (IsLabelled view.has_ids view.conflict self.new.text.items) }
     {
         if let Some(number) = view.feature {
             self.push_named(shapes.get(number))?;
@@ -234,9 +260,7 @@ impl<A: Allocator + Copy> Picture<A> {
         self.push_segments(view.conflict)?;
         close_group(&mut self.text)?;
         close_picture(&mut self.text)?;
-        if view.has_ids {
-            self.push_labels(shapes)?;
-        }
+        self.push_asked(view.has_ids, shapes)?;
         self.push_place(view.conflict)
     }
 
@@ -248,7 +272,8 @@ impl<A: Allocator + Copy> Picture<A> {
         title: &str,
         shapes: &[Shape<'_, A>],
     ) -> Result<(), AllocError>
-        ensures { OnOk result (IfSome view.conflict (λ c. NamesConflict c self.new.text.items)) }
+        ensures named { OnOk result (IfSome view.conflict (λ c. NamesConflict c self.new.text.items)) }
+        ensures labelled { OnOk result (IsLabelled view.has_ids view.conflict self.new.text.items) }
     {
         self.open(units, title, 0)?;
         for shape in shapes {
@@ -274,7 +299,9 @@ impl<A: Allocator + Copy> Picture<A> {
         title: &str,
         shapes: &[Shape<'_, A>],
     ) -> Result<Vec<u8, A>, AllocError>
-        ensures { IfOk result (λ picture. IfSome view.conflict (IsNamedIn picture.items)) }
+        ensures named { IfOk result (λ picture. IfSome view.conflict (IsNamedIn picture.items)) }
+        ensures labelled { IfOk result (λ picture.
+            IsLabelledIn picture.items view.has_ids view.conflict) }
     {
         let mut picture = self;
         picture.push_map(view, units, title, shapes)?;
@@ -292,7 +319,8 @@ pub fn draw_map<A: Allocator + Copy>(
     view: View,
     title: &str,
 ) -> Result<Vec<u8, A>, AllocError>
-    ensures { IfOk result (λ picture. IfSome view.conflict (IsNamedIn picture.items)) }
+    ensures named { IfOk result (λ picture. IfSome view.conflict (IsNamedIn picture.items)) }
+    ensures labelled { IfOk result (λ picture. IsLabelledIn picture.items view.has_ids view.conflict) }
 {
     let shapes = shapes_of(alloc, map, map.polygons.as_slice())?;
     let bounds = bounds_of(None, shapes.as_slice());

@@ -1,12 +1,12 @@
 // What is drawn over the borders.
-ghost use Rattle.std.specs.Prelude.{IfSome, OnOk};
-ghost use Rattle.map_drawing.specs.Marks.{NamesConflict};
+ghost use Rattle.std.specs.Prelude.{Some, OnOk};
+ghost use Rattle.map_drawing.specs.Names.{Adds, AddsPlace};
 
 use crate::cutting::{Side, cut_line};
 use crate::layout::PIXEL;
 use crate::map_picture::{Look, Picture};
 use crate::paths::{push_line, push_rings};
-use grid_geometry::Seg;
+use grid_geometry::{Pos, Seg};
 use map_features::{Conflict, Shape};
 use std::alloc::{AllocError, Allocator};
 use svg_text::{push_attribute, push_words};
@@ -62,24 +62,36 @@ impl<A: Allocator + Copy> Picture<A> {
         }
     }
 
-    /// Appends a ring round the place of a conflict, where it is shown.
-    fn push_circle(&mut self, conflict: Conflict) -> Result<(), AllocError> {
-        if let Some(middle) = conflict.middle()
-            && self.layout.window.has(middle)
-        {
-            self.text.extend_from_slice(b"<circle")?;
+    /// Appends a ring round a position, where it is shown.
+    fn push_ring(&mut self, middle: Pos) -> Result<(), AllocError>
+        ensures { OnOk result (Adds self.old.text.items self.new.text.items) }
+    {
+        if self.layout.window.has(middle) {
             let (x, y) = self.layout.pixel(self.layout.point(middle));
+            self.text.extend_from_slice(b"<circle")?;
             push_attribute(&mut self.text, "cx", x)?;
             push_attribute(&mut self.text, "cy", y)?;
             push_attribute(&mut self.text, "r", RADIUS)?;
             self.text.extend_from_slice(b"/>\n")?;
+            Ok(())
+        } else {
+            Ok(())
         }
-        Ok(())
+    }
+
+    /// Appends a ring round the place of a conflict.
+    fn push_circle(&mut self, conflict: Conflict) -> Result<(), AllocError>
+        ensures { OnOk result (Adds self.old.text.items self.new.text.items) }
+    {
+        match conflict.middle() {
+            Some(middle) => self.push_ring(middle),
+            None => Ok(()),
+        }
     }
 
     /// Appends a ring round the place of a conflict, and the line that says which segments are in conflict.
     fn push_fault(&mut self, conflict: Conflict) -> Result<(), AllocError>
-        ensures { OnOk result (NamesConflict conflict self.new.text.items) }
+        ensures { OnOk result (AddsPlace (Some conflict) self.old.text.items self.new.text.items) }
     {
         self.push_circle(conflict)?;
         let words = format!(in self.alloc; "conflict {} / {}", conflict.first, conflict.second)?;
@@ -90,7 +102,7 @@ impl<A: Allocator + Copy> Picture<A> {
 
     /// The same for the conflict that there is.
     pub(crate) fn push_place(&mut self, conflict: Option<Conflict>) -> Result<(), AllocError>
-        ensures { OnOk result (IfSome conflict (λ c. NamesConflict c self.new.text.items)) }
+        ensures { OnOk result (AddsPlace conflict self.old.text.items self.new.text.items) }
     {
         match conflict {
             Some(conflict) => self.push_fault(conflict),

@@ -5,7 +5,7 @@ use Rattle.grid_geometry.specs.Common.{Position}
 use Rattle.map_features.specs.declared.bounds.Bounds.{Bounds}
 use Rattle.map_features.specs.declared.shapes.Shape.{Shape}
 use Rattle.map_features.specs.declared.window.Window.{Window}
-use Rattle.map_features.specs.Common.{ArePolygonsShown, AreRingsShown, IsRingShown, Covers, ShapeIn, Includes, IsShown, IsWithin, RingIn, RingsIn, AreWithin}
+use Rattle.map_features.specs.Common.{ArePolygonsShown, AreRingsShown, IsRingShown, CoversBounds, ShapeIn, Includes, IsInWindow, IsWithin, RingIn, RingsIn, AreWithin}
 
 pub all_so : {X : Type 0} (P Q : X → Type 0) → ((x : X) → P x → Q x) → (xs : List X) → All P xs → All Q xs
 all_so P Q so xs h = λ k d l. so (get_or xs k d) (h k d l)
@@ -41,7 +41,7 @@ included_in b w p least most i = record {
 }
 
 -- a window about bounds shows what they have
-pub shown_around : (b : Bounds) (w : Window) (p : Position) → Covers w b → Includes b p → IsShown w p
+pub shown_around : (b : Bounds) (w : Window) (p : Position) → CoversBounds w b → Includes b p → IsInWindow w p
 shown_around b w p h i = record {
   left = omega (arith, ints, h.left, i.left);
   right = omega (arith, ints, h.right, i.right);
@@ -50,11 +50,11 @@ shown_around b w p h i = record {
 }
 
 -- and so it shows all polygons within them
-pub ring_shown : {A : Type 0} (b : Bounds) (w : Window) → Covers w b → (r : Vec Position A) → RingIn (Some b) r → IsRingShown w r
-ring_shown b w h r i = all_so (IsWithin (Some b)) (IsShown w) (λ p j. shown_around b w p h j) r.items i
+pub ring_shown : {A : Type 0} (b : Bounds) (w : Window) → CoversBounds w b → (r : Vec Position A) → RingIn (Some b) r → IsRingShown w r
+ring_shown b w h r i = all_so (IsWithin (Some b)) (IsInWindow w) (λ p j. shown_around b w p h j) r.items i
 
-pub rings_shown : {A : Type 0} (b : Bounds) (w : Window) → Covers w b → (p : Vec (Vec Position A) A) → RingsIn (Some b) p → AreRingsShown w p
+pub rings_shown : {A : Type 0} (b : Bounds) (w : Window) → CoversBounds w b → (p : Vec (Vec Position A) A) → RingsIn (Some b) p → AreRingsShown w p
 rings_shown b w h p i = all_so (RingIn (Some b)) (IsRingShown w) (ring_shown b w h) p.items i
 
-pub polygons_shown : {A : Type 0} (b : Bounds) (w : Window) → Covers w b → (ps : List (Vec (Vec Position A) A)) → AreWithin (Some b) ps → ArePolygonsShown w ps
+pub polygons_shown : {A : Type 0} (b : Bounds) (w : Window) → CoversBounds w b → (ps : List (Vec (Vec Position A) A)) → AreWithin (Some b) ps → ArePolygonsShown w ps
 polygons_shown b w h ps i = all_so (RingsIn (Some b)) (AreRingsShown w) (rings_shown b w h) ps i

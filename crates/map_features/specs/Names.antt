@@ -29,12 +29,12 @@ id_text (Some id) = shown_value id
 -- ---- its name
 
 -- a member of `properties` names the feature: it is a string
-abbrev pub is_name : List ℕ → Bool
-is_name name =
+abbrev pub is_naming_member : List ℕ → Bool
+is_naming_member name =
     bytes_eq name (codes "\"name\"") || (bytes_eq name (codes "\"Name\"") || bytes_eq name (codes "\"NAME\""))
 
 abbrev pub names_feature : Node × Node → Bool
-names_feature member = is_name member.0.bytes && slice_index member.1.bytes 0 == 34
+names_feature member = is_naming_member member.0.bytes && slice_index member.1.bytes 0 == 34
 
 -- the value of the first such member
 abbrev pub named_by : List (Node × Node) → Option (List ℕ)
@@ -48,5 +48,5 @@ abbrev pub called_by : Option (List ℕ) → List ℕ
 called_by None = []
 called_by (Some value) = shown_value value
 
-abbrev pub name_text : Option (List ℕ) → Option (List ℕ) → List ℕ
-name_text properties id = called_by (option_or (option_and_then name_in properties) id)
+abbrev pub feature_name_text : Option (List ℕ) → Option (List ℕ) → List ℕ
+feature_name_text properties id = called_by (option_or (option_and_then name_in properties) id)

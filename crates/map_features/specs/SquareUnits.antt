@@ -11,8 +11,8 @@ use Rattle.map_features.specs.declared.units.Units.{Units}
 
 -- ---- numbers of a few digits, times a power of ten
 
-abbrev pub whole : ℕ → Rounded
-whole n = record { digits = n; power = pos 0 }
+abbrev pub whole_number : ℕ → Rounded
+whole_number n = record { digits = n; power = pos 0 }
 
 -- powers are added within 64 bits
 abbrev pub powers : ℤ → ℤ → ℤ
@@ -38,8 +38,8 @@ cut_below most r = cut_often (nat_le most) 40 r
 abbrev pub ends_in_zero : ℕ → Bool
 ends_in_zero digits = digits % 10 == 0
 
-abbrev pub trimmed : Rounded → Rounded
-trimmed r = cut_often ends_in_zero 40 r
+abbrev pub without_last_zeros : Rounded → Rounded
+without_last_zeros r = cut_often ends_in_zero 40 r
 
 abbrev pub product_of : Rounded → Rounded → Rounded
 product_of a b = record { digits = min (a.digits * b.digits) (2 ^ 128 - 1); power = powers a.power b.power }
@@ -63,8 +63,8 @@ abbrev pub power_text : List ℕ → ℤ → List ℕ
 power_text digits power = decimal_at digits 1 ++ (codes "e" ++ signed_decimal power)
 
 -- digits with the decimal point so many of them behind the first: written out where it is near
-abbrev pub digits_at : List ℕ → ℤ → List ℕ
-digits_at digits point =
+abbrev pub digits_with_point : List ℕ → ℤ → List ℕ
+digits_with_point digits point =
     if int_lt (pos 0) point && int_lt point (pos 13) then decimal_at digits (unsigned_abs point) else
     (if int_lt point (pos 1) && int_lt (negsuc 5) point then codes "0." ++ (zeros (unsigned_abs point) ++ digits) else
     power_text digits (saturate_signed w64 (point -ℤ pos 1)))
@@ -73,7 +73,7 @@ abbrev pub point_of : Rounded → ℕ → ℤ
 point_of r count = if r.digits == 0 then pos 1 else powers r.power (pos count)
 
 abbrev pub number_text : Rounded → List ℕ
-number_text r = digits_at (decimal r.digits) (point_of r (length (decimal r.digits)))
+number_text r = digits_with_point (decimal r.digits) (point_of r (length (decimal r.digits)))
 
 -- ---- areas
 
@@ -91,15 +91,15 @@ square_words Degree = codes "areas in square degrees"
 -- a unit of the map: from twelve digits of each, with nine
 abbrev pub in_fine_parts : Units → ℤ → Rounded
 in_fine_parts units twice =
-    half_of_number (product_of (product_of (cut_below (10 ^ 12) (whole (unsigned_abs twice)))
-    (cut_below (10 ^ 12) (whole (unsigned_abs units.across)))) (cut_below (10 ^ 12) (whole (unsigned_abs units.upward))))
+    half_of_number (product_of (product_of (cut_below (10 ^ 12) (whole_number (unsigned_abs twice)))
+    (cut_below (10 ^ 12) (whole_number (unsigned_abs units.across)))) (cut_below (10 ^ 12) (whole_number (unsigned_abs units.upward))))
 
 abbrev pub square_units : Units → ℤ → Rounded
 square_units units twice =
     let fine = in_fine_parts units twice in
-    trimmed (cut_below (10 ^ 9) (record { digits = fine.digits; power = saturate_signed w64 (fine.power -ℤ pos 48) }))
+    without_last_zeros (cut_below (10 ^ 9) (record { digits = fine.digits; power = saturate_signed w64 (fine.power -ℤ pos 48) }))
 
--- an area of which twice as much on the grid is this: whole where there is no transform and it is below 10^12
+-- an area of which twice as much on the grid is this: whole_number where there is no transform and it is below 10^12
 abbrev pub area_text : Units → ℤ → List ℕ
 area_text units twice =
     if is_grid units.unit && nat_lt (unsigned_abs twice) (2 * 10 ^ 12) then half_text (unsigned_abs twice)

@@ -33,8 +33,8 @@ cut_end words (suc end) =
     if is_tail (get_or words (suc end) 0) then cut_end words end else suc end
 
 -- the first bytes of a text, at most so many
-abbrev pub first_part : List ℕ → ℕ → List ℕ
-first_part words most = take (cut_end words (min (length words) most)) words
+abbrev pub first_bytes : List ℕ → ℕ → List ℕ
+first_bytes words most = take (cut_end words (min (length words) most)) words
 
 -- three dots, U+2026 in UTF-8
 abbrev pub dots : List ℕ
@@ -46,7 +46,7 @@ dots_behind part words = if nat_lt (length part) (length words) then dots else [
 
 -- a text, or the first bytes of it and three dots
 abbrev pub shortened_text : List ℕ → ℕ → List ℕ
-shortened_text words most = first_part words most ++ dots_behind (first_part words most) words
+shortened_text words most = first_bytes words most ++ dots_behind (first_bytes words most) words
 
 -- what a value stands for, as it is shown
 abbrev pub shown_value : List ℕ → List ℕ

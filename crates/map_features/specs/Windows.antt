@@ -29,7 +29,7 @@ abbrev pub AreWithin : {A : Type 0} → Option Bounds → List (Vec (Vec Positio
 AreWithin bounds polygons = All (RingsIn bounds) polygons
 
 -- the position is in the window
-pub record IsShown (w : Window) (p : Position) : Type 0 where
+pub record IsInWindow (w : Window) (p : Position) : Type 0 where
   pub left : w.x ≤ℤ p.x
   pub right : p.x ≤ℤ (w.x +ℤ w.width)
   pub lower : w.y ≤ℤ p.y
@@ -37,7 +37,7 @@ pub record IsShown (w : Window) (p : Position) : Type 0 where
 
 -- each position of the ring is, of the polygon, and of the polygons
 abbrev pub IsRingShown : {A : Type 0} → Window → Vec Position A → Type 0
-IsRingShown w ring = All (IsShown w) (positions_of ring)
+IsRingShown w ring = All (IsInWindow w) (positions_of ring)
 
 abbrev pub AreRingsShown : {A : Type 0} → Window → Vec (Vec Position A) A → Type 0
 AreRingsShown w polygon = All (IsRingShown w) polygon.items
@@ -46,7 +46,7 @@ abbrev pub ArePolygonsShown : {A : Type 0} → Window → List (Vec (Vec Positio
 ArePolygonsShown w polygons = All (AreRingsShown w) polygons
 
 -- the window has all that the bounds have
-pub record Covers (w : Window) (b : Bounds) : Type 0 where
+pub record CoversBounds (w : Window) (b : Bounds) : Type 0 where
   pub left : w.x ≤ℤ b.x0
   pub right : b.x1 ≤ℤ (w.x +ℤ w.width)
   pub lower : w.y ≤ℤ b.y0

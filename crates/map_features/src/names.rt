@@ -1,7 +1,7 @@
 // What features are called.
 ghost use Rattle.std.specs.Prelude.{◌≡◌, ◌++◌, ◌==◌, IfOk, OnOk, option_map, slice_index};
 ghost use Rattle.json_spans.specs.Common.{nodes};
-ghost use Rattle.map_features.specs.Names.{id_behind, id_text, is_called, is_name, name_in, name_text, names_feature, number_text};
+ghost use Rattle.map_features.specs.Names.{id_behind, id_text, is_called, is_naming_member, name_in, feature_name_text, names_feature, number_text};
 
 use crate::shapes::Shape;
 use crate::values::{is_for, value_text};
@@ -25,7 +25,7 @@ pub fn has_id<A: Allocator + Copy>(
 
 /// Whether it is `name`, as a name.
 fn is_name(name: &[u8]) -> bool
-    ensures { result ≡ is_name name.now }
+    ensures { result ≡ is_naming_member name.now }
 {
     name == b"\"name\"".as_slice()
         || name == b"\"Name\"".as_slice()
@@ -111,7 +111,7 @@ pub fn feature_name<A: Allocator + Copy>(
     shape: &Shape<'_, A>,
 ) -> Result<Vec<u8, A>, AllocError>
     ensures { IfOk result (λ text. text.items
-        ≡ name_text (option_map (λ text. text.now) shape.now.properties)
+        ≡ feature_name_text (option_map (λ text. text.now) shape.now.properties)
         (option_map (λ id. id.now) shape.now.id)) }
 {
     match shape.properties.and_then(name_of).or(shape.id) {

@@ -1,7 +1,7 @@
 // Areas on the map's own scale, and how they are written.
 ghost use Rattle.std.specs.Prelude.{◌≡◌, ◌++◌, ◌≤◌, codes, nat_le, unsigned_abs, IfOk, OnOk};
 ghost use Rattle.map_features.specs.Amounts.{zeros};
-ghost use Rattle.map_features.specs.SquareUnits.{cut_below, cut_once, decimal_at, digits_at, ends_in_zero, fraction_of, half_of_number, number_text, point_of, power_text, product_of, shorter, trimmed, whole};
+ghost use Rattle.map_features.specs.SquareUnits.{cut_below, cut_once, decimal_at, digits_with_point, ends_in_zero, fraction_of, half_of_number, number_text, point_of, power_text, product_of, shorter, without_last_zeros, whole_number};
 
 use crate::amounts::{half, push_grouped, sign};
 use crate::lengths::{push_zeros, with_zeros};
@@ -35,7 +35,7 @@ struct Rounded {
 impl Rounded {
     /// A whole number.
     fn of(number: i128) -> Rounded
-        ensures { result ≡ whole (unsigned_abs number) }
+        ensures { result ≡ whole_number (unsigned_abs number) }
     {
         Rounded {
             digits: number.unsigned_abs(),
@@ -88,7 +88,7 @@ impl Rounded {
 
     /// Without zeros after its digits.
     fn trimmed(self) -> Rounded
-        ensures { result ≡ trimmed self }
+        ensures { result ≡ without_last_zeros self }
     {
         let mut number = self;
         for _digit in 0..40u8 {
@@ -206,7 +206,7 @@ fn push_digits_at<A: Allocator + Copy>(
     digits: &[u8],
     point: i64,
 ) -> Result<(), AllocError>
-    ensures { OnOk result (text.new.items ≡ text.old.items ++ digits_at digits.now point) }
+    ensures { OnOk result (text.new.items ≡ text.old.items ++ digits_with_point digits.now point) }
 {
     if 0 < point && point <= MOST_BEFORE {
         push_decimal(text, alloc, digits, point.unsigned_abs() as usize)

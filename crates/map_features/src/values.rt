@@ -2,7 +2,7 @@
 ghost use Rattle.std.specs.Prelude.{◌≡◌, ◌≤◌, length, slice_index, IfOk};
 ghost use Rattle.json_spans.specs.Common.{is_tail};
 ghost use Rattle.topo_outline.specs.Shape.{unquoted};
-ghost use Rattle.map_features.specs.Values.{bare_value, cut_end, first_part, is_quoted, shortened_text, shown_value, stands_for};
+ghost use Rattle.map_features.specs.Values.{bare_value, cut_end, first_bytes, is_quoted, shortened_text, shown_value, stands_for};
 
 use json_spans::{Span, TextFault, text};
 use std::alloc::{AllocError, Allocator, Global};
@@ -42,7 +42,7 @@ fn cut_end(words: &[u8], most: usize) -> usize
 
 /// The first bytes of a text, at most so many, with no character cut.
 fn first_bytes(words: &[u8], most: usize) -> &[u8]
-    ensures { result.now ≡ first_part words.now most }
+    ensures { result.now ≡ first_bytes words.now most }
 {
     &words[..cut_end(words, words.len().min(most))]
 }

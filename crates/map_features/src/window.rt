@@ -33,12 +33,12 @@ fn is_met(start: i64, extent: i64, least: i64, most: i64) -> bool
 
 impl Window {
     ghost use Rattle.grid_geometry.specs.Position.{Position};
-    ghost use Rattle.map_features.specs.Windows.{Covers, IsShown, IsSquareAbout, IsWithin};
+    ghost use Rattle.map_features.specs.Windows.{CoversBounds, IsInWindow, IsSquareAbout, IsWithin};
 
     /// All of these bounds, with a margin of this width.
     fn with_margin(bounds: Bounds, margin: i64) -> Window
         requires { (pos 1 ≤ℤ margin) × (margin ≤ℤ pos 600000000000) }
-        ensures { Covers result bounds }
+        ensures { CoversBounds result bounds }
     {
         let across = bounds.x1 - bounds.x0;
         let upward = bounds.y1 - bounds.y0;
@@ -52,21 +52,21 @@ impl Window {
 
     /// All of these bounds, with a margin of a fortieth of the greater extent, and a unit.
     pub fn around(bounds: Bounds) -> Window
-        ensures { Covers result bounds }
+        ensures { CoversBounds result bounds }
     {
         Window::with_margin(bounds, quotient(bounds.extent(), 40) + 1)
     }
 
     /// The surroundings of these bounds: a quarter of the greater extent, and a unit, on each side.
     pub fn near(bounds: Bounds) -> Window
-        ensures { Covers result bounds }
+        ensures { CoversBounds result bounds }
     {
         Window::with_margin(bounds, quotient(bounds.extent(), 4) + 1)
     }
 
     /// All of these bounds, with a margin; a unit where there are none.
     pub fn of(bounds: Option<Bounds>) -> Window
-        ensures { (p : Position) → IsWithin bounds p → IsShown result p }
+        ensures { (p : Position) → IsWithin bounds p → IsInWindow result p }
     {
         let Some(bounds) = bounds else {
             return Window {
@@ -122,7 +122,7 @@ impl Window {
 
     /// Whether a position is in it.
     pub fn has(&self, pos: Pos) -> bool
-        ensures { IsTrue result ↔ IsShown self.now pos }
+        ensures { IsTrue result ↔ IsInWindow self.now pos }
     {
         is_met(self.x, self.width, pos.x(), pos.x())
             && is_met(self.y, self.height, pos.y(), pos.y())

@@ -8,7 +8,7 @@ use Rattle.grid_geometry.proofs.Common.{up_down, down_up, down_down, above_above
 use Rattle.grid_geometry.proofs.Balances.{turn}
 use Rattle.grid_geometry.proofs.HeldLaw.{moved_turn, moved_below}
 use Rattle.ring_machine.proofs.Common.{in_contains, all_of, xor-same, xor-none}
-use Rattle.ring_boxes.specs.Common.{box_at}
+use Rattle.point_queries.specs.Common.{box_at}
 use Rattle.point_queries.specs.Common.{ray_to, ray_back}
 
 -- ---- whether an edge counts, by how far its ends are above

@@ -1,3 +1,8 @@
+pub mod Coordinates
+pub mod Widening
+pub mod BoxedRings
+pub mod BoxesAround
+pub mod BoxesHold
 pub mod Shows
 mod Rest
 mod Sharers

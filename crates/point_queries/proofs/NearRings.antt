@@ -10,7 +10,7 @@ use Rattle.ring_machine.specs.Common.{Document, rings, segment_of, segments, is_
 use Rattle.ring_machine.proofs.Common.{In, in_contains, contains_in, any_in, in_any, in_mapped, there, in-map}
 use Rattle.ring_machine.proofs.Common.{in-flat_map, segment_ordered, segment_eq-true, edge_ends, in-filter}
 use Rattle.segment_index.specs.Common.{is_within, SegmentSet}
-use Rattle.ring_boxes.specs.Common.{CoversRings, IsCovered, box_at, is_within_diagonal}
+use Rattle.point_queries.specs.Common.{CoversRings, IsCovered, box_at, is_within_diagonal}
 use Rattle.map_frame.specs.declared.names.RingName.{RingName}
 use Rattle.arc_store.specs.Common.{ListsNear}
 use Rattle.arc_store.proofs.Common.{segment_in}

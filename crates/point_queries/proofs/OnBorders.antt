@@ -10,7 +10,7 @@ use Rattle.ring_machine.specs.Common.{is_on_border, border_at, segment_of, segme
 use Rattle.ring_machine.proofs.Common.{In, in-flat_map, segment_ordered, segment_eq-true, contains_in}
 use Rattle.ring_machine.proofs.Common.{in_contains, in_mapped, in_flat, any_in, in_any}
 use Rattle.map_frame.specs.declared.names.RingName.{RingName}
-use Rattle.arc_store.specs.Common.{ListsNear, HasOne, ListsUsers}
+use Rattle.arc_store.specs.Common.{ListsNear, HasOne, ListsRingNames}
 use Rattle.feature_exchange.proofs.Common.{segment_ends}
 use Rattle.arc_store.proofs.Common.{in_segments, segment_in, ring_named}
 use Rattle.point_queries.specs.Common.{IsSorted, on_edge}
@@ -105,7 +105,7 @@ module _ (d : Document) (distinct : are_distinct (map (λ f. f.number) (features
       )
 
   -- the numbers of the features of these rings, ascending, are those on whose borders p lies
-  pub border_are : (names : List RingName) → ListsUsers d (flat_map (on_edge p) near) [] names
+  pub border_are : (names : List RingName) → ListsRingNames d (flat_map (on_edge p) near) [] names
       → (found sorted : List ℕ) → found ≡ map (λ name. name.feature) names → IsSorted found sorted
       → sorted ≡ border_at d p
   border_are names l found sorted e o =

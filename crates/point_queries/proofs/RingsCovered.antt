@@ -9,7 +9,7 @@ use Rattle.ring_machine.proofs.Common.{In, in-append, feature_found, found_in, c
 use Rattle.ring_machine.proofs.Common.{in-map, in-flat_map, all_of, all_in, in_recursion}
 use Rattle.ring_parts.specs.Common.{rings_seen, polygons_seen}
 use Rattle.segment_index.specs.Common.{SegmentSet}
-use Rattle.ring_boxes.specs.Common.{CoversRings, IsCovered, KeepsCovered}
+use Rattle.point_queries.specs.Common.{CoversRings, IsCovered, KeepsCovered}
 use Rattle.point_queries.specs.Common.{CoversFeature}
 
 -- ---- rings

@@ -13,7 +13,7 @@ use Rattle.map_frame.specs.declared.names.RingName.{RingName}
 use Rattle.map_frame.specs.Common.{Shown, shown, element, frame_ring}
 use Rattle.map_frame.proofs.Common.{element_is}
 use Rattle.arc_store.proofs.Common.{ring_named}
-use Rattle.arc_store.specs.Common.{HasOne, ListsUsers}
+use Rattle.arc_store.specs.Common.{HasOne, ListsRingNames}
 use Rattle.point_queries.specs.Common.{IsSorted}
 use Rattle.point_queries.proofs.Ascending.{numbers_found}
 
@@ -103,7 +103,7 @@ module _ (d : Document) (distinct : are_distinct (map (λ f. f.number) (features
       )
 
   -- the numbers of the other features of these rings, ascending, are those of the neighbours
-  pub neighbours_are : (n : ℕ) → f.number ≡ n → (names : List RingName) → ListsUsers d (edges_of f) [] names
+  pub neighbours_are : (n : ℕ) → f.number ≡ n → (names : List RingName) → ListsRingNames d (edges_of f) [] names
       → (found sorted : List ℕ) → found ≡ filter (λ m. not (m == n)) (map (λ name. name.feature) names)
       → IsSorted found sorted → sorted ≡ neighbours_of d f
   neighbours_are n number names l found sorted e o =

@@ -6,12 +6,12 @@ use Rattle.grid_geometry.specs.Common.{Position, Edge, is_on, Segment, segment}
 use Rattle.ring_machine.specs.Common.{Document}
 use Rattle.ring_machine.proofs.Common.{in-append, in_left, in_right, contains_in, in_contains}
 use Rattle.map_frame.specs.declared.names.RingName.{RingName}
-use Rattle.arc_store.specs.Common.{RingHas, ListsRings, ListsUsers}
+use Rattle.arc_store.specs.Common.{RingHas, ListsRings, ListsRingNames}
 use Rattle.arc_store.proofs.SharedNames.{users_none}
 use Rattle.point_queries.specs.Common.{on_edge}
 
 pub users_one : (d : Document) (p q : Position) (old new : List RingName)
-    → ListsRings d (segment p q) old new → ListsUsers d ((p, q) ∷ []) old new
+    → ListsRings d (segment p q) old new → ListsRingNames d ((p, q) ∷ []) old new
 users_one d p q old new l = record {
   found = l.found;
   appended = l.appended;
@@ -24,8 +24,8 @@ users_one d p q old new l = record {
   );
 }
 
-pub users_both : (d : Document) (es fs : List Edge) (a b c : List RingName) → ListsUsers d es a b
-    → ListsUsers d fs b c → ListsUsers d (es ++ fs) a c
+pub users_both : (d : Document) (es fs : List Edge) (a b c : List RingName) → ListsRingNames d es a b
+    → ListsRingNames d fs b c → ListsRingNames d (es ++ fs) a c
 users_both d es fs a b c g h = record {
   found = g.found ++ h.found;
   appended = h.appended ∙ ap (λ z. z ++ h.found) g.appended ∙ append_assoc a g.found h.found;
@@ -45,21 +45,21 @@ users_both d es fs a b c g h = record {
 
 -- one element's edges more
 pub users_more : {X : Type 0} (f : X → List Edge) (d : Document) (xs : List X) (i : ℕ) (x : X) (a b c : List RingName)
-    → i < length xs → ListsUsers d (flat_map f (take i xs)) a b → ListsUsers d (f (get_or xs i x)) b c
-    → ListsUsers d (flat_map f (take (i + 1) xs)) a c
+    → i < length xs → ListsRingNames d (flat_map f (take i xs)) a b → ListsRingNames d (f (get_or xs i x)) b c
+    → ListsRingNames d (flat_map f (take (i + 1) xs)) a c
 users_more f d xs i x a b c l g h =
-    subst (λ es. ListsUsers d es a c)
+    subst (λ es. ListsRingNames d es a c)
     (sym (ap (flat_map f) (take_more xs i x l) ∙ flat_map-append f (take i xs) (get_or xs i x ∷ [])
     ∙ ap (λ z. flat_map f (take i xs) ++ z) (append-nil (f (get_or xs i x)))))
     (users_both d (flat_map f (take i xs)) (f (get_or xs i x)) a b c g h)
 
 -- a segment, where p lies on it
 pub on_listed : (d : Document) (p : Position) (s : Segment) (old new : List RingName) → is_on p s.lo s.hi ≡ true
-    → ListsRings d (segment s.lo s.hi) old new → ListsUsers d (on_edge p s) old new
+    → ListsRings d (segment s.lo s.hi) old new → ListsRingNames d (on_edge p s) old new
 on_listed d p s old new h l =
-    subst (λ b. ListsUsers d (cond b ((s.lo, s.hi) ∷ []) []) old new) (sym h) (users_one d s.lo s.hi old new l)
+    subst (λ b. ListsRingNames d (cond b ((s.lo, s.hi) ∷ []) []) old new) (sym h) (users_one d s.lo s.hi old new l)
 
 pub off_listed : (d : Document) (p : Position) (s : Segment) (old : List RingName) → is_on p s.lo s.hi ≡ false
-    → ListsUsers d (on_edge p s) old old
+    → ListsRingNames d (on_edge p s) old old
 off_listed d p s old h =
-    subst (λ b. ListsUsers d (cond b ((s.lo, s.hi) ∷ []) []) old old) (sym h) (users_none d old)
+    subst (λ b. ListsRingNames d (cond b ((s.lo, s.hi) ∷ []) []) old old) (sym h) (users_none d old)

@@ -2,7 +2,7 @@
 use Rattle.std.specs.Prelude.{◌≡◌, ℕ, Contains}
 use Rattle.ring_machine.specs.Common.{Document, Feature, features, rings_of}
 use Rattle.segment_index.specs.Common.{SegmentSet}
-use Rattle.ring_boxes.specs.Common.{CoversRings}
+use Rattle.point_queries.specs.Covering.{CoversRings}
 
 -- each ring of a feature with this number lies in one of the boxes
 abbrev pub CoversFeature : SegmentSet → Document → ℕ → Type 0

@@ -1,4 +1,6 @@
 pub mod Covered
+pub mod Covering
+pub mod Held
 pub mod Near
 pub mod Odd
 pub mod Told

@@ -2,7 +2,7 @@
 ghost use Rattle.std.specs.Prelude.{◌≡◌, map, IfOk, OnOk};
 ghost use Rattle.std.specs.List.{flat_map};
 ghost use Rattle.ring_machine.specs.Query as query;
-ghost use Rattle.arc_store.specs.Common.{ListsUsers};
+ghost use Rattle.arc_store.specs.Common.{ListsRingNames};
 ghost use Rattle.point_queries.specs.Users.{AreSegments, on_edge};
 
 use crate::numbers::{Numbers, sort_once};
@@ -31,7 +31,7 @@ fn push_on<'a, I: SegIndex, A: Allocator + Copy>(
     out: &mut Vec<RingName, A>,
 ) -> Result<(), AllocError>
     requires { AreSegments map.now.doc near.now }
-    ensures { OnOk result (ListsUsers map.now.doc (flat_map (on_edge p) near.now)
+    ensures { OnOk result (ListsRingNames map.now.doc (flat_map (on_edge p) near.now)
         out.old.items out.new.items) }
 {
     for s in near {

@@ -3,13 +3,13 @@ ghost use Rattle.std.specs.Prelude.{IfOk, IsTrue, OnOk};
 ghost use Rattle.std.specs.List.{AllByRecursion, flat_map};
 ghost use Rattle.ring_machine.specs.Common.{rings, is_ring};
 ghost use Rattle.ring_parts.specs.Common.{rings_seen, polygons_seen};
-ghost use Rattle.ring_boxes.specs.Common.{CoversRings, KeepsCovered};
+ghost use Rattle.point_queries.specs.Common.{CoversRings, KeepsCovered};
 ghost use Rattle.point_queries.specs.Covered.{CoversFeature};
 
 use crate::border::box_at;
+use crate::ring_boxes::RingBoxes;
 use arc_store::Map;
 use grid_geometry::{Pos, Rect};
-use ring_boxes::RingBoxes;
 use segment_index::{SegIndex, widen};
 use std::alloc::{AllocError, Allocator};
 

@@ -5,7 +5,7 @@ ghost use Rattle.std.specs.List.{filter, flat_map};
 ghost use Rattle.grid_geometry.specs.Common.{edges};
 ghost use Rattle.ring_machine.specs.Common.{has_feature, feature_at};
 ghost use Rattle.ring_machine.specs.Query as query;
-ghost use Rattle.arc_store.specs.Common.{ListsUsers};
+ghost use Rattle.arc_store.specs.Common.{ListsRingNames};
 ghost use Rattle.point_queries.specs.Told.{IsFaultOf};
 
 use crate::numbers::{Numbers, sort_once};
@@ -43,7 +43,7 @@ fn push_polygon<'a, I: SegIndex, A: Allocator + Copy>(
     out: &mut Vec<RingName, A>,
 ) -> Result<(), AllocError>
     requires { rings ≡ length (get_or (feature_at map.now.doc f).polygons polygon []) }
-    ensures { OnOk result (ListsUsers map.now.doc
+    ensures { OnOk result (ListsRingNames map.now.doc
         (flat_map edges (get_or (feature_at map.now.doc f).polygons polygon []))
         out.old.items out.new.items) }
 {

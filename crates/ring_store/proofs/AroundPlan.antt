@@ -43,16 +43,3 @@ not_around places m k around r p differ = by (has around p) refl
     by true e =
         let x = in_mapped (place places) p r.keys (subst (In p) r.are (has-in p around e)) in
         absurd (differ x.0 ((r.joined x.0).0 (in_contains r.keys x.0 x.1)) x.2)
-
--- a position that neither of two has
-pub off_two : (places : Placement) (m : Rings) (k i j : ℕ) → AreNeighbours m k (Two i j)
-    → (p : Position) → ((x : ℕ) → Joined m k x → place places x ≢ p) → (a b : Position)
-    → table.get places i ≡ Some a → table.get places j ≡ Some b → has (a ∷ b ∷ []) p ≡ false
-off_two places m k i j two p differ a b first second = by (has (a ∷ b ∷ []) p) refl
-  where
-    by : (c : Bool) → has (a ∷ b ∷ []) p ≡ c → has (a ∷ b ∷ []) p ≡ false
-    by false e = e
-    by true e = absurd (elim (has-in p (a ∷ b ∷ []) e) [
-      | inl n ↦ differ i ((two.1 i).1 (inl refl)) (place_is places i a first ∙ n)
-      | inr n ↦ elim n [ inl o ↦ differ j ((two.1 j).1 (inr refl)) (place_is places j b second ∙ o) | inr o ↦ o ]
-    ])

@@ -1,5 +1,5 @@
 // What an edit of vertices reads and changes in the tables.
-ghost use Rattle.std.specs.Prelude.{◌≡◌, false, IfOk, OnOk, OnErr, true, ◌≢◌, ℕ, Some, None, [], ◌∷◌, ◌⊎◌, ◌<◌, ◌^◌, ◌||◌, List, ◌++◌};
+ghost use Rattle.std.specs.Prelude.{◌≡◌, false, IfOk, IsSomeAnd, OnOk, OnErr, true, ◌≢◌, ℕ, Some, None, [], ◌∷◌, ◌⊎◌, ◌<◌, ◌^◌, ◌||◌, List, ◌++◌};
 ghost use Rattle.ring_store.specs.Common.{AreAround, AreKeyed, AreNew, ArePlaceable, ArePlaced, ArePutBack, Drops, Exchanges, GainsSegments, HasBridging, HasMoving, IsBridging, IsMoving, IsParting, Joined, PutBetween, Removal, TakenOut, comings, goings};
 ghost use Rattle.segment_index.specs.Common.{AreAmong, AreSingle, has};
 ghost use Rattle.arc_tables.specs.Common.{AreApart, users_of, gained};
@@ -269,39 +269,40 @@ pub fn put_in<I: SegIndex, A: Allocator + Copy>(
 }
 
 /// A vertex that is to go from between two.
-#[derive(Drop)]
-pub struct Bridging<A: Allocator + Copy> {
+#[derive(Clone, Copy, Debug)]
+pub struct Bridging {
     /// Its key.
     pub key: VertexKey,
     /// The two vertices that are joined to it.
     pub ends: (VertexKey, VertexKey),
     /// The segments to these.
-    pub before: Vec<Seg, A>,
+    pub before: (Seg, Seg),
     /// The segment of these.
     pub after: Seg,
 }
 
 /// What a removal of the vertex at p changes in the tables. It is no junction, and its neighbours are
-/// not joined. Fails only on allocation failure.
+/// not joined. Takes no memory.
 pub fn read_bridging<I: SegIndex, A: Allocator + Copy>(
     tables: &RingTables<I, A>,
     p: Pos,
-) -> Result<Bridging<A>, AllocError>
+) -> Option<Bridging>
     requires { HasBridging tables.now.vertices tables.now.borders p }
-    ensures read { IfOk result (λ r. IsBridging tables.now.vertices tables.now.borders p
-        r.key r.ends.0 r.ends.1 r.before.items r.after) }
+    ensures { IsSomeAnd result (λ r. IsBridging tables.now.vertices tables.now.borders p
+        r.key r.ends.0 r.ends.1 (r.before.0 ∷ r.before.1 ∷ []) r.after) }
 {
     let key = tables.vertices.key_of(p).unwrap();
     let Neighbours::Two(i, j) = tables.borders.neighbours(key) else {
-        return Err(AllocError);
+        return None;
     };
     let (a, b) = (tables.vertices.pos(i), tables.vertices.pos(j));
+    let to_a = Seg::new(a, p).unwrap();
+    let to_b = Seg::new(b, p).unwrap();
     let after = Seg::new(a, b).unwrap();
-    let before = spokes(tables.alloc, p, &[a, b])?;
-    Ok(Bridging {
+    Some(Bridging {
         key,
         ends: (i, j),
-        before,
+        before: (to_a, to_b),
         after,
     })
 }

@@ -6,21 +6,21 @@ use Rattle.kit_words.proofs.Common.{drop_more, drop-drop, take_all, Appends, App
 use Rattle.kit_words.proofs.Common.{Appends-kept, Keeps, MatchBool, inr}
 use Rattle.std.proofs.Common.{append-nil, length-append, length-drop}
 use Rattle.memchr.specs.Find.{Passes, is_byte, NoneBefore, Nowhere}
-use Rattle.script_runner.specs.Common.{NoFeed, Progress, LineStep, more, ByteStep, Feeds, FeedsPart, PutsPart, Told}
+use Rattle.script_runner.specs.Common.{NoFeed, RunProgress, LineStep, more, ByteStep, Feeds, FeedsPart, PutsPart, Told}
 use Rattle.script_runner.specs.Common.{IsPartAt, reply_text}
 use Rattle.script_runner.proofs.StepLemmas.{fed_line, put_at_feed, Feeds-more, Feeds-append}
 
 -- ---- bytes without a line feed
 
 -- what is kept once these bytes came, none of them a line feed
-abbrev pub kept : Progress → List ℕ → Progress
+abbrev pub kept : RunProgress → List ℕ → RunProgress
 kept p bs = record p {
   line = p.line ++ take (8192 - length p.line) bs;
   over = p.over || nat_lt (8192 - length p.line) (length bs);
   bytes = p.bytes + length bs;
 }
 
-same_kept : (p : Progress) (l m : List ℕ) (o t : Bool) (n k : ℕ) → l ≡ m → o ≡ t → n ≡ k
+same_kept : (p : RunProgress) (l m : List ℕ) (o t : Bool) (n k : ℕ) → l ≡ m → o ≡ t → n ≡ k
     → record p { line = l; over = o; bytes = n } ≡ record p { line = m; over = t; bytes = k }
 same_kept p l m o t n k e f g = rw (e, f, g) refl
 
@@ -35,20 +35,20 @@ or_true false = refl
 no_feed : (b : ℕ) → b ≢ 10 → (b == 10) ≡ false
 no_feed b ne = grind (arith, nat_tests)
 
-kept_none : (p : Progress) → p ≡ kept p []
+kept_none : (p : RunProgress) → p ≡ kept p []
 kept_none p =
     let none : nat_lt (8192 - length p.line) 0 ≡ false = grind (arith, nat_tests) in
     same_kept p p.line (p.line ++ take (8192 - length p.line) []) p.over (p.over || nat_lt (8192 - length p.line) 0) p.bytes (p.bytes + 0)
     (sym (append-nil p.line) ∙ ap (λ l. p.line ++ l) (sym (take_all (8192 - length p.line) [] (omega arith)))) (sym (ap (λ t. p.over || t) none ∙ or_false p.over)) (omega arith)
 
-more_short : (p : Progress) (b : ℕ) → length p.line ≤ 8192 → length (more p b).line ≤ 8192
+more_short : (p : RunProgress) (b : ℕ) → length p.line ≤ 8192 → length (more p b).line ≤ 8192
 more_short p b short = by (nat_lt (length p.line) 8192) refl
   where
     by : (t : Bool) → nat_lt (length p.line) 8192 ≡ t → length (more p b).line ≤ 8192
     by true e = let room : length p.line < 8192 = grind (arith, nat_tests) in rw e (omega (arith, length-append p.line (b ∷ [])))
     by false e = rw e short
 
-kept_more : (p : Progress) (b : ℕ) (bs : List ℕ) → length p.line ≤ 8192 → kept (more p b) bs ≡ kept p (b ∷ bs)
+kept_more : (p : RunProgress) (b : ℕ) (bs : List ℕ) → length p.line ≤ 8192 → kept (more p b) bs ≡ kept p (b ∷ bs)
 kept_more p b bs short = by (nat_lt (length p.line) 8192) refl
   where
     by : (t : Bool) → nat_lt (length p.line) 8192 ≡ t → kept (more p b) bs ≡ kept p (b ∷ bs)
@@ -72,7 +72,7 @@ kept_more p b bs short = by (nat_lt (length p.line) 8192) refl
         (rw left refl) (ap (λ x. x || nat_lt (8192 - length p.line) (length bs)) (or_true p.over) ∙ sym (ap (λ x. p.over || x) over ∙ or_true p.over)) (omega arith))
 
 -- bytes without a line feed step by step: the line grows up to the limit, and nothing is answered
-pub fed_kept : (bs : List ℕ) (p : Progress) → NoFeed bs → length p.line ≤ 8192 → Feeds p bs [] (kept p bs)
+pub fed_kept : (bs : List ℕ) (p : RunProgress) → NoFeed bs → length p.line ≤ 8192 → Feeds p bs [] (kept p bs)
 fed_kept [] p none short = (refl, sym (kept_none p))
 fed_kept (b ∷ bs) p none short =
     let first : ByteStep p b [] (more p b) = rw (no_feed b none.0) (refl, refl) in
@@ -96,7 +96,7 @@ over_room : (n k m : ℕ) → k ≡ min m n → nat_lt k m ≡ nat_lt n m
 over_room n k m e = grind (arith, nat_tests)
 
 -- so many bytes are kept as there is room for
-pub feeds_kept : (p : Progress) (line bs : List ℕ) (k : ℕ) → NoFeed bs → length p.line ≤ 8192 → k ≡ min (length bs) (8192 - length p.line) → line ≡ p.line ++ take k bs
+pub feeds_kept : (p : RunProgress) (line bs : List ℕ) (k : ℕ) → NoFeed bs → length p.line ≤ 8192 → k ≡ min (length bs) (8192 - length p.line) → line ≡ p.line ++ take k bs
     → Feeds p bs [] (record p { line = line; over = p.over || nat_lt k (length bs); bytes = p.bytes + length bs })
 feeds_kept p line bs k none short room e =
     subst (Feeds p bs []) (same_kept p (p.line ++ take (8192 - length p.line) bs) line
@@ -107,7 +107,7 @@ feeds_kept p line bs k none short room e =
 -- ---- a line and the line feed behind it
 
 -- not even the first byte was kept
-pub none_kept : (p : Progress) (a : Option (List ℕ)) (bs : List ℕ) → 0 < length bs → FeedsPart a a p bs
+pub none_kept : (p : RunProgress) (a : Option (List ℕ)) (bs : List ℕ) → 0 < length bs → FeedsPart a a p bs
 none_kept p a [] some = absurd (omega arith)
 none_kept p a (b ∷ bs) some = record {
   front = [];
@@ -122,22 +122,22 @@ none_kept p a (b ∷ bs) some = record {
   put = Appends-nil a;
 }
 
-pub no_line_kept : (p : Progress) (a : Option (List ℕ)) (line : List ℕ) → FeedsPart a a p (line ++ 10 ∷ [])
+pub no_line_kept : (p : RunProgress) (a : Option (List ℕ)) (line : List ℕ) → FeedsPart a a p (line ++ 10 ∷ [])
 no_line_kept p a line = none_kept p a (line ++ 10 ∷ []) (omega (arith, length-append line (10 ∷ [])))
 
 -- the line was kept, and is answered
-pub line_fed : (old new : Option (List ℕ)) (p q s r : Progress) (line : List ℕ) → Feeds p line [] q → s ≡ record q { bytes = q.bytes + 1 } → Told old new (λ text. LineStep true s text r)
+pub line_fed : (old new : Option (List ℕ)) (p q s r : RunProgress) (line : List ℕ) → Feeds p line [] q → s ≡ record q { bytes = q.bytes + 1 } → Told old new (λ text. LineStep true s text r)
     → r.bytes ≡ s.bytes → Told old new (λ text. Feeds p (line ++ 10 ∷ []) text r)
 line_fed old new p q s r line f same told n =
     let (text, put, step) = told in (
       text,
       put,
       Feeds-more line p q r [] text 10 f
-          (fed_line q r 10 text refl (subst (λ (u : Progress). LineStep true u text r) same step) (n ∙ ap (λ (u : Progress). u.bytes) same)),
+          (fed_line q r 10 text refl (subst (λ (u : RunProgress). LineStep true u text r) same step) (n ∙ ap (λ (u : RunProgress). u.bytes) same)),
     )
 
 -- of the answer no more was put than a part
-pub line_part : (old new : Option (List ℕ)) (p q s : Progress) (line : List ℕ) → Feeds p line [] q → s ≡ record q { bytes = q.bytes + 1 } → PutsPart true s old new
+pub line_part : (old new : Option (List ℕ)) (p q s : RunProgress) (line : List ℕ) → Feeds p line [] q → s ≡ record q { bytes = q.bytes + 1 } → PutsPart true s old new
     → FeedsPart old new p (line ++ 10 ∷ [])
 line_part old new p q s line f same cut =
     let (part, put, is) = put_at_feed q s 10 old new refl same cut in
@@ -189,7 +189,7 @@ cut_length bs line next e = ap length e ∙ omega (arith, length-append (line ++
 -- ---- lines of a piece
 
 -- the lines so far were fed, and the rest comes
-pub record Fed (old now : Option (List ℕ)) (p q : Progress) (piece rest : List ℕ) : Type 0 where
+pub record Fed (old now : Option (List ℕ)) (p q : RunProgress) (piece rest : List ℕ) : Type 0 where
   pub done : List ℕ
   pub text : List ℕ
   pub whole : piece ≡ done ++ rest
@@ -197,7 +197,7 @@ pub record Fed (old now : Option (List ℕ)) (p q : Progress) (piece rest : List
   pub fed : Feeds p done text q
 
 -- the rest goes on with bytes that are fed whole
-pub fed_on : (old now new : Option (List ℕ)) (p q r : Progress) (piece rest line next text : List ℕ) → Fed old now p q piece rest → rest ≡ line ++ next
+pub fed_on : (old now new : Option (List ℕ)) (p q r : RunProgress) (piece rest line next text : List ℕ) → Fed old now p q piece rest → rest ≡ line ++ next
     → Appends now new text → Feeds q line text r → Fed old new p r piece next
 fed_on old now new p q r piece rest line next text h cut put fed = record {
   done = h.done ++ line;
@@ -208,7 +208,7 @@ fed_on old now new p q r piece rest line next text h cut put fed = record {
 }
 
 -- the rest goes on with bytes of which not all are fed
-pub fed_part : (old now new : Option (List ℕ)) (p q : Progress) (piece rest line next : List ℕ) → Fed old now p q piece rest → rest ≡ line ++ next
+pub fed_part : (old now new : Option (List ℕ)) (p q : RunProgress) (piece rest line next : List ℕ) → Fed old now p q piece rest → rest ≡ line ++ next
     → FeedsPart now new q line → FeedsPart old new p piece
 fed_part old now new p q piece rest line next h cut part = record {
   front = h.done ++ part.front;
@@ -225,7 +225,7 @@ fed_part old now new p q piece rest line next h cut part = record {
 }
 
 -- all was fed
-pub fed_all : (old now : Option (List ℕ)) (p q r : Progress) (piece rest : List ℕ) → Fed old now p q piece rest → Feeds q rest [] r → Told old now (λ text. Feeds p piece text r)
+pub fed_all : (old now : Option (List ℕ)) (p q r : RunProgress) (piece rest : List ℕ) → Fed old now p q piece rest → Feeds q rest [] r → Told old now (λ text. Feeds p piece text r)
 fed_all old now p q r piece rest h fed =
     let all = Feeds-append h.done rest p q r h.text [] h.fed fed in
     (h.text, h.put, subst (λ bs. Feeds p bs h.text r) (sym h.whole) (subst (λ t. Feeds p (h.done ++ rest) t r) (append-nil h.text) all))
@@ -233,7 +233,7 @@ fed_all old now p q r piece rest h fed =
 -- ---- a piece that was fed whole, and whose answers were not sent on
 
 -- what a byte put is a part of the reply at it
-put_at : (b : ℕ) (p q : Progress) (text : List ℕ) → ByteStep p b text q → IsPartAt b p text
+put_at : (b : ℕ) (p q : RunProgress) (text : List ℕ) → ByteStep p b text q → IsPartAt b p text
 put_at b p q text step = by (b == 10) refl step
   where
     by : (t : Bool) → (b == 10) ≡ t → MatchBool t (LineStep true p text q × (q.bytes ≡ p.bytes + 1)) ((text ≡ []) × (q ≡ more p b)) → IsPartAt b p text
@@ -244,10 +244,10 @@ put_at b p q text step = by (b == 10) refl step
     by false e h = inl h.0
 
 -- bytes that were fed, seen as all but the last, and the last
-record LastByte (p : Progress) (bs text : List ℕ) : Type 0 where
+record LastByte (p : RunProgress) (bs text : List ℕ) : Type 0 where
   front : List ℕ
   byte : ℕ
-  mid : Progress
+  mid : RunProgress
   before : List ℕ
   part : List ℕ
   whole : bs ≡ front ++ byte ∷ []
@@ -255,7 +255,7 @@ record LastByte (p : Progress) (bs text : List ℕ) : Type 0 where
   is : IsPartAt byte mid part
   told : text ≡ before ++ part
 
-last_byte : (bs : List ℕ) (b : ℕ) (p q : Progress) (text : List ℕ) → Feeds p (b ∷ bs) text q → LastByte p (b ∷ bs) text
+last_byte : (bs : List ℕ) (b : ℕ) (p q : RunProgress) (text : List ℕ) → Feeds p (b ∷ bs) text q → LastByte p (b ∷ bs) text
 last_byte [] b p q text h =
     let (mid, first, rest, step, tail, whole) = h in
     record {
@@ -285,7 +285,7 @@ last_byte (x ∷ bs) b p q text h =
     }
 
 -- all was fed, and the writer has what it put
-pub fed_unsent : (a b c : Option (List ℕ)) (p q : Progress) (bs : List ℕ) → 0 < length bs → Told a b (λ text. Feeds p bs text q) → Keeps b c → FeedsPart a c p bs
+pub fed_unsent : (a b c : Option (List ℕ)) (p q : RunProgress) (bs : List ℕ) → 0 < length bs → Told a b (λ text. Feeds p bs text q) → Keeps b c → FeedsPart a c p bs
 fed_unsent a b c p q [] some h k = absurd (omega arith)
 fed_unsent a b c p q (x ∷ bs) some h k =
     let (text, put, fed) = h in

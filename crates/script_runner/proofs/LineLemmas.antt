@@ -7,7 +7,7 @@ use Rattle.ring_machine.specs.Common.{Document, State}
 use Rattle.script_runner.specs.Common.{NoFeed, NoFeeds, with_feeds, AreLines, ScriptLine, ended_line}
 use Rattle.script_runner.specs.Common.{Meaning, Bad, LineMeans, AllMean, reply_text, state_after_line, answered_by, refused_by}
 use Rattle.script_runner.specs.Common.{ShowsSaved, AllShowSaved, replies, state_after_all, answered, refused}
-use Rattle.script_runner.specs.Common.{opened_state, Progress, start, line_at, KeptMeans, LineStep, more, ByteStep}
+use Rattle.script_runner.specs.Common.{opened_state, RunProgress, start, line_at, KeptMeans, LineStep, more, ByteStep}
 use Rattle.script_runner.specs.Common.{Feeds}
 
 -- ---- lists of meanings
@@ -54,13 +54,13 @@ with_feeds-more [] l = append-nil (l ++ 10 ∷ [])
 with_feeds-more (x ∷ ls) l = ap (λ r. (x ++ 10 ∷ []) ++ r) (with_feeds-more ls l) ∙ sym (append_assoc (x ++ 10 ∷ []) (with_feeds ls) (l ++ 10 ∷ []))
 
 -- what is kept of the bytes since the last line feed
-pub record Kept (p : Progress) (pending : List ℕ) : Type 0 where
+pub record Kept (p : RunProgress) (pending : List ℕ) : Type 0 where
   pub len : length p.line ≡ min 8192 (length pending)
   pub over : p.over ≡ nat_lt 8192 (length pending)
   pub same : length pending ≤ 8192 → p.line ≡ pending
 
 -- where the runner stands: the lines so far with their meanings and replies, and the bytes of the next
-pub record Mid (depth : ℕ) (d : Document) (seen out : List ℕ) (p : Progress) : Type 0 where
+pub record Mid (depth : ℕ) (d : Document) (seen out : List ℕ) (p : RunProgress) : Type 0 where
   pub ended : List (List ℕ)
   pub pending : List ℕ
   pub meanings : List Meaning
@@ -88,7 +88,7 @@ kept_means ended false line pending m o same k =
     let short : length pending ≤ 8192 = grind (arith, nat_tests) in
     subst (λ l. LineMeans (line_at ended l) m) (same short) k
 
-Kept-more : (p : Progress) (pending : List ℕ) (b : ℕ) → Kept p pending → Kept (more p b) (pending ++ b ∷ [])
+Kept-more : (p : RunProgress) (pending : List ℕ) (b : ℕ) → Kept p pending → Kept (more p b) (pending ++ b ∷ [])
 Kept-more p pending b k = by (nat_lt (length p.line) 8192) refl
   where
     longer : length (pending ++ b ∷ []) ≡ length pending + 1
@@ -120,7 +120,7 @@ Kept-more p pending b k = by (nat_lt (length p.line) 8192) refl
         or_true true = refl
         or_true false = refl
 
-module _ (depth : ℕ) (d : Document) (seen out : List ℕ) (p q : Progress) (m : Mid depth d seen out p) where
+module _ (depth : ℕ) (d : Document) (seen out : List ℕ) (p q : RunProgress) (m : Mid depth d seen out p) where
   -- the replies with one more
   pub replied : (said : Meaning) (text : List ℕ) → text ≡ reply_text p.depth p.state said → out ++ text ≡ replies depth (opened_state d) (m.meanings ++ said ∷ [])
   replied said text t = ap₂ (λ x y. x ++ y) m.told (t ∙ ap₂ (λ n s. reply_text n s said) m.keeps m.state) ∙ sym (replies-more depth (opened_state d) m.meanings said)
@@ -137,7 +137,7 @@ module _ (depth : ℕ) (d : Document) (seen out : List ℕ) (p q : Progress) (m 
   pub refusing : (said : Meaning) → q.refused ≡ p.refused + refused_by p.depth p.state said → q.refused ≡ refused depth (opened_state d) (m.meanings ++ said ∷ [])
   refusing said h = h ∙ ap₂ (λ n k. n + k) m.refused (ap₂ (λ n s. refused_by n s said) m.keeps m.state) ∙ sym (refused-more depth (opened_state d) m.meanings said)
 
-pub Mid-line : (depth : ℕ) (d : Document) (seen out : List ℕ) (p q : Progress) (text : List ℕ) → Mid depth d seen out p → LineStep true p text q → Mid depth d (seen ++ 10 ∷ []) (out ++ text) q
+pub Mid-line : (depth : ℕ) (d : Document) (seen out : List ℕ) (p q : RunProgress) (text : List ℕ) → Mid depth d seen out p → LineStep true p text q → Mid depth d (seen ++ 10 ∷ []) (out ++ text) q
 Mid-line depth d seen out p q text m s =
     let (said, k, a) = s in
     record {
@@ -159,7 +159,7 @@ Mid-line depth d seen out p q text m s =
       kept = record { len = rw a.line refl; over = a.over; same = λ _. a.line };
     }
 
-pub Mid-byte : (depth : ℕ) (d : Document) (seen out : List ℕ) (p q : Progress) (b : ℕ) (text : List ℕ) → Mid depth d seen out p → ByteStep p b text q → Mid depth d (seen ++ b ∷ []) (out ++ text) q
+pub Mid-byte : (depth : ℕ) (d : Document) (seen out : List ℕ) (p q : RunProgress) (b : ℕ) (text : List ℕ) → Mid depth d seen out p → ByteStep p b text q → Mid depth d (seen ++ b ∷ []) (out ++ text) q
 Mid-byte depth d seen out p q b text m h = by (b == 10) refl h
   where
     by : (t : Bool) → (b == 10) ≡ t → MatchBool t (LineStep true p text q × (q.bytes ≡ p.bytes + 1)) ((text ≡ []) × (q ≡ more p b)) → Mid depth d (seen ++ b ∷ []) (out ++ text) q
@@ -183,7 +183,7 @@ Mid-byte depth d seen out p q b text m h = by (b == 10) refl h
           kept = Kept-more p m.pending b m.kept;
         })
 
-pub Mid-feeds : (bs : List ℕ) (depth : ℕ) (d : Document) (seen out : List ℕ) (p q : Progress) (text : List ℕ) → Mid depth d seen out p → Feeds p bs text q → Mid depth d (seen ++ bs) (out ++ text) q
+pub Mid-feeds : (bs : List ℕ) (depth : ℕ) (d : Document) (seen out : List ℕ) (p q : RunProgress) (text : List ℕ) → Mid depth d seen out p → Feeds p bs text q → Mid depth d (seen ++ bs) (out ++ text) q
 Mid-feeds [] depth d seen out p q text m h = rw (h.0, h.1, append-nil, append-nil) m
 Mid-feeds (b ∷ bs) depth d seen out p q text m h =
     let (mid, first, rest, step, tail, whole) = h in

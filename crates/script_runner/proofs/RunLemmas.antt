@@ -6,7 +6,7 @@ use Rattle.kit_words.proofs.Common.{Appends, Consumes, Keeps, IsAtEnd, Appends-t
 use Rattle.std.proofs.Common.{append-nil, length-append, length-drop}
 use Rattle.ring_machine.specs.Common.{Document}
 use Rattle.script_runner.specs.Common.{Reader, Writer, Devices, devices, ended_line, open_line, all_lines, reply_text}
-use Rattle.script_runner.specs.Common.{state_after_all, opened_state, Progress, start, line_at, LineStep, Feeds}
+use Rattle.script_runner.specs.Common.{state_after_all, opened_state, RunProgress, start, line_at, LineStep, Feeds}
 use Rattle.script_runner.specs.Common.{FeedsPart, IsReplyFront, IsPartAt, Told, Finishes, PutsLast, OpensAs, Runs}
 use Rattle.script_runner.specs.Common.{AnswersAll, AnswersUpTo, AnswersLines, AnswersPart, IsNextLine, IsFront}
 use Rattle.script_runner.specs.Common.{Completes, SavesPart, RunEnds, Answers, AnswersAndSaves, RunFails, Halts, Summary}
@@ -24,15 +24,15 @@ use Rattle.script_lines.proofs.Common.{not_empty}
 use Rattle.script_runner.proofs.StepLemmas.{Feeds-append}
 use Rattle.script_runner.proofs.LineLemmas.{Kept, Mid, Mid-feeds, Mid-start, kept_means, AllMean-more, replied, showing, stated, counted, refusing}
 
-stands : (depth : ℕ) (d : Document) (read text : List ℕ) (p : Progress) → Feeds (start depth d) read text p → Mid depth d read text p
+stands : (depth : ℕ) (d : Document) (read text : List ℕ) (p : RunProgress) → Feeds (start depth d) read text p → Mid depth d read text p
 stands depth d read text p fed = Mid-feeds read depth d [] [] (start depth d) p text (Mid-start depth d) fed
 
-line_some : (p : Progress) (pending : List ℕ) → Kept p pending → (p.line ≡ [] → ⊥) → pending ≡ [] → ⊥
+line_some : (p : RunProgress) (pending : List ℕ) → Kept p pending → (p.line ≡ [] → ⊥) → pending ≡ [] → ⊥
 line_some p pending k some e = some (k.same (subst (λ l. length l ≤ 8192) (sym e) (omega arith)) ∙ e)
 
 module _ (depth : ℕ) (d : Document) (before after : Devices) where
   -- where the answers stand after what was fed
-  abbrev up_to : (read text further part : List ℕ) (p : Progress) → Feeds (start depth d) read text p → Consumes before.script.coming after.script.coming (read ++ further) → length further ≤ 4096
+  abbrev up_to : (read text further part : List ℕ) (p : RunProgress) → Feeds (start depth d) read text p → Consumes before.script.coming after.script.coming (read ++ further) → length further ≤ 4096
       → Appends before.answers.taken after.answers.taken (text ++ part) → AnswersUpTo depth d before after
   up_to read text further part p fed came piece put =
       let m = stands depth d read text p fed in
@@ -51,7 +51,7 @@ module _ (depth : ℕ) (d : Document) (before after : Devices) where
         wrote = subst (λ t. Appends before.answers.taken after.answers.taken (t ++ part)) m.told put;
       }
 
-  pub lines_answered : (read text further : List ℕ) (p : Progress) → Feeds (start depth d) read text p → Consumes before.script.coming after.script.coming (read ++ further) → length further ≤ 4096
+  pub lines_answered : (read text further : List ℕ) (p : RunProgress) → Feeds (start depth d) read text p → Consumes before.script.coming after.script.coming (read ++ further) → length further ≤ 4096
       → ((further ≡ []) × (after.script.failed ≡ true)) ⊎ ((length read ≡ 1073741824) × (0 < length further)) → Appends before.answers.taken after.answers.taken text
       → (after.answers ≡ before.answers) ⊎ (after.answers.flushed ≡ true) → AnswersLines depth d before after
   lines_answered read text further p fed came piece cause put sent = record {
@@ -62,24 +62,24 @@ module _ (depth : ℕ) (d : Document) (before after : Devices) where
   }
 
   -- a part of the reply to the kept line is the prefix of the reply to the next line
-  front : (ended : Bool) (read text : List ℕ) (p : Progress) (m : Mid depth d read text p) (further part : List ℕ) → IsNextLine m.pending further after.script.coming (line_at ended m.pending)
+  front : (ended : Bool) (read text : List ℕ) (p : RunProgress) (m : Mid depth d read text p) (further part : List ℕ) → IsNextLine m.pending further after.script.coming (line_at ended m.pending)
       → IsReplyFront ended p part → IsFront depth (state_after_all depth (opened_state d) m.meanings) (IsNextLine m.pending further after.script.coming) part
   front ended read text p m further part next h =
       let (said, k, means, is) = h in
       inr (line_at ended m.pending, said, k, next, kept_means ended p.over p.line m.pending said m.kept.over m.kept.same means, is ∙ ap₂ (λ x s. take k (reply_text x s said)) m.keeps m.state)
 
-  front_at_byte : (read text rest part : List ℕ) (b : ℕ) (p : Progress) (m : Mid depth d read text p) → IsPartAt b p part
+  front_at_byte : (read text rest part : List ℕ) (b : ℕ) (p : RunProgress) (m : Mid depth d read text p) → IsPartAt b p part
       → IsFront depth (state_after_all depth (opened_state d) m.meanings) (IsNextLine m.pending (b ∷ rest) after.script.coming) part
   front_at_byte read text rest part b p m (inl none) = inl none
   front_at_byte read text rest part b p m (inr h) = front true read text p m (b ∷ rest) part (inl (rest, ap (λ c. c ∷ rest) h.0, refl)) h.1
 
-  front_at_end : (read text part : List ℕ) (p : Progress) (m : Mid depth d read text p) → IsAtEnd after.script.coming → (part ≡ []) ⊎ ((p.line ≢ []) × IsReplyFront false p part)
+  front_at_end : (read text part : List ℕ) (p : RunProgress) (m : Mid depth d read text p) → IsAtEnd after.script.coming → (part ≡ []) ⊎ ((p.line ≢ []) × IsReplyFront false p part)
       → IsFront depth (state_after_all depth (opened_state d) m.meanings) (IsNextLine m.pending [] after.script.coming) part
   front_at_end read text part p m end (inl none) = inl none
   front_at_end read text part p m end (inr h) = front false read text p m [] part (inr (refl, end, line_some p m.pending m.kept h.0, refl)) h.1
 
   -- at a byte of a piece
-  pub part_at_byte : (read text rest part : List ℕ) (b : ℕ) (p : Progress) → Feeds (start depth d) read text p → Consumes before.script.coming after.script.coming (read ++ b ∷ rest) → length (b ∷ rest) ≤ 4096
+  pub part_at_byte : (read text rest part : List ℕ) (b : ℕ) (p : RunProgress) → Feeds (start depth d) read text p → Consumes before.script.coming after.script.coming (read ++ b ∷ rest) → length (b ∷ rest) ≤ 4096
       → Appends before.answers.taken after.answers.taken (text ++ part) → IsPartAt b p part → AnswersPart depth d before after
   part_at_byte read text rest part b p fed came piece put is = record {
     lines = up_to read text (b ∷ rest) part p fed came piece put;
@@ -88,7 +88,7 @@ module _ (depth : ℕ) (d : Document) (before after : Devices) where
   }
 
   -- at the last line
-  pub part_at_end : (read text : List ℕ) (p : Progress) (mid : Option (List ℕ)) → Feeds (start depth d) read text p → Consumes before.script.coming after.script.coming read → IsAtEnd after.script.coming
+  pub part_at_end : (read text : List ℕ) (p : RunProgress) (mid : Option (List ℕ)) → Feeds (start depth d) read text p → Consumes before.script.coming after.script.coming read → IsAtEnd after.script.coming
       → Appends before.answers.taken mid text → PutsLast p mid after.answers.taken → AnswersPart depth d before after
   part_at_end read text p mid fed came end put h =
       let (part, put_more, is) = h in
@@ -100,7 +100,7 @@ module _ (depth : ℕ) (d : Document) (before after : Devices) where
       }
 
   -- in the middle of a piece
-  pub part_in_piece : (read text piece further : List ℕ) (p : Progress) (mid : Option (List ℕ)) → Feeds (start depth d) read text p → Consumes before.script.coming after.script.coming (read ++ (piece ++ further))
+  pub part_in_piece : (read text piece further : List ℕ) (p : RunProgress) (mid : Option (List ℕ)) → Feeds (start depth d) read text p → Consumes before.script.coming after.script.coming (read ++ (piece ++ further))
       → length (piece ++ further) ≤ 4096 → Appends before.answers.taken mid text → FeedsPart mid after.answers.taken p piece → AnswersPart depth d before after
   part_in_piece read text piece further p mid fed came short put h =
       part_at_byte (read ++ h.front) (text ++ h.before) (h.rest ++ further) h.part h.byte h.mid (Feeds-append read h.front (start depth d) p h.mid text h.before fed h.fed)
@@ -124,13 +124,13 @@ with_last ended [] h = absurd (h refl)
 with_last ended (b ∷ bs) h = refl
 
 -- the whole script
-pub script_run : (depth : ℕ) (d e : Document) (read text last : List ℕ) (p : Progress) (s : Summary) → Feeds (start depth d) read text p → Finishes p last s e → Runs depth d e read (text ++ last) s
+pub script_run : (depth : ℕ) (d e : Document) (read text last : List ℕ) (p : RunProgress) (s : Summary) → Feeds (start depth d) read text p → Finishes p last s e → Runs depth d e read (text ++ last) s
 script_run depth d e read text last p s fed done = by (length p.line == 0) refl done.1
   where
     m : Mid depth d read text p
     m = stands depth d read text p fed
 
-    q : Progress
+    q : RunProgress
     q = done.0
 
     by : (t : Bool) → (length p.line == 0) ≡ t → MatchBool t ((last ≡ []) × (q ≡ p)) (LineStep false p last q) → Runs depth d e read (text ++ last) s
@@ -165,7 +165,7 @@ script_run depth d e read text last p s fed done = by (length p.line == 0) refl 
           refused = done.2.refused ∙ refusing depth d read text p q m said is.refused;
         }
 
-pub all_answered : (depth : ℕ) (d e : Document) (before after : Devices) (read text : List ℕ) (p : Progress) (s : Summary) (mid : Option (List ℕ)) → Feeds (start depth d) read text p
+pub all_answered : (depth : ℕ) (d e : Document) (before after : Devices) (read text : List ℕ) (p : RunProgress) (s : Summary) (mid : Option (List ℕ)) → Feeds (start depth d) read text p
     → Consumes before.script.coming after.script.coming read → IsAtEnd after.script.coming → length read ≤ 1073741824 → Appends before.answers.taken mid text
     → Told mid after.answers.taken (λ last. Finishes p last s e) → after.answers.flushed ≡ true → AnswersAll depth d e before after s
 all_answered depth d e before after read text p s mid fed came end within put h sent =
@@ -199,7 +199,7 @@ pub whole_came : (a b c : Option (List ℕ)) (read room : List ℕ) (n t : ℕ) 
 whole_came a b c read room n t e h k = Consumes-trans a b c read (take t room) h (subst (λ m. Consumes b c (take m room)) (sym e) k)
 
 -- the reader failed
-pub lines_kept : (depth : ℕ) (d : Document) (before after : Devices) (read text : List ℕ) (p : Progress) (mid : Option (List ℕ)) → Feeds (start depth d) read text p
+pub lines_kept : (depth : ℕ) (d : Document) (before after : Devices) (read text : List ℕ) (p : RunProgress) (mid : Option (List ℕ)) → Feeds (start depth d) read text p
     → Consumes before.script.coming mid read → Keeps mid after.script.coming → after.script.failed ≡ true → Appends before.answers.taken after.answers.taken text
     → (after.answers ≡ before.answers) ⊎ (after.answers.flushed ≡ true) → AnswersLines depth d before after
 lines_kept depth d before after read text p mid fed came k failed put sent =
@@ -207,7 +207,7 @@ lines_kept depth d before after read text p mid fed came k failed put sent =
     (omega arith) (inl (refl, failed)) put sent
 
 -- a byte comes past the limit, and no byte of its piece is fed
-pub lines_before : (depth : ℕ) (d : Document) (before after : Devices) (read text room : List ℕ) (n left : ℕ) (p : Progress) (mid : Option (List ℕ)) → Feeds (start depth d) read text p
+pub lines_before : (depth : ℕ) (d : Document) (before after : Devices) (read text room : List ℕ) (n left : ℕ) (p : RunProgress) (mid : Option (List ℕ)) → Feeds (start depth d) read text p
     → Consumes before.script.coming mid read → Consumes mid after.script.coming (take n room) → n ≤ length room → length room ≡ 4096 → n ≢ 0 → left ≡ 0 → length read + left ≡ 1073741824
     → Appends before.answers.taken after.answers.taken text → (after.answers ≡ before.answers) ⊎ (after.answers.flushed ≡ true) → AnswersLines depth d before after
 lines_before depth d before after read text room n left p mid fed came more within whole some none counted put sent =
@@ -216,7 +216,7 @@ lines_before depth d before after read text room n left p mid fed came more with
     (omega arith) (inr (omega arith, omega (arith, some))) put sent
 
 -- the script goes past its limit in this piece
-pub lines_in_piece : (depth : ℕ) (d : Document) (before after : Devices) (read text piece further new : List ℕ) (p q : Progress) (mid : Option (List ℕ)) → Feeds (start depth d) read text p
+pub lines_in_piece : (depth : ℕ) (d : Document) (before after : Devices) (read text piece further new : List ℕ) (p q : RunProgress) (mid : Option (List ℕ)) → Feeds (start depth d) read text p
     → Consumes before.script.coming after.script.coming (read ++ (piece ++ further)) → length further ≤ 4096 → Appends before.answers.taken mid text → Appends mid after.answers.taken new → Feeds p piece new q
     → (length (read ++ piece) ≡ 1073741824) × (0 < length further) → after.answers.flushed ≡ true → AnswersLines depth d before after
 lines_in_piece depth d before after read text piece further new p q mid fed came short put put_new fed_new limit sent =
@@ -287,17 +287,17 @@ module _ (depth : ℕ) (d last ended : Document) (coming left : Reader) (taken g
   fails_saving write.OutOfMemory end is wrote saved failed =
       subst (λ e. RunFails e depth d (devices coming taken held) (devices left given holds)) (sym is) (inr (saves_part wrote saved))
 
-pub starts : (depth : ℕ) (d : Document) (p : Progress) → p ≡ start depth d → p ≡ start p.depth p.state.doc
-starts depth d p e = subst (λ (q : Progress). q ≡ start q.depth q.state.doc) (sym e) refl
+pub starts : (depth : ℕ) (d : Document) (p : RunProgress) → p ≡ start depth d → p ≡ start p.depth p.state.doc
+starts depth d p e = subst (λ (q : RunProgress). q ≡ start q.depth q.state.doc) (sym e) refl
 
-module _ (bytes : List ℕ) (depth : ℕ) (opened : MapState) (began : Edited) (is : began ≡ with_no_history opened depth) (opens : OpensAs bytes opened.doc) (p : Progress)
+module _ (bytes : List ℕ) (depth : ℕ) (opened : MapState) (began : Edited) (is : began ≡ with_no_history opened depth) (opens : OpensAs bytes opened.doc) (p : RunProgress)
     (begins : p ≡ start began.depth began.map.doc) (before after : Devices) where
   begins_opened : p ≡ start depth opened.doc
   begins_opened = begins ∙ ap (λ (e : Edited). start e.depth e.map.doc) is
 
   pub completes : (s : Summary) → AnswersAndSaves p.depth p.state.doc before after s → Completes bytes depth before after s
   completes s h =
-      let all = subst (λ (q : Progress). AnswersAndSaves q.depth q.state.doc before after s) begins_opened h in
+      let all = subst (λ (q : RunProgress). AnswersAndSaves q.depth q.state.doc before after s) begins_opened h in
       record { document = opened.doc; last = all.last; opens = opens; answers = all.answers; wrote = all.wrote; sent = all.sent; saved = all.saved }
 
   ends_opened : (f : RunFault) → RunFails f depth opened.doc before after → RunEnds f bytes depth before after
@@ -308,4 +308,4 @@ module _ (bytes : List ℕ) (depth : ℕ) (opened : MapState) (began : Edited) (
   ends_opened fault.OutOfMemory h = inr (opened.doc, opens, h)
 
   pub ends : (f : RunFault) → RunFails f p.depth p.state.doc before after → RunEnds f bytes depth before after
-  ends f h = ends_opened f (subst (λ (q : Progress). RunFails f q.depth q.state.doc before after) begins_opened h)
+  ends f h = ends_opened f (subst (λ (q : RunProgress). RunFails f q.depth q.state.doc before after) begins_opened h)

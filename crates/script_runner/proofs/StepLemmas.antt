@@ -15,7 +15,7 @@ use Rattle.script_lines.proofs.Common.{not_empty}
 use Rattle.device_io.specs.Common.{AppendsPrefix}
 use Rattle.device_io.proofs.Common.{Appends-none}
 use Rattle.script_runner.specs.Common.{Meaning, Asked, reply_text, state_after_line, answered_by, refused_by, ShowsSaved}
-use Rattle.script_runner.specs.Common.{RepliedLine, IsShownSaved, meaning_of_said, Progress, KeptMeans, LineStep}
+use Rattle.script_runner.specs.Common.{RepliedLine, IsShownSaved, meaning_of_said, RunProgress, KeptMeans, LineStep}
 use Rattle.script_runner.specs.Common.{ByteStep, Feeds, IsReplyFront, PutsPart, IsPartAt, FeedsPart, Told, Finishes}
 use Rattle.script_runner.specs.Common.{PutsLast, LastStep, Counts, Summary}
 
@@ -24,7 +24,7 @@ OnErr-by (Ok x) h = tt
 OnErr-by (Err e) h = h
 
 -- the prefix of a reply
-pub put_part : (ended : Bool) (p : Progress) (old new : Option (List ℕ)) (e : Edited) (over : Bool) (line : List ℕ) (m : Meaning)
+pub put_part : (ended : Bool) (p : RunProgress) (old new : Option (List ℕ)) (e : Edited) (over : Bool) (line : List ℕ) (m : Meaning)
     → p.depth ≡ e.depth → p.state ≡ machine_of e → p.over ≡ over → p.line ≡ line → KeptMeans over ended line m → AppendsPrefix old new (reply_text e.depth (machine_of e) m)
     → PutsPart ended p old new
 put_part ended p old new e over line m ed es eo el k h =
@@ -33,7 +33,7 @@ put_part ended p old new e over line m ed es eo el k h =
     (take n (reply_text e.depth (machine_of e) m), put, inr (m, n, kept, ap₂ (λ z x. take n (reply_text z x m)) (sym ed) (sym es)))
 
 -- the kept line is answered, of an editor as it was and is
-pub answered_line : (was is : Edited) (ended : Bool) (p q : Progress) (over : Bool) (line : List ℕ) (m : Meaning) (refuses : Bool)
+pub answered_line : (was is : Edited) (ended : Bool) (p q : RunProgress) (over : Bool) (line : List ℕ) (m : Meaning) (refuses : Bool)
     → p.depth ≡ was.depth → p.state ≡ machine_of was → p.over ≡ over → p.line ≡ line → KeptMeans over ended line m → RepliedLine was is m refuses → ShowsSaved (machine_of was) m
     → q.depth ≡ is.depth → q.state ≡ machine_of is → q.line ≡ [] → q.over ≡ false → q.answered ≡ p.answered + answered_by m → q.refused ≡ p.refused + cond refuses 1 0
     → LineStep ended p (reply_text was.depth (machine_of was) m) q
@@ -78,20 +78,20 @@ shows e (Some said.Undo) h = λ same. absurd cc
 shows e (Some (said.Edit c)) h = λ same. absurd (not_show c same)
 
 -- nothing was put
-pub put_nothing : (ended : Bool) (p : Progress) (a : Option (List ℕ)) → PutsPart ended p a a
+pub put_nothing : (ended : Bool) (p : RunProgress) (a : Option (List ℕ)) → PutsPart ended p a a
 put_nothing ended p a = ([], Appends-nil a, inl refl)
 
 -- a line feed ends the kept line
-pub fed_line : (p q : Progress) (b : ℕ) (text : List ℕ) → b ≡ 10 → LineStep true (record p { bytes = p.bytes + 1 }) text q → q.bytes ≡ p.bytes + 1 → ByteStep p b text q
+pub fed_line : (p q : RunProgress) (b : ℕ) (text : List ℕ) → b ≡ 10 → LineStep true (record p { bytes = p.bytes + 1 }) text q → q.bytes ≡ p.bytes + 1 → ByteStep p b text q
 fed_line p q b text e s n =
     let (m, k, a) = s in
     let step : LineStep true p text q = (m, k, record { told = a.told; shown = a.shown; after = a.after; depth = a.depth; line = a.line; over = a.over; answered = a.answered; refused = a.refused }) in
     subst (λ c. ByteStep p c text q) (sym e) (step, n)
 
 -- of the reply to the line that this line feed ends
-pub put_at_feed : (p q : Progress) (b : ℕ) (old new : Option (List ℕ)) → b ≡ 10 → q ≡ record p { bytes = p.bytes + 1 } → PutsPart true q old new → Told old new (IsPartAt b p)
+pub put_at_feed : (p q : RunProgress) (b : ℕ) (old new : Option (List ℕ)) → b ≡ 10 → q ≡ record p { bytes = p.bytes + 1 } → PutsPart true q old new → Told old new (IsPartAt b p)
 put_at_feed p q b old new e same h =
-    let (part, put, is) = subst (λ (r : Progress). PutsPart true r old new) same h in
+    let (part, put, is) = subst (λ (r : RunProgress). PutsPart true r old new) same h in
     (part, put, by part is)
   where
     by : (part : List ℕ) → (part ≡ []) ⊎ IsReplyFront true p part → IsPartAt b p part
@@ -99,7 +99,7 @@ put_at_feed p q b old new e same h =
     by part (inr some) = inr (e, some)
 
 -- one more byte
-pub Feeds-more : (bs : List ℕ) (p q r : Progress) (s t : List ℕ) (b : ℕ) → Feeds p bs s q → ByteStep q b t r → Feeds p (bs ++ b ∷ []) (s ++ t) r
+pub Feeds-more : (bs : List ℕ) (p q r : RunProgress) (s t : List ℕ) (b : ℕ) → Feeds p bs s q → ByteStep q b t r → Feeds p (bs ++ b ∷ []) (s ++ t) r
 Feeds-more [] p q r s t b h k =
     let step = subst (λ m. ByteStep m b t r) h.1 k in
     (r, t, [], step, (refl, refl), rw (h.0, append-nil) refl)
@@ -108,7 +108,7 @@ Feeds-more (x ∷ bs) p q r s t b h k =
     (mid, first, rest ++ t, step, Feeds-more bs mid q r rest t b tail k, rw (whole, append_assoc) refl)
 
 -- and more bytes
-pub Feeds-append : (bs cs : List ℕ) (p q r : Progress) (s t : List ℕ) → Feeds p bs s q → Feeds q cs t r → Feeds p (bs ++ cs) (s ++ t) r
+pub Feeds-append : (bs cs : List ℕ) (p q r : RunProgress) (s t : List ℕ) → Feeds p bs s q → Feeds q cs t r → Feeds p (bs ++ cs) (s ++ t) r
 Feeds-append [] cs p q r s t h k = rw h.0 (subst (λ m. Feeds m cs t r) h.1 k)
 Feeds-append (x ∷ bs) cs p q r s t h k =
     let (mid, first, rest, step, tail, whole) = h in
@@ -116,11 +116,11 @@ Feeds-append (x ∷ bs) cs p q r s t h k =
 
 -- ---- the end
 
-pub put_none : (p : Progress) (a b : Option (List ℕ)) → Keeps a b → PutsLast p a b
+pub put_none : (p : RunProgress) (a b : Option (List ℕ)) → Keeps a b → PutsLast p a b
 put_none p a b k = ([], Appends-none a b k, inl refl)
 
 -- the last line was answered, and the writer has what it put
-pub put_last : (p q : Progress) (a b c : Option (List ℕ)) → Told a b (λ text. LastStep p text q) → Keeps b c → PutsLast p a c
+pub put_last : (p q : RunProgress) (a b c : Option (List ℕ)) → Told a b (λ text. LastStep p text q) → Keeps b c → PutsLast p a c
 put_last p q a b c h k =
     let (text, put, step) = h in
     by (length p.line == 0) refl text put step
@@ -133,7 +133,7 @@ put_last p q a b c h k =
         (text, Appends-kept a b c text put k, inr (not_empty p.line e, (m, length text, means, sym whole)))
 
 -- some of the reply to the line, which is not empty
-pub put_some : (p : Progress) (a b : Option (List ℕ)) → (length p.line == 0) ≡ false → PutsPart false p a b → PutsLast p a b
+pub put_some : (p : RunProgress) (a b : Option (List ℕ)) → (length p.line == 0) ≡ false → PutsPart false p a b → PutsLast p a b
 put_some p a b some h =
     let (part, put, is) = h in
     (part, put, by part is)
@@ -143,16 +143,16 @@ put_some p a b some h =
     by part (inr front) = inr (not_empty p.line some, front)
 
 -- there is no last line
-pub last_none : (p : Progress) (a : Option (List ℕ)) → (length p.line == 0) ≡ true → Told a a (λ text. LastStep p text p)
+pub last_none : (p : RunProgress) (a : Option (List ℕ)) → (length p.line == 0) ≡ true → Told a a (λ text. LastStep p text p)
 last_none p a e = ([], Appends-nil a, subst (λ t. MatchBool t ((let none : List ℕ = [] in none ≡ []) × (p ≡ p)) (LineStep false p [] p)) (sym e) (refl, refl))
 
 -- the last line is answered
-pub last_line : (p q : Progress) (a b : Option (List ℕ)) → (length p.line == 0) ≡ false → Told a b (λ text. LineStep false p text q) → Told a b (λ text. LastStep p text q)
+pub last_line : (p q : RunProgress) (a b : Option (List ℕ)) → (length p.line == 0) ≡ false → Told a b (λ text. LineStep false p text q) → Told a b (λ text. LastStep p text q)
 last_line p q a b e h =
     let (text, put, step) = h in
     (text, put, subst (λ t. MatchBool t ((text ≡ []) × (q ≡ p)) (LineStep false p text q)) (sym e) step)
 
-pub finished : (p q : Progress) (a b c : Option (List ℕ)) (s : Summary) (d : Document) → Told a b (λ text. LastStep p text q) → Keeps b c → Counts q s → d ≡ q.state.doc → Told a c (λ text. Finishes p text s d)
+pub finished : (p q : RunProgress) (a b c : Option (List ℕ)) (s : Summary) (d : Document) → Told a b (λ text. LastStep p text q) → Keeps b c → Counts q s → d ≡ q.state.doc → Told a c (λ text. Finishes p text s d)
 finished p q a b c s d h k n l =
     let (text, put, step) = h in
     (text, Appends-kept a b c text put k, (q, step, n, l))
@@ -160,11 +160,11 @@ finished p q a b c s d h k n l =
 -- ---- after a fault
 
 module _ {A E : Type 0} (r : Result A E) (a b : Option (List ℕ)) where
-  pub on_part : (ended : Bool) (p : Progress) → PutsPart ended p a b → OnErr r (PutsPart ended p a b)
+  pub on_part : (ended : Bool) (p : RunProgress) → PutsPart ended p a b → OnErr r (PutsPart ended p a b)
   on_part ended p h = OnErr-by r h
 
-  pub on_feeds : (p : Progress) (bs : List ℕ) → FeedsPart a b p bs → OnErr r (FeedsPart a b p bs)
+  pub on_feeds : (p : RunProgress) (bs : List ℕ) → FeedsPart a b p bs → OnErr r (FeedsPart a b p bs)
   on_feeds p bs h = OnErr-by r h
 
-  pub on_last : (p : Progress) → PutsLast p a b → OnErr r (PutsLast p a b)
+  pub on_last : (p : RunProgress) → PutsLast p a b → OnErr r (PutsLast p a b)
   on_last p h = OnErr-by r h

@@ -8,7 +8,7 @@ pub use Rattle.script_runner.specs.Finish.{Counts, Finishes, LastStep, PutsLast}
 pub use Rattle.script_runner.specs.Outcome.{AnswersAll, AnswersLines, AnswersPart, AnswersUpTo, Completes, RunEnds}
 pub use Rattle.script_runner.specs.Outcome.{IsFront, IsNextLine, IsUnopened, RunsOutOfMemory, OpensAs, Runs, SavesPart}
 pub use Rattle.script_runner.specs.Progress.{ByteStep, Feeds, FeedsPart, IsPartAt, IsReplyFront, KeptMeans, LineStep}
-pub use Rattle.script_runner.specs.Progress.{Progress, PutsPart, Told, line_at, more, start}
+pub use Rattle.script_runner.specs.Progress.{RunProgress, PutsPart, Told, line_at, more, start}
 pub use Rattle.script_runner.specs.Replies.{IsShown, IsShownSaved, Replied, RepliedLine, TellsFault, meaning_of_said}
 pub use Rattle.script_runner.specs.Runs.{AllMean, AllShowSaved, AreLines, Asked, Bad, Meaning, LineMeans, NoFeed, NoFeeds}
 pub use Rattle.script_runner.specs.Runs.{ScriptLine, ShowsSaved, answered, answered_by, ended_line, all_lines, open_line}

@@ -5,7 +5,7 @@ use Rattle.ring_machine.specs.Common.{Document, State}
 use Rattle.script_runner.specs.Runs.{ScriptLine, ended_line, open_line, Meaning, Bad, LineMeans, reply_text, state_after_line, answered_by, refused_by, ShowsSaved, opened_state}
 
 -- the machine's state and how many changes it keeps at most, the bytes of the line so far, whether more than are kept came, and the counts
-pub record Progress : Type 0 where
+pub record RunProgress : Type 0 where
   pub state : State
   pub depth : ℕ
   pub line : List ℕ
@@ -20,7 +20,7 @@ pub record InBounds (kept answered refused bytes : ℕ) : Type 0 where
   pub fewer : answered + kept ≤ bytes
   pub within : refused ≤ answered
 
-abbrev pub start : ℕ → Document → Progress
+abbrev pub start : ℕ → Document → RunProgress
 start depth d = record {
   state = opened_state d;
   depth = depth;
@@ -41,7 +41,7 @@ abbrev pub KeptMeans : Bool → Bool → List ℕ → Meaning → Type 0
 KeptMeans over ended line m = MatchBool over (m ≡ Bad) (LineMeans (line_at ended line) m)
 
 -- the kept line, of this meaning, is answered
-pub record IsAnswered (p : Progress) (m : Meaning) (text : List ℕ) (q : Progress) : Type 0 where
+pub record IsAnswered (p : RunProgress) (m : Meaning) (text : List ℕ) (q : RunProgress) : Type 0 where
   pub told : text ≡ reply_text p.depth p.state m
   pub shown : ShowsSaved p.state m
   pub after : q.state ≡ state_after_line p.depth p.state m
@@ -52,27 +52,27 @@ pub record IsAnswered (p : Progress) (m : Meaning) (text : List ℕ) (q : Progre
   pub refused : q.refused ≡ p.refused + refused_by p.depth p.state m
 
 -- the kept line is answered by this text
-abbrev pub LineStep : Bool → Progress → List ℕ → Progress → Type 0
+abbrev pub LineStep : Bool → RunProgress → List ℕ → RunProgress → Type 0
 LineStep ended p text q = (m : Meaning) × KeptMeans p.over ended p.line m × IsAnswered p m text q
 
 -- a byte that ends no line
-abbrev pub more : Progress → ℕ → Progress
+abbrev pub more : RunProgress → ℕ → RunProgress
 more p b = record p {
   line = if nat_lt (length p.line) 8192 then p.line ++ b ∷ [] else p.line;
   over = p.over || not (nat_lt (length p.line) 8192);
   bytes = p.bytes + 1;
 }
 
-abbrev pub ByteStep : Progress → ℕ → List ℕ → Progress → Type 0
+abbrev pub ByteStep : RunProgress → ℕ → List ℕ → RunProgress → Type 0
 ByteStep p b text q =
     MatchBool (b == 10)
     (LineStep true p text q × (q.bytes ≡ p.bytes + 1))
     ((text ≡ []) × (q ≡ more p b))
 
-abbrev pub Feeds : Progress → List ℕ → List ℕ → Progress → Type 0
+abbrev pub Feeds : RunProgress → List ℕ → List ℕ → RunProgress → Type 0
 Feeds p [] text q = (text ≡ []) × (q ≡ p)
 Feeds p (b ∷ bs) text q =
-    (mid : Progress) × (first rest : List ℕ) × ByteStep p b first mid × Feeds mid bs rest q
+    (mid : RunProgress) × (first rest : List ℕ) × ByteStep p b first mid × Feeds mid bs rest q
     × (text ≡ first ++ rest)
 
 -- a text that this holds of was put
@@ -80,25 +80,25 @@ abbrev pub Told : Option (List ℕ) → Option (List ℕ) → (List ℕ → Type
 Told old new P = (text : List ℕ) × Appends old new text × P text
 
 -- the prefix of the reply to the kept line
-abbrev pub IsReplyFront : Bool → Progress → List ℕ → Type 0
+abbrev pub IsReplyFront : Bool → RunProgress → List ℕ → Type 0
 IsReplyFront ended p part =
     (m : Meaning) × (k : ℕ) × KeptMeans p.over ended p.line m
     × (part ≡ take k (reply_text p.depth p.state m))
 
 -- nothing was put, or some of the reply to the kept line
-abbrev pub PutsPart : Bool → Progress → Option (List ℕ) → Option (List ℕ) → Type 0
+abbrev pub PutsPart : Bool → RunProgress → Option (List ℕ) → Option (List ℕ) → Type 0
 PutsPart ended p old new = Told old new (λ part. (part ≡ []) ⊎ IsReplyFront ended p part)
 
 -- nothing, or, where this byte is a line feed, the prefix of the reply to the line that it ends
-abbrev pub IsPartAt : ℕ → Progress → List ℕ → Type 0
+abbrev pub IsPartAt : ℕ → RunProgress → List ℕ → Type 0
 IsPartAt b p part = (part ≡ []) ⊎ ((b ≡ 10) × IsReplyFront true p part)
 
 -- the first bytes were fed, and then a byte of which no more was put than that
-pub record FeedsPart (old new : Option (List ℕ)) (p : Progress) (bs : List ℕ) : Type 0 where
+pub record FeedsPart (old new : Option (List ℕ)) (p : RunProgress) (bs : List ℕ) : Type 0 where
   pub front : List ℕ
   pub byte : ℕ
   pub rest : List ℕ
-  pub mid : Progress
+  pub mid : RunProgress
   pub before : List ℕ
   pub part : List ℕ
   pub whole : bs ≡ front ++ byte ∷ rest

@@ -81,10 +81,10 @@ pub(crate) struct Runner<'a, A: Allocator + Copy> {
 
 impl<'a, A: Allocator + Copy> Model for Runner<'a, A> {
     ghost use Rattle.std.specs.Prelude.{◌≤◌, ◌+◌, length};
-    ghost use Rattle.script_runner.specs.Progress.{Progress, InBounds};
+    ghost use Rattle.script_runner.specs.Progress.{RunProgress, InBounds};
     ghost use Rattle.undo_ring.specs.Edited.{machine_of};
 
-    ghost Value = { Progress };
+    ghost Value = { RunProgress };
 
     ghost view = { λ r. record {
       state = machine_of r.editor;

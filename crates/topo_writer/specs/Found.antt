@@ -35,12 +35,12 @@ with_found arcs piece =
     if is_some (arc_found arcs (first_edge piece)) then arcs else (arcs ++ piece ∷ [])
 
 -- what is kept by edges is what is found
-abbrev pub Mirrors : (Edge → Option ℤ) → List (List Position) → Type 0
-Mirrors kept arcs = (e : Edge) → kept e ≡ arc_found arcs e
+abbrev pub KeepsFound : (Edge → Option ℤ) → List (List Position) → Type 0
+KeepsFound kept arcs = (e : Edge) → kept e ≡ arc_found arcs e
 
 -- a table that keeps so many arcs by edges has these
 pub record HasArcs (kept : Edge → Option ℤ) (count : ℕ) (arcs : List (List Position)) : Type 0 where
-  pub mirrors : Mirrors kept arcs
+  pub mirrors : KeepsFound kept arcs
   pub counts : count ≡ length arcs
 
 -- the piece may stand beside the arcs: an edge then still names one of them

@@ -1,6 +1,6 @@
 //! Pictures of edits that leave all regions as they are. `border_show` has the stored page of one that changes some.
 use crate::pictures::{ALL, MEMORY, read_map, shows};
-use map_drawing::draw_change;
+use map_drawing::{Edit as MapEdit, draw_change};
 use std::alloc::Global;
 use std::process::Abort;
 
@@ -51,7 +51,11 @@ const EDITS: &[Edit] = &[
 fn change<R: Abort>(rt: &R, alloc: Global, after: &str) -> Vec<u8> {
     let before = read_map(alloc, alloc, BEFORE).expect(rt, "it is read");
     let after = read_map(alloc, alloc, after).expect(rt, "it is read");
-    draw_change(alloc, alloc, &before, &after, ALL, "a").expect(rt, MEMORY)
+    let edit = MapEdit {
+        before: &before,
+        after: &after,
+    };
+    draw_change(alloc, alloc, edit, ALL, "a").expect(rt, MEMORY)
 }
 
 /// The picture of an edit that leaves all regions as they are.

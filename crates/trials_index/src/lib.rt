@@ -1,10 +1,7 @@
 //! Exact tests on positions and segments, and what finds things by where they are: keys of vertices,
-//! arcs in which a border stands once, segments near a place and conflicts among these, and boxes of
-//! rings.
+//! arcs in which a border stands once, segments near a place and conflicts among these.
 #![tactic(auto)]
 
-#[cfg(test)]
-mod boxes;
 #[cfg(test)]
 mod conflicts;
 #[cfg(test)]

@@ -1,7 +1,10 @@
 //! Tests of rings and of what stores them: parts of polygons and joined rings, frames of features, rings
-//! laid in tables, and which features of a map hold a position and which are neighbours.
+//! laid in tables, how far boxes of rings reach, and which features of a map hold a position and which
+//! are neighbours.
 #![tactic(auto)]
 
+#[cfg(test)]
+mod boxes;
 #[cfg(test)]
 mod frames;
 #[cfg(test)]

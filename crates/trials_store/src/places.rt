@@ -1,12 +1,11 @@
 //! Features at positions, on maps made by hand, by the boxes of the rings and without.
 ghost use Rattle.ring_machine.specs.Parts.{rings};
-ghost use Rattle.ring_boxes.specs.Covering.{CoversRings};
+ghost use Rattle.point_queries.specs.Covering.{CoversRings};
 
 use crate::given::{Place, at as at_place};
 use crate::maps::{DONUT, in_trees};
 use arc_store::Map;
-use point_queries::{At, at, at_near, boxes_of};
-use ring_boxes::RingBoxes;
+use point_queries::{At, RingBoxes, at, at_near, boxes_of};
 use segment_index::TreeIndex;
 use std::alloc::Global;
 use std::process::Abort;

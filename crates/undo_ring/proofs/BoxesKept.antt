@@ -13,13 +13,13 @@ use Rattle.ring_machine.specs.Common.{area_of, neighbours_of}
 use Rattle.ring_machine.proofs.Common.{contains_in, in_contains, has-in, in-has, step-move, step-insert, step-remove}
 use Rattle.ring_machine.proofs.Common.{step-thin, step-split, step-merge, step-rename, step-delete}
 use Rattle.segment_index.specs.Common.{SegmentSet}
-use Rattle.ring_boxes.specs.Common.{CoversRings, IsCovered, KeepsCovered}
+use Rattle.point_queries.specs.Common.{CoversRings, IsCovered, KeepsCovered}
 use Rattle.arc_store.specs.Common.{IsSameMap}
 use Rattle.arc_store.specs.State.{State as MapState}
 use Rattle.arc_store.specs.declared.fault.EditFault.{EditFault}
 use Rattle.undo_ring.specs.Common.{refusal_of, with_past, StopsOn, RefusesOn, AnswersMap, AreCovered}
 use Rattle.edit_records.specs.Common.{command_of}
-use Rattle.undo_ring.specs.Common.{IsKnown, HasGrown, IsReady, touched_by, HasCome, Follows, Near}
+use Rattle.undo_ring.specs.Common.{CoversSince, HasGrown, HasComing, touched_by, HasCome, GrowsWith, Near}
 use Rattle.undo_ring.specs.declared.answer.Answer.{Answer as Told}
 use Rattle.edit_records.specs.declared.command.Command.{Command as Asked}
 use Rattle.edit_records.specs.declared.command.Command.TheVariants as told
@@ -133,7 +133,7 @@ module _ (boxes : SegmentSet) where
     query_covers : (c : Command) (rs : List (Option Refusal)) (a : Answer) → step 0 st c ≡ query st rs a → StaysCovered None (step 0 st c).1
     query_covers c rs a steps = edit_covers c rs a None st steps (λ come. covers)
 
-    pub step_covers : (c : Command) → IsNoUndo c → IsReady st.doc c boxes → StaysCovered (touched_by st.next c) (step 0 st c).1
+    pub step_covers : (c : Command) → IsNoUndo c → HasComing st.doc c boxes → StaysCovered (touched_by st.next c) (step 0 st c).1
     unfolding step
     step_covers (Move p q) edits ready =
         edit_covers (Move p q) (move_refusals st.doc p q) Done None (changed 0 st (put st.doc p q)) (step-move 0 st p q)
@@ -177,7 +177,7 @@ module _ (boxes : SegmentSet) where
     fault_covers (Some r) refuses = same_covers refuses.same
 
     pub answer_covers : {A : Type 0} (result : Result (Told A) EditFault) → AnswersMap m n c result
-        → OnOk result (IsReady m.doc c boxes) → HasCome boxes n.doc (touched_by m.next c) → CoversRings boxes (rings n.doc)
+        → OnOk result (HasComing m.doc c boxes) → HasCome boxes n.doc (touched_by m.next c) → CoversRings boxes (rings n.doc)
     answer_covers (Ok answer) accepts ready come =
         subst (λ (r : Answer × State). HasCome boxes r.1.doc (touched_by m.next c) → CoversRings boxes (rings r.1.doc))
         (sym (accepts.steps 0 []))
@@ -200,10 +200,10 @@ bounded boxes (suc k) (suc c) (d ∷ docs) h = (h.0, bounded boxes k c docs h.1)
 
 module _ {A : Type 0} (before after : Near A) (d e : Document) (past : List Document) where
   -- after a change to the document e
-  pub changed_known : IsKnown before (d ∷ past) → (depth : ℕ) (touched : Option (ℕ × ℕ)) → Follows before after e touched
+  pub changed_known : CoversSince before (d ∷ past) → (depth : ℕ) (touched : Option (ℕ × ℕ)) → GrowsWith before after e touched
       → ((boxes : SegmentSet) → CoversRings boxes (rings d) → (was : SegmentSet) → before.boxes ≡ Some was → KeepsCovered was boxes
       → HasCome boxes e touched → CoversRings boxes (rings e))
-      → IsKnown after (e ∷ take depth (d ∷ past))
+      → CoversSince after (e ∷ take depth (d ∷ past))
   changed_known known depth touched follows covers = by after.boxes refl follows.boxes
     where
       by : (o : Option SegmentSet) → after.boxes ≡ o
@@ -219,7 +219,7 @@ module _ {A : Type 0} (before after : Near A) (d e : Document) (past : List Docu
           )
 
 -- what is ready in boxes is so in boxes that keep them
-ready_kept : (d : Document) (c : Command) (a b : SegmentSet) → KeepsCovered a b → IsReady d c a → IsReady d c b
+ready_kept : (d : Document) (c : Command) (a b : SegmentSet) → KeepsCovered a b → HasComing d c a → HasComing d c b
 ready_kept d (Move p q) a b keeps h = λ ring i j. keeps (q ∷ ring) (h ring i j)
 ready_kept d (Insert p r q) a b keeps h = λ ring i j. keeps (q ∷ ring) (h ring i j)
 ready_kept d c a b keeps h = tt
@@ -231,8 +231,8 @@ no_undo c = tt
 -- ---- a command, as the calls have it
 
 module _ {A B : Type 0} (before after : Near A) (m n : MapState) (past later : List Document) (depth : ℕ) (asked : Asked)
-    (known : IsKnown before (m.doc ∷ past)) (result : Result (Told B) EditFault) (answers : AnswersMap m n (command_of asked) result)
-    (ready : OnOk result (IfSome before.boxes (IsReady m.doc (command_of asked)))) where
+    (known : CoversSince before (m.doc ∷ past)) (result : Result (Told B) EditFault) (answers : AnswersMap m n (command_of asked) result)
+    (ready : OnOk result (IfSome before.boxes (HasComing m.doc (command_of asked)))) where
   abbrev c : Command
   c = command_of asked
 
@@ -241,37 +241,37 @@ module _ {A B : Type 0} (before after : Near A) (m n : MapState) (past later : L
   come_covers boxes covers was same keeps come =
       answer_covers boxes m n c (no_undo asked) covers result answers (by result ready) come
     where
-      by : (r : Result (Told B) EditFault) → OnOk r (IfSome before.boxes (IsReady m.doc c)) → OnOk r (IsReady m.doc c boxes)
+      by : (r : Result (Told B) EditFault) → OnOk r (IfSome before.boxes (HasComing m.doc c)) → OnOk r (HasComing m.doc c boxes)
       by (Err fault) h = tt
-      by (Ok answer) h = ready_kept m.doc c was boxes keeps (subst (λ (o : Option SegmentSet). IfSome o (IsReady m.doc c)) same h)
+      by (Ok answer) h = ready_kept m.doc c was boxes keeps (subst (λ (o : Option SegmentSet). IfSome o (HasComing m.doc c)) same h)
 
   pub known_after : (made : Bool)
       → ((made ≡ false) × (n.doc ≡ m.doc) × (later ≡ past)) ⊎ ((made ≡ true) × (later ≡ take depth (m.doc ∷ past)))
-      → (made ≡ true → Follows before after n.doc (touched_by m.next c)) → (made ≡ false → after ≡ before)
-      → IsKnown after (n.doc ∷ later)
+      → (made ≡ true → GrowsWith before after n.doc (touched_by m.next c)) → (made ≡ false → after ≡ before)
+      → CoversSince after (n.doc ∷ later)
   known_after made (inl h) follows same =
-      subst (λ (z : Near A). IsKnown z (n.doc ∷ later)) (sym (same h.0))
-      (subst (λ d. IsKnown before (d ∷ later)) (sym h.1) (subst (λ ds. IsKnown before (m.doc ∷ ds)) (sym h.2) known))
+      subst (λ (z : Near A). CoversSince z (n.doc ∷ later)) (sym (same h.0))
+      (subst (λ d. CoversSince before (d ∷ later)) (sym h.1) (subst (λ ds. CoversSince before (m.doc ∷ ds)) (sym h.2) known))
   known_after made (inr h) follows same =
-      subst (λ ds. IsKnown after (n.doc ∷ ds)) (sym h.1)
+      subst (λ ds. CoversSince after (n.doc ∷ ds)) (sym h.1)
       (changed_known before after m.doc n.doc past known depth (touched_by m.next c) (follows h.0) come_covers)
 
   -- the map has handed its record out
   pub editor_known : (now : MapState) → now ≡ handed n → (made told : Bool) → told ≡ made
       → (touched : Option (ℕ × ℕ)) → touched ≡ touched_by m.next c
       → ((made ≡ false) × (n.doc ≡ m.doc) × (later ≡ past)) ⊎ ((made ≡ true) × (later ≡ take depth (m.doc ∷ past)))
-      → (told ≡ true → Follows before after now.doc touched) → (told ≡ false → after ≡ before)
-      → IsKnown after (now.doc ∷ later)
+      → (told ≡ true → GrowsWith before after now.doc touched) → (told ≡ false → after ≡ before)
+      → CoversSince after (now.doc ∷ later)
   editor_known now is made told tells touched touches newer follows same =
-      let change : made ≡ true → Follows before after n.doc (touched_by m.next c) =
-      λ e. subst (Follows before after n.doc) touches
-      (subst (λ (z : MapState). Follows before after z.doc touched) is (follows (tells ∙ e))) in
-      subst (λ (z : MapState). IsKnown after (z.doc ∷ later)) (sym is)
+      let change : made ≡ true → GrowsWith before after n.doc (touched_by m.next c) =
+      λ e. subst (GrowsWith before after n.doc) touches
+      (subst (λ (z : MapState). GrowsWith before after z.doc touched) is (follows (tells ∙ e))) in
+      subst (λ (z : MapState). CoversSince after (z.doc ∷ later)) (sym is)
       (known_after made newer change (λ e. same (tells ∙ e)))
 
 -- what is ready where the boxes cover these documents
 pub ready_at : {A B : Type 0} (near : Near A) (boxes : Option SegmentSet) (d : Document) (docs : List Document) (P : SegmentSet → Type 0)
-    (result : Result B EditFault) → IsKnown near (d ∷ docs)
-    → OnOk result ((docs : List Document) → IsKnown near (d ∷ docs) → IfSome boxes P) → OnOk result (IfSome boxes P)
+    (result : Result B EditFault) → CoversSince near (d ∷ docs)
+    → OnOk result ((docs : List Document) → CoversSince near (d ∷ docs) → IfSome boxes P) → OnOk result (IfSome boxes P)
 ready_at near boxes d docs P (Err fault) known h = tt
 ready_at near boxes d docs P (Ok answer) known h = h docs known

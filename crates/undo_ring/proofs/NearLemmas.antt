@@ -3,9 +3,9 @@ use Rattle.kit_words.proofs.Common.{◌≡◌, ◌≤◌, ℕ, suc, refl, sym, s
 use Rattle.kit_words.proofs.Common.{Result, Ok, Err, OnOk, is_ok, IfSome, false≢true}
 use Rattle.ring_machine.specs.Common.{Document}
 use Rattle.segment_index.specs.Common.{SegmentSet}
-use Rattle.ring_boxes.specs.Common.{KeepsCovered}
+use Rattle.point_queries.specs.Common.{KeepsCovered}
 use Rattle.point_queries.specs.Common.{CoversFeature}
-use Rattle.undo_ring.specs.Common.{AreCovered, IsKnown, HasCome, Follows, Near}
+use Rattle.undo_ring.specs.Common.{AreCovered, CoversSince, HasCome, GrowsWith, Near}
 
 -- boxes that keep what lay in others cover the documents that those did
 pub keeps_covered : (old new : SegmentSet) (docs : List Document) → KeepsCovered old new → AreCovered old docs → AreCovered new docs
@@ -13,7 +13,7 @@ keeps_covered old new [] keeps h = tt
 keeps_covered old new (d ∷ docs) keeps h = (λ r i. keeps r (h.0 r i), keeps_covered old new docs keeps h.1)
 
 pub known_some : {A : Type 0} (near : Near A) (boxes : SegmentSet) (docs : List Document) → near.boxes ≡ Some boxes
-    → IsKnown near docs → AreCovered boxes (take (suc near.since) docs)
+    → CoversSince near docs → AreCovered boxes (take (suc near.since) docs)
 known_some near boxes docs e h = subst (λ o. IfSome o (λ boxes. AreCovered boxes (take (suc near.since) docs))) e h
 
 -- one document fewer
@@ -25,7 +25,7 @@ one_back (Some boxes) since d docs h = h.1
 
 -- a change that made no other rings
 pub follows_same : {A : Type 0} (old new : Near A) (d : Document) (touched : Option (ℕ × ℕ)) → touched ≡ None
-    → new.boxes ≡ old.boxes → new.since ≤ suc old.since → Follows old new d touched
+    → new.boxes ≡ old.boxes → new.since ≤ suc old.since → GrowsWith old new d touched
 follows_same old new d touched none same since = record {
   since = since;
   boxes = subst (λ o. IfSome o (λ boxes. (before : SegmentSet) × (old.boxes ≡ Some before) × KeepsCovered before boxes × HasCome boxes d touched))
@@ -46,7 +46,7 @@ was_ok (Err e) t p = absurd (false≢true t)
 pub follows_more : {A : Type 0} (old new : Near A) (before between after : SegmentSet) (d : Document) (n m : ℕ)
     (touched : Option (ℕ × ℕ)) → touched ≡ Some (n, m) → old.boxes ≡ Some before → new.boxes ≡ Some after
     → new.since ≤ suc old.since → KeepsCovered before between → KeepsCovered between after → CoversFeature between d n
-    → CoversFeature after d m → Follows old new d touched
+    → CoversFeature after d m → GrowsWith old new d touched
 follows_more old new before between after d n m touched named was is since first second covered last = record {
   since = since;
   boxes = subst (λ o. IfSome o (λ boxes. (before : SegmentSet) × (old.boxes ≡ Some before) × KeepsCovered before boxes × HasCome boxes d touched))
@@ -58,7 +58,7 @@ follows_more old new before between after d n m touched named was is since first
 
 -- where there are no boxes, any change is followed
 pub follows_none : {A : Type 0} (old new : Near A) (d : Document) (touched : Option (ℕ × ℕ)) → new.boxes ≡ None
-    → new.since ≤ suc old.since → Follows old new d touched
+    → new.since ≤ suc old.since → GrowsWith old new d touched
 follows_none old new d touched none since = record {
   since = since;
   boxes = subst (λ o. IfSome o (λ boxes. (before : SegmentSet) × (old.boxes ≡ Some before) × KeepsCovered before boxes × HasCome boxes d touched))

@@ -5,7 +5,7 @@ use Rattle.std.specs.List.{AllByRecursion}
 use Rattle.grid_geometry.specs.Common.{Position}
 use Rattle.ring_machine.specs.Common.{Document, rings, Command, Move, Insert, Split, Merge}
 use Rattle.segment_index.specs.Common.{SegmentSet}
-use Rattle.ring_boxes.specs.Common.{CoversRings, IsCovered, KeepsCovered}
+use Rattle.point_queries.specs.Common.{CoversRings, IsCovered, KeepsCovered}
 use Rattle.point_queries.specs.Common.{CoversFeature}
 use Rattle.undo_ring.specs.declared.near.Near.{Near}
 
@@ -14,8 +14,8 @@ abbrev pub AreCovered : SegmentSet → List Document → Type 0
 AreCovered boxes docs = AllByRecursion (λ d. CoversRings boxes (rings d)) docs
 
 -- the boxes, if there are any, cover the first of the documents, and so many after it
-abbrev pub IsKnown : {A : Type 0} → Near A → List Document → Type 0
-IsKnown near docs = IfSome near.boxes (λ boxes. AreCovered boxes (take (suc near.since) docs))
+abbrev pub CoversSince : {A : Type 0} → Near A → List Document → Type 0
+CoversSince near docs = IfSome near.boxes (λ boxes. AreCovered boxes (take (suc near.since) docs))
 
 -- wherever a ring has p, it lies in one of the boxes together with q
 abbrev pub HasGrown : Document → Position → Position → SegmentSet → Type 0
@@ -23,10 +23,10 @@ HasGrown d p q boxes =
     (ring : List Position) → Contains (rings d) ring → Contains ring p → IsCovered boxes (q ∷ ring)
 
 -- the boxes have what the command puts into a ring
-abbrev pub IsReady : Document → Command → SegmentSet → Type 0
-IsReady d (Move p q) boxes = HasGrown d p q boxes
-IsReady d (Insert a b q) boxes = HasGrown d a q boxes
-IsReady d c boxes = Unit {0}
+abbrev pub HasComing : Document → Command → SegmentSet → Type 0
+HasComing d (Move p q) boxes = HasGrown d p q boxes
+HasComing d (Insert a b q) boxes = HasGrown d a q boxes
+HasComing d c boxes = Unit {0}
 
 -- the features whose rings become others by the command, where it makes some: two, or one twice; a new
 -- one has the next number
@@ -41,7 +41,7 @@ HasCome boxes d touched =
     IfSome touched (λ both. CoversFeature boxes d both.0 × CoversFeature boxes d both.1)
 
 -- after one more change to the document, the boxes are those from before, and what came is in them
-pub record Follows {A : Type 0} (old new : Near A) (d : Document) (touched : Option (ℕ × ℕ))
+pub record GrowsWith {A : Type 0} (old new : Near A) (d : Document) (touched : Option (ℕ × ℕ))
     : Type 0 where
   pub since : new.since ≤ suc old.since
   pub boxes : IfSome new.boxes (λ boxes. (before : SegmentSet) × (old.boxes ≡ Some before)

@@ -5,7 +5,7 @@ use Rattle.circular_buffer.specs.Buffer.{Buffer, buffer}
 use Rattle.edit_records.specs.Common.{Record, documents, AreUndoing}
 use Rattle.topo_outline.specs.Common.{KeepsTexts}
 use Rattle.arc_store.specs.State.{State as MapState}
-use Rattle.undo_ring.specs.Boxed.{IsKnown}
+use Rattle.undo_ring.specs.Boxed.{CoversSince}
 use Rattle.undo_ring.specs.Edited.{Edited}
 use Rattle.undo_ring.specs.declared.near.Near.{Near}
 
@@ -19,7 +19,7 @@ pub record IsTrail (now : MapState) (rs : List Record) : Type 0 where
 -- the records are a trail, and the boxes cover the map's document and those before its newest changes
 pub record IsEditor {A : Type 0} (now : MapState) (rs : List Record) (near : Near A) : Type 0 where
   pub trail : IsTrail now rs
-  pub known : IsKnown near (now.doc ∷ documents now.places now.doc rs)
+  pub known : CoversSince near (now.doc ∷ documents now.places now.doc rs)
 
 -- the records with one more in front, where there is one
 abbrev pub records_kept : {X : Type 0} → Buffer X → Option X → Buffer X

@@ -3,8 +3,8 @@ ghost use Rattle.std.specs.Prelude.{◌≡◌, ◌≤◌, ◌∷◌, length, Lis
 ghost use Rattle.ring_machine.specs.Common.{Split, Rename, Thin, Area, At, Neighbours, Document};
 ghost use Rattle.ring_machine.specs.Common.{rings, border_at, inside_at};
 ghost use Rattle.edit_records.specs.Common.{string_text};
-ghost use Rattle.ring_boxes.specs.Common.{CoversRings};
-ghost use Rattle.undo_ring.specs.Boxed.{IsKnown, IsReady};
+ghost use Rattle.point_queries.specs.Common.{CoversRings};
+ghost use Rattle.undo_ring.specs.Boxed.{CoversSince, HasComing};
 ghost use Rattle.edit_records.specs.Commands.{command_of, IsSound};
 ghost use Rattle.undo_ring.specs.Answered.{AnswersMap, done_of, made_of};
 
@@ -14,8 +14,7 @@ use arc_store::{EditFault, Map};
 use edit_records::{Command, IdText, Path};
 use edit_vertex::{insert_vertex, move_vertex, remove_vertex, thin};
 use grid_geometry::Pos;
-use point_queries::{At as Found, QueryFault, area2_of, at, at_near, neighbours};
-use ring_boxes::RingBoxes;
+use point_queries::{At as Found, QueryFault, RingBoxes, area2_of, at, at_near, neighbours};
 use segment_index::SegIndex;
 use split_merge::{delete, merge, rename, split};
 use std::alloc::{AllocError, Allocator};
@@ -204,14 +203,14 @@ pub(crate) fn answer_near<'a, I: SegIndex, A: Allocator + Copy>(
     near: &mut Near<A>,
     command: Command,
 ) -> Result<Answer<A>, EditFault>
-    requires known { (docs : List Document) × IsKnown near.old (map.old.doc ∷ docs) }
+    requires known { (docs : List Document) × CoversSince near.old (map.old.doc ∷ docs) }
     requires taken { map.old.last ≡ None }
     requires sound { IsSound command }
     ensures answers { AnswersMap map.old map.new (command_of command) result }
-    ensures known { (docs : List Document) → IsKnown near.old (map.old.doc ∷ docs)
-        → IsKnown near.new (map.old.doc ∷ docs) }
-    ensures ready { OnOk result ((docs : List Document) → IsKnown near.old (map.old.doc ∷ docs)
-        → IfSome near.new.boxes (IsReady map.old.doc (command_of command))) }
+    ensures known { (docs : List Document) → CoversSince near.old (map.old.doc ∷ docs)
+        → CoversSince near.new (map.old.doc ∷ docs) }
+    ensures ready { OnOk result ((docs : List Document) → CoversSince near.old (map.old.doc ∷ docs)
+        → IfSome near.new.boxes (HasComing map.old.doc (command_of command))) }
 {
     near.prepare(alloc, map, &command)?;
     answer(alloc, map, near.boxes.as_ref(), command)

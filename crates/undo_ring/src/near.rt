@@ -2,15 +2,14 @@
 //! along the whole map.
 ghost use Rattle.std.specs.Prelude.{◌≡◌, ◌∷◌, true, false, List, IfSome, OnOk};
 ghost use Rattle.ring_machine.specs.Common.{Document};
-ghost use Rattle.undo_ring.specs.Boxed.{HasGrown, IsKnown, IsReady, Follows};
+ghost use Rattle.undo_ring.specs.Boxed.{HasGrown, CoversSince, HasComing, GrowsWith};
 ghost use Rattle.undo_ring.specs.Boxed as boxed;
 ghost use Rattle.edit_records.specs.Commands.{command_of};
 
 use arc_store::Map;
 use edit_records::Command;
 use grid_geometry::Pos;
-use point_queries::{add_boxes, boxes_of};
-use ring_boxes::RingBoxes;
+use point_queries::{RingBoxes, add_boxes, boxes_of};
 use segment_index::SegIndex;
 use std::alloc::{AllocError, Allocator, Global};
 
@@ -38,7 +37,7 @@ pub(crate) fn touched_by(command: &Command, next: u32) -> Option<(u32, u32)>
 impl<A: Allocator + Copy> Near<A> {
     /// No boxes.
     pub(crate) fn new() -> Self
-        ensures { (docs : List Document) → IsKnown result docs }
+        ensures { (docs : List Document) → CoversSince result docs }
     {
         Near {
             boxes: None,
@@ -48,9 +47,9 @@ impl<A: Allocator + Copy> Near<A> {
 
     /// Where p lies in a box, q lies in one with all that it has. Fails only on allocation failure.
     fn grow(&mut self, p: Pos, q: Pos) -> Result<(), AllocError>
-        ensures known { (docs : List Document) → IsKnown self.old docs → IsKnown self.new docs }
+        ensures known { (docs : List Document) → CoversSince self.old docs → CoversSince self.new docs }
         ensures grown { OnOk result ((d : Document) (docs : List Document)
-            → IsKnown self.old (d ∷ docs) → IfSome self.new.boxes (HasGrown d p q)) }
+            → CoversSince self.old (d ∷ docs) → IfSome self.new.boxes (HasGrown d p q)) }
     {
         match &mut self.boxes {
             Some(boxes) => boxes.grow(p, q),
@@ -60,8 +59,8 @@ impl<A: Allocator + Copy> Near<A> {
 
     /// The boxes of a map are made, unless they are there. Fails only on allocation failure.
     fn look<'a, I: SegIndex>(&mut self, alloc: A, map: &Map<'a, I, A>) -> Result<(), AllocError>
-        ensures { (docs : List Document) → IsKnown self.old (map.now.doc ∷ docs)
-            → IsKnown self.new (map.now.doc ∷ docs) }
+        ensures { (docs : List Document) → CoversSince self.old (map.now.doc ∷ docs)
+            → CoversSince self.new (map.now.doc ∷ docs) }
     {
         if self.boxes.is_none() {
             self.boxes = Some(boxes_of(alloc, map)?);
@@ -77,10 +76,10 @@ impl<A: Allocator + Copy> Near<A> {
         map: &Map<'a, I, A>,
         command: &Command,
     ) -> Result<(), AllocError>
-        ensures known { (docs : List Document) → IsKnown self.old (map.now.doc ∷ docs)
-            → IsKnown self.new (map.now.doc ∷ docs) }
-        ensures ready { OnOk result ((docs : List Document) → IsKnown self.old (map.now.doc ∷ docs)
-            → IfSome self.new.boxes (IsReady map.now.doc (command_of command.now))) }
+        ensures known { (docs : List Document) → CoversSince self.old (map.now.doc ∷ docs)
+            → CoversSince self.new (map.now.doc ∷ docs) }
+        ensures ready { OnOk result ((docs : List Document) → CoversSince self.old (map.now.doc ∷ docs)
+            → IfSome self.new.boxes (HasComing map.now.doc (command_of command.now))) }
     {
         match command {
             Command::Move(from, to) => self.grow(*from, *to),
@@ -97,7 +96,7 @@ impl<A: Allocator + Copy> Near<A> {
         touched: Option<(u32, u32)>,
         changed: bool,
     )
-        ensures changed { changed ≡ true → Follows self.old self.new map.now.doc touched }
+        ensures changed { changed ≡ true → GrowsWith self.old self.new map.now.doc touched }
         ensures same { changed ≡ false → self.new ≡ self.old }
     {
         if !changed {
@@ -118,8 +117,8 @@ impl<A: Allocator + Copy> Near<A> {
 
     /// Goes back over the newest change.
     pub(crate) fn step_back(&mut self)
-        ensures { (d : Document) (docs : List Document) → IsKnown self.old (d ∷ docs)
-            → IsKnown self.new docs }
+        ensures { (d : Document) (docs : List Document) → CoversSince self.old (d ∷ docs)
+            → CoversSince self.new docs }
     {
         if self.since == 0 {
             self.boxes = None;

@@ -1,14 +1,17 @@
 -- Slots and keys that mirror each other, and what keeps them so.
 use Rattle.kit_words.proofs.Common.{◌≡◌, ◌≢◌, ◌↔◌, ℕ, zero, suc, ◌<◌, Bool, true, false, cond, ◌&&◌, List, [], ◌∷◌}
 use Rattle.kit_words.proofs.Common.{length, set, Option, Some, None, IfSome, IfNone, is_some, refl, sym, ap, ◌∙◌, subst}
-use Rattle.kit_words.proofs.Common.{arith, nat_cmp, int_eq, eq_by_cmp, signed_Decides, AllZip, Bor, MutBor}
+use Rattle.kit_words.proofs.Common.{arith, nat_cmp, int_eq, eq_by_cmp, false≢true, signed_Decides, AllZip, Bor, MutBor}
 use Rattle.kit_words.proofs.Common.{option_copied, option_copied_mut, nat_tests, get_or-set_same, get_or-set_other}
 use Rattle.kit_words.proofs.Common.{same_from_all_zip, ℕ_discrete}
+use Rattle.std.specs.Cmp.{IsEquivalence}
 use Rattle.std.specs.FinMap as map
+use Rattle.std.specs.Map.{keys_of}
+use Rattle.std.proofs.lemmas.Map.Views.{IsSome-lookup_from_Contains, Contains-keys_from_lookup}
 use Rattle.slab.specs.Slab as slab
 use Rattle.grid_geometry.specs.Common.{Position, InRange, position_eq}
 use Rattle.grid_geometry.proofs.Common.{position_eq-same as position_eq-refl}
-use Rattle.vertex_index.specs.Common.{Placement, IsOccupied, AreDistinct, AreInRange, Slot, placement_of, in_slot}
+use Rattle.vertex_index.specs.Common.{Placement, IsOccupied, AreDistinct, AreInRange, ArePlaces, Slot, placement_of, in_slot}
 use Rattle.vertex_index.specs.Common.{key_in, Mirrors}
 use Rattle.vertex_index.proofs.PlacementLemmas.{get-placement_of}
 
@@ -24,6 +27,22 @@ position_eq-same p q h = by (int_eq p.x q.x) (int_eq p.y q.y) refl refl h
         λ i. record { x = ex i; y = ey i }
     by true false ea eb e = cc
     by false b ea eb e = cc
+
+-- equality of positions is an equivalence
+position_equality : IsEquivalence position_eq
+position_equality = record {
+  refl = position_eq-refl;
+  symm = λ p q. both p q (position_eq p q) (position_eq q p) refl refl;
+  congr = λ p q r e. ap (λ z. position_eq z r) (position_eq-same p q e);
+}
+  where
+    both : (p q : Position) (a b : Bool) → position_eq p q ≡ a → position_eq q p ≡ b → a ≡ b
+    both p q true true e f = refl
+    both p q false false e f = refl
+    both p q true false e f =
+        absurd (false≢true (sym f ∙ ap (position_eq q) (position_eq-same p q e) ∙ position_eq-refl q))
+    both p q false true e f =
+        absurd (false≢true (sym e ∙ ap (position_eq p) (position_eq-same q p f) ∙ position_eq-refl p))
 
 -- a position is not told from itself
 not_apart : (p q : Position) → Some p ≡ Some q → position_eq p q ≢ false
@@ -178,6 +197,15 @@ module _ (s : List (Option Position)) (es : List (Position × ℕ)) (m : Mirrors
       by : (o : Option ℕ) → o ≡ key_in es p → is_some o ≡ true → IsOccupied v p
       by None e i = cc
       by (Some k) e i = (k, found_key p (Some k) e)
+
+  -- the keys are the positions of all vertices
+  pub are_places : ArePlaces v (keys_of es)
+  are_places p = (
+    λ i. occupied p (IsSome-lookup_from_Contains position_equality p es i),
+    λ stands.
+        Contains-keys_from_lookup position_eq-same p es
+        (ap is_some (m.there stands.0 p (in_map stands.0 ∙ stands.1))),
+  )
 
   -- an answer that comes exactly where a vertex stands: the keys have the position, or not
   pub refuses : {R : Type 0} (p : Position) → is_some (key_in es p) ≡ true → R → R ↔ IsOccupied v p

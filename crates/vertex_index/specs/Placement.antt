@@ -1,5 +1,5 @@
 -- Positions under keys.
-use Rattle.std.specs.Prelude.{◌≡◌, ℕ, ℤ, pos, Some, refl, unwrap_or}
+use Rattle.std.specs.Prelude.{◌≡◌, ◌↔◌, ℕ, ℤ, List, Contains, pos, Some, refl, unwrap_or}
 use Rattle.std.specs.Coded.{Coded, code_by, coded×, coded_ℤ}
 use Rattle.std.specs.Ordering.{nat_cmp}
 use Rattle.std.specs.FinMap as map
@@ -12,6 +12,10 @@ Placement = map.FinMap nat_cmp Position
 -- a vertex stands at this position
 abbrev pub IsOccupied : Placement → Position → Type 0
 IsOccupied m p = (k : ℕ) × (map.get m k ≡ Some p)
+
+-- these are the positions of all vertices
+abbrev pub ArePlaces : Placement → List Position → Type 0
+ArePlaces m ps = (p : Position) → Contains ps p ↔ IsOccupied m p
 
 -- the position of the vertex with this key
 abbrev pub place : Placement → ℕ → Position

@@ -10,7 +10,7 @@ ghost use Rattle.std.specs.Prelude.{IfSome, IfNone, IfOk, OnOk, OnErr};
 ghost use Rattle.std.specs.Ordering.{nat_cmp};
 ghost use Rattle.std.specs.FinMap as map;
 ghost use Rattle.grid_geometry.specs.Common.{Position};
-ghost use Rattle.vertex_index.specs.Placement.{IsOccupied, AreDistinct, AreInRange};
+ghost use Rattle.vertex_index.specs.Placement.{IsOccupied, AreDistinct, AreInRange, ArePlaces};
 ghost use Rattle.vertex_index.specs.Put.{IsHere, IsNew};
 ghost use Rattle.vertex_index.specs.declared.fault.AddFault.{AddFault};
 ghost use Rattle.vertex_index.specs.declared.fault.ShiftFault.{ShiftFault};
@@ -27,6 +27,7 @@ pub use key::VertexKey;
 use slab::Slab;
 use slot::Slot;
 use std::alloc::{AllocError, Allocator, Global};
+use std::cell::Cell;
 use std::hash::RandomState;
 use std::marker::Model;
 
@@ -38,8 +39,9 @@ type Keys<A> = IndexMap<Pos, VertexKey, RandomState, A>;
 pub struct Vertices<A: Allocator + Copy = Global> {
     slots: Slab<Slot, A>,
     keys: Keys<A>,
-    /// The slot of the vertex that `key_or_add` gave or `shift` moved last. No answer depends on it.
-    last: usize,
+    /// The slot of the vertex that was found by its position, put or moved last, so that who asks for it
+    /// again has it without a hash. No answer depends on it.
+    last: Cell<usize>,
 }
 
 impl<A: Allocator + Copy> Model for Vertices<A> {
@@ -67,7 +69,7 @@ impl<A: Allocator + Copy> Vertices<A> {
         Vertices {
             slots: Slab::new(alloc),
             keys: IndexMap::with_hasher(alloc, seed),
-            last: 0,
+            last: Cell::new(0),
         }
     }
 
@@ -81,7 +83,7 @@ impl<A: Allocator + Copy> Vertices<A> {
         Ok(Vertices {
             slots,
             keys,
-            last: 0,
+            last: Cell::new(0),
         })
     }
 
@@ -105,9 +107,21 @@ impl<A: Allocator + Copy> Vertices<A> {
         ensures absent { IfNone result ((k : ℕ) → map.get self.now k ≢ Some p) }
         ensures distinct { AreDistinct self.now }
     {
-        if self.stands(self.last, p) {
-            return Some(VertexKey::new(self.last));
+        let last = self.last.get();
+        if self.stands(last, p) {
+            return Some(VertexKey::new(last));
         }
+        let key = self.looked_up(p)?;
+        self.last.set(key.index());
+        Some(key)
+    }
+
+    /// The same, by the hash of the position.
+    fn looked_up(&self, p: Pos) -> Option<VertexKey>
+        ensures found { IfSome result (λ k. map.get self.now k ≡ Some p) }
+        ensures absent { IfNone result ((k : ℕ) → map.get self.now k ≢ Some p) }
+        ensures distinct { AreDistinct self.now }
+    {
         self.keys.get(&p).copied()
     }
 
@@ -130,6 +144,13 @@ impl<A: Allocator + Copy> Vertices<A> {
         ensures distinct { AreDistinct self.now }
     {
         self.slots.get(k.index()).unwrap().pos
+    }
+
+    /// The positions of all vertices, in an order that means nothing.
+    pub fn positions(&self) -> &[Pos]
+        ensures { ArePlaces self.now result.now }
+    {
+        self.keys.keys().as_slice()
     }
 
     /// Puts a vertex at a position, under a key that was not held. `Occupied` where a vertex
@@ -160,12 +181,12 @@ impl<A: Allocator + Copy> Vertices<A> {
         ensures absent { OnErr result ((k : ℕ) → map.get self.old k ≢ Some p) }
         ensures err { OnErr result (self.new ≡ self.old) }
     {
-        if let Some(key) = self.beside(self.last, p) {
-            self.last = key.index();
+        if let Some(key) = self.beside(self.last.get(), p) {
+            self.last.set(key.index());
             return Ok(key);
         }
         let (key, _) = self.put(p)?;
-        self.last = key.index();
+        self.last.set(key.index());
         Ok(key)
     }
 
@@ -234,8 +255,9 @@ impl<A: Allocator + Copy> Vertices<A> {
             Ok(Entry::Occupied(_held)) => return Err(ShiftFault::Occupied),
             Err(_) => return Err(ShiftFault::OutOfMemory),
         };
-        self.last = k.index();
-        let slot = self.slots.get_mut(self.last).unwrap();
+        let at = k.index();
+        self.last.set(at);
+        let slot = self.slots.get_mut(at).unwrap();
         slot.pos = q;
         let place = slot.place;
         self.keys.swap_remove_index(place); // the new position, which is the last, takes its place
@@ -264,7 +286,7 @@ impl<A: Allocator + Copy> Vertices<A> {
         Ok(Vertices {
             slots,
             keys,
-            last: self.last,
+            last: Cell::new(self.last.get()),
         })
     }
 }

@@ -1,7 +1,7 @@
 use Rattle.kit_words.proofs.Common.{◌≡◌, [], ◌∷◌, codes, map, refl, on_ok_weaker}
 use Rattle.std.specs.List.{flat_map}
 use Rattle.json_spans.specs.Common.{node}
-use Rattle.geo_topology.specs.Text.{made, rings_in}
+use Rattle.geo_topology.specs.Text.{made, rings_of_piece}
 use Rattle.geo_topology.specs.Copies.{extended}
 use Rattle.geo_topology.specs.Views.{view_chunk, view_made}
 use Rattle.geo_topology.proofs.Texts.{all_put, with_words, made_put}
@@ -9,7 +9,7 @@ use Rattle.geo_topology.proofs.step.put_all.Goals as goal
 
 pub returns : goal.returns
 returns g c =
-    let rings : map node c.put_chunks.new.rings.items ≡ flat_map rings_in (map view_chunk c.args.chunks.now) = rw c.new-rings.ensures.items at c.in_ok-put_chunks.ensures.rings in
+    let rings : map node c.put_chunks.new.rings.items ≡ flat_map rings_of_piece (map view_chunk c.args.chunks.now) = rw c.new-rings.ensures.items at c.in_ok-put_chunks.ensures.rings in
     let mark : view_made c.put.new.self ≡ extended (view_made c.put_chunks.new.made) (made (codes "}},\"arcs\":[") ∷ []) = with_words (view_made c.put_chunks.new.made) (view_made c.put.new.self) _ c.in_ok-put.ensures.text (rw c.in_ok-put.ensures.parts refl) in
     on_ok_weaker c.put-2.result (λ last. all_put (view_made c.args.made.now) (view_made c.put_chunks.new.made) (view_made c.put.new.self) (view_made c.put_arcs.new.made) (view_made c.put-2.new.self) (map view_chunk c.args.chunks.now)
     (rw c.new-rings.ensures.items at c.in_ok-put_chunks.ensures.made) mark

@@ -1,6 +1,6 @@
 use Rattle.kit_words.proofs.Common.{subst, sym, arith}
 use Rattle.ring_parts.specs.Common.{rings_seen}
-use Rattle.ring_boxes.specs.Common.{CoversRings}
+use Rattle.point_queries.specs.Common.{CoversRings}
 use Rattle.point_queries.proofs.RingsCovered.{AreRings, rings_at, next_polygon, all_polygons}
 use Rattle.point_queries.proofs.boxes.add_polygons.Goals as goal
 

@@ -1,6 +1,6 @@
 use Rattle.kit_words.proofs.Common.{take, flat_map}
 use Rattle.ring_parts.specs.Common.{polygons_seen}
-use Rattle.ring_boxes.specs.Common.{CoversRings, KeepsCovered}
+use Rattle.point_queries.specs.Common.{CoversRings, KeepsCovered}
 use Rattle.point_queries.proofs.boxes.add_polygons.Given as goal
 
 -- the rings of the polygons so far lie in the boxes, as do all that did before

@@ -1,7 +1,7 @@
 use Rattle.kit_words.proofs.Common.{◌≡◌, ◌≤◌, true, subst, sym, arith, length}
 use Rattle.ring_machine.specs.Common.{is_distinct}
 use Rattle.ring_machine.proofs.Common.{ring_long, ring_distinct}
-use Rattle.ring_boxes.specs.Common.{IsCovered}
+use Rattle.point_queries.specs.Common.{IsCovered}
 use Rattle.point_queries.proofs.RingsCovered.{ring_at, next_ring, all_rings}
 use Rattle.point_queries.proofs.boxes.add_rings.Goals as goal
 

@@ -1,6 +1,6 @@
 use Rattle.kit_words.proofs.Common.{take}
 use Rattle.ring_parts.specs.Common.{rings_seen}
-use Rattle.ring_boxes.specs.Common.{CoversRings, KeepsCovered}
+use Rattle.point_queries.specs.Common.{CoversRings, KeepsCovered}
 use Rattle.point_queries.proofs.boxes.add_rings.Given as goal
 
 -- the rings so far lie in the boxes, as do all that did before

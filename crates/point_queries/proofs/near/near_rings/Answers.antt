@@ -1,7 +1,7 @@
 use Rattle.kit_words.proofs.Common.{◌≡◌, ◌∙◌, ap, ap₂, sym, subst, [], ◌++◌, Contains, filter, list_any}
 use Rattle.grid_geometry.specs.Common.{Box}
 use Rattle.ring_machine.proofs.Common.{in_permuted}
-use Rattle.ring_boxes.specs.Common.{IsAround}
+use Rattle.point_queries.specs.Common.{IsBoxAround}
 use Rattle.arc_store.specs.Common.{ListsNear}
 use Rattle.point_queries.specs.Common.{AreBehind, HaveOdd, ray_back, ray_to, HavePassed, is_name}
 use Rattle.point_queries.proofs.NearRings.{in_back, in_front, read_back, tells_near}
@@ -11,13 +11,13 @@ use Rattle.point_queries.proofs.near.near_rings.Goals as goal
 pub ray_to-requires-clause-ahead : goal.ray_to-requires-clause-ahead
 ray_to-requires-clause-ahead g c =
     let r : Box = record { x0 = c.bounds.inside.x0; y0 = c.bounds.inside.y0; x1 = c.bounds.inside.x1; y1 = c.bounds.inside.y1 } in
-    let around : IsAround c.args.boxes.now c.args.p r = subst (IsAround c.args.boxes.now c.args.p) (sym c.bounds.view_is) c.in_ok-bounds.ensures in
+    let around : IsBoxAround c.args.boxes.now c.args.p r = subst (IsBoxAround c.args.boxes.now c.args.p) (sym c.bounds.view_is) c.in_ok-bounds.ensures in
     in_front c.args.p r around.has_it c.bounds.invariant.most.across
 
 pub ray_back-requires-clause-behind : goal.ray_back-requires-clause-behind
 ray_back-requires-clause-behind g c =
     let r : Box = record { x0 = c.bounds.inside.x0; y0 = c.bounds.inside.y0; x1 = c.bounds.inside.x1; y1 = c.bounds.inside.y1 } in
-    let around : IsAround c.args.boxes.now c.args.p r = subst (IsAround c.args.boxes.now c.args.p) (sym c.bounds.view_is) c.in_ok-bounds.ensures in
+    let around : IsBoxAround c.args.boxes.now c.args.p r = subst (IsBoxAround c.args.boxes.now c.args.p) (sym c.bounds.view_is) c.in_ok-bounds.ensures in
     in_back c.args.p r around.has_it c.bounds.invariant.least.across
 
 pub rings_behind-requires : goal.rings_behind-requires
@@ -30,7 +30,7 @@ returns g c =
     let d = c.args.map.now.doc in
     let p = c.args.p in
     let r : Box = record { x0 = c.bounds.inside.x0; y0 = c.bounds.inside.y0; x1 = c.bounds.inside.x1; y1 = c.bounds.inside.y1 } in
-    let around : IsAround c.args.boxes.now p r = subst (IsAround c.args.boxes.now p) (sym c.bounds.view_is) c.in_ok-bounds.ensures in
+    let around : IsBoxAround c.args.boxes.now p r = subst (IsBoxAround c.args.boxes.now p) (sym c.bounds.view_is) c.in_ok-bounds.ensures in
     let names = c.in_ok-names.names.items in
     let sorted = c.sort_names.new.names.items in
     let suspects = c.in_ok-suspects.suspects.items in

@@ -4,7 +4,7 @@ use Rattle.std.proofs.Common.{take_all}
 use Rattle.grid_geometry.specs.Common.{edges}
 use Rattle.ring_machine.specs.Common.{has_feature, feature_at}
 use Rattle.point_queries.specs.Common.{IsFaultOf}
-use Rattle.arc_store.specs.Common.{ListsUsers}
+use Rattle.arc_store.specs.Common.{ListsRingNames}
 use Rattle.point_queries.proofs.SharedBorders.{edges_of, shown_number, neighbours_are}
 use Rattle.point_queries.proofs.Sharers.{users_more}
 use Rattle.point_queries.proofs.Shows.{length_shown, count_shown, is_shown}
@@ -50,8 +50,8 @@ returns-clause-found g c =
     let long = c.polygon_count-polygon-end.ensures ∙ length_shown d c.args.f c.in-Some.feature shows in
     let past : length polygons ≤ c.loop-polygon.polygon = omega (arith, long, c.loop-polygon-test.false) in
     let names = c.loop-polygon.names.items in
-    let lists : ListsUsers d (edges_of f) [] names =
-    subst (λ ps. ListsUsers d (flat_map (flat_map edges) ps) [] names) (take_all c.loop-polygon.polygon polygons past) c.loop-polygon.invariant in
+    let lists : ListsRingNames d (edges_of f) [] names =
+    subst (λ ps. ListsRingNames d (flat_map (flat_map edges) ps) [] names) (take_all c.loop-polygon.polygon polygons past) c.loop-polygon.invariant in
     neighbours_are d c.feature.ensures.distinct f c.args.f (shown_number d c.args.f c.in-Some.feature shows) names lists
     c.in_ok-found.found.items c.sort_once.new.found.items
     (c.in_ok-found.ensures ∙ ap (λ z. filter (λ m. not (m == c.args.f)) (map (λ name. name.feature) z)) c.as_slice.ensures.value)

@@ -1,6 +1,6 @@
 use Rattle.kit_words.proofs.Common.{◌≢◌, ◌+◌, ◌++◌, [], ◌∙◌, ap, refl, inl, inr, take, drop, rules, arith, length, ◌≡◌, ◌≤◌, ◌<◌}
 use Rattle.kit_words.proofs.Common.{Consumes-nil, Appends-nil, length-take-le, Appends-trans}
-use Rattle.script_runner.specs.Common.{reader_of, writer_of, devices, Progress}
+use Rattle.script_runner.specs.Common.{reader_of, writer_of, devices, RunProgress}
 use Rattle.script_runner.proofs.StepLemmas.{Feeds-append}
 use Rattle.script_runner.proofs.RunLemmas.{lines_kept, lines_before, all_answered, end_read, part_at_end, part_in_piece, piece_came, whole_came, past_limit, fed_length, lines_in_piece, piece_fits, rest_fits, halts_at}
 use Rattle.script_runner.proofs.running.answer_script.Goals as goal
@@ -108,5 +108,5 @@ loop-n-init g c = record {
   reader = c.requires.reader;
   writer = c.requires.writer;
   sent = inl refl;
-  bytes = ap (λ (p : Progress). p.bytes + 1073741824) c.requires.begins;
+  bytes = ap (λ (p : RunProgress). p.bytes + 1073741824) c.requires.begins;
 }

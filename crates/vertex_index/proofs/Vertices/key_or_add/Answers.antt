@@ -12,10 +12,10 @@ returns-in-Some-clause-found g c j e =
 
 pub returns-in-Some-clause-ok : goal.returns-in-Some-clause-ok
 returns-in-Some-clause-ok g c =
-    c.self.view_is ∙ sym (insert-same c.args.self.now c.in-Some.key c.args.p c.in-Some.ensures)
+    sym (insert-same c.args.self.now c.in-Some.key c.args.p c.in-Some.ensures)
 
 pub returns-in-Some-clause-distinct : goal.returns-in-Some-clause-distinct
-returns-in-Some-clause-distinct g c = distinct _ _ c.self.invariant.0 _ refl
+returns-in-Some-clause-distinct g c = distinct _ _ c.self.invariant.0 _ c.self.view_is
 
 -- ---- it is looked up
 
@@ -31,8 +31,7 @@ returns-clause-key g c =
 
 pub returns-clause-ok : goal.returns-clause-ok
 returns-clause-ok g c =
-    c.self-2.view_is
-    ∙ put_ok c.args.self.now c.put.new.self c.in_ok-key.key c.args.p _
+    put_ok c.args.self.now c.put.new.self c.in_ok-key.key c.args.p _
     c.in_ok-key.ensures.there c.in_ok-key.ensures.new
 
 pub returns-clause-held : goal.returns-clause-held

@@ -4,7 +4,7 @@ use Rattle.arc_tables.specs.Common.{ListsSharing}
 use Rattle.map_frame.specs.declared.names.RingName.{RingName}
 use Rattle.map_frame.specs.Common.{number_at, frame_ring}
 use Rattle.feature_exchange.specs.Common.{stored, stored_document, ring_under}
-use Rattle.arc_store.specs.Common.{ListsNames, ListsUsers}
+use Rattle.arc_store.specs.Common.{ListsNames, ListsRingNames}
 use Rattle.arc_store.proofs.NamedRings.{ring_by_name}
 use Rattle.arc_store.proofs.SharedNames.{users_none, sharing_named, sharing_listed}
 use Rattle.arc_store.proofs.map.Map.push_sharing.Goals as goal
@@ -34,8 +34,8 @@ returns g c =
     let names : ListsNames m.frame.doc numbers old new = subst (λ z. ListsNames m.frame.doc z old new) c.as_slice.ensures.value c.in_ok-push_names.ensures in
     let there : frame_ring (stored_document s) own.feature own.polygon own.ring ≡ Some (ring_under s r) =
     ring_by_name m.frame m.rings.borders m.rings.vertices v.holds.whole own ∙ ap (option_map (ring_under s)) is in
-    subst (λ z. ListsUsers z.doc (edges (unwrap_or (frame_ring z.doc c.args.feature c.args.polygon c.args.ring) [])) old new) c.self.view_is
-    (subst (λ o. ListsUsers (stored_document s) (edges (unwrap_or o [])) old new) (sym there)
+    subst (λ z. ListsRingNames z.doc (edges (unwrap_or (frame_ring z.doc c.args.feature c.args.polygon c.args.ring) [])) old new) c.self.view_is
+    (subst (λ o. ListsRingNames (stored_document s) (edges (unwrap_or o [])) old new) (sym there)
     (sharing_listed m.frame m.rings.borders m.rings.vertices v.holds.whole own r is numbers l old new names))
 
 pub returns-in_default : goal.returns-in_default
@@ -48,5 +48,5 @@ returns-in_default g c =
     let is : number_at m.frame.doc own ≡ None = sym (sym c.in_default.is ∙ c.ring.ensures) in
     let there : frame_ring (stored_document s) own.feature own.polygon own.ring ≡ None =
     ring_by_name m.frame m.rings.borders m.rings.vertices v.holds.whole own ∙ ap (option_map (ring_under s)) is in
-    subst (λ z. ListsUsers z.doc (edges (unwrap_or (frame_ring z.doc c.args.feature c.args.polygon c.args.ring) [])) old old) c.self.view_is
-    (subst (λ o. ListsUsers (stored_document s) (edges (unwrap_or o [])) old old) (sym there) (users_none (stored_document s) old))
+    subst (λ z. ListsRingNames z.doc (edges (unwrap_or (frame_ring z.doc c.args.feature c.args.polygon c.args.ring) [])) old old) c.self.view_is
+    (subst (λ o. ListsRingNames (stored_document s) (edges (unwrap_or o [])) old old) (sym there) (users_none (stored_document s) old))

@@ -1,10 +1,15 @@
-use Rattle.kit_words.proofs.Common.{◌≡◌, subst, IfOk}
+use Rattle.kit_words.proofs.Common.{◌∙◌, ◌++◌, ap, sym, subst}
 use Rattle.ring_machine.specs.Common.{vertices}
+use Rattle.ring_machine.proofs.Common.{sorted_once}
+use Rattle.vertex_index.specs.Common.{ArePlaces}
+use Rattle.feature_exchange.specs.Common.{stored}
+use Rattle.arc_store.proofs.VertexCounts.{vertices_listed}
 use Rattle.arc_store.proofs.map.Map.vertices.Goals as goal
-
-pub read_vertices-requires-clause-distinct : goal.read_vertices-requires-clause-distinct
-read_vertices-requires-clause-distinct g c = c.self.invariant.holds.formed.numbers
 
 pub returns : goal.returns
 returns g c =
-    subst (λ s. IfOk c.read_vertices.result (λ found. found.items ≡ vertices s.doc)) c.self.view_is c.read_vertices.ensures
+    let m = c.self.inside in
+    vertices_listed (stored m.frame m.rings.borders m.rings.vertices) c.self.invariant.holds.whole c.extend_from_slice.new.self.items _
+    (subst (ArePlaces m.rings.vertices) (sym (c.in_ok-extend_from_slice.ensures.items ∙ ap (λ z. z ++ c.positions.result.now) c.new-found.ensures.items)) c.positions.ensures)
+    (sorted_once _ _ _ c.sort_unstable.ensures.permutation c.sort_unstable.ensures.sorted c.dedup.ensures.filtered)
+    ∙ ap (λ s. vertices s.doc) c.self.view_is

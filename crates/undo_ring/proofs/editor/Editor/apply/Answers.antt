@@ -2,7 +2,7 @@ use Rattle.kit_words.proofs.Common.{sym, subst, ap, ◌∙◌, map, is_some}
 use Rattle.edit_records.specs.Common.{documents}
 use Rattle.ring_machine.specs.Common.{KeepsSides}
 use Rattle.arc_store.specs.Common.{record_seen, State}
-use Rattle.undo_ring.specs.Common.{IsReady, touched_by, Edited}
+use Rattle.undo_ring.specs.Common.{HasComing, touched_by, Edited}
 use Rattle.edit_records.specs.Common.{command_of}
 use Rattle.undo_ring.proofs.BoxesKept.{editor_known, ready_at}
 use Rattle.undo_ring.proofs.Recording.{trail_after, applied_after, failed_after, newer_after}
@@ -19,7 +19,7 @@ invariant_of-self g c =
       known = editor_known c.answer_near-answer.new.near c.follow.new.self e.held c.answer_near-answer.new.map
           (documents e.held.places e.held.doc (map record_seen e.records.items)) _ e.records.capacity c.args.command
           (c.answer_near-answer.ensures.known _ c.self.invariant.known) c.answer_near-answer.result c.answer_near-answer.ensures.answers
-          (ready_at e.near c.answer_near-answer.new.near.boxes e.held.doc _ (IsReady e.held.doc (command_of c.args.command)) c.answer_near-answer.result c.self.invariant.known c.answer_near-answer.ensures.ready)
+          (ready_at e.near c.answer_near-answer.new.near.boxes e.held.doc _ (HasComing e.held.doc (command_of c.args.command)) c.answer_near-answer.result c.self.invariant.known c.answer_near-answer.ensures.ready)
           c.take_record-made.new.self c.take_record-made.ensures.taken (is_some c.take_record-made.result) c.is_some.result c.is_some.ensures
           c.touched_by-touched.result (c.touched_by-touched.ensures ∙ ap (λ n. touched_by n (command_of c.args.command)) c.next_number.ensures.next)
           (newer_after record_seen e.held c.answer_near-answer.new.map c.take_record-made.new.self e.records c.keep.new.records c.self.invariant.trail

@@ -1,5 +1,0 @@
-pub mod Coordinates
-pub mod Widening
-pub mod Rings
-pub mod Around
-pub mod Holding

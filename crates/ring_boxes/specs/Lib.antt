@@ -1,3 +1,0 @@
-pub mod Covering
-pub mod Held
-pub mod Common
