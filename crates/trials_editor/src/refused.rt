@@ -269,7 +269,7 @@ const PAST_THE_HOLE: &[(i64, i64)] = &[(0, 0), (3, 7), (10, 10)];
 const VERTICES: &[Row] = &[
     (Call::Move((10, 0), (11, 1)), "done", [4, 0, 1]),
     (Call::Insert((10, 0), (20, 0), (15, 1)), "done", [4, 0, 1]),
-    (Call::Remove((10, 5)), "done", [3, 0, 1]),
+    (Call::Remove((10, 5)), "done", [4, 0, 1]),
     (Call::Thin(0), "thinned 5", [4, 4, 4]),
 ];
 
