@@ -3,5 +3,6 @@ pub mod Fewest
 pub mod Shortest
 pub mod Nearest
 pub mod Trimming
+pub mod Units
 mod Examples
 pub mod Common

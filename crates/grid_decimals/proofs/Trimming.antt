@@ -3,7 +3,8 @@ use Rattle.kit_words.proofs.Common.{◌≡◌, ℕ, ◌+◌, ◌-◌, ◌<◌, �
 use Rattle.kit_words.proofs.Common.{List, [], ◌∷◌, ◌++◌, length, take, reverse, one-add, length-append, length-reverse}
 use Rattle.kit_words.proofs.Common.{reverse-append, append-nil, take_all, length-take, min, ℤ, pos, negsuc, ap₂, ◌+ℤ◌, ◌-ℤ◌, ints, cond-true, cond-false}
 use Rattle.kit_words.proofs.Common.{if◌then◌else◌, ◌==◌, eq-eqb, eqb-true, ne_eqb, nil_from_length, false, eqb-false}
-use Rattle.std.specs.Prelude.{take_while}
+use Rattle.kit_words.proofs.Common.{length-prefix_len, prefix_len, prefix_len-le-length, take_while}
+use Rattle.std.proofs.lemmas.List.Folds.{prefix_len-append}
 use Rattle.json_spans.specs.Common.{is_zero, value_from}
 use Rattle.decimal_texts.proofs.Values.{value_from-append}
 use Rattle.decimal_texts.proofs.Cutting.{take-append}
@@ -12,32 +13,21 @@ use Rattle.grid_decimals.specs.Common.{without_zeros_behind, zeros_at_end}
 -- ---- what passes a test at the begin of two rows
 
 pub passing_most : (p : ℕ → Bool) (xs : List ℕ) → length (take_while p xs) ≤ length xs
-passing_most p [] = omega arith
-passing_most p (x ∷ xs) =
-    elim (cases_Bool (p x)) [
-      | inl e ↦ rw e (omega (arith, passing_most p xs))
-      | inr e ↦ rw e (omega arith)
-    ]
+passing_most p xs = omega (arith, length-prefix_len p xs, prefix_len-le-length p xs)
 
 passing_both : (p : ℕ → Bool) (xs ys : List ℕ) → length (take_while p xs) ≡ length xs
     → length (take_while p (xs ++ ys)) ≡ length xs + length (take_while p ys)
-passing_both p [] ys h = refl
-passing_both p (x ∷ xs) ys h =
-    elim (cases_Bool (p x)) [
-      | inl e ↦ (let whole : length (take_while p xs) ≡ length xs = omega (arith, rw e at h) in
-          rw e (omega (arith, passing_both p xs ys whole)))
-      | inr e ↦ absurd (omega (arith, rw e at h))
-    ]
+passing_both p xs ys h =
+    let whole : prefix_len p xs ≡ length xs = sym (length-prefix_len p xs) ∙ h in
+    length-prefix_len p (xs ++ ys) ∙ (prefix_len-append p xs ys
+    ∙ (cond-true _ _ _ (eq-eqb (prefix_len p xs) (length xs) whole) ∙ ap (λ n. length xs + n) (sym (length-prefix_len p ys))))
 
 passing_first : (p : ℕ → Bool) (xs ys : List ℕ) → length (take_while p xs) < length xs
     → length (take_while p (xs ++ ys)) ≡ length (take_while p xs)
-passing_first p [] ys h = absurd (omega arith)
-passing_first p (x ∷ xs) ys h =
-    elim (cases_Bool (p x)) [
-      | inl e ↦ (let some : length (take_while p xs) < length xs = omega (arith, rw e at h) in
-          rw (e, e) (omega (arith, passing_first p xs ys some)))
-      | inr e ↦ rw (e, e) refl
-    ]
+passing_first p xs ys h =
+    let part : prefix_len p xs ≡ length xs → ⊥ = λ e. absurd (omega (arith, h, e, length-prefix_len p xs)) in
+    length-prefix_len p (xs ++ ys) ∙ (prefix_len-append p xs ys
+    ∙ (cond-false _ _ _ (ne_eqb (prefix_len p xs) (length xs) part) ∙ sym (length-prefix_len p xs)))
 
 -- ---- zeros behind
 
