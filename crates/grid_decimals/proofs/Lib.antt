@@ -1,8 +1,11 @@
 pub mod Powers
 pub mod Fewest
 pub mod Shortest
+pub mod Axes
 pub mod Nearest
+pub mod Padding
 pub mod Trimming
 pub mod Units
+pub mod Grids
 mod Examples
 pub mod Common

@@ -1,23 +1,10 @@
 -- Rounding by a quotient, and that no width cuts off what is computed.
 use mir.Syntax.{w64, w128}
 use mir.Val.{SFits, of_z, to_z}
-use Rattle.kit_words.proofs.Common.{◌≡◌, ℕ, ◌+◌, ◌-◌, ◌*◌, ◌<◌, ◌≤◌, ◌^◌, refl, ap, ap₂, sym, ◌∙◌, arith, ℤ, pos}
-use Rattle.kit_words.proofs.Common.{negsuc, ◌+ℤ◌, ◌*ℤ◌, unsigned_abs, int_div_euclid, ints, fits_signed_mul, to_z-of_z}
+use Rattle.kit_words.proofs.Common.{◌≡◌, ℕ, ◌+◌, ◌-◌, ◌*◌, ◌/◌, ◌<◌, ◌≤◌, ◌^◌, refl, ap, ap₂, sym, ◌∙◌, arith, ℤ, pos}
+use Rattle.kit_words.proofs.Common.{negsuc, ◌+ℤ◌, ◌*ℤ◌, unsigned_abs, int_div_euclid, ints}
 use Rattle.grid_decimals.specs.Common.{nearest}
 use Rattle.grid_decimals.proofs.Powers.{power_mono, power_pos}
-
--- ---- a product and a sum
-
-number_fits : (n : ℤ) → unsigned_abs n ≤ 10 ^ 12 → SFits w64 n
-number_fits (pos n) h = omega (arith, ints)
-number_fits (negsuc n) h = omega (arith, ints)
-
-wide_fits : (z : ℤ) → unsigned_abs z ≤ 10 ^ 37 → SFits w128 z
-wide_fits (pos n) h = omega (arith, ints)
-wide_fits (negsuc n) h = omega (arith, ints)
-
-pub product_fits : (n s : ℤ) → unsigned_abs n ≤ 10 ^ 12 → unsigned_abs s ≤ 10 ^ 25 → SFits w128 (n *ℤ s)
-product_fits n s h k = fits_signed_mul w128 n s (10 ^ 12) (10 ^ 25) h k (omega arith)
 
 -- ---- the nearest
 
@@ -48,7 +35,10 @@ quotient_is fewer u z q e low le h k =
 -- where no decimal is left out nothing is rounded
 same_quotient : (z : ℤ) → z ≡ int_div_euclid (pos 2 *ℤ z +ℤ pos 1) (pos 2)
 same_quotient (pos n) = omega (arith, ints)
-same_quotient (negsuc n) = omega (arith, ints)
+same_quotient (negsuc n) =
+    let odd : pos 2 *ℤ negsuc n +ℤ pos 1 ≡ negsuc (2 * n) = omega (arith, ints) in
+    let half : n ≡ 2 * n / 2 = omega arith in
+    ap negsuc half ∙ ap (λ w. int_div_euclid w (pos 2)) (sym odd)
 
 pub nearest_same : (fewer : ℕ) (z : ℤ) → fewer ≡ 0 → (k : ℕ) → z ≡ nearest (k + fewer) k z
 nearest_same fewer z e k =
