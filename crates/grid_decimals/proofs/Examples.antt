@@ -1,5 +1,5 @@
 -- Coordinates as decimals, worked out.
-use Rattle.kit_words.proofs.Common.{refl, arith, ◌≡◌, ℕ, ℤ, pos, negsuc, ◌*◌, List, Option, Some, None, option_map, codes, true, false}
+use Rattle.kit_words.proofs.Common.{refl, arith, ◌≡◌, ℕ, ℤ, pos, negsuc, ◌*◌, List, Option, Some, option_map, codes}
 use Rattle.kit_words.proofs.Common.{digits}
 use Rattle.json_spans.specs.Common.{value_from}
 use Rattle.decimal_texts.specs.Common.{parts_of}

@@ -1,10 +1,9 @@
 -- Rounding by a quotient, and that no width cuts off what is computed.
-use mir.Syntax.{w64, w128}
+use mir.Syntax.{w128}
 use mir.Val.{SFits, of_z, to_z}
-use Rattle.kit_words.proofs.Common.{◌≡◌, ℕ, ◌+◌, ◌-◌, ◌*◌, ◌/◌, ◌<◌, ◌≤◌, ◌^◌, refl, ap, ap₂, sym, ◌∙◌, arith, ℤ, pos}
+use Rattle.kit_words.proofs.Common.{◌≡◌, ℕ, ◌+◌, ◌-◌, ◌*◌, ◌/◌, ◌≤◌, ◌^◌, ap, ap₂, sym, ◌∙◌, arith, ℤ, pos}
 use Rattle.kit_words.proofs.Common.{negsuc, ◌+ℤ◌, ◌*ℤ◌, unsigned_abs, int_div_euclid, ints}
 use Rattle.grid_decimals.specs.Common.{nearest}
-use Rattle.grid_decimals.proofs.Powers.{power_mono, power_pos}
 
 -- ---- the nearest
 

@@ -1,8 +1,8 @@
 -- Digits without the zeros behind them, where they stand in two rows.
-use Rattle.kit_words.proofs.Common.{◌≡◌, ℕ, ◌+◌, ◌-◌, ◌<◌, ◌≤◌, refl, ap, sym, ◌∙◌, arith, Bool, true, inl, inr, cases_Bool}
-use Rattle.kit_words.proofs.Common.{List, [], ◌∷◌, ◌++◌, length, take, reverse, one-add, length-append, length-reverse}
+use Rattle.kit_words.proofs.Common.{◌≡◌, ℕ, ◌+◌, ◌-◌, ◌<◌, ◌≤◌, ap, sym, ◌∙◌, arith, Bool, inl, inr, cases_Bool}
+use Rattle.kit_words.proofs.Common.{List, ◌++◌, length, take, reverse, length-append, length-reverse}
 use Rattle.kit_words.proofs.Common.{reverse-append, append-nil, take_all, length-take, min, ℤ, pos, negsuc, ap₂, ◌+ℤ◌, ◌-ℤ◌, ints, cond-true, cond-false}
-use Rattle.kit_words.proofs.Common.{if◌then◌else◌, ◌==◌, eq-eqb, eqb-true, ne_eqb, nil_from_length, false, eqb-false}
+use Rattle.kit_words.proofs.Common.{if◌then◌else◌, ◌==◌, eq-eqb, eqb-true, ne_eqb, nil_from_length, eqb-false}
 use Rattle.kit_words.proofs.Common.{length-prefix_len, prefix_len, prefix_len-le-length, take_while}
 use Rattle.std.proofs.lemmas.List.Folds.{prefix_len-append}
 use Rattle.json_spans.specs.Common.{is_zero, value_from}

@@ -1,7 +1,7 @@
 -- A number in units of its last decimal: what the code computes, and how large it is.
 use mir.Syntax.{w128}
 use mir.Val.{of_z, to_z}
-use Rattle.kit_words.proofs.Common.{◌≡◌, ℕ, zero, suc, ◌+◌, ◌-◌, ◌*◌, ◌<◌, ◌≤◌, ◌^◌, Bool, true, false, refl, ap, ap₂, subst, sym, ◌∙◌}
+use Rattle.kit_words.proofs.Common.{◌≡◌, ℕ, zero, suc, ◌*◌, ◌<◌, ◌≤◌, ◌^◌, Bool, true, false, refl, ap, ap₂, subst, sym, ◌∙◌}
 use Rattle.kit_words.proofs.Common.{List, ◌++◌, length, ◌==◌, if◌then◌else◌, arith, ℤ, pos, negsuc, ◌+ℤ◌, ◌-ℤ◌, unsigned_abs, ints}
 use Rattle.json_spans.specs.Common.{value_from}
 use Rattle.json_spans.proofs.Decimal.{grows}

@@ -1,6 +1,6 @@
 -- From the whole numbers of a grid to coordinates (TopoJSON 1.0, 2.1.2), in units of their last decimal.
-use Rattle.std.specs.Prelude.{◌≡◌, ℕ, ℤ, pos, ◌*◌, ◌^◌, ◌+ℤ◌, ◌*ℤ◌, ◌-◌, ◌==◌, ◌&&◌, nat_le, unsigned_abs, max, min, Bool, true, false, not, if◌then◌else◌}
-use Rattle.std.specs.Prelude.{List, [], ◌∷◌, ◌++◌, Option, Some, None, codes, int_lt}
+use Rattle.std.specs.Prelude.{ℕ, ℤ, pos, ◌*◌, ◌^◌, ◌+ℤ◌, ◌*ℤ◌, ◌-◌, ◌==◌, ◌&&◌, nat_le, unsigned_abs, max, Bool, true, false, not, if◌then◌else◌}
+use Rattle.std.specs.Prelude.{List, [], ◌∷◌, Option, Some, None, codes, int_lt}
 use Rattle.std.specs.List.{flat_map}
 use Rattle.std.specs.Int.{int_div_euclid}
 use Rattle.json_spans.specs.Common.{Node, items}

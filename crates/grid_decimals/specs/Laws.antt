@@ -1,9 +1,9 @@
 -- What holds of the numbers that are written.
-use Rattle.std.specs.Prelude.{◌≡◌, ℕ, ℤ, pos, ◌≤◌, ◌*◌, ◌^◌, ◌-◌, ◌-ℤ◌, ◌*ℤ◌, unsigned_abs, Option, Some, option_map, IsTrue, int_lt}
+use Rattle.std.specs.Prelude.{◌≡◌, ℕ, ℤ, pos, ◌≤◌, ◌*◌, ◌^◌, ◌-◌, ◌-ℤ◌, ◌*ℤ◌, unsigned_abs, Some, option_map, IsTrue, int_lt}
 use Rattle.decimal_texts.specs.Common.{parts_of}
 use Rattle.grid_decimals.specs.Number.{units_of}
 use Rattle.grid_decimals.specs.Written.{number_text}
-use Rattle.grid_decimals.specs.Grid.{AxisOf, GridOf, coordinate_of, nearest}
+use Rattle.grid_decimals.specs.Grid.{AxisOf, coordinate_of, nearest}
 
 -- the text of so many units of 10^-k is read as so many again
 abbrev pub IsReadBack : ℕ → ℤ → Type 0

@@ -1,5 +1,5 @@
 -- How a number of so many decimals is written: as few digits as it has, and no exponent (RFC 8259, 6).
-use Rattle.std.specs.Prelude.{ℕ, zero, suc, ℤ, pos, ◌-◌, ◌/◌, ◌%◌, ◌^◌, ◌==◌, int_lt, unsigned_abs, Bool, if◌then◌else◌, List, [], ◌++◌, length, replicate, codes}
+use Rattle.std.specs.Prelude.{ℕ, zero, suc, ℤ, pos, ◌-◌, ◌/◌, ◌%◌, ◌^◌, ◌==◌, int_lt, unsigned_abs, if◌then◌else◌, List, [], ◌++◌, length, replicate, codes}
 use Rattle.std.specs.Fmt.{decimal}
 
 -- so many units of 10^-k with as few decimals as they have: how many decimals these are, and how many units of the last

@@ -26,7 +26,7 @@ returns c =
     record {
       sign = refl;
       size = c.in_ok-size.ensures.value ∙ (ap (λ n. value_from n vs) c.in_ok-read_digits.ensures.value
-      ∙ sym (kept_size xs ys us vs c.without_zeros_behind-fraction.ensures.value c.kept_integer-kept.ensures.value));
+          ∙ sym (kept_size xs ys us vs c.without_zeros_behind-fraction.ensures.value c.kept_integer-kept.ensures.value));
       power = power_is c.args.exponent c.from.result xs ys us vs same c.requires (omega arith) (omega arith) (omega arith)
-      c.without_zeros_behind-fraction.ensures.value c.kept_integer-kept.ensures.value;
+          c.without_zeros_behind-fraction.ensures.value c.kept_integer-kept.ensures.value;
     }

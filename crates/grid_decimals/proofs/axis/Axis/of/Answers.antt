@@ -30,11 +30,12 @@ returns c = λ p q h k.
     let s : c.in_ok-scale.scale ≡ units_of c.args.decimals p = c.in_ok-scale.ensures p h in
     let t : c.in_ok-translate.translate ≡ units_of c.args.decimals q = c.in_ok-translate.ensures q k in
     let fits : SFits w128 c.in_ok-scale.scale = search rules in
-    let fits_too : SFits w128 c.in_ok-translate.translate = search rules in
-    (same_axis c.args.decimals p q _ _ (to_z-of_z w128 c.in_ok-scale.scale fits ∙ s) (to_z-of_z w128 c.in_ok-translate.translate fits_too ∙ t),
-    fits_both (axis_of c.args.decimals p q) c.unsigned_abs.result c.unsigned_abs-else-unsigned_abs-gt-MOST_SCALE.result
-    (size_is c.in_ok-scale.scale _ c.unsigned_abs.result fits c.unsigned_abs.ensures.value s)
-    (size_is c.in_ok-translate.translate _ c.unsigned_abs-else-unsigned_abs-gt-MOST_SCALE.result fits_too
-    c.unsigned_abs-else-unsigned_abs-gt-MOST_SCALE.ensures.value t)
-    (some_size c.in_ok-scale.scale _ c.if-scale-eq0.false s)
-    c.if-unsigned_abs-gt-MOST_SCALE.false c.if-unsigned_abs-gt-MOST_TRANSLATE.false)
+    let fits_too : SFits w128 c.in_ok-translate.translate = search rules in (
+      same_axis c.args.decimals p q _ _ (to_z-of_z w128 c.in_ok-scale.scale fits ∙ s) (to_z-of_z w128 c.in_ok-translate.translate fits_too ∙ t),
+      fits_both (axis_of c.args.decimals p q) c.unsigned_abs.result c.unsigned_abs-else-unsigned_abs-gt-MOST_SCALE.result
+          (size_is c.in_ok-scale.scale _ c.unsigned_abs.result fits c.unsigned_abs.ensures.value s)
+          (size_is c.in_ok-translate.translate _ c.unsigned_abs-else-unsigned_abs-gt-MOST_SCALE.result fits_too
+          c.unsigned_abs-else-unsigned_abs-gt-MOST_SCALE.ensures.value t)
+          (some_size c.in_ok-scale.scale _ c.if-scale-eq0.false s)
+          c.if-unsigned_abs-gt-MOST_SCALE.false c.if-unsigned_abs-gt-MOST_TRANSLATE.false,
+    )
