@@ -7,5 +7,7 @@ pub mod Padding
 pub mod Trimming
 pub mod Units
 pub mod Grids
+pub mod Laws
+pub mod ReadBack
 mod Examples
 pub mod Common

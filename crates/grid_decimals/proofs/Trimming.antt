@@ -57,7 +57,7 @@ trimmed_second xs ys h =
     ap (λ n. take n (xs ++ ys)) left ∙ (take-append (length xs + (length ys - zeros_at_end ys)) xs ys
     ∙ (ap (λ n. take (length xs + (length ys - zeros_at_end ys)) xs ++ take n ys) more ∙ ap (λ zs. zs ++ without_zeros_behind ys) all))
 
-length_trimmed : (ds : List ℕ) → length (without_zeros_behind ds) ≡ length ds - zeros_at_end ds
+pub length_trimmed : (ds : List ℕ) → length (without_zeros_behind ds) ≡ length ds - zeros_at_end ds
 length_trimmed ds =
     let short : length (without_zeros_behind ds) ≡ min (length ds - zeros_at_end ds) (length ds) = length-take (length ds - zeros_at_end ds) ds in
     omega arith
