@@ -51,8 +51,8 @@ all_decimals = refl
 
 -- ---- how many decimals
 
--- a scale of 3600036000360004 units of 10^-19: four decimals keep positions apart, and six vertices on their sides where
--- no segment is longer than 20
+-- a scale of 3600036000360004 units of 10^-19: four decimals keep positions apart, and six vertices on their sides
+-- where no segment is longer than 20
 apart : fewest 19 1 3600036000360004 ≡ 4
 unfolding fewest
 apart = refl

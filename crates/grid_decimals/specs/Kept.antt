@@ -15,7 +15,7 @@ least_scale g = min (unsigned_abs g.x.scale) (unsigned_abs g.y.scale)
 abbrev pub least_decimals : GridOf → ℕ
 least_decimals g = fewest g.decimals 1 (least_scale g)
 
--- as few decimals as keep each vertex on its side of each segment, where no segment is wider or higher than this: 16 times
--- as many units of the last decimal are at most one of the grid; all decimals, where these don't do
+-- as few decimals as keep each vertex on its side of each segment, where no segment is wider or higher than this: 16
+-- times as many units of the last decimal are at most one of the grid; all decimals, where these don't do
 abbrev pub safe_decimals : ℕ → GridOf → ℕ
 safe_decimals longest g = fewest g.decimals (16 * max 1 longest) (least_scale g)

@@ -51,8 +51,8 @@ fn exponent_of(bytes: &[u8]) -> Option<i64>
     }
 }
 
-/// The digits before a point, where these stand behind it without the zeros behind them: where there are none, they lose
-/// theirs too.
+/// The digits before a point that are kept, where these are kept behind it: all of them, or where none are kept behind
+/// it, those before the zeros at their end.
 fn kept_integer<'a>(integer: &'a [u8], fraction: &[u8]) -> &'a [u8]
     ensures value { result.now ≡ (if length fraction.now == 0 then without_zeros_behind integer.now
         else integer.now) }
