@@ -1,5 +1,5 @@
 -- The layer that is written, and its FeatureCollection up to the list of its Features (RFC 7946, 3.3).
-use Rattle.std.specs.Prelude.{ℕ, ◌+◌, ◌-◌, Bool, true, false, not, ◌||◌, ◌&&◌, is_some, if◌then◌else◌, List, [], ◌∷◌, ◌++◌, length, map, filter, take, drop, codes}
+use Rattle.std.specs.Prelude.{◌≡◌, ℕ, ◌+◌, ◌-◌, Bool, true, false, not, ◌||◌, ◌&&◌, is_some, if◌then◌else◌, List, [], ◌∷◌, ◌++◌, length, map, filter, take, drop, codes}
 use Rattle.std.specs.Prelude.{Option, Some, None, Result, Ok, Err}
 use Rattle.std.specs.List.{list_any, sum_by}
 use Rattle.std.specs.Str.{bytes_eq}
@@ -65,6 +65,10 @@ same_text t u = false
 
 abbrev pub has_named : List Member → Text → Bool
 has_named ms token = list_any (λ m. same_text (decoded m.name) (decoded token)) ms
+
+-- these are the texts that the names of members stand for
+abbrev pub HasNames : (Text → Bool) → List Member → Type 0
+HasNames is_there ms = (t : Text) → is_there t ≡ list_any (λ m. same_text (decoded m.name) (Some t)) ms
 
 -- the collection has a member of this name already
 abbrev pub has_already : Head → Text → Bool

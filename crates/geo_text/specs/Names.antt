@@ -47,13 +47,19 @@ unless_wrong (Some m) a = Err (of_map (bad_member (unquoted m.name)))
 abbrev pub feature_members : List Text → List Member → Result (List Member) GeoFault
 feature_members words ms = unless_wrong (first_of words ms) (filter (λ m. not (is_geometry m.name)) ms)
 
+-- those of an object, once its names are tested
+abbrev pub tested_members : Text → Result (List Member) GeoFault
+tested_members object = do
+  ms ← of_opening (members_of (record { at_byte = 0; bytes = object }))
+  Ok (map kept_text ms)
+
 -- those of the object that is the value of this member
 abbrev pub members_in : Option Member → Result (List Member) GeoFault
 members_in None = Ok []
 members_in (Some m) = demand (is_object (record { at_byte = 0; bytes = m.value })) (of_map (bad_member (unquoted m.name)))
     (do
-      ms ← of_opening (members_of (record { at_byte = 0; bytes = m.value }))
-      unless_wrong (first_of not_of_geometry (map kept_text ms)) (map kept_text ms))
+      ms ← tested_members m.value
+      unless_wrong (first_of not_of_geometry ms) ms)
 
 -- those that stand in the geometry of a Feature: those of its member `geometry`
 abbrev pub geometry_members : List Member → Result (List Member) GeoFault

@@ -1,7 +1,8 @@
 // The members of Features and of their geometries.
-ghost use Rattle.std.specs.Prelude.{◌≡◌, map, IfOk};
+ghost use Rattle.std.specs.Prelude.{◌≡◌, filter, map, not, IfOk, Some};
+ghost use Rattle.std.specs.List.{list_all};
 ghost use Rattle.topo_outline.specs.Common.{view_head, view_kept};
-ghost use Rattle.geo_text.specs.Names.{feature_members, geometry_members, is_bare};
+ghost use Rattle.geo_text.specs.Names.{feature_members, geometry_members, is_bare, is_geometry, members_in};
 ghost use Rattle.geo_text.specs.Gives.{Gives};
 
 use crate::fault::ExportFault;
@@ -11,11 +12,15 @@ use std::alloc::{AllocError, Allocator, Global};
 use topo_outline::{Head, KeptMember};
 
 /// The members but `geometry`.
+#[tactic(auto, using(crate::proofs::Naming::own_step, crate::proofs::Naming::own_end))]
 fn without_geometry<'a, A: Allocator + Copy>(
     alloc: A,
     heap: Global,
     members: &[KeptMember<'a>],
-) -> Result<Vec<KeptMember<'a>, A>, AllocError> {
+) -> Result<Vec<KeptMember<'a>, A>, AllocError>
+    ensures { IfOk result (λ v. map view_kept v.items
+        ≡ filter (λ m. not (is_geometry m.name)) (map view_kept members.now)) }
+{
     let mut own = Vec::new(alloc);
     for member in members {
         if !is_one_of(heap, GEOMETRY, member.name)? {
@@ -46,7 +51,9 @@ fn members_in<'a, A: Allocator + Copy>(
     alloc: A,
     heap: Global,
     member: KeptMember<'a>,
-) -> Result<Vec<KeptMember<'a>, A>, ExportFault<'a>> {
+) -> Result<Vec<KeptMember<'a>, A>, ExportFault<'a>>
+    ensures { Gives (λ v. map view_kept v.items) result (members_in (Some (view_kept member.entry))) }
+{
     let value = Span {
         text: member.value,
         at: 0,
@@ -76,7 +83,11 @@ pub(crate) fn geometry_members<'a, A: Allocator + Copy>(
 }
 
 /// Whether all members are `geometry`.
-fn are_geometries(heap: Global, members: &[KeptMember<'_>]) -> Result<bool, AllocError> {
+#[tactic(auto, using(crate::proofs::Naming::all_step, crate::proofs::Naming::all_end))]
+fn are_geometries(heap: Global, members: &[KeptMember<'_>]) -> Result<bool, AllocError>
+    ensures { IfOk result (λ are. are
+        ≡ list_all (λ m. is_geometry m.name) (map view_kept members.now)) }
+{
     for member in members {
         if !is_one_of(heap, GEOMETRY, member.name)? {
             return Ok(false);

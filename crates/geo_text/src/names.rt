@@ -1,13 +1,15 @@
 // Names of members, by the texts that they stand for (RFC 8259, 7).
-ghost use Rattle.std.specs.Prelude.{◌≡◌, ◌||◌, List, ℕ, map, not, IfOk, OnOk, option_map, string_bytes};
+ghost use Rattle.std.specs.Prelude.{◌≡◌, ◌||◌, List, ℕ, map, not, Err, IfOk, OnOk, Some, option_map, string_bytes};
 ghost use Rattle.std.specs.BTreeSet.{contains_text};
 ghost use Rattle.std.specs.Str.{bytes_eq};
 ghost use Rattle.std.specs.List.{list_any};
-ghost use Rattle.json_spans.specs.Common.{node};
-ghost use Rattle.topo_outline.specs.Common.{kept_text, members_of, unquoted, view_kept};
-ghost use Rattle.geo_text.specs.Names.{first_of, is_one_of};
-ghost use Rattle.geo_text.specs.Faults.{of_opening};
-ghost use Rattle.geo_text.specs.Gives.{Gives};
+ghost use Rattle.json_spans.specs.Common.{decoded};
+ghost use Rattle.topo_outline.specs.Common.{bad_member, name_text, unquoted, view_kept};
+ghost use Rattle.ring_machine.specs.Common.{Text};
+ghost use Rattle.geo_text.specs.Names.{first_of, is_one_of, tested_members};
+ghost use Rattle.geo_text.specs.Layer.{HasNames, same_text};
+ghost use Rattle.geo_text.specs.Faults.{of_map, of_opening};
+ghost use Rattle.geo_text.specs.Gives.{Gives, IsGeoFault};
 
 use crate::fault::ExportFault;
 use json_spans::{Span, TextFault, members, text};
@@ -58,7 +60,9 @@ fn unquoted(token: &[u8]) -> &[u8]
 }
 
 /// The fault of a map with a wrong member.
-pub(crate) fn bad_member<'a>(name: &'a [u8]) -> ExportFault<'a> {
+pub(crate) fn bad_member<'a>(name: &'a [u8]) -> ExportFault<'a>
+    ensures { IsGeoFault {Y = Text} result (Err (of_map (bad_member (unquoted name.now)))) }
+{
     ExportFault::Open(OpenFault::BadMember {
         name: Token {
             text: unquoted(name),
@@ -67,9 +71,12 @@ pub(crate) fn bad_member<'a>(name: &'a [u8]) -> ExportFault<'a> {
 }
 
 /// Whether a text is one of these.
-fn is_among(words: &[&str], text: &str) -> bool {
+#[tactic(auto, using(crate::proofs::Naming::any_step, crate::proofs::Naming::any_end))]
+fn is_among(words: &[&str], text: &str) -> bool
+    ensures { result ≡ list_any (λ word. bytes_eq text.now word) (map (λ word. word.now) words.now) }
+{
     for word in words {
-        if *word == text {
+        if text == *word {
             return true;
         }
     }
@@ -88,6 +95,7 @@ pub(crate) fn is_one_of(heap: Global, words: &[&str], token: &[u8]) -> Result<bo
 }
 
 /// The first member whose name is one of these.
+#[tactic(auto, using(crate::proofs::Naming::first_step, crate::proofs::Naming::first_end))]
 pub(crate) fn first_of<'a>(
     heap: Global,
     words: &[&str],
@@ -118,29 +126,15 @@ fn note<A: Allocator + Copy>(seen: &mut Names<A>, name: String) -> Result<bool, 
 }
 
 /// The text that a name stands for.
-fn decoded<'a>(heap: Global, name: &'a [u8]) -> Result<String, ExportFault<'a>> {
+fn decoded<'a>(heap: Global, name: &'a [u8]) -> Result<String, ExportFault<'a>>
+    ensures { Gives string_bytes result
+        (of_opening (name_text (record { at_byte = 0; bytes = name.now }))) }
+{
     match text(heap, Span { text: name, at: 0 }) {
         Ok(decoded) => Ok(decoded),
         Err(TextFault::BadText) => Err(bad_member(name)),
         Err(TextFault::OutOfMemory) => Err(ExportFault::Open(OpenFault::OutOfMemory)),
     }
-}
-
-/// Tests a name against those before it.
-fn see_name<'a, A: Allocator + Copy>(
-    heap: Global,
-    seen: &mut Names<A>,
-    name: &'a [u8],
-) -> Result<(), ExportFault<'a>> {
-    let text = or_return!(decoded(heap, name));
-    if note(seen, text)? {
-        return Ok(());
-    }
-    Err(ExportFault::Open(OpenFault::Duplicate {
-        name: Token {
-            text: unquoted(name),
-        },
-    }))
 }
 
 /// The members of an object in order, once its names are tested: the first that stands for no text, or for the same text
@@ -150,22 +144,48 @@ pub(crate) fn members_of<'a, A: Allocator + Copy>(
     heap: Global,
     object: &'a [u8],
 ) -> Result<Vec<KeptMember<'a>, A>, ExportFault<'a>>
-    ensures { Gives (λ v. map view_kept v.items) result
-        (of_opening (members_of (record { at_byte = 0; bytes = object.now }))) }
+    ensures { Gives (λ v. map view_kept v.items) result (tested_members object.now) }
 {
     let mut seen: Names<A> = BTreeSet::new(alloc);
     let mut found = Vec::new(alloc);
-    for (name, value) in members(Span {
+    for member in members(Span {
         text: object,
         at: 0,
     }) {
-        or_return!(see_name(heap, &mut seen, name.text));
+        let decoded = or_return!(decoded(heap, member.0.text));
+        let new = note(&mut seen, decoded)?;
+        if !new {
+            return Err(ExportFault::Open(OpenFault::Duplicate {
+                name: Token {
+                    text: unquoted(member.0.text),
+                },
+            }));
+        }
         found.push(KeptMember {
-            name: name.text,
-            value: value.text,
+            name: member.0.text,
+            value: member.1.text,
         })?;
     }
     Ok(found)
+}
+
+/// Puts the text that a name stands for to those seen; one that stands for none adds nothing.
+fn note_name<A: Allocator + Copy>(
+    heap: Global,
+    names: &mut Names<A>,
+    name: &[u8],
+) -> Result<(), AllocError>
+    ensures { OnOk result ((t : List ℕ) → contains_text names.new t
+        ≡ (same_text (decoded name.now) (Some t) || contains_text names.old t)) }
+{
+    match text(heap, Span { text: name, at: 0 }) {
+        Ok(decoded) => {
+            note(names, decoded)?;
+            Ok(())
+        }
+        Err(TextFault::BadText) => Ok(()),
+        Err(TextFault::OutOfMemory) => Err(AllocError),
+    }
 }
 
 /// The texts that the names of these members stand for.
@@ -173,22 +193,12 @@ pub(crate) fn names_of<A: Allocator + Copy>(
     alloc: A,
     heap: Global,
     members: &[KeptMember<'_>],
-) -> Result<Names<A>, AllocError> {
+) -> Result<Names<A>, AllocError>
+    ensures { IfOk result (λ names. HasNames (contains_text names) (map view_kept members.now)) }
+{
     let mut names: Names<A> = BTreeSet::new(alloc);
     for member in members {
-        match text(
-            heap,
-            Span {
-                text: member.name,
-                at: 0,
-            },
-        ) {
-            Ok(decoded) => {
-                note(&mut names, decoded)?;
-            }
-            Err(TextFault::BadText) => {}
-            Err(TextFault::OutOfMemory) => return Err(AllocError),
-        }
+        note_name(heap, &mut names, member.name)?;
     }
     Ok(names)
 }

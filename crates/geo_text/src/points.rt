@@ -1,7 +1,7 @@
 // The texts of points (RFC 7946, 3.1.2 and 3.1.3).
 ghost use Rattle.std.specs.Prelude.{◌≡◌, ◌≤◌, ◌^◌, false, filter, find, map, not, option_map, unsigned_abs, IfOk};
 ghost use Rattle.json_spans.specs.Common.{members, node, nodes};
-ghost use Rattle.topo_outline.specs.Common.{view_kept};
+ghost use Rattle.topo_outline.specs.Common.{are_lists, view_kept};
 ghost use Rattle.decimal_texts.specs.Common.{says};
 ghost use Rattle.geo_text.specs.Names.{is_one_of};
 ghost use Rattle.geo_text.specs.Points.{are_positions, known_of_point, member_of_pair, number_at, placed_text, point_number};
@@ -12,6 +12,7 @@ ghost use Rattle.geo_text.specs.Gives.{Appends, Gives};
 use crate::fault::ExportFault;
 use crate::names::{bad_member, is_one_of};
 use crate::style::Style;
+use crate::texts::push_comma;
 use decimal_texts::has_type;
 use json_spans::{Kind, NotWhole, Span, at, bytes, items, kind, members, whole};
 use std::alloc::{AllocError, Allocator, Global};
@@ -46,7 +47,8 @@ fn named<'a>(
         ≡ find (λ m. says name.now m.0) (members (node object.entry))) }
 {
     for member in members(object) {
-        if is_one_of(heap, &[name], member.0.text)? {
+        let is_named = is_one_of(heap, &[name], member.0.text)?;
+        if is_named {
             return Ok(Some(member));
         }
     }
@@ -74,11 +76,12 @@ fn kept<'a, A: Allocator + Copy>(
         (map member_of_pair (members (node object.entry)))) }
 {
     let mut found = Vec::new(alloc);
-    for (name, value) in members(object) {
-        if !is_one_of(heap, KNOWN, name.text)? {
+    for member in members(object) {
+        let is_known = is_one_of(heap, KNOWN, member.0.text)?;
+        if !is_known {
             found.push(KeptMember {
-                name: name.text,
-                value: value.text,
+                name: member.0.text,
+                value: member.1.text,
             })?;
         }
     }
@@ -153,11 +156,30 @@ impl<'a, A: Allocator + Copy> Point<'a, A> {
     }
 }
 
+/// Whether it is a list of lists.
+fn are_lists(value: Span<'_>) -> bool
+    ensures { result ≡ are_lists (node value.entry) }
+{
+    if kind(value) != Kind::List {
+        return false;
+    }
+    for part in items(value) {
+        if kind(part) != Kind::List {
+            return false;
+        }
+    }
+    true
+}
+
 /// Whether a position is a list, or several are a list of lists.
 fn are_positions(is_one: bool, value: Span<'_>) -> bool
     ensures { result ≡ are_positions is_one (node value.entry) }
 {
-    kind(value) == Kind::List && (is_one || items(value).all(|part| kind(part) == Kind::List))
+    if is_one {
+        kind(value) == Kind::List
+    } else {
+        are_lists(value)
+    }
 }
 
 /// A coordinate of the point with this number, on the grid.
@@ -214,11 +236,11 @@ fn push_position<'a, A: Allocator>(
         (point_position (view_style style.now) number (node position.entry)) }
 {
     text.push(b'[')?;
-    for (i, part) in items(position).enumerate() {
-        if i > 0 {
-            text.push(b',')?;
-        }
+    let mut i = 0usize;
+    for part in items(position) {
+        push_comma(text, i > 0)?;
         or_return!(push_number(text, style, number, i, part));
+        i = i.saturating_add(1);
     }
     text.push(b']')?;
     Ok(())
@@ -235,11 +257,11 @@ fn push_positions<'a, A: Allocator>(
         (positions_text (view_style style.now) number false (node value.entry)) }
 {
     text.push(b'[')?;
-    for (i, position) in items(value).enumerate() {
-        if i > 0 {
-            text.push(b',')?;
-        }
+    let mut more = false;
+    for position in items(value) {
+        push_comma(text, more)?;
         or_return!(push_position(text, style, number, position));
+        more = true;
     }
     text.push(b']')?;
     Ok(())
