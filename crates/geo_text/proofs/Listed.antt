@@ -1,8 +1,11 @@
 -- Lists of texts (RFC 8259, 5), put one after another.
-use Rattle.kit_words.proofs.Common.{◌≡◌, ℕ, ◌+◌, ◌<◌, ◌++◌, ◌∙◌, ◌∷◌, [], List, length, map, codes, nat_lt, ap, sym, append_assoc, append-nil}
+use Rattle.kit_words.proofs.Common.{◌≡◌, ℕ, suc, false, nat_tests, ◌==◌, ◌+◌, ◌<◌, ◌++◌, ◌∙◌, ◌∷◌, [], List, length, map, codes, nat_lt, ap, sym, append_assoc, append-nil}
 use Rattle.kit_words.proofs.Common.{appended_three, appended_five, appended_six, flat_map-append, map-append, suc_positive, Bool, mapped_more, get_or, take, length-map, length-take-le, arith}
 use Rattle.ring_machine.specs.Common.{Text}
 use Rattle.map_text.specs.Common.{comma_if, commas, further, list_text}
+
+pub not_zero : (n : ℕ) → (suc n == 0) ≡ false
+not_zero n = grind (arith, nat_tests)
 
 -- one text more, after a comma where something stands before
 pub commas_next : (ts : List Text) (t : Text) → commas (ts ++ t ∷ []) ≡ commas ts ++ (comma_if (nat_lt 0 (length ts)) ++ t)

@@ -13,7 +13,7 @@ use Rattle.geo_text.specs.Items.{begin_at, items_text}
 use Rattle.geo_text.specs.Layer.{front_of}
 use Rattle.geo_text.specs.Found.{FoundText, head_of_pieces, head_or_none, inside_pieces}
 use Rattle.geo_text.specs.Places.{placed, point_place}
-use Rattle.geo_text.specs.Gives.{IsGeoFault, of_device}
+use Rattle.geo_text.specs.Gives.{IsGeoFault, IsSendFault, of_device}
 use Rattle.geo_text.specs.Text.{geo_text}
 use Rattle.geo_text.specs.declared.fault.ExportFault.{ExportFault}
 use Rattle.geo_text.specs.declared.fault.ExportFault.TheVariants as fault
@@ -29,7 +29,7 @@ pub record TookSome {W : Type 0} (its : sink.Ghosts W) (old new : W) (e : Export
     : Type 0 where
   pub some : List ℕ
   pub taken : Appends (its.taken old) (its.taken new) some
-  pub fault : IsGeoFault e r
+  pub fault : IsSendFault e r
   pub stands : its.has_failed new ≡ of_device e
 
 -- a call sends the text that is defined, or has the fault that is

@@ -3,7 +3,7 @@ use Rattle.std.specs.Prelude.{ℕ, ◌+◌, ◌-◌, Bool, true, false, List, []
 use Rattle.ring_machine.specs.Common.{Text, Head}
 use Rattle.topo_outline.specs.Common.{LayerText, Piece, starts, ends, leaf, text, leaves_in, view_layer}
 use Rattle.geo_text.specs.Layer.{is_asked, no_head}
-use Rattle.geo_text.specs.declared.layers.Found.{Found}
+use Rattle.geo_text.specs.declared.found.Found.{Found}
 
 -- a layer, and how many features and points of the map stand before it
 pub record FoundText : Type 0 where

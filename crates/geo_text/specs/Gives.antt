@@ -12,7 +12,7 @@ abbrev pub IsMapFault : {Y : Type 0} → OpenFault → Result Y GeoFault → Typ
 IsMapFault map_fault.OutOfMemory r = Unit {0}
 IsMapFault f r = (g : Fault) × Fails {Y = Fault} f (Err g) × (r ≡ Err (of_map g))
 
--- the code's fault is the one defined; and a device may fail at any time
+-- the code's fault is the one defined
 abbrev pub IsGeoFault : {Y : Type 0} → ExportFault → Result Y GeoFault → Type 0
 IsGeoFault (fault.Open f) r = IsMapFault f r
 IsGeoFault fault.NoLayer r = r ≡ Err no_layer
@@ -21,7 +21,12 @@ IsGeoFault (fault.FewDecimals asked least) r = r ≡ Err (few_decimals asked lea
 IsGeoFault (fault.Nested feature) r = r ≡ Err (nested feature)
 IsGeoFault (fault.PointNotWhole point place) r = r ≡ Err (point_not_whole point place)
 IsGeoFault (fault.PointOutOfRange point place) r = r ≡ Err (point_out_of_range point place)
-IsGeoFault fault.Device r = Unit {0}
+IsGeoFault fault.Device r = ⊥
+
+-- the same, of a call that sends: a device may fail at any time
+abbrev pub IsSendFault : {Y : Type 0} → ExportFault → Result Y GeoFault → Type 0
+IsSendFault fault.Device r = Unit {0}
+IsSendFault e r = IsGeoFault e r
 
 -- the code's answer, seen by the view, is the one defined, or its fault is
 abbrev pub Gives : {X Y : Type 0} → (X → Y) → Result X ExportFault → Result Y GeoFault → Type 0

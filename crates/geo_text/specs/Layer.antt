@@ -94,6 +94,12 @@ name_text token ms =
     if has_name ms then demand (is_one_of (codes "features" ∷ []) token) (of_map (duplicate (codes "name"))) (Ok [])
     else Ok (further (map member_text (member (codes "\"name\"") token ∷ [])))
 
+-- the id and the properties, if they are there
+abbrev pub head_text : Head → Text
+head_text h =
+    further (map member_text (member_if (codes "\"id\"") h.id))
+    ++ further (map member_text (member_if (codes "\"properties\"") h.properties))
+
 -- the other members before the list of Features
 abbrev pub front_members : Head → List Member → List Member
 front_members h ms = member_if (codes "\"id\"") h.id ++ (member_if (codes "\"properties\"") h.properties ++ ms)

@@ -31,4 +31,4 @@ view_progress p = record {
 
 -- one more of each can be counted
 abbrev pub HasRoom : {A : Type 0} → Progress A → Type 0
-HasRoom p = (p.feature + 1 < 2 ^ 64) × (p.leaf + 1 < 2 ^ 64) × (p.point + 1 < 2 ^ 64)
+HasRoom p = (p.feature + 1 < 2 ^ 64) × (p.leaf + 1 < 2 ^ 128) × (p.point + 1 < 2 ^ 128)

@@ -15,7 +15,8 @@ use crate::asked::Asked;
 use crate::fault::ExportFault;
 use crate::front::push_front;
 use crate::items::Writer;
-use crate::layers::{Found, asked_layer, parts};
+use crate::found::Found;
+use crate::layers::{asked_layer, head_of, inside};
 use crate::longest::longest_side;
 use crate::progress::Progress;
 use crate::style::Style;
@@ -79,24 +80,21 @@ fn send_found<'a, A: Allocator + Copy, W: Sink>(
     out: &mut W,
 ) -> Result<(), ExportFault<'a>>
     requires working { W.has_failed out.old ≡ false }
-    requires leaves { found.leaves + length found.layer.now.items.items < 2 ^ 64 }
-    requires points { found.points + length found.layer.now.items.items < 2 ^ 64 }
     requires polygons { writer.now.polygons.now ≡ raw.now.polygons.items }
     ensures { SendsGiven W.Sink out.old out.new result (layer_text (view_style writer.now.style)
         writer.now.flattens (view_found found) (view_raw raw.now)) }
 {
-    let (head, items) = parts(found.layer);
     let mut text = Vec::new(alloc);
     or_return!(push_front(
         &mut text,
         writer.heap,
         found.layer.name,
-        head,
+        head_of(found.layer),
         raw.members.as_slice(),
     ));
     put_all(out, text.as_slice())?;
     let mut at = Progress::new(alloc, found.leaves, found.points);
-    writer.send_items(&mut text, &mut at, items, out)
+    writer.send_items(&mut text, &mut at, inside(found.layer), out)
 }
 
 /// Sends the layer that is asked for of a map that was read, as GeoJSON (RFC 7946), piece by piece.
@@ -132,7 +130,7 @@ fn point_place<A: Allocator + Copy>(
     alloc: A,
     heap: Global,
     bytes: &[u8],
-    point: usize,
+    point: u128,
 ) -> Result<usize, AllocError>
     requires { Json 100 bytes.now }
     ensures { IfOk result (λ place. place ≡ point_place bytes.now point) }
@@ -143,7 +141,10 @@ fn point_place<A: Allocator + Copy>(
         Err(_) => return Ok(0),
     };
     let points = all_geometries(alloc, heap, Shape::Points, root.span())?;
-    match points.as_slice().get(point) {
+    let Ok(number) = usize::try_from(point) else {
+        return Ok(0);
+    };
+    match points.as_slice().get(number) {
         Some(found) => Ok(found.at),
         None => Ok(0),
     }
@@ -172,7 +173,7 @@ fn placed<'a, A: Allocator + Copy>(
                 place: from.saturating_add(place),
             }))
         }
-        fault => Ok(fault),
+        _ => Ok(fault),
     }
 }
 

@@ -22,9 +22,9 @@ pub enum ExportFault<'a> {
     Nested { feature: usize },
     /// A coordinate of this point of the map, counted from 0 in the order of its text, is no whole number. The place is
     /// in bytes of the point's own text.
-    PointNotWhole { point: usize, place: usize },
+    PointNotWhole { point: u128, place: usize },
     /// A coordinate of this point is beyond the range.
-    PointOutOfRange { point: usize, place: usize },
+    PointOutOfRange { point: u128, place: usize },
     /// The device failed.
     Device,
 }

@@ -6,6 +6,7 @@ ghost use Rattle.ring_machine.specs.Common.{Feature};
 ghost use Rattle.map_text.specs.Common.{further, member_text, type_text};
 ghost use Rattle.geo_text.specs.Features.{collection_begin, collection_end, feature_begin, geometry_begin};
 ghost use Rattle.geo_text.specs.Features.{leaf_geometry, not_of_form, others_text, own_text, point_geometry};
+ghost use Rattle.geo_text.specs.Items.{is_null};
 ghost use Rattle.geo_text.specs.Seen.{view_style};
 ghost use Rattle.geo_text.specs.Small.{all_small};
 ghost use Rattle.geo_text.specs.Gives.{Appends};
@@ -20,6 +21,13 @@ use crate::texts::{push_member, push_member_if, push_members};
 use grid_geometry::Pos;
 use std::alloc::{AllocError, Allocator, Global};
 use topo_outline::{Form, Head, KeptMember, RawFeature};
+
+/// Whether a feature has no geometry.
+pub(crate) fn is_null(form: Form) -> bool
+    ensures { result ≡ is_null (form_of form) }
+{
+    matches!(form, Form::Null)
+}
 
 /// The names that the members of a feature may not have.
 pub(crate) fn not_of_form(form: Form) -> &'static [&'static str]
@@ -137,7 +145,7 @@ pub(crate) fn push_shape<'a, A: Allocator + Copy>(
         → f.polygons ≡ map polygon_positions polygons.now
         → Appends text.old.items text.new.items result (leaf_geometry (view_style style.now) f) }
 {
-    if feature.form == Form::Null {
+    if is_null(feature.form) {
         text.extend_from_slice(b"null")?;
         return Ok(());
     }

@@ -1,8 +1,11 @@
 // A FeatureCollection up to the list of its Features (RFC 7946, 3.3).
-ghost use Rattle.std.specs.Prelude.{◌≡◌, ◌||◌, ◌&&◌, [], ◌∷◌, ◌++◌, codes, is_some, map, option_map, IfOk, OnOk};
+ghost use Rattle.std.specs.Prelude.{◌≡◌, ◌||◌, ◌&&◌, List, [], ◌∷◌, ◌++◌, codes, is_some, map, option_map, IfOk, OnOk};
+ghost use Rattle.std.specs.BTreeSet.{contains_text};
+ghost use Rattle.ring_machine.specs.Common.{Member};
 ghost use Rattle.topo_outline.specs.Common.{view_head, view_kept};
 ghost use Rattle.geo_text.specs.Names.{is_one_of};
-ghost use Rattle.geo_text.specs.Layer.{collection_members, front_of, front_text, missing_members, name_text};
+ghost use Rattle.geo_text.specs.Layer.{HasNames, collection_members, front_of, front_text, has_already, has_named};
+ghost use Rattle.geo_text.specs.Layer.{head_text, missing_members, name_text};
 ghost use Rattle.geo_text.specs.Found.{head_or_none};
 ghost use Rattle.geo_text.specs.Gives.{Appends};
 
@@ -18,7 +21,10 @@ fn is_among<A: Allocator + Copy>(
     heap: Global,
     names: &Names<A>,
     name: &[u8],
-) -> Result<bool, AllocError> {
+) -> Result<bool, AllocError>
+    ensures { IfOk result (λ is. (ms : List Member) → HasNames (contains_text names.now) ms
+        → is ≡ has_named ms name.now) }
+{
     match decoded(heap, Span { text: name, at: 0 }) {
         Ok(text) => Ok(names.contains(text.as_str())),
         Err(TextFault::BadText) => Ok(false),
@@ -40,6 +46,21 @@ fn is_taken<A: Allocator + Copy>(
     Ok(has_id || has_properties)
 }
 
+/// Whether a collection whose members have these names has a member of this name.
+fn has_already<A: Allocator + Copy>(
+    heap: Global,
+    head: &Head<'_, A>,
+    names: &Names<A>,
+    name: &[u8],
+) -> Result<bool, AllocError>
+    ensures { IfOk result (λ has. HasNames (contains_text names.now) (view_head head.now).members
+        → has ≡ has_already (view_head head.now) name.now) }
+{
+    let is_taken = is_taken(heap, head, name)?;
+    let is_among = is_among(heap, names, name)?;
+    Ok(is_taken || is_among)
+}
+
 /// Appends the members of the topology that the collection does not have.
 fn push_missing<'a, A: Allocator + Copy>(
     found: &mut Vec<KeptMember<'a>, A>,
@@ -52,7 +73,8 @@ fn push_missing<'a, A: Allocator + Copy>(
 {
     let names = names_of(*found.allocator(), heap, head.members.as_slice())?;
     for member in of_topology {
-        if !is_taken(heap, head, member.name)? && !is_among(heap, &names, member.name)? {
+        let has = has_already(heap, head, &names, member.name)?;
+        if !has {
             found.push(*member)?;
         }
     }
@@ -70,13 +92,12 @@ fn collection_members<'a, A: Allocator + Copy>(
         (head_or_none (option_map (λ h. view_head h.now) head.entry)) (map view_kept of_topology.now)) }
 {
     let mut found = Vec::new(alloc);
-    match head {
-        Some(head) => {
-            found.extend_from_slice(head.members.as_slice())?;
-            push_missing(&mut found, heap, head, of_topology)?;
-        }
-        None => found.extend_from_slice(of_topology)?,
-    }
+    let Some(head) = head else {
+        found.extend_from_slice(of_topology)?;
+        return Ok(found);
+    };
+    found.extend_from_slice(head.members.as_slice())?;
+    push_missing(&mut found, heap, head, of_topology)?;
     Ok(found)
 }
 
@@ -101,6 +122,21 @@ fn push_name<'a, A: Allocator>(
     }))
 }
 
+/// Appends the collection's id and properties, if they are there.
+fn push_head<A: Allocator, B: Allocator + Copy>(
+    text: &mut Vec<u8, A>,
+    head: Option<&Head<'_, B>>,
+) -> Result<(), AllocError>
+    ensures { OnOk result (text.new.items ≡ text.old.items
+        ++ head_text (head_or_none (option_map (λ h. view_head h.now) head.entry))) }
+{
+    let Some(head) = head else {
+        return Ok(());
+    };
+    push_member_if(text, b"\"id\"", head.id)?;
+    push_member_if(text, b"\"properties\"", head.properties)
+}
+
 /// Appends the collection's members up to the list of its Features.
 fn push_front_with<'a, A: Allocator + Copy>(
     text: &mut Vec<u8, A>,
@@ -117,10 +153,7 @@ fn push_front_with<'a, A: Allocator + Copy>(
     if let Some(wrong) = first_of(heap, NOT_OF_COLLECTION, members)? {
         return Err(bad_member(wrong.name));
     }
-    if let Some(head) = head {
-        push_member_if(text, b"\"id\"", head.id)?;
-        push_member_if(text, b"\"properties\"", head.properties)?;
-    }
+    push_head(text, head)?;
     push_members(text, members)?;
     text.extend_from_slice(b",\"features\":[")?;
     Ok(())

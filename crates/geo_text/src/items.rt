@@ -14,7 +14,7 @@ ghost use Rattle.geo_text.specs.Small.{all_small, each_small};
 
 use crate::fault::ExportFault;
 use crate::features::{
-    not_of_form, push_collection_begin, push_collection_end, push_feature_begin, push_own,
+    is_null, not_of_form, push_collection_begin, push_collection_end, push_feature_begin, push_own,
     push_point, push_shape,
 };
 use crate::members::is_bare;
@@ -26,7 +26,7 @@ use crate::texts::{push_comma, push_line_begin, push_list_end};
 use device_io::{Sink, put_all};
 use grid_geometry::Pos;
 use std::alloc::{Allocator, Global};
-use topo_outline::{Form, Head, Item, KeptMember, RawFeature};
+use topo_outline::{Head, Item, KeptMember, RawFeature};
 
 /// What the items of a layer are written with.
 #[derive(Drop)]
@@ -58,7 +58,8 @@ impl<'r, A: Allocator + Copy> Writer<'r, A> {
             push_feature_begin(text, head)?;
             return Ok(());
         }
-        if is_null || !is_bare(self.heap, head)? {
+        let is_bare = is_bare(self.heap, head)?;
+        if is_null || !is_bare {
             return Err(ExportFault::Nested {
                 feature: at.feature,
             });
@@ -86,12 +87,15 @@ impl<'r, A: Allocator + Copy> Writer<'r, A> {
     }
 
     /// The polygons of the feature of the map with this number.
-    fn polygons_of(&self, leaf: usize) -> &'r [Vec<Vec<Pos, A>, A>]
+    fn polygons_of(&self, leaf: u128) -> &'r [Vec<Vec<Pos, A>, A>]
         ensures value { map polygon_positions result.now
             ≡ polygons_at (map feature_positions self.now.polygons.now) leaf }
         ensures small { IsTrue (all_small result.now) }
     {
-        match self.polygons.get(leaf) {
+        let Ok(place) = usize::try_from(leaf) else {
+            return &[];
+        };
+        match self.polygons.get(place) {
             Some(polygons) => polygons.as_slice(),
             None => &[],
         }
@@ -111,7 +115,7 @@ impl<'r, A: Allocator + Copy> Writer<'r, A> {
     {
         let head = &feature.head;
         let polygons = self.polygons_of(at.leaf);
-        or_return!(self.push_before(text, at, head, feature.form == Form::Null));
+        or_return!(self.push_before(text, at, head, is_null(feature.form)));
         or_return!(push_shape(text, self.heap, &self.style, feature, polygons));
         self.push_after(text, at, not_of_form(feature.form), head.members.as_slice())
     }
@@ -228,8 +232,8 @@ impl<'r, A: Allocator + Copy> Writer<'r, A> {
     ) -> Result<(), ExportFault<'a>>
         requires working { W.has_failed out.old ≡ false }
         requires begin { at.old.feature ≡ 0 }
-        requires leaves { at.old.leaf + length items.now < 2 ^ 64 }
-        requires points { at.old.point + length items.now < 2 ^ 64 }
+        requires leaves { at.old.leaf + length items.now < 2 ^ 128 }
+        requires points { at.old.point + length items.now < 2 ^ 128 }
         ensures { SendsGiven W.Sink out.old out.new result (items_text self.now.flattens
             (view_style self.now.style) (view_progress at.old)
             (items_from at.old.leaf (map feature_positions self.now.polygons.now) (map view_item items.now))) }

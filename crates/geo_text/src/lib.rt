@@ -21,6 +21,7 @@ mod asked;
 mod exporting;
 mod fault;
 mod features;
+mod found;
 mod front;
 mod items;
 mod layers;

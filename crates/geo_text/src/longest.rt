@@ -35,6 +35,34 @@ fn with_ring(before: u64, ring: &[Pos]) -> u64
     longest.max(side(from, *first))
 }
 
+/// The longest side of the edges of rings, or what it was before.
+fn with_rings<A: Allocator + Copy>(before: u64, rings: &[Vec<Pos, A>]) -> u64
+    requires { before ≤ 2 * 10 ^ 12 }
+    ensures value { result ≡ fold (λ most e. max most (side e)) before
+        (flat_map edges (map positions_of rings.now)) }
+    ensures bound { result ≤ 2 * 10 ^ 12 }
+{
+    let mut longest = before;
+    for ring in rings {
+        longest = with_ring(longest, ring.as_slice());
+    }
+    longest
+}
+
+/// The longest side of the edges of polygons, or what it was before.
+fn with_polygons<A: Allocator + Copy>(before: u64, polygons: &[Vec<Vec<Pos, A>, A>]) -> u64
+    requires { before ≤ 2 * 10 ^ 12 }
+    ensures value { result ≡ fold (λ most e. max most (side e)) before
+        (flat_map edges (flat_map (λ polygon. map positions_of polygon.items) polygons.now)) }
+    ensures bound { result ≤ 2 * 10 ^ 12 }
+{
+    let mut longest = before;
+    for polygon in polygons {
+        longest = with_rings(longest, polygon.as_slice());
+    }
+    longest
+}
+
 /// The longest side of the edges of all rings; 0 where there are none.
 pub(crate) fn longest_side<A: Allocator + Copy>(polygons: &[Vec<Vec<Vec<Pos, A>, A>, A>]) -> u64
     ensures value { result ≡ fold (λ most e. max most (side e)) 0
@@ -43,8 +71,8 @@ pub(crate) fn longest_side<A: Allocator + Copy>(polygons: &[Vec<Vec<Vec<Pos, A>,
     ensures bound { result ≤ 2 * 10 ^ 12 }
 {
     let mut longest = 0;
-    for ring in polygons.iter().flatten().flatten() {
-        longest = with_ring(longest, ring.as_slice());
+    for of_feature in polygons {
+        longest = with_polygons(longest, of_feature.as_slice());
     }
     longest
 }

@@ -28,7 +28,7 @@ const KNOWN: &[&str] = &["type", "coordinates", "id", "properties", "bbox"];
 #[derive(Drop)]
 pub(crate) struct Point<'a, A: Allocator + Copy> {
     /// Its number among those of the map, in the order of the text.
-    number: usize,
+    number: u128,
     /// Whether it is one.
     is_one: bool,
     /// The name and the value of `coordinates`.
@@ -97,7 +97,7 @@ impl<'a, A: Allocator + Copy> Point<'a, A> {
     pub(crate) fn of(
         alloc: A,
         heap: Global,
-        number: usize,
+        number: u128,
         text: &'a [u8],
     ) -> Result<Point<'a, A>, AllocError>
         ensures parts { IfOk result (λ point. IsPoint point text.now) }
@@ -183,7 +183,7 @@ fn are_positions(is_one: bool, value: Span<'_>) -> bool
 }
 
 /// A coordinate of the point with this number, on the grid.
-fn point_number<'a>(number: usize, part: Span<'a>) -> Result<i64, ExportFault<'a>>
+fn point_number<'a>(number: u128, part: Span<'a>) -> Result<i64, ExportFault<'a>>
     ensures value { Gives (λ z. z) result (point_number number (node part.entry)) }
     ensures range { IfOk result (λ z. unsigned_abs z ≤ 10 ^ 12) }
 {
@@ -204,7 +204,7 @@ fn point_number<'a>(number: usize, part: Span<'a>) -> Result<i64, ExportFault<'a
 fn push_number<'a, A: Allocator>(
     text: &mut Vec<u8, A>,
     style: &Style,
-    number: usize,
+    number: u128,
     i: usize,
     part: Span<'a>,
 ) -> Result<(), ExportFault<'a>>
@@ -229,7 +229,7 @@ fn push_number<'a, A: Allocator>(
 fn push_position<'a, A: Allocator>(
     text: &mut Vec<u8, A>,
     style: &Style,
-    number: usize,
+    number: u128,
     position: Span<'a>,
 ) -> Result<(), ExportFault<'a>>
     ensures { Appends text.old.items text.new.items result
@@ -250,7 +250,7 @@ fn push_position<'a, A: Allocator>(
 fn push_positions<'a, A: Allocator>(
     text: &mut Vec<u8, A>,
     style: &Style,
-    number: usize,
+    number: u128,
     value: Span<'a>,
 ) -> Result<(), ExportFault<'a>>
     ensures { Appends text.old.items text.new.items result
@@ -271,7 +271,7 @@ fn push_positions<'a, A: Allocator>(
 fn push_placed<'a, A: Allocator>(
     text: &mut Vec<u8, A>,
     style: &Style,
-    number: usize,
+    number: u128,
     is_one: bool,
     value: Span<'a>,
 ) -> Result<(), ExportFault<'a>>

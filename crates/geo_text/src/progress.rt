@@ -11,19 +11,20 @@ pub(crate) struct Progress<'m, 'a, A: Allocator + Copy> {
     pub(crate) more: bool,
     /// The number of the next Feature of the text.
     pub(crate) feature: usize,
-    /// The number of the next feature of the map that has rings or none, by which its polygons are found.
-    pub(crate) leaf: usize,
+    /// The number of the next feature of the map that has rings or none, by which its polygons are found. Layers are a
+    /// list of lists, so it may be beyond a `usize`.
+    pub(crate) leaf: u128,
     /// The number of the next point of the map.
-    pub(crate) point: usize,
+    pub(crate) point: u128,
 }
 
 impl<'m, 'a, A: Allocator + Copy> Progress<'m, 'a, A> {
-    ghost use Rattle.std.specs.Prelude.{◌≡◌, ◌==◌, length};
+    ghost use Rattle.std.specs.Prelude.{◌≡◌, ◌==◌, ◌<◌, ◌+◌, ◌^◌, length};
     ghost use Rattle.geo_text.specs.Items.{begin_at, passed};
-    ghost use Rattle.geo_text.specs.Seen.{HasRoom, view_progress};
+    ghost use Rattle.geo_text.specs.Seen.{view_progress};
 
     /// Before the first item of a layer that these numbers of the map come to.
-    pub(crate) fn new(alloc: A, leaf: usize, point: usize) -> Progress<'m, 'a, A>
+    pub(crate) fn new(alloc: A, leaf: u128, point: u128) -> Progress<'m, 'a, A>
         ensures at { view_progress result ≡ begin_at point }
         ensures leaf { result.leaf ≡ leaf }
     {
@@ -45,7 +46,7 @@ impl<'m, 'a, A: Allocator + Copy> Progress<'m, 'a, A> {
 
     /// Passes a geometry.
     pub(crate) fn pass(&mut self)
-        requires { HasRoom self.old }
+        requires { self.old.feature + 1 < 2 ^ 64 }
         ensures at { view_progress self.new ≡ passed (view_progress self.old) }
         ensures leaf { self.new.leaf ≡ self.old.leaf }
     {

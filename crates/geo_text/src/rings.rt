@@ -1,5 +1,5 @@
 // The texts of rings and of polygons (RFC 7946, 3.1.6 and 3.1.7).
-ghost use Rattle.std.specs.Prelude.{◌≡◌, ◌≤◌, ◌++◌, map, reverse, length, IsTrue, OnOk};
+ghost use Rattle.std.specs.Prelude.{◌≡◌, ◌≤◌, ◌++◌, if◌then◌else◌, map, reverse, length, IsTrue, OnOk};
 ghost use Rattle.topo_outline.specs.Common.{form_of};
 ghost use Rattle.topo_reader.specs.Common.{polygon_positions, positions_of};
 ghost use Rattle.map_text.specs.Common.{further, list_text};
@@ -74,6 +74,23 @@ impl Style {
         Ok(())
     }
 
+    /// Appends positions, in reverse or not, each after a comma.
+    fn push_others<A: Allocator>(
+        &self,
+        text: &mut Vec<u8, A>,
+        is_turned: bool,
+        positions: &[Pos],
+    ) -> Result<(), AllocError>
+        ensures { OnOk result (text.new.items ≡ text.old.items
+            ++ further (map (position_text (view_style self.now)) (if is_turned then reverse positions.now else positions.now))) }
+    {
+        if is_turned {
+            self.push_back(text, positions)
+        } else {
+            self.push_further(text, positions)
+        }
+    }
+
     /// Whether a ring is written the other way round.
     fn is_turned(&self, is_outer: bool, ring: &[Pos]) -> bool
         requires { length ring.now ≤ 4000000 }
@@ -99,11 +116,7 @@ impl Style {
         };
         text.push(b'[')?;
         self.push_position(text, *first)?;
-        if self.is_turned(is_outer, ring) {
-            self.push_back(text, others)?;
-        } else {
-            self.push_further(text, others)?;
-        }
+        self.push_others(text, self.is_turned(is_outer, ring), others)?;
         text.push(b',')?;
         self.push_position(text, *first)?;
         text.push(b']')?;
