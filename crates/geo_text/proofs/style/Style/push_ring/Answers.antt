@@ -4,7 +4,7 @@ use Rattle.map_text.specs.Common.{list_text}
 use Rattle.geo_text.specs.Rings.{position_text}
 use Rattle.geo_text.specs.Seen.{view_style}
 use Rattle.geo_text.proofs.RingTexts.{ring_is_closed, ring_put}
-use Rattle.geo_text.proofs.rings.Style.push_ring.Goals as goal
+use Rattle.geo_text.proofs.style.Style.push_ring.Goals as goal
 
 pub returns : goal.returns
 returns g c =
