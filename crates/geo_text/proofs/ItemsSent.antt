@@ -1,5 +1,5 @@
 -- The items of a layer, sent one after another.
-use Rattle.kit_words.proofs.Common.{◌≡◌, ℕ, suc, ◌+◌, ◌≤◌, ◌++◌, ◌∙◌, ◌∷◌, [], Bool, true, false, List, length, ap, sym, refl, subst, arith, Option, Some, None, Result, Ok, Err, append_assoc, append-nil, length-append}
+use Rattle.kit_words.proofs.Common.{◌≡◌, ℕ, suc, ◌+◌, ◌≤◌, ◌++◌, ◌∙◌, ◌∷◌, [], Bool, true, false, List, length, ap, sym, refl, subst, arith, Option, Some, None, Result, Ok, Err, ◌<◌, append-nil, drop, get_or, length-append, map, map-append, next_drop, take, take-append-drop}
 use Rattle.std.proofs.Common.{add-zero, add_assoc}
 use Rattle.device_io.specs.Common.{Took, TookFront}
 use Rattle.device_io.specs.declared.Sink as sink
@@ -65,6 +65,11 @@ one_leaf (Some f) = omega arith
 leaves-one : (x : Piece) → leaves_in (x ∷ []) ≡ at_most_one (leaf_of x)
 unfolding leaves_in
 leaves-one x = append-nil (at_most_one (leaf_of x))
+
+-- the elements before one, it, and those after it
+pub map_split : {A B : Type 0} (f : A → B) (xs : List A) (i : ℕ) (x : A) → i < length xs → x ≡ get_or xs i x → map f xs ≡ map f (take i xs) ++ f x ∷ map f (drop (i + 1) xs)
+map_split f xs i x lt is =
+    ap (map f) (sym (take-append-drop i xs) ∙ ap (λ z. take i xs ++ z) (next_drop xs i x lt is)) ∙ map-append f (take i xs) (x ∷ drop (i + 1) xs)
 
 -- ---- the items so far
 
