@@ -89,29 +89,27 @@ unfolding after_items
 after_both flattens at [] ys = refl
 after_both flattens at (x ∷ xs) ys = after_both flattens (after_item flattens at x) xs ys
 
+third : (t u : Text) (r : Result Text GeoFault) → ((r >>= λ b. Ok (u ++ b)) >>= λ v. Ok (t ++ v)) ≡ (r >>= λ b. Ok ((t ++ u) ++ b))
+third t u (Ok b) = ap (λ (z : Text). Ok z) (sym (append_assoc t u b))
+third t u (Err e) = refl
+
+regrouped : (r q l : Result Text GeoFault)
+    → (r >>= λ t. (q >>= λ a. l >>= λ b. Ok (a ++ b)) >>= λ u. Ok (t ++ u)) ≡ ((r >>= λ t. q >>= λ u. Ok (t ++ u)) >>= λ a. l >>= λ b. Ok (a ++ b))
+regrouped (Ok t) (Ok u) l = third t u l
+regrouped (Ok t) (Err e) l = refl
+regrouped (Err e) q l = refl
+
+nothing_before : (r : Result Text GeoFault) → (r >>= λ b. Ok ([] ++ b)) ≡ r
+nothing_before (Ok b) = refl
+nothing_before (Err e) = refl
+
 pub items_both : (flattens : Bool) (s : Style) (at : At) (xs ys : List Item)
     → items_texts flattens s at (xs ++ ys) ≡ (items_texts flattens s at xs >>= λ a. items_texts flattens s (after_items flattens at xs) ys >>= λ b. Ok (a ++ b))
 unfolding items_texts after_items
-items_both flattens s at [] ys = sym (same (items_texts flattens s at ys))
-  where
-    same : (r : Result Text GeoFault) → (r >>= λ b. Ok b) ≡ r
-    same (Ok b) = refl
-    same (Err e) = refl
+items_both flattens s at [] ys = sym (nothing_before (items_texts flattens s at ys))
 items_both flattens s at (x ∷ xs) ys =
     ap (λ r. item_text flattens s at x >>= λ t. r >>= λ u. Ok (t ++ u)) (items_both flattens s (after_item flattens at x) xs ys)
-    ∙ by (item_text flattens s at x) (items_texts flattens s (after_item flattens at x) xs)
-  where
-    later = items_texts flattens s (after_items flattens (after_item flattens at x) xs) ys
-
-    third : (t u : Text) (r : Result Text GeoFault) → ((r >>= λ b. Ok (u ++ b)) >>= λ v. Ok (t ++ v)) ≡ (r >>= λ b. Ok ((t ++ u) ++ b))
-    third t u (Ok b) = ap (λ (z : Text). Ok z) (sym (append_assoc t u b))
-    third t u (Err e) = refl
-
-    by : (r q : Result Text GeoFault)
-        → (r >>= λ t. (q >>= λ a. later >>= λ b. Ok (a ++ b)) >>= λ u. Ok (t ++ u)) ≡ ((r >>= λ t. q >>= λ u. Ok (t ++ u)) >>= λ a. later >>= λ b. Ok (a ++ b))
-    by (Ok t) (Ok u) = third t u later
-    by (Ok t) (Err e) = refl
-    by (Err e) q = refl
+    ∙ regrouped (item_text flattens s at x) (items_texts flattens s (after_item flattens at x) xs) (items_texts flattens s (after_items flattens (after_item flattens at x) xs) ys)
 
 pub from_both : (all : List (List (List (List Position)))) (n : ℕ) (ps qs : List Piece)
     → items_from n all (ps ++ qs) ≡ items_from n all ps ++ items_from (n + length (leaves_in ps)) all qs

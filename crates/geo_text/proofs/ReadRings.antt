@@ -1,6 +1,6 @@
 -- The rings that the code holds are those of the document.
 use Rattle.kit_words.proofs.Common.{◌≡◌, ◌+◌, ◌≤◌, ◌++◌, ◌∙◌, ◌∷◌, ◌&&◌, [], ℕ, Bool, true, List, Vec, length, map, take, ap, ap₂, sym, refl, subst, arith, flat_map, sum_by}
-use Rattle.kit_words.proofs.Common.{flat_map-append, sum_by-append, list_all, le-leb, and_from, take_all}
+use Rattle.kit_words.proofs.Common.{flat_map-append, sum_by-append, sum_by-cons, list_all, le-leb, and_from, take_all}
 use Rattle.std.proofs.lemmas.List.Folds.{flat_map-map}
 use Rattle.grid_geometry.specs.Common.{Position}
 use Rattle.ring_machine.specs.Common.{rings, size}
@@ -28,7 +28,9 @@ module _ {A : Type 0} where
 
   small_rings : (rs : List (Vec Position A)) → sum_by length (map positions_of rs) ≤ 4000000 → are_small rs ≡ true
   small_rings [] h = refl
-  small_rings (r ∷ rs) h = and_from (is_small r) (are_small rs) (le-leb (omega arith)) (small_rings rs (omega arith))
+  small_rings (r ∷ rs) h =
+      let cons = sum_by-cons length r.items (map positions_of rs) in
+      and_from (is_small r) (are_small rs) (le-leb (length r.items) 4000000 (omega (arith, cons))) (small_rings rs (omega (arith, cons)))
 
   small_polygons : (ps : List (Vec (Vec Position A) A)) → sum_by length (flat_map (λ polygon. map positions_of polygon.items) ps) ≤ 4000000 → all_small ps ≡ true
   small_polygons [] h = refl
