@@ -145,9 +145,9 @@ module _ {W : Type 0} {its : sink.Ghosts W} (flattens : Bool) (s : Style) (all :
         let front : items_from next all (x ∷ rest) ≡ one ++ others = from_both all next (x ∷ []) rest in
         carry e (items_texts flattens s at one) (items_text flattens s start (items_from first all (pieces ++ x ∷ rest)))
         (λ f fx.
-            let here : items_texts flattens s at (items_from next all (x ∷ rest)) ≡ Err f = ap (items_texts flattens s at) front ∙ items_both flattens s at one others ∙ rw fx refl in
-            let whole : items_texts flattens s start (items_from first all (pieces ++ x ∷ rest)) ≡ Err f = texts_split (x ∷ rest) ∙ rw here refl in
-            rw whole refl)
+        let here : items_texts flattens s at (items_from next all (x ∷ rest)) ≡ Err f = ap (items_texts flattens s at) front ∙ items_both flattens s at one others ∙ rw fx refl in
+        let whole : items_texts flattens s start (items_from first all (pieces ++ x ∷ rest)) ≡ Err f = texts_split (x ∷ rest) ∙ rw here refl in
+        rw whole refl)
         is
 
   -- all items are sent, and then the end

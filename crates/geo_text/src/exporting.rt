@@ -13,9 +13,9 @@ ghost use Rattle.geo_text.specs.Seen.{view_style};
 
 use crate::asked::Asked;
 use crate::fault::ExportFault;
+use crate::found::Found;
 use crate::front::push_front;
 use crate::items::Writer;
-use crate::found::Found;
 use crate::layers::{asked_layer, head_of, inside};
 use crate::longest::longest_side;
 use crate::progress::Progress;
