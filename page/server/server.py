@@ -18,10 +18,14 @@ Everything is below /TOKEN/, on the loopback address alone.
 | `mend` | `owner`, perhaps `digits` | `report`, `opens` |
 | `place` | `owner`, `x`, `y`, `width` | `picture`: that square of a map that does not open, as SVG |
 | `alive`, `leave` | `owner` | nothing |
+| GET `socket` | texts `edit`, `try`, `ask`, `alive` | a WebSocket, on which these are answered |
 
 The others are POST with JSON. What is not done is answered with `reason`: 400 for what makes no sense, 403 for
 who may not ask, 404 for a name that there is not, 409 for what can't be done now, with `force` if it can be forced
 and `closed` if a newer page has the map, and 500 after border_edit has ended.
+
+A text on the WebSocket is the JSON of a POST with its `name`, and is answered as that POST: by `status`, and by `said`,
+which is the answer. One text is answered after the other. A browser takes several milliseconds longer for a POST.
 """
 import json
 import os
@@ -39,6 +43,7 @@ from child import Ended
 from connection import BadRequest, Connection
 from growing import Growing
 from session import MOST_EDITS, MOST_LINE, Lost, Refusal
+from sockets import WebSocket, is_asked_for, opening
 from visits import NoPage, Visits
 
 WEB = pathlib.Path(__file__).resolve().parent.parent / "web"
@@ -57,6 +62,8 @@ PICTURE_POLICY = "default-src 'none'; style-src 'unsafe-inline'; frame-ancestors
 VERTEX_EDITS = {"move", "insert", "remove"}
 EDITS = VERTEX_EDITS | {"thin", "split", "merge", "rename", "delete"}
 QUESTIONS = {"area", "rings", "at", "neighbours", "count"}
+# What can be asked for on a WebSocket: what is short, and asked for often.
+ON_SOCKET = ("edit", "try", "ask", "alive")
 MOST_BODY = 1 << 20
 MOST_LINES = 2000
 # Decimals that border_mend keeps, at most.
@@ -112,9 +119,36 @@ def number_in(given, name, most, least=0):
     return number
 
 
+def object_in(text):
+    """The object that a text is as JSON."""
+    try:
+        given = json.loads(text)
+    except (ValueError, RecursionError):
+        raise BadRequest(400, "not JSON") from None
+    if not isinstance(given, dict):
+        raise BadRequest(400, "no object")
+    return given
+
+
 def tell_fault():
     """Tells the terminal of a mistake. The module that usually does so takes time to be loaded."""
     sys.excepthook(*sys.exc_info())
+
+
+def not_done(fault):
+    """Status and answer of a request that was not done."""
+    if isinstance(fault, BadRequest):
+        return fault.status, {"reason": str(fault)}
+    if isinstance(fault, Refusal):
+        return 409, {"reason": str(fault), "force": fault.force}
+    if isinstance(fault, Lost):
+        return 500, {"reason": str(fault)}
+    if isinstance(fault, Ended):
+        return 500, {"reason": f"border_edit ended, and this was not done: {fault}"}
+    if isinstance(fault, OSError):
+        return 500, {"reason": f"this was not done: {fault.strerror}"}
+    tell_fault()
+    return 500, {"reason": "this was not done, by a mistake in the server; its terminal has more"}
 
 
 class Server(socketserver.ThreadingTCPServer):
@@ -223,8 +257,9 @@ class Handler(Connection):
         # a head in which the library finds defects may hide what else it says
         if self.headers.defects or self.header("Host") not in hosts:
             return False
-        origin = self.header("Origin")
-        if origin is not None and origin not in ["http://" + host for host in hosts]:
+        ours = ["http://" + host for host in hosts]
+        # a browser opens a WebSocket for a page of any site, but always says of which one
+        if self.header("Origin") not in (ours if name == "socket" else [None, *ours]):
             return False
         if self.header("Sec-Fetch-Site", "none") in ("none", "same-origin"):
             return True
@@ -244,22 +279,13 @@ class Handler(Connection):
         """Answers a request, also where something is wrong with it."""
         try:
             does()
-        except BadRequest as bad:
-            self.send_error(bad.status, str(bad))
-        except Refusal as refusal:
-            self.send(409, {"reason": str(refusal), "force": refusal.force})
-        except Lost as lost:
-            self.send(500, {"reason": str(lost)})
-        except Ended as ended:
-            self.send(500, {"reason": f"border_edit ended, and this was not done: {ended}"})
         except (ConnectionError, socket.timeout):
             # the browser is gone
             raise
-        except OSError as fault:
-            self.send_error(500, f"this was not done: {fault.strerror}")
-        except Exception:
-            tell_fault()
-            self.send_error(500, "this was not done, by a mistake in the server; its terminal has more")
+        except Exception as fault:
+            # of a request that makes no sense there may be more, which would be taken for the next one
+            self.close_connection |= not isinstance(fault, (Refusal, Lost, Ended))
+            self.send(*not_done(fault))
 
     def _get(self):
         """Answers a GET."""
@@ -280,6 +306,8 @@ class Handler(Connection):
             self.send(200, text, "text/plain; charset=utf-8")
         elif name == "picture":
             self._send_picture()
+        elif name == "socket":
+            self._open_socket()
         else:
             raise BadRequest(404, "no such name")
 
@@ -331,18 +359,45 @@ class Handler(Connection):
             raise BadRequest(404, "there is no picture of this map")
         self.send(200, drawn, "image/svg+xml", PICTURE_POLICY)
 
+    def _open_socket(self):
+        """Opens a WebSocket, and answers the texts that come on it until it is closed."""
+        if self.close_connection or not is_asked_for(self.header):
+            raise BadRequest(400, "no WebSocket is asked for")
+        self.send_head(101, opening(self.header))
+        self.wfile.flush()
+        self.close_connection = True
+        # a browser closes it with its page, which may be silent as long as it is there
+        self.connection.settimeout(None)
+        page = WebSocket(self.rfile, self.wfile, MOST_BODY)
+        for text in page.texts():
+            page.send(self._reply(text))
+
+    def _reply(self, text):
+        """The answer to a text on a WebSocket."""
+        try:
+            given = object_in(text)
+            name = given.pop("name", None)
+            if name not in ON_SOCKET:
+                raise BadRequest(404, "no such name")
+            status, body = self._answered(name, given)
+        except Exception as fault:
+            status, body = not_done(fault)
+            body = json.dumps(body).encode()
+        return b'{"status": %d, "said": %b}' % (status, body)
+
     def _post(self):
         """Answers a POST."""
         name = self.name()
-        given = self._body(name)
+        self.send(*self._answered(name, self._body(name)))
+
+    def _answered(self, name, given):
+        """Status and answer of a request. The answer is written as JSON here, since the next request may change the log."""
         with self.server.lock:
-            # written as JSON here, since the next request may change the log
             status, body = self._answer(name, given)
-            body = json.dumps(body).encode()
-        self.send(status, body)
+            return status, json.dumps(body).encode()
 
     def _answer(self, name, given):
-        """Status and answer of a POST."""
+        """Status and answer of a POST, or of a text that stands for one."""
         visits = self.server.visits
         if name == "begin":
             return 200, self.server.begin()
@@ -372,13 +427,7 @@ class Handler(Connection):
         body = self.rfile.read(int(length))
         if len(body) < int(length):
             raise BadRequest(400, "half a request")
-        try:
-            given = json.loads(body)
-        except (ValueError, RecursionError):
-            raise BadRequest(400, "not JSON") from None
-        if not isinstance(given, dict):
-            raise BadRequest(400, "no object")
-        return given
+        return object_in(body)
 
 
 def edit(session, given):
@@ -422,5 +471,5 @@ def alive(session, given):
     return {}
 
 
-# What the page that has the map can ask by POST.
+# What the page that has the map can ask.
 ANSWERS = {"edit": edit, "try": attempt, "ask": ask, "save": save, "mend": mend, "place": place, "alive": alive}

@@ -17,11 +17,12 @@ import server_ending
 import server_large
 import server_opening
 import server_saving
+import server_socket
 import server_starting
 
 # The groups that take longest come first.
-MODULES = [server_large, server_ending, server_dying, server_starting, server_opening, server_saving, server_asking,
-           server_editing]
+MODULES = [server_large, server_ending, server_socket, server_dying, server_starting, server_opening, server_saving,
+           server_asking, server_editing]
 # Groups that are run at once: most of the time a group waits for a server.
 AT_ONCE = 4
 
