@@ -4,6 +4,7 @@ import { existsSync, readdirSync } from "node:fs";
 import { fileURLToPath } from "node:url";
 import { checkAll } from "./model_cases.mjs";
 import { checkFiles } from "./file_cases.mjs";
+import { checkSocket } from "./socket_cases.mjs";
 import { drawEdits } from "./drawn_edits.mjs";
 
 const top = fileURLToPath(new URL("../..", import.meta.url));
@@ -29,6 +30,7 @@ function check(what, found, expected) {
 
 checkAll(check);
 checkFiles(check);
+await checkSocket(check);
 check(`${given.program} is there`, existsSync(given.program), true);
 let edits = 0;
 for (const map of existsSync(given.program) ? maps : []) {

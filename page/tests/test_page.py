@@ -14,6 +14,7 @@ sys.path.insert(1, str(pathlib.Path(__file__).resolve().parents[1]))
 
 from browser import By, Keys, Page, new_folder, start_browser
 from page_checks import COUNTS, act_of, document, is_map, same, true, verbs
+from page_socket import test_socket
 import programs
 
 EXAMPLES = pathlib.Path(__file__).resolve().parents[2] / "examples"
@@ -794,6 +795,7 @@ def run_all(driver, folder, downloads):
     with_page(driver, wards, ["--out", mended], lambda page: test_mending(page, mended))
     with_page(driver, put(folder, "broken.json", '{"type":"Topology",'), [], test_not_mendable)
     with_page(driver, shutil.copy(TOUCHING, folder / "touching.json"), [], test_touching)
+    with_page(driver, shutil.copy(EXAMPLES / "squares.json", folder / "squares.json"), [], test_socket)
 
 
 def test_touching(page):

@@ -63,6 +63,7 @@ async function open(began, drawn) {
   wireFind(panel, tools);
   const discard = () => { const { isOpen } = thinning; if (isOpen) thinning.discard(); return isOpen; };
   new Keys(tools, { save: () => files.save(), thin: () => thinning.open(), discard });
+  talk.socket.open();
   // for tests
   Object.assign(window, { editor, tools });
   panel.show();

@@ -4,6 +4,7 @@
  * to a question.
  */
 import { post } from "./early.js";
+import { Socket } from "./socket.js";
 import { parsedStream } from "./topology.js";
 
 /** @typedef {{line: string, answer: string, act: number}} LogEntry */
@@ -45,6 +46,7 @@ export class Talk {
   /** @param {Map<string, Promise<any>>} early answers to requests that were sent before there was this class */
   constructor(early) {
     this.early = early;
+    this.socket = new Socket();
     this.owner = 0;
     /** how many requests are under way */
     this.waiting = 0;
@@ -83,10 +85,18 @@ export class Talk {
    * @param {object} body
    */
   async postNow(name, body) {
-    const { status, said } = await (this.takeEarly(name) ?? post(name, { owner: this.owner, ...body }));
+    const { status, said } = await (this.takeEarly(name) ?? this.answered(name, { owner: this.owner, ...body }));
     if (status !== 200) throw new TalkFault(status, said);
     return said;
   }
+
+  /**
+   * What came of a request.
+   * @param {string} name
+   * @param {object} given
+   * @returns {Promise<import("./early.js").Posted>}
+   */
+  async answered(name, given) { return await this.socket.send(name, given) ?? post(name, given); }
 
   /**
    * The answer that is on its way; nothing where that was taken.
