@@ -391,9 +391,10 @@ class Handler(Connection):
         self.send(*self._answered(name, self._body(name)))
 
     def _answered(self, name, given):
-        """Status and answer of a request. The answer is written as JSON here, since the next request may change the log."""
+        """Status and answer of a request."""
         with self.server.lock:
             status, body = self._answer(name, given)
+            # written as JSON here, since the next request may change the log
             return status, json.dumps(body).encode()
 
     def _answer(self, name, given):

@@ -8,9 +8,14 @@ const [CONNECTING, OPEN, CLOSING, CLOSED] = [0, 1, 2, 3];
 /** A WebSocket that a case opens, answers and closes. */
 class StandIn {
   static OPEN = OPEN;
+  static isForbidden = false;
   readyState = CONNECTING;
   sent = [];
-  constructor(address) { this.address = address; StandIn.newest = this; }
+  constructor(address) {
+    if (StandIn.isForbidden) throw new Error("forbidden");
+    this.address = address;
+    StandIn.newest = this;
+  }
   send(text) { this.sent.push(JSON.parse(text)); }
   open() { this.readyState = OPEN; this.onopen?.(); }
   answer(answer) { this.onmessage({ data: JSON.stringify(answer) }); }
@@ -50,7 +55,12 @@ async function checkLists(check) {
 }
 
 async function checkStates(check) {
-  check("before it is opened", await new Socket().send("edit", {}), null);
+  const unopened = new Socket();
+  check("before it is opened", await unopened.send("edit", {}), null);
+  StandIn.isForbidden = true;
+  unopened.open();
+  StandIn.isForbidden = false;
+  check("where it is forbidden", await unopened.send("edit", {}), null);
   for (const [what, state] of STATES) {
     const { socket, browser } = opened(state);
     check(`${what}: a POST`, await socket.send("edit", {}), null);

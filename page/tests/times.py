@@ -6,8 +6,9 @@ browser runs already, and Python has kept what it compiled of the server, as it 
 that bench/maps.py makes there are also the memory of the page, of border_edit and of the server, then drags of vertices,
 splits, merges and undos, saving, which has to give what border_edit makes of the page's script, and a thinning that
 leaves out most vertices. Times of starts, drags, splits, merges and undos are medians. An edit ends when the page has
-its answers and has changed its map; `request` is the part until the server has answered, and `drawn` is when the screen
-shows the edit, with some features in sight. With --largest there is also a map almost as large as one may be.
+its answers and has changed its map; `request` is the part until the server has answered, on the page's WebSocket, or as
+a POST where that is said; `drawn` is when the screen shows the edit, with some features in sight. With --largest there
+is also a map almost as large as one may be.
 
 Each figure stands beside what is wanted for a map of that size. The script fails where a figure is over three
 times what is wanted, since machines differ, where border_edit refuses an edit, or where the page reports an
@@ -56,6 +57,7 @@ FIGURES = {
     "vertex released, request": Figure("ms", {1_000_000: 5}),
     "vertex released, to answer": Figure("ms", {}),
     "vertex released, to drawn": Figure("ms", {}),
+    "vertex released, request as POST": Figure("ms", {}),
     "split": Figure("s", {1_000_000: 0.05}),
     "split, drawn": Figure("s", {}),
     "merge": Figure("s", {1_000_000: 0.05}),
@@ -222,9 +224,17 @@ def dragged(page, figures, share):
 
 
 def measure_drags(page, figures, made):
-    found = [dragged(page, figures, i / DRAGS) for i in range(DRAGS)]
+    """Drags vertices with the page's WebSocket and without it, in turns."""
+    found, posted = [], []
+    for i in range(DRAGS):
+        page.wait("editor.talk.socket.socket.readyState === WebSocket.OPEN")
+        found.append(dragged(page, figures, i / DRAGS))
+        page.js("editor.talk.socket.socket.close()")
+        posted.append(dragged(page, figures, (i + 0.5) / DRAGS))
+        page.js("editor.talk.socket.open()")
     for name, key in (("request", "request"), ("to answer", "answer"), ("to drawn", "drawn")):
         figures.give(made, f"vertex released, {name}", statistics.median(drag[key] for drag in found))
+    figures.give(made, "vertex released, request as POST", statistics.median(drag["request"] for drag in posted))
 
 
 def measure_cuts(page, figures, made):

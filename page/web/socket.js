@@ -19,9 +19,14 @@ export class Socket {
 
   /** Opens it. Until that is done nothing is sent on it, and nothing once it is closed, or if it can't be opened. */
   open() {
-    const socket = this.socket = new WebSocket(new URL("socket", location.href).href.replace("http", "ws"));
-    socket.onmessage = e => this.asked.shift()?.answered(JSON.parse(e.data));
-    socket.onclose = () => this.closed();
+    try {
+      this.socket = new WebSocket(new URL("socket", location.href).href.replace("http", "ws"));
+    } catch (fault) {
+      // some browsers take the page's policy to forbid it
+      return;
+    }
+    this.socket.onmessage = e => this.asked.shift()?.answered(JSON.parse(e.data));
+    this.socket.onclose = () => this.closed();
   }
 
   /**
