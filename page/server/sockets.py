@@ -90,7 +90,7 @@ class WebSocket:
             raise Closed(NOT_UTF8) from None
 
     def _part(self, before):
-        """The next frame that holds a part of a message, of which there are some bytes already. Others may stand before it."""
+        """The next frame with a part of a message, of which there are some bytes already. Others may stand before it."""
         while True:
             is_last, kind, read = self._frame(before)
             if kind == CLOSE:

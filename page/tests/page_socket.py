@@ -1,4 +1,4 @@
-"""The WebSocket of the page in a browser: what is sent on it, and what comes of a request that is under way when it is lost."""
+"""The WebSocket of the page in a browser: what is sent on it, and what comes of a request when it is lost."""
 from page_checks import same, true
 
 OPEN = "editor.talk.socket.socket?.readyState === WebSocket.OPEN"
@@ -7,7 +7,8 @@ CLOSED = "editor.talk.socket.socket.readyState === WebSocket.CLOSED"
 POSTED = ("const all = performance.getEntriesByType('resource').map(entry => entry.name.split('/').pop()); "
           "performance.clearResourceTimings(); return all.filter(name => ['edit', 'try', 'ask', 'alive'].includes(name))")
 # Loses the WebSocket right behind the next request that is sent on it.
-LOSES = "const { socket } = editor.talk.socket, send = socket.send.bind(socket); socket.send = text => { send(text); socket.close(); }"
+LOSES = ("const { socket } = editor.talk.socket, send = socket.send.bind(socket); "
+         "socket.send = text => { send(text); socket.close(); }")
 # A request of more characters than are sent on the WebSocket.
 LONG = "editor.perform(send => send(...Array(9).fill(`rename 0 \"${'x'.repeat(8000)}\"`)))"
 

@@ -6,7 +6,7 @@ import signal
 import socket
 import time
 
-from server_asking import BODIES, FETCHES, OUR_ORIGINS, STRANGE_HOSTS, STRANGE_ORIGINS, STRANGE_PATHS
+from server_asking import BODIES, FETCHES, OUR_ORIGINS, STRANGE_HOSTS, STRANGE_ORIGINS, STRANGE_PATHS, sent
 from server_dying import stood_in
 from server_editing import NO_LINES, NO_REQUESTS, OTHER_OWNERS, REQUESTS
 from server_maps import SQUARES
@@ -56,6 +56,50 @@ def frame(kind, held=b"", mask=MASK, size=None):
     if mask is None:
         return head + held
     return head + mask + bytes(byte ^ mask[i % 4] for i, byte in enumerate(held))
+
+
+# Texts of the first page, an answer, and that to what is no request.
+COUNT = b'{"name":"ask","owner":1,"lines":["count"]}'
+EDIT = b'{"name":"edit","owner":1,"act":1,"lines":["rename 0 \\"x\\""]}'
+LETTERS = '{"name":"\u00fc\U0001d11e"}'.encode()
+COUNTED = (LAST | TEXT, b'{"status": 200, "said": {"answers": ["features 2 vertices 6 segments 7"]}}')
+NO_NAME = (LAST | TEXT, b'{"status": 404, "said": {"reason": "no such name"}}')
+NO_JSON = (LAST | TEXT, b'{"status": 400, "said": {"reason": "not JSON"}}')
+ASKED, REPLIED = frame(LAST | PING, b"there?"), (LAST | PONG, b"there?")
+# Frames of a page, and those of the server that come.
+FRAMES = [
+    ("nothing", b"", []), ("one frame", frame(LAST | TEXT, COUNT), [COUNTED]),
+    ("another mask", frame(LAST | TEXT, COUNT, b"\0\0\0\0"), [COUNTED]),
+    ("two texts", frame(LAST | TEXT, COUNT) * 2, [COUNTED] * 2),
+    ("two frames", frame(TEXT, COUNT[:9]) + frame(LAST | PART, COUNT[9:]), [COUNTED]),
+    ("frames that hold nothing", frame(TEXT) + frame(PART, COUNT) + frame(PART) + frame(LAST | PART), [COUNTED]),
+    ("frames of one byte", frame(TEXT) + b"".join(frame(PART, bytes([byte])) for byte in COUNT) + frame(LAST | PART),
+     [COUNTED]),
+    *[(f"a letter in two frames, {at}", frame(TEXT, LETTERS[:at]) + frame(LAST | PART, LETTERS[at:]), [NO_NAME])
+      for at in range(9, 14)],
+    ("a ping", ASKED, [REPLIED]), ("an empty one", frame(LAST | PING), [(LAST | PONG, b"")]),
+    ("the longest", frame(LAST | PING, b"x" * 125), [(LAST | PONG, b"x" * 125)]),
+    ("a ping between frames", frame(TEXT, COUNT[:9]) + ASKED + frame(LAST | PART, COUNT[9:]), [REPLIED, COUNTED]),
+    ("a pong", frame(LAST | PONG, b"x") + frame(LAST | TEXT, COUNT), [COUNTED]),
+    ("an empty text", frame(LAST | TEXT), [NO_JSON]),
+]
+# Frames that close the connection, and why.
+NO_FRAMES = [
+    ("not masked", frame(LAST | TEXT, EDIT, None), 1002), ("nor a ping", frame(LAST | PING, b"", None), 1002),
+    ("in a second frame", frame(TEXT, EDIT[:9]) + frame(LAST | PART, EDIT[9:], None), 1002),
+    *[(f"a bit that means nothing, {bit}", frame(LAST | bit | TEXT, EDIT), 1002) for bit in (0x10, 0x20, 0x40)],
+    *[(f"no kind {kind}", frame(LAST | kind, EDIT), 1002) for kind in (3, 4, 7, 11, 15)],
+    ("bytes", frame(LAST | BINARY, EDIT), 1003), ("a part of no text", frame(LAST | PART, EDIT), 1002),
+    ("a text within a text", frame(TEXT, EDIT[:9]) + frame(LAST | TEXT, EDIT), 1002),
+    ("half a ping", frame(PING, b"x") + frame(LAST | PART, b"x"), 1002),
+    ("a long ping", frame(LAST | PING, b"x" * 126), 1002), ("half a close", frame(CLOSE), 1002),
+    ("no UTF-8", frame(LAST | TEXT, b"\xff\xfe"), 1007), ("half a letter", frame(LAST | TEXT, b'"\xc3'), 1007),
+    ("a surrogate", frame(LAST | TEXT, b"\xed\xa0\x80"), 1007),
+    *[(f"{size} bytes", frame(LAST | TEXT, size=size), 1009) for size in (MOST + 1, 1 << 40, (1 << 64) - 1)],
+    ("too many in two frames", frame(TEXT, b" " * MOST) + frame(LAST | PART, b" "), 1009),
+    ("a close", frame(LAST | CLOSE), 1000), ("with a reason", frame(LAST | CLOSE, b"\x03\xe9gone"), 1000),
+    ("a close within a text", frame(TEXT, EDIT[:9]) + frame(LAST | CLOSE), 1000),
+]
 
 
 class Page:
@@ -127,7 +171,7 @@ def squares():
 
 
 def who_may_open(checks):
-    """Token, host and origin of a WebSocket. A browser opens one for a page of any site, without asking whether it may."""
+    """Token, host and origin of a WebSocket, which a browser opens for a page of any site without asking first."""
     with squares() as page:
         answer = opening(page)
         names = ("Upgrade", "Connection", "Sec-WebSocket-Accept", "Sec-WebSocket-Extensions", "Sec-WebSocket-Protocol")
@@ -136,10 +180,7 @@ def who_may_open(checks):
         checks.same("in other words", opening(page, Upgrade="WebSocket", Connection="keep-alive, UPGRADE").status, 101)
         fill = {"token": page.base.strip("/"), "short": page.base.strip("/")[:-1], "port": page.port}
         for path in STRANGE_PATHS:
-            path = path.format(**fill)
-            path = path if path.endswith("/") else path + "/"
-            checks.same(f"path {path}", opening(page, path.replace(fill["token"], "T") + "socket").status, 403)
-            checks.same(f"no socket at {path}", opening(page, path).status in (403, 404, 200), True)
+            checks.same(f"path {path}", opening(page, path.format(**fill) + "socket").status, 403)
         for host in STRANGE_HOSTS:
             checks.same(f"host {host}", opening(page, Host=host and host.format(**fill)).status, 403)
         for origin in [*STRANGE_ORIGINS, None]:
@@ -151,6 +192,9 @@ def who_may_open(checks):
             checks.same(f"site {site}", opening(page, **told).status, 101 if site in ("none", "same-origin") else 403)
         for name, value in STRANGE_OPENINGS:
             checks.same(f"{name} {value!r}", opening(page, **{name: value}).status, 400)
+        old = f"GET {page.base}socket HTTP/1.0\r\nHost: 127.0.0.1:{page.port}\r\n"
+        old += "".join(f"{name.replace('_', '-')}: {value}\r\n" for name, value in headers(page).items())
+        checks.same("in an old way", sent(page, old + "\r\n").split(" ")[1], "400")
         checks.same("by POST", page.ask("POST", page.base + "socket", b"{}", **headers(page))[0], 404)
         checks.same("the server goes on", page.questions("area 0"), ["200"])
 
@@ -194,75 +238,32 @@ def after_border_edit(checks):
         checks.same("edits go on", page.ask("edit", act=3, lines=["undo"])[1]["answers"], ["ok"])
 
 
-def asks(served, lines, fill=0):
-    """The text of some questions, which has at least so many bytes."""
-    return json.dumps({"name": "ask", "owner": served.owner, "lines": lines}).encode().ljust(fill)
-
-
 def frames(checks):
-    """Texts in one frame and in several, and what may stand between them."""
+    """Texts in one frame and in several, of all sizes, and what may stand between them."""
     with squares() as served:
-        count = asks(served, ["count"])
-        answer = (LAST | TEXT, b'{"status": 200, "said": {"answers": ["features 2 vertices 6 segments 7"]}}')
-        split = json.dumps({"name": "\u00fc\U0001d11e"}, ensure_ascii=False).encode()
-        at = split.index("\u00fc".encode()) + 1
-        nothing = (LAST | TEXT, b'{"status": 404, "said": {"reason": "no such name"}}')
-        ping = frame(LAST | PING, b"there?")
-        for name, sent, came in [
-                ("one frame", frame(LAST | TEXT, count), [answer]),
-                ("another mask", frame(LAST | TEXT, count, b"\0\0\0\0"), [answer]),
-                ("two texts", frame(LAST | TEXT, count) * 2, [answer] * 2),
-                ("two frames", frame(TEXT, count[:9]) + frame(LAST | PART, count[9:]), [answer]),
-                ("frames that hold nothing", frame(TEXT) + frame(PART, count) + frame(PART) + frame(LAST | PART), [answer]),
-                ("frames of one byte", frame(TEXT) + b"".join(frame(PART, bytes([byte])) for byte in count)
-                 + frame(LAST | PART), [answer]),
-                ("a letter in two frames", frame(TEXT, split[:at]) + frame(LAST | PART, split[at:]), [nothing]),
-                ("a ping", ping, [(LAST | PONG, b"there?")]), ("an empty one", frame(LAST | PING), [(LAST | PONG, b"")]),
-                ("the longest", frame(LAST | PING, b"x" * 125), [(LAST | PONG, b"x" * 125)]),
-                ("a ping between frames", frame(TEXT, count[:9]) + ping + frame(LAST | PART, count[9:]),
-                 [(LAST | PONG, b"there?"), answer]),
-                ("a pong", frame(LAST | PONG, b"x") + frame(LAST | TEXT, count), [answer]),
-                ("no text at all", frame(LAST | TEXT), [(LAST | TEXT, b'{"status": 400, "said": {"reason": "not JSON"}}')]),
-                ("nothing", b"", [])]:
+        for name, given, came in FRAMES:
             with Page(served) as page:
-                page.send(sent)
+                page.send(given)
                 checks.same(name, page.rest(), came)
         for size in (125, 126, 127, 65_535, 65_536, MOST):
             with Page(served) as page:
-                page.send(frame(LAST | TEXT, asks(served, ["count"], size)))
-                checks.same(f"{size} bytes", page.frame(), answer)
+                page.send(frame(LAST | TEXT, COUNT.ljust(size)))
+                checks.same(f"{size} bytes", page.frame(), COUNTED)
         with Page(served) as page:
-            for byte in frame(LAST | TEXT, count):
+            for byte in frame(LAST | TEXT, COUNT):
                 page.send(bytes([byte]))
-            checks.same("byte by byte", page.frame(), answer)
+            checks.same("byte by byte", page.frame(), COUNTED)
             for size in (1, 2, 20, 2000):
                 got = page.ask("ask", lines=["rings 0"] * size)[1]["answers"]
                 checks.same(f"{size} answers", got, ["[[[[0,0],[10,0],[10,10],[0,10]]]]"] * size)
 
 
 def no_frames(checks):
-    """What is against the rules closes the connection, and nothing of it is done."""
+    """What is against the rules closes the connection, and nothing of it is done, nor of what comes then."""
     with squares() as served:
-        edit = json.dumps({"name": "edit", "owner": served.owner, "act": 1, "lines": ['rename 0 "x"']}).encode()
-        half = len(edit) // 2
-        for name, sent, code in [
-                ("not masked", frame(LAST | TEXT, edit, None), 1002), ("nor a ping", frame(LAST | PING, b"", None), 1002),
-                ("in a second frame", frame(TEXT, edit[:half]) + frame(LAST | PART, edit[half:], None), 1002),
-                *[(f"a bit that means nothing, {bit}", frame(LAST | bit | TEXT, edit), 1002) for bit in (0x10, 0x20, 0x40)],
-                *[(f"no kind {kind}", frame(LAST | kind, edit), 1002) for kind in (3, 4, 7, 11, 15)],
-                ("bytes", frame(LAST | BINARY, edit), 1003), ("a part of no text", frame(LAST | PART, edit), 1002),
-                ("a text within a text", frame(TEXT, edit[:half]) + frame(LAST | TEXT, edit), 1002),
-                ("half a ping", frame(PING, b"x") + frame(LAST | PART, b"x"), 1002),
-                ("a long ping", frame(LAST | PING, b"x" * 126), 1002), ("half a close", frame(CLOSE), 1002),
-                ("no UTF-8", frame(LAST | TEXT, b"\xff\xfe"), 1007), ("half a letter", frame(LAST | TEXT, b'"\xc3'), 1007),
-                ("a surrogate", frame(LAST | TEXT, b"\xed\xa0\x80"), 1007),
-                *[(f"{size} bytes", frame(LAST | TEXT, b"", size=size), 1009) for size in (MOST + 1, 1 << 40, (1 << 64) - 1)],
-                ("too many in two frames", frame(TEXT, b" " * MOST) + frame(LAST | PART, b" "), 1009),
-                ("a close", frame(LAST | CLOSE), 1000), ("with a reason", frame(LAST | CLOSE, b"\x03\xe9gone"), 1000),
-                ("a close within a text", frame(TEXT, edit[:half]) + frame(LAST | CLOSE), 1000)]:
+        for name, given, code in NO_FRAMES:
             with Page(served) as page:
-                page.send(sent)
-                page.send(frame(LAST | TEXT, edit))
+                page.send(given + frame(LAST | TEXT, EDIT))
                 checks.same(name, page.rest(), [(LAST | CLOSE, code.to_bytes(2, "big"))])
         checks.same("nothing was done", (served.begin()["log"], served.get("document")[1]), ([], SQUARES.encode()))
 
@@ -270,16 +271,14 @@ def no_frames(checks):
 def cut_off(checks):
     """A page goes in the middle of a request: half a one is not done, and a whole one is, once."""
     with squares() as served:
-        edit = {"name": "edit", "owner": served.owner, "act": 1, "lines": ['rename 0 "x"']}
-        whole = frame(LAST | TEXT, json.dumps(edit).encode())
+        whole = frame(LAST | TEXT, EDIT)
         for size in (0, 1, 2, 5, 6, 7, len(whole) - 1):
             with Page(served) as page:
                 page.send(whole[:size])
-        checks.same("half of it", (served.questions("count"), served.begin()["log"]),
-                    (["features 2 vertices 6 segments 7"], []))
-        edit["owner"] = served.owner
+        checks.same("half of it", (served.questions("count"), b"rename" in served.get("script")[1]),
+                    (["features 2 vertices 6 segments 7"], False))
         with Page(served) as page:
-            page.send(frame(LAST | TEXT, json.dumps(edit).encode()))
+            page.send(whole)
         checks.same("all of it", until(lambda: b"rename" in served.get("script")[1]), True)
         checks.same("once", served.begin()["log"], [{"line": 'rename 0 "x"', "answer": "ok", "act": 1}])
         silent = [Page(served) for _ in range(50)]
@@ -310,7 +309,7 @@ def two_pages(checks):
 
 
 def last_page(checks):
-    """The server ends with its last page, though a WebSocket is open; not while what comes on it says that a page is there."""
+    """The server ends with its last page, though a WebSocket is open; what comes on it says that a page is there."""
     with squares() as served, Page(served) as page:
         goodbye = json.dumps({"owner": served.owner}).encode()
         served.ask("POST", served.base + "leave", goodbye)

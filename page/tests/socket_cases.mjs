@@ -30,7 +30,7 @@ function opened(readyState) {
   return { socket, browser: StandIn.newest };
 }
 
-const LOST = { status: 0, said: {} }, LONG = "x".repeat(1 << 16);
+const LOST = { status: 0, said: {} }, LONG = "x".repeat(1 << 16), SHORT = ["edit", "try", "ask", "alive"];
 // Requests on an open one, and what comes of each where the first is answered and then the connection is lost. What comes of
 // one that is sent as a POST is nothing.
 const LISTS = [
@@ -44,11 +44,12 @@ const STATES = [["not open yet", CONNECTING], ["closing", CLOSING], ["closed", C
 async function checkLists(check) {
   for (const [names, expected] of LISTS) {
     const { socket, browser } = opened(OPEN);
-    const posted = names.map(name => socket.send(name, { owner: 1, act: 2 })), isShort = name => /^(edit|try|ask|alive)$/.test(name);
-    check(`${names} are sent`, JSON.stringify(browser.sent), JSON.stringify(names.filter(isShort).map(name => ({ name, owner: 1, act: 2 }))));
+    const came = names.map(name => socket.send(name, { owner: 1, act: 2 })), isShort = name => SHORT.includes(name);
+    const sent = names.filter(isShort).map(name => ({ name, owner: 1, act: 2 }));
+    check(`${names} are sent`, JSON.stringify(browser.sent), JSON.stringify(sent));
     browser.answer(OK);
     browser.close();
-    check(`what comes of ${names}`, JSON.stringify(await Promise.all(posted)), JSON.stringify(expected));
+    check(`what comes of ${names}`, JSON.stringify(await Promise.all(came)), JSON.stringify(expected));
     check(`after ${names} nothing is sent`, await socket.send("edit", {}), null);
     check("nor awaited", socket.asked.length, 0);
   }
@@ -76,11 +77,16 @@ async function checkStates(check) {
 
 /** Requests of the page, of which each is sent once, but for a question that may be asked again. */
 async function checkTalk(check) {
-  const posts = [], talk = new Talk(new Map()), fault = promise => promise.then(() => "none", ({ status, isClosed }) => `${status} ${isClosed}`);
+  const posts = [], talk = new Talk(new Map());
+  const fault = promise => promise.then(() => "none", ({ status, isClosed }) => `${status} ${isClosed}`);
   globalThis.XMLHttpRequest = class {
     open(_, name) { this.name = name; }
     setRequestHeader() {}
-    send(text) { posts.push(`${this.name} ${text}`); Object.assign(this, { status: 200, response: { answer: "posted" } }); this.onloadend(); }
+    send(text) {
+      posts.push(`${this.name} ${text}`);
+      Object.assign(this, { status: 200, response: { answer: "posted" } });
+      this.onloadend();
+    }
   };
   talk.owner = 4;
   check("without a socket", await talk.attempt("move 1 1 2 2"), "posted");

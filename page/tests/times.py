@@ -97,13 +97,14 @@ talk.postNow = async (name, body) => {
   return said;
 };
 editor.edit = async line => {
-  const isKept = await edit(line);
-  newest.answer = performance.now() - newest.released;
+  const { released } = newest, isKept = await edit(line);
+  newest.answer = performance.now() - released;
+  // not sooner, since looking asks for a frame, for which the answer would wait
+  drawn().then(at => { newest.drawn = at - released; });
   return isKept;
 };
-addEventListener("pointerup", async e => {
+addEventListener("pointerup", e => {
   Object.assign(newest, { released: e.timeStamp, request: null, answer: null, drawn: null });
-  newest.drawn = await drawn() - e.timeStamp;
 }, true);
 window.times = {
   newest,
