@@ -38,8 +38,8 @@ def options(words):
     parser = Parser(prog="edit", description=TEXT, allow_abbrev=False,
                     formatter_class=argparse.RawDescriptionHelpFormatter)
     add = parser.add_argument
-    add("map", metavar="MAP", type=pathlib.Path, help="a map as TopoJSON, such as examples/columbus.json")
-    add("--out", metavar="FILE", type=pathlib.Path, help="the file that Save writes; MAP if it is not given")
+    add("map", metavar="MAP", type=pathlib.Path, help="a map as TopoJSON, such as examples/columbus.json, or GeoJSON")
+    add("--out", metavar="FILE", type=pathlib.Path, help="the file that Save writes; if it is not given MAP, or if that is GeoJSON a new file beside it")
     add("--port", metavar="N", type=port, default=0, help="the port of the page; any free one if it is not given")
     add("--no-open", action="store_true", help="prints the address of the page, and opens no browser")
     return parser.parse_args(words)

@@ -10,7 +10,7 @@ import time
 import mending
 import saving
 from child import DEPTH, Child, Ended
-from paths import shown, why_not_writable
+from paths import name_of_map, shown, why_not_writable
 
 # Bytes of a map that opens.
 MOST_BYTES = 67_108_864
@@ -116,8 +116,15 @@ class Session:
                 raise
             self.fault = mending.without_open(str(ended))
             self.findings, self.is_mendable = mending.findings(self.programs.path("border_mend"), base)
+            if self.findings[:1] == ["geojson"] and self.is_saved_over:
+                self._save_beside()
         else:
             self.base, self.child = base, child
+
+    def _save_beside(self):
+        """Has a file of GeoJSON stay as it is: the map that is made of it is saved in a new file."""
+        self.out = name_of_map(self.out)
+        self.file, self.is_saved_over, self.seen = shown(self.out), False, None
 
     # ---- what is there
 
