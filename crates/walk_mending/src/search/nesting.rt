@@ -66,6 +66,7 @@ fn counts_for_middle(p: Pos, q: Pos, a: Pos, b: Pos) -> bool {
 }
 
 /// The rings that were found, and their edges in rows.
+#[derive(Drop)]
 struct Rings<'r, A: Allocator + Copy> {
     rings: &'r [Found<A>],
     rows: Rows<A>,
