@@ -35,6 +35,14 @@ needs_of coordinates = record {
   furthest = greatest (map unsigned_abs (all_units coordinates));
 }
 
--- and what the points of a text need
+-- what coordinates need with one more, of so many units, or of none
+abbrev pub needs_with : GridNeeds → Option ℤ → GridNeeds
+needs_with needs None = needs
+needs_with needs (Some z) = record {
+  decimals = greater needs.decimals (decimals z);
+  furthest = greater needs.furthest (unsigned_abs z);
+}
+
+-- what the points of a text need
 abbrev pub point_needs : List ℕ → GridNeeds
 point_needs bytes = needs_of (all_coordinates (whole_value bytes))

@@ -1,8 +1,7 @@
 // What the points of a topology need of a grid.
-ghost use Rattle.std.specs.Prelude.{◌≡◌, [], map, unsigned_abs, IfOk};
+ghost use Rattle.std.specs.Prelude.{◌≡◌, [], map, IfOk};
 ghost use Rattle.json_spans.specs.Common.{Json, node};
-ghost use Rattle.decimal_texts.specs.Needs.{greater, units_of, needs_of, point_needs};
-ghost use Rattle.decimal_texts.specs.Fine.{decimals};
+ghost use Rattle.decimal_texts.specs.Needs.{needs_of, needs_with, point_needs, units_of};
 
 use crate::points::all_coordinates;
 use crate::{decimal_of, decimals};
@@ -25,14 +24,16 @@ impl GridNeeds {
         furthest: 0,
     };
 
-    /// What coordinates need with one more, which has so many units of 10^-24.
-    fn with(self, units: i128) -> GridNeeds
-        ensures decimals { result.decimals ≡ greater self.decimals (decimals units) }
-        ensures furthest { result.furthest ≡ greater self.furthest (unsigned_abs units) }
+    /// What coordinates need with one more, which has so many units of 10^-24, or needs nothing.
+    fn with(self, units: Option<i128>) -> GridNeeds
+        ensures { result ≡ needs_with self units }
     {
-        GridNeeds {
-            decimals: self.decimals.max(decimals(units)),
-            furthest: self.furthest.max(units.unsigned_abs()),
+        match units {
+            Some(units) => GridNeeds {
+                decimals: self.decimals.max(decimals(units)),
+                furthest: self.furthest.max(units.unsigned_abs()),
+            },
+            None => self,
         }
     }
 }
@@ -50,9 +51,7 @@ fn needs_of(parts: &[Span<'_>]) -> GridNeeds
 {
     let mut needs = GridNeeds::NONE;
     for part in parts {
-        if let Some(units) = units_of(*part) {
-            needs = needs.with(units);
-        }
+        needs = needs.with(units_of(*part));
     }
     needs
 }
