@@ -1,4 +1,6 @@
 // Edges of rings in rows, so that who looks along a height sees few of them.
+ghost use Rattle.std.specs.Prelude.{◌≤◌};
+
 use grid_geometry::Pos;
 use std::alloc::{AllocError, Allocator};
 
@@ -65,6 +67,7 @@ pub(crate) struct Rows<A: Allocator + Copy> {
     low: i64,
     height: u64,
     rows: Vec<Vec<Edge, A>, A>,
+    ghost are_high: { 1 ≤ height },
 }
 
 impl<A: Allocator + Copy> Rows<A> {
