@@ -2,6 +2,7 @@
 // finds: `mending` tests it.
 mod nesting;
 mod old;
+mod rows;
 mod tracing;
 mod turns;
 

@@ -1,5 +1,6 @@
 // Rings nested: outer ones with their holes.
 use crate::search::old::turned;
+use crate::search::rows::{Rows, push_edges};
 use grid_geometry::{Pos, area2, orient};
 use ring_parts::canonical;
 use std::alloc::{AllocError, Allocator};
@@ -7,44 +8,12 @@ use std::alloc::{AllocError, Allocator};
 /// The greatest count of positions of which an area is computed.
 const MOST: usize = 1_099_511_627_776;
 
-/// The least box that has all positions of a ring.
-#[derive(Clone, Copy)]
-struct Extent {
-    x0: i64,
-    y0: i64,
-    x1: i64,
-    y1: i64,
-}
-
-impl Extent {
-    fn of(ring: &[Pos]) -> Extent {
-        let mut extent = Extent {
-            x0: i64::MAX,
-            y0: i64::MAX,
-            x1: i64::MIN,
-            y1: i64::MIN,
-        };
-        for pos in ring {
-            extent.x0 = extent.x0.min(pos.x());
-            extent.y0 = extent.y0.min(pos.y());
-            extent.x1 = extent.x1.max(pos.x());
-            extent.y1 = extent.y1.max(pos.y());
-        }
-        extent
-    }
-
-    fn has(self, other: Extent) -> bool {
-        self.x0 <= other.x0 && self.y0 <= other.y0 && other.x1 <= self.x1 && other.y1 <= self.y1
-    }
-}
-
 /// A ring that was found.
 #[derive(Drop)]
 struct Found<A: Allocator + Copy> {
     positions: Vec<Pos, A>,
     /// Whether it was there before, in this direction.
     stays: bool,
-    extent: Extent,
 }
 
 impl<A: Allocator + Copy> Found<A> {
@@ -60,11 +29,7 @@ impl<A: Allocator + Copy> Found<A> {
                 stays = true;
             }
         }
-        Ok(Found {
-            positions,
-            stays,
-            extent: Extent::of(way),
-        })
+        Ok(Found { positions, stays })
     }
 
     /// Its positions; one that was not there before is turned where it turns to the other side.
@@ -75,11 +40,6 @@ impl<A: Allocator + Copy> Found<A> {
         } else {
             turned(alloc, positions)
         }
-    }
-
-    /// Whether the other ring, which does not cross this one, is inside.
-    fn holds(&self, other: &Found<A>) -> bool {
-        self.extent.has(other.extent) && holds_middle(self.positions.as_slice(), &other.positions)
     }
 }
 
@@ -96,48 +56,87 @@ fn is_above_middle(a: Pos, p: Pos, q: Pos) -> bool {
 /// Whether the edge from a to b counts for the middle between p and q: the ray from there to the
 /// right passes it.
 fn counts_for_middle(p: Pos, q: Pos, a: Pos, b: Pos) -> bool {
+    let rises = is_above_middle(b, p, q);
+    if is_above_middle(a, p, q) == rises {
+        return false;
+    }
     // twice the side of the middle; each is at most 8*10^24, so that the sum is exact
     let side = orient(a, b, p).saturating_add(orient(a, b, q));
-    if is_above_middle(a, p, q) {
-        !is_above_middle(b, p, q) && side < 0
-    } else {
-        is_above_middle(b, p, q) && 0 < side
+    if rises { 0 < side } else { side < 0 }
+}
+
+/// The rings that were found, and their edges in rows.
+#[derive(Drop)]
+struct Rings<'r, A: Allocator + Copy> {
+    rings: &'r [Found<A>],
+    rows: Rows<A>,
+}
+
+impl<'r, A: Allocator + Copy> Rings<'r, A> {
+    fn new(alloc: A, rings: &'r [Found<A>]) -> Result<Rings<'r, A>, AllocError> {
+        let mut edges = Vec::new(alloc);
+        // a ring alone is in no other one
+        let others = if rings.len() > 1 { rings } else { &[] };
+        for (place, ring) in others.iter().enumerate() {
+            push_edges(&mut edges, place, ring.positions.as_slice())?;
+        }
+        let rows = Rows::new(alloc, edges.as_slice())?;
+        Ok(Rings { rings, rows })
     }
-}
 
-/// Whether a ring has the middle of the other's first edge inside, by the even-odd rule.
-fn holds_middle(ring: &[Pos], other: &[Pos]) -> bool {
-    let [p, q, ..] = other else {
-        return false;
-    };
-    let edges = ring.iter().zip(ring.iter().skip(1).chain(ring));
-    let passed = edges.filter(|(from, to)| counts_for_middle(*p, *q, **from, **to));
-    passed.count() % 2 == 1
-}
-
-/// How many others hold each of the rings.
-fn depths<A: Allocator + Copy>(alloc: A, rings: &[Found<A>]) -> Result<Vec<usize, A>, AllocError> {
-    let mut depths = Vec::new(alloc);
-    for (place, ring) in rings.iter().enumerate() {
-        let others = rings.iter().enumerate();
-        depths.push(
-            others
-                .filter(|(k, other)| *k != place && other.holds(ring))
-                .count(),
-        )?;
+    /// The places of the rings whose edges a ray to the right passes, each as often as it does. It
+    /// begins at the middle of the first edge of the ring at a place.
+    fn passed(&self, alloc: A, place: usize) -> Result<Vec<usize, A>, AllocError> {
+        let mut passed = Vec::new(alloc);
+        let Some([p, q, ..]) = self.rings.get(place).map(|ring| ring.positions.as_slice()) else {
+            return Ok(passed);
+        };
+        for edge in self.rows.at((p.y() + q.y()).div_euclid(2)) {
+            if counts_for_middle(*p, *q, edge.from, edge.to) {
+                passed.push(edge.ring)?;
+            }
+        }
+        Ok(passed)
     }
-    Ok(depths)
-}
 
-/// The place of a ring of this depth that holds the hole.
-fn around<A: Allocator + Copy>(
-    rings: &[Found<A>],
-    depths: &[usize],
-    depth: usize,
-    hole: &Found<A>,
-) -> Option<usize> {
-    let mut with_depths = rings.iter().zip(depths);
-    with_depths.position(|(ring, at)| *at == depth && ring.holds(hole))
+    /// The places of the other rings, which do not cross it, that hold the ring at a place: those that
+    /// have the middle of its first edge inside, by the even-odd rule.
+    fn holders(&self, alloc: A, place: usize) -> Result<Vec<usize, A>, AllocError> {
+        let mut passed = self.passed(alloc, place)?;
+        passed.sort_unstable();
+        let mut holders = Vec::new(alloc);
+        for same in passed.as_slice().chunk_by(|one, other| one == other) {
+            if let [other, ..] = same
+                && *other != place
+                && same.len() % 2 == 1
+            {
+                holders.push(*other)?;
+            }
+        }
+        Ok(holders)
+    }
+
+    /// How many others hold each of the rings.
+    fn depths(&self, alloc: A) -> Result<Vec<usize, A>, AllocError> {
+        let mut depths = Vec::new(alloc);
+        for place in 0..self.rings.len() {
+            depths.push(self.holders(alloc, place)?.len())?;
+        }
+        Ok(depths)
+    }
+
+    /// The place of the ring of this depth that holds the hole at a place.
+    fn around(
+        &self,
+        alloc: A,
+        depths: &[usize],
+        depth: usize,
+        hole: usize,
+    ) -> Result<Option<usize>, AllocError> {
+        let holders = self.holders(alloc, hole)?;
+        let mut places = holders.as_slice().iter();
+        Ok(places.find(|place| depths.get(**place) == Some(&depth)).copied())
+    }
 }
 
 /// The outer rings, each as a polygon, and for each ring in which of them it is the outer one.
@@ -165,17 +164,18 @@ fn outer_rings<A: Allocator + Copy>(
 fn grouped<A: Allocator + Copy>(
     alloc: A,
     rings: &[Found<A>],
-    depths: &[usize],
     to_left: bool,
 ) -> Result<Vec<Vec<Vec<Pos, A>, A>, A>, AllocError> {
-    let (mut parts, homes) = outer_rings(alloc, rings, depths, to_left)?;
-    for (hole, depth) in rings.iter().zip(depths) {
+    let nest = Rings::new(alloc, rings)?;
+    let depths = nest.depths(alloc)?;
+    let (mut parts, homes) = outer_rings(alloc, rings, depths.as_slice(), to_left)?;
+    for (hole, (ring, depth)) in rings.iter().zip(depths.as_slice()).enumerate() {
         if *depth % 2 == 1
-            && let Some(place) = around(rings, depths, *depth - 1, hole)
+            && let Some(place) = nest.around(alloc, depths.as_slice(), *depth - 1, hole)?
             && let Some(home) = homes.get(place)
             && let Some(part) = parts.get_mut(*home)
         {
-            part.push(hole.directed(alloc, !to_left)?)?;
+            part.push(ring.directed(alloc, !to_left)?)?;
         }
     }
     Ok(parts)
@@ -193,9 +193,8 @@ pub(crate) fn nested<A: Allocator + Copy>(
     for way in ways {
         rings.push(Found::new(alloc, old, way.as_slice())?)?;
     }
-    let depths = depths(alloc, rings.as_slice())?;
     let to_left = walks
         .first()
         .is_none_or(|first| turns_left(first.as_slice()));
-    grouped(alloc, rings.as_slice(), depths.as_slice(), to_left)
+    grouped(alloc, rings.as_slice(), to_left)
 }
