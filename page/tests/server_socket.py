@@ -1,5 +1,6 @@
 """The WebSocket: who may open it, its frames, and that it answers as POST does."""
 import contextlib
+import io
 import json
 import os
 import signal
@@ -12,6 +13,7 @@ from server_editing import NO_LINES, NO_REQUESTS, OTHER_OWNERS, REQUESTS
 from server_maps import SQUARES
 from server_runs import PATIENCE, Served, folder, until
 
+import sockets
 import visits
 
 # The key of the example of RFC 6455, and what it is answered.
@@ -128,13 +130,9 @@ class Page:
         self.connection.sendall(text)
 
     def frame(self):
-        """The next frame of the server: its first byte, and what it holds. Nothing where none comes any more."""
+        """The next frame of the server. Nothing where none comes any more."""
         with contextlib.suppress(ConnectionError):
-            if head := self.file.read(2):
-                size = head[1]
-                if size > 125:
-                    size = int.from_bytes(self.file.read(2 if size == 126 else 8), "big")
-                return head[0], self.file.read(size)
+            return frame_in(self.file)
         return None
 
     def rest(self):
@@ -150,6 +148,17 @@ class Page:
     def ask(self, name, **given):
         """What is answered to a request, as `Served.post` has it."""
         return self.reply(json.dumps({"name": name, "owner": self.served.owner, **given}))
+
+
+def frame_in(file):
+    """The next frame of the server: its first byte, and what it holds. Nothing at the end."""
+    head = file.read(2)
+    if not head:
+        return None
+    size = head[1]
+    if size > 125:
+        size = int.from_bytes(file.read(2 if size == 126 else 8), "big")
+    return head[0], file.read(size)
 
 
 def reply_in(found):
@@ -258,6 +267,16 @@ def frames(checks):
                 checks.same(f"{size} answers", got, ["[[[[0,0],[10,0],[10,10],[0,10]]]]"] * size)
 
 
+def sizes(checks):
+    """What the server sends: a size stands in 1, 3 or 9 bytes, the fewest that have room for it."""
+    for size, begin in [(0, 2), (125, 2), (126, 4), (127, 4), (65_535, 4), (65_536, 10), (1 << 21, 10)]:
+        file, answer = io.BytesIO(), b"x" * size
+        sockets.WebSocket(None, file, 0).send(answer)
+        at = file.tell()
+        file.seek(0)
+        checks.same(f"{size} bytes", (at, frame_in(file), file.read()), (begin + size, (LAST | TEXT, answer), b""))
+
+
 def no_frames(checks):
     """What is against the rules closes the connection, and nothing of it is done, nor of what comes then."""
     with squares() as served:
@@ -331,4 +350,4 @@ def stopped(checks):
                     (0, True, None))
 
 
-GROUPS = [last_page, who_may_open, same_answers, after_border_edit, frames, no_frames, cut_off, two_pages, stopped]
+GROUPS = [last_page, who_may_open, same_answers, after_border_edit, frames, sizes, no_frames, cut_off, two_pages, stopped]

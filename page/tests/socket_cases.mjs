@@ -1,4 +1,4 @@
-// Cases of requests on a WebSocket, beside a stand-in for the browser's: what is sent there, and what comes of each request.
+// Cases of requests on a WebSocket, with a stand-in for the browser's: what is sent there, and what comes of each.
 import { Socket } from "../web/socket.js";
 import { Talk } from "../web/talk.js";
 
