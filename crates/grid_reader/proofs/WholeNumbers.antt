@@ -16,7 +16,7 @@ use Rattle.topo_reader.specs.Common.{Arc, IsSum}
 use Rattle.topo_reader.specs.Positions as editor
 use Rattle.topo_reader.proofs.Common.{bind_ok, demand_ok, ok_same}
 use Rattle.topo_reader.proofs.MeaningOfArcs.{small_step}
-use Rattle.decimal_texts.specs.Common.{Parts, parts_of, fine, decimals, rounded}
+use Rattle.decimal_texts.specs.Common.{Parts, parts_of, fine, decimals, greater, rounded}
 use Rattle.decimal_texts.proofs.Wholes.{whole_has_parts, whole_is_fine}
 use Rattle.decimal_texts.proofs.Zeros.{zeros_all}
 use Rattle.grid_reader.specs.Common.{Wants, FinePosition, fits_finer_grid, fine_sum, fine_coordinate, first_two_of, fine_pair_of, fine_pair}
