@@ -10,7 +10,7 @@ ghost use Rattle.grid_reader.specs.Seen.{arcs_seen};
 
 use crate::fine::fine_arcs;
 use crate::fine_pos::FinePos;
-use crate::grid::{digits_of, decimals_of_all};
+use crate::grid::{decimals_of_all, digits_of};
 use crate::reading::{MAX_BYTES, has_points, opened_on};
 use crate::wants::Wants;
 use json_spans::{ScanFault, Span, scan};

@@ -14,7 +14,7 @@ ghost use Rattle.grid_reader.specs.Told.{IsToldOf, IsToldAt, IsTold};
 
 use crate::fine::fine_arcs;
 use crate::fine_pos::FinePos;
-use crate::grid::{all_whole, arcs_on, digits_of, heights, decimals_of_all, moved};
+use crate::grid::{all_whole, arcs_on, decimals_of_all, digits_of, heights, moved};
 use crate::told::Told;
 use crate::transform::{Transform, transform_on};
 use crate::wants::Wants;

@@ -135,7 +135,11 @@ impl<'r, A: Allocator + Copy> Rings<'r, A> {
     ) -> Result<Option<usize>, AllocError> {
         let holders = self.holders(alloc, hole)?;
         let mut places = holders.as_slice().iter();
-        Ok(places.find(|place| depths.get(**place) == Some(&depth)).copied())
+        Ok(
+            places
+                .find(|place| depths.get(**place) == Some(&depth))
+                .copied(),
+        )
     }
 }
 
