@@ -2,7 +2,6 @@ pub mod RuleLemmas
 pub mod WordLemmas
 mod Examples
 pub mod FoundLemmas
-pub mod EndingLemmas
 pub mod MarkLemmas
 pub mod NumberLemmas
 pub mod ViewLemmas

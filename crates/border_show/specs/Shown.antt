@@ -65,7 +65,8 @@ abbrev pub IsMarked : List ℕ → List ℕ → Type 0
 IsMarked bytes picture = (d : Document) → Reads bytes d
     → IfSome (first_pair d) (λ pair. IsNamedIn picture (record { first = pair.0; second = pair.1 }))
 
--- the picture has labels below the map where ids are asked for, and none where they are not
+-- between its map and the line of the first conflict, the picture has labels alone where ids are asked for, and nothing
+-- where they are not
 pub record IsLabelledAsAsked (maps : MapFiles) (asked : Arguments) (picture : List ℕ) : Type 0 where
   pub conflict : Option Conflict
   pub is_first : IsFirstConflict (bytes_drawn maps) conflict

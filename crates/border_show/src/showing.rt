@@ -52,10 +52,7 @@ fn read_map<'a>(
     ensures of_rings { IfOk result (λ map. IsOfRings (view_raw map)) }
     ensures refused { IfErr result (λ fault. IsFault (file_bytes file.now) fault) }
 {
-    match read(heap, heap, seed, file.bytes.as_slice()) {
-        Ok(map) => Ok(map),
-        Err(fault) => Err(fault),
-    }
+    read(heap, heap, seed, file.bytes.as_slice())
 }
 
 /// The first conflict of the map that a file holds. It is read anew: a map that is opened is taken apart.

@@ -1,13 +1,11 @@
-use Rattle.kit_words.proofs.Common.{List, subst, sym, ℕ}
-use Rattle.topo_reader.specs.Common.{IsFault, Reads}
-use Rattle.border_show.specs.Shown.{IsRead}
+use Rattle.kit_words.proofs.Common.{◌≡◌, List, IfOk, subst, ℕ}
+use Rattle.ring_machine.specs.Common.{Document}
+use Rattle.std.specs.declared.alloc.Global.{Global}
+use Rattle.topo_reader.specs.Common.{Reads, document_of, view_raw}
+use Rattle.topo_reader.specs.declared.document.RawDoc.{RawDoc}
 use Rattle.border_show.proofs.showing.read_map.Goals as goal
 
-pub returns-in-Ok-clause-reads : goal.returns-in-Ok-clause-reads
-returns-in-Ok-clause-reads c = subst (λ (bytes : List ℕ). IsRead bytes c.in-Ok.map) c.as_slice.ensures.value c.in-Ok.ensures.reads.0
-
-pub returns-in-Ok-clause-only : goal.returns-in-Ok-clause-only
-returns-in-Ok-clause-only c = λ d reads. c.in-Ok.ensures.only d (subst (λ (bytes : List ℕ). Reads bytes d) (sym c.as_slice.ensures.value) reads)
-
-pub returns-in-Err-clause-refused : goal.returns-in-Err-clause-refused
-returns-in-Err-clause-refused c = subst (λ (bytes : List ℕ). IsFault bytes c.in-Err.fault) c.as_slice.ensures.value c.in-Err.ensures.refused
+pub returns-clause-only : goal.returns-clause-only
+returns-clause-only c =
+    subst (λ (bytes : List ℕ). IfOk c.read.result (λ (map : RawDoc Global). (d : Document) → Reads bytes d → d ≡ document_of (view_raw map)))
+    c.as_slice.ensures.value c.read.ensures.only

@@ -15,5 +15,5 @@ returns-in_ok-picture-in-Ok-clause-labelled c =
     record {
       conflict = conflict;
       is_first = drawn.conflict;
-      labelled = subst (λ (asked : Bool). IsLabelledIn _ asked conflict) drawn.view.1 c.in_ok-picture-in-Ok.ensures.labelled;
+      labelled = subst (λ (asked : Bool). IsLabelledIn c.in_ok-picture-in-Ok.field-0.items asked conflict) drawn.view.1 c.in_ok-picture-in-Ok.ensures.labelled;
     }
