@@ -2,7 +2,6 @@
 
 use map_drawing::Window;
 use program_ends::{FileArgument, Role};
-use std::alloc::{AllocError, Global};
 
 /// The part of a map that is drawn.
 #[derive(Drop)]
@@ -30,36 +29,7 @@ pub struct Arguments {
     pub has_ids: bool,
 }
 
-/// The last part of a path.
-fn file_name(path: &str) -> &str {
-    match path.rsplit_once('/') {
-        Some((_, name)) => name,
-        None => path,
-    }
-}
-
 impl Arguments {
-    /// The names of the file, or of those before and after an edit.
-    fn file_names(&self, alloc: Global) -> Result<String, AllocError> {
-        let before = file_name(self.before.as_str());
-        match &self.after {
-            Some(after) => {
-                let after = file_name(after.as_str());
-                format!(in alloc; "{before} \u{2192} {after}")
-            }
-            None => String::from_str(alloc, before),
-        }
-    }
-
-    /// The title of the picture: the names of the files, and what `--feature` names.
-    pub(crate) fn title(&self, alloc: Global) -> Result<String, AllocError> {
-        let files = self.file_names(alloc)?;
-        match &self.part {
-            Part::Feature(name) => format!(in alloc; "{files}: {name}"),
-            Part::Whole | Part::Square(_) => Ok(files),
-        }
-    }
-
     /// The files that the arguments name, the one that is written first.
     pub(crate) fn files(&self) -> [FileArgument<'_>; 3] {
         [

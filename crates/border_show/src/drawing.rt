@@ -1,9 +1,12 @@
 //! The files of the program: what is read, what is written, and in which order.
+ghost use Rattle.std.specs.Prelude.{◌↔◌, IsSome};
+
 use crate::arguments::Arguments;
-use crate::ending::ending_of_drawing;
+use crate::ending::{ending_of_drawing, once_saved};
+use crate::maps::read_files;
 use crate::showing::show;
-use program_ends::{Ending, Errors, Paths, Stop, hash_seed, map_bytes, replace_file};
-use std::io::Write;
+use program_ends::{Ending, Errors, Paths, Stop, hash_seed, replace_file};
+use std::io::{Error, Write};
 
 /// The paths of the files that the arguments name: that of a map where there is one alone.
 fn paths_of(arguments: &Arguments) -> Paths<'_> {
@@ -20,11 +23,13 @@ fn paths_of(arguments: &Arguments) -> Paths<'_> {
     }
 }
 
-/// Writes FILE where the ending has something for it.
-fn save<'a>(rt: &HostRuntime, ending: Ending<'a>, file: &str) -> Ending<'a> {
-    match ending.file {
-        Some(text) => ending.once_written(replace_file(rt, file, text)),
-        None => ending,
+/// Writes FILE where there is something for it, and answers what came of that.
+fn save(rt: &HostRuntime, file: &str, text: Option<&[u8]>) -> Option<Result<(), Error>>
+    ensures { IsSome result ↔ IsSome text.entry }
+{
+    match text {
+        Some(text) => Some(replace_file(rt, file, text)),
+        None => None,
     }
 }
 
@@ -35,19 +40,12 @@ fn draw_read<E: Write>(
     errors: &mut Errors<'_, E>,
 ) -> Result<u8, Stop> {
     let seed = hash_seed(rt)?;
-    let first = map_bytes(rt, arguments.before.as_str())?;
-    let second = match &arguments.after {
-        Some(after) => Some(map_bytes(rt, after.as_str())?),
-        None => None,
-    };
-    let (before, map) = match &second {
-        Some(after) => (Some(first.as_slice()), after.as_slice()),
-        None => (None, first.as_slice()),
-    };
-    let title = arguments.title(rt.alloc())?;
-    let outcome = show(rt.alloc(), seed, before, map, arguments, title.as_str());
+    let maps = read_files(rt, arguments)?;
+    let title = maps.title(rt.alloc(), &arguments.part)?;
+    let outcome = show(rt.alloc(), seed, &maps, arguments, title.as_str());
     let ending = ending_of_drawing(&outcome);
-    let ending = save(rt, ending, arguments.out.as_str());
+    let written = save(rt, arguments.out.as_str(), ending.file);
+    let ending = once_saved(ending, written);
     Ok(errors.end(ending, &paths_of(arguments)))
 }
 

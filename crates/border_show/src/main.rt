@@ -19,6 +19,7 @@ mod drawing;
 mod ending;
 mod finding;
 mod help;
+mod maps;
 mod showing;
 
 use arguments::Arguments;

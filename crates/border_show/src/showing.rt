@@ -1,13 +1,18 @@
 //! From the bytes of maps to the bytes of a picture.
 ghost use Rattle.std.specs.Prelude.{◌≡◌, option_map, IfErr, IfOk, IfSome, IsSomeAnd, OnErr};
 ghost use Rattle.map_drawing.specs.Marks.{IsNamedIn};
-ghost use Rattle.topo_reader.specs.Common.{IsFault};
+ghost use Rattle.map_drawing.specs.Names.{IsLabelledIn};
+ghost use Rattle.ring_machine.specs.Common.{Document};
+ghost use Rattle.topo_reader.specs.Common.{document_of, IsFault, IsOfRings, Reads, view_raw};
 ghost use Rattle.border_show.specs.Conflicts.{IsFirstConflict};
-ghost use Rattle.border_show.specs.Shown.{IsDrawing, IsFeaturePart, IsFeatureView, IsMarked, IsReadBefore, IsShowFault, IsViewAsked};
+ghost use Rattle.border_show.specs.Maps.{bytes_before, bytes_drawn, file_bytes};
+ghost use Rattle.border_show.specs.Shown.{IsDrawing, IsFeaturePart, IsFeatureView, IsLabelledAsAsked, IsMarked, IsRead};
+ghost use Rattle.border_show.specs.Shown.{IsReadBefore, IsShowFault, IsViewAsked};
 
 use crate::arguments::{Arguments, Part};
 use crate::conflicts::first_conflict;
 use crate::finding::{NoFeature, named_feature};
+use crate::maps::{MapFile, MapFiles};
 use map_drawing::{Conflict, Edit, View, draw_change, draw_map};
 use std::alloc::{AllocError, Global};
 use std::hash::RandomState;
@@ -35,17 +40,31 @@ impl<'a> From<AllocError> for ShowFault<'a> {
     }
 }
 
-/// The first conflict of the map that the bytes are. They are read anew: a map that is opened is taken
-/// apart.
+/// The map that a file holds.
+fn read_map<'a>(
+    heap: Global,
+    seed: RandomState,
+    file: &'a MapFile<'_>,
+) -> Result<RawDoc<'a, Global>, OpenFault<'a>>
+    ensures reads { IfOk result (IsRead (file_bytes file.now)) }
+    ensures only { IfOk result (λ map. (d : Document) → Reads (file_bytes file.now) d →
+        d ≡ document_of (view_raw map)) }
+    ensures of_rings { IfOk result (λ map. IsOfRings (view_raw map)) }
+    ensures refused { IfErr result (λ fault. IsFault (file_bytes file.now) fault) }
+{
+    read(heap, heap, seed, file.bytes.as_slice())
+}
+
+/// The first conflict of the map that a file holds. It is read anew: a map that is opened is taken apart.
 fn conflict_of<'a>(
     heap: Global,
     seed: RandomState,
-    bytes: &'a [u8],
+    file: &'a MapFile<'_>,
 ) -> Result<Option<Conflict>, OpenFault<'a>>
-    ensures first { IfOk result (IsFirstConflict bytes.now) }
-    ensures refused { IfErr result (λ fault. IsFault bytes.now fault) }
+    ensures first { IfOk result (IsFirstConflict (file_bytes file.now)) }
+    ensures refused { IfErr result (λ fault. IsFault (file_bytes file.now) fault) }
 {
-    let map = match read(heap, heap, seed, bytes) {
+    let map = match read_map(heap, seed, file) {
         Ok(map) => map,
         Err(fault) => return Err(fault),
     };
@@ -104,13 +123,13 @@ fn view_of(
 fn read_before<'a>(
     heap: Global,
     seed: RandomState,
-    bytes: Option<&'a [u8]>,
+    maps: &'a MapFiles<'_>,
 ) -> Result<Option<RawDoc<'a, Global>>, OpenFault<'a>>
-    ensures before { IfOk result (IsReadBefore bytes.entry) }
-    ensures refused { IfErr result (λ fault. IsSomeAnd bytes.entry (λ b. IsFault b.now fault)) }
+    ensures before { IfOk result (IsReadBefore (bytes_before maps.now)) }
+    ensures refused { IfErr result (λ fault. IsSomeAnd (bytes_before maps.now) (λ b. IsFault b fault)) }
 {
-    match bytes {
-        Some(bytes) => match read(heap, heap, seed, bytes) {
+    match &maps.before {
+        Some(file) => match read_map(heap, seed, file) {
             Ok(map) => Ok(Some(map)),
             Err(fault) => Err(fault),
         },
@@ -126,21 +145,20 @@ struct Drawing<'a> {
     view: View,
 }
 
-/// What is drawn as the arguments ask, of the bytes of a map and perhaps of the one before it, which is read
-/// first. The first conflict of the map is to be marked.
+/// What is drawn as the arguments ask. The map before an edit is read first; the first conflict of the map is to
+/// be marked.
 fn drawing_of<'a>(
     heap: Global,
     seed: RandomState,
-    before: Option<&'a [u8]>,
-    bytes: &'a [u8],
+    maps: &'a MapFiles<'_>,
     arguments: &Arguments,
 ) -> Result<Drawing<'a>, ShowFault<'a>>
-    ensures drawn { IfOk result (IsDrawing before.entry bytes.now arguments.now) }
-    ensures fault { IfErr result (IsShowFault before.entry bytes.now arguments.now.part) }
+    ensures drawn { IfOk result (IsDrawing maps.now arguments.now) }
+    ensures fault { IfErr result (IsShowFault maps.now arguments.now.part) }
 {
-    let before = or_return!(read_before(heap, seed, before));
-    let conflict = or_return!(conflict_of(heap, seed, bytes));
-    let map = or_return!(read(heap, heap, seed, bytes));
+    let before = or_return!(read_before(heap, seed, maps));
+    let conflict = or_return!(conflict_of(heap, seed, &maps.map));
+    let map = or_return!(read_map(heap, seed, &maps.map));
     match view_of(heap, before.as_ref(), &map, arguments)? {
         Ok(view) => Ok(Drawing {
             before,
@@ -151,20 +169,30 @@ fn drawing_of<'a>(
     }
 }
 
-impl Drawing<'_> {
-    /// The picture of the map, or of what an edit made of the map before it.
-    fn picture(&self, heap: Global, title: &str) -> Result<Vec<u8>, AllocError>
-        ensures { IfOk result (λ picture.
-            IfSome self.now.view.conflict (IsNamedIn picture.items)) }
+impl<'a> Drawing<'a> {
+    /// The edit that made the map, where there is a map before it.
+    fn edit(&self) -> Option<Edit<'_, 'a, Global>>
+        ensures before { option_map (λ edit. edit.before.now) result ≡ self.now.before }
+        ensures after { IfSome result (λ edit. edit.after.now ≡ self.now.map) }
     {
         match &self.before {
-            Some(before) => {
-                let edit = Edit {
-                    before,
-                    after: &self.map,
-                };
-                draw_change(heap, heap, edit, self.view, title)
-            }
+            Some(before) => Some(Edit {
+                before,
+                after: &self.map,
+            }),
+            None => None,
+        }
+    }
+
+    /// The picture of the map, or of what an edit made of the map before it.
+    fn picture(&self, heap: Global, title: &str) -> Result<Vec<u8>, AllocError>
+        ensures named { IfOk result (λ picture.
+            IfSome self.now.view.conflict (IsNamedIn picture.items)) }
+        ensures labelled { IfOk result (λ picture.
+            IsLabelledIn picture.items self.now.view.has_ids self.now.view.conflict) }
+    {
+        match self.edit() {
+            Some(edit) => draw_change(heap, heap, edit, self.view, title),
             None => draw_map(heap, heap, &self.map, self.view, title),
         }
     }
@@ -174,15 +202,16 @@ impl Drawing<'_> {
 pub(crate) fn show<'a>(
     heap: Global,
     seed: RandomState,
-    before: Option<&'a [u8]>,
-    bytes: &'a [u8],
+    maps: &'a MapFiles<'_>,
     arguments: &Arguments,
     title: &str,
 ) -> Result<Vec<u8>, ShowFault<'a>>
-    ensures marked { IfOk result (λ picture. IsMarked bytes.now picture.items) }
-    ensures fault { IfErr result (IsShowFault before.entry bytes.now arguments.now.part) }
+    ensures marked { IfOk result (λ picture. IsMarked (bytes_drawn maps.now) picture.items) }
+    ensures labelled { IfOk result (λ picture.
+        IsLabelledAsAsked maps.now arguments.now picture.items) }
+    ensures fault { IfErr result (IsShowFault maps.now arguments.now.part) }
 {
-    match drawing_of(heap, seed, before, bytes, arguments) {
+    match drawing_of(heap, seed, maps, arguments) {
         Ok(drawing) => Ok(drawing.picture(heap, title)?),
         Err(fault) => Err(fault),
     }
