@@ -25,7 +25,6 @@ from topology import after_space, differences, entries, read, sums, values
 TOP = pathlib.Path(__file__).resolve().parent.parent
 REACH = 10**12
 PLACES = 24
-NUMBER = r"-?[0-9][0-9.eE+-]*"
 
 decimal.getcontext().prec = 100
 
@@ -177,19 +176,15 @@ def divided(number, power):
 
 
 class Grid:
-    """The grid of a map with decimals, where so many are kept at most, and it is made finer by a power of ten. The
-    numbers of points are counted where those of arcs have decimals."""
+    """The grid of a map with decimals, where so many are kept at most, and it is made finer by a power of ten."""
 
-    def __init__(self, pairs, are_differences, point_numbers, digits, finer):
+    def __init__(self, pairs, are_differences, digits, finer):
         cut = [[tuple(map(cut_number, p)) for p in arc] for arc in pairs]
         cut = [sums(arc) for arc in cut] if are_differences else cut
         all_numbers = [c for arc in cut for p in arc for c in p]
         self.decimals = max(map(decimals_of, all_numbers), default=0)
-        if self.decimals:
-            self.decimals = max(self.decimals, *map(decimals_of, point_numbers))
         far = max(map(abs, all_numbers), default=0)
         self.fits = far * 10**finer <= REACH
-        far = max(far, *map(abs, point_numbers))
         fitting = [k for k in range(min(digits, self.decimals) + 1) if far * 10 ** (k + finer) <= REACH]
         self.digits, self.finer = max(fitting, default=0), finer
         self.arcs = [[tuple(map(self.nearest, p)) for p in arc] for arc in cut]
@@ -203,7 +198,7 @@ class Grid:
         """The text of a point's coordinate on the grid, or else the fault that it is told with."""
         if not self.digits + self.finer:
             return text, None
-        if not re.fullmatch(NUMBER, text):
+        if not re.fullmatch(r"-?[0-9][0-9.eE+-]*", text):
             return None, "not whole"
         number = cut_number(fractions.Fraction(text))
         if abs(number) * 10 ** (self.digits + self.finer) > REACH:
@@ -259,12 +254,6 @@ def wanted(grid, is_whole, heights, lines, report):
     return "".join(rest[:1] + told + rest[1:] if rest[:1] == ["opens\n"] else told + rest)
 
 
-def point_numbers(text):
-    """What the coordinates of points are that are numbers of less than 10^13, and a 0."""
-    told = [fractions.Fraction(c) for c in coordinates(text) if re.fullmatch(NUMBER, c)]
-    return [0, 0] + [cut_number(number) for number in told if abs(number) < 10 * REACH]
-
-
 def coordinates(text):
     """The texts of the points' coordinates, in their order."""
     return [text[start:end] for start, end in point_spans(text)]
@@ -273,7 +262,7 @@ def coordinates(text):
 def fault_of(mender, blurred, digits, finer):
     """What is wrong with one map, and what was tried of it."""
     text, heights = blurred.written()
-    grid = Grid(blurred.pairs, bool(blurred.transform), point_numbers(text), digits, finer)
+    grid = Grid(blurred.pairs, bool(blurred.transform), digits, finer)
     dropped = ["heights"] * blurred.heights + ["lines"] * bool(blurred.lines)
     words = ["--digits", str(digits), "--refine", str(finer), *(["--drop", ",".join(dropped)] if dropped else [])]
     status, report, said, saved = mender.ran(text, words)

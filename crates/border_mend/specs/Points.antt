@@ -5,7 +5,7 @@ use Rattle.grid_reader.specs.declared.wants.Wants.{Wants}
 use Rattle.mend_report.specs.declared.asked.Asked.{Asked}
 use Rattle.mend_report.specs.declared.looking.LookFault.{LookFault}
 use Rattle.mend_report.specs.declared.looking.LookFault.TheVariants as look
-use Rattle.decimal_texts.specs.Common.{point_needs, rounded_points}
+use Rattle.decimal_texts.specs.Common.{rounded_points}
 use Rattle.decimal_texts.specs.declared.fault.PointFault.{PointFault}
 use Rattle.decimal_texts.specs.declared.fault.PointFault.TheVariants as point
 use Rattle.topo_outline.specs.declared.fault.OpenFault.TheVariants as open_fault
@@ -15,13 +15,9 @@ abbrev pub rounded_to : Wants → List ℕ → Option ℕ → Result (List ℕ) 
 rounded_to grid text None = Ok text
 rounded_to grid text (Some digits) = rounded_points digits grid.finer text
 
--- the coordinates of points are counted as those of arcs are
-abbrev pub counting_points : Wants → List ℕ → Wants
-counting_points grid text = record grid { points = point_needs text }
-
 -- the text with its points on the grid that is asked for
 abbrev pub points_on_grid : Wants → List ℕ → Result (List ℕ) PointFault
-points_on_grid grid text = rounded_to grid text (point_digits (counting_points grid text) text)
+points_on_grid grid text = rounded_to grid text (point_digits grid text)
 
 -- the same is asked, of a text whose points lie on the grid
 pub record AsksOfLying (before after : Asked) : Type 0 where

@@ -9,7 +9,6 @@ use crate::asked::Words;
 use crate::help;
 use clap::error::ErrorKind;
 use clap::{Arg, ArgAction, Command};
-use decimal_texts::GridNeeds;
 use grid_reader::Wants;
 use mend_report::Asked;
 use program_ends::{VERSION, copied, is_file};
@@ -125,7 +124,6 @@ fn asked_of(
         finer,
         drop_heights,
         points_lie: false,
-        points: GridNeeds::NONE,
     };
     let asked = Asked {
         grid,

@@ -1,10 +1,10 @@
 //! The points of a map, put on the grid that is asked for.
 ghost use Rattle.std.specs.Prelude.{◌≡◌, ◌≤◌, ◌<◌, length, IfOk, Ok};
 ghost use Rattle.json_spans.specs.Common.{Json};
-ghost use Rattle.decimal_texts.specs.Common.{AnswersAs, point_needs};
+ghost use Rattle.decimal_texts.specs.Common.{AnswersAs};
 ghost use Rattle.border_mend.specs.Points.{points_on_grid, AsksOfLying, unread};
 
-use decimal_texts::{PointFault, point_needs, rounded_points};
+use decimal_texts::{PointFault, rounded_points};
 use grid_reader::point_digits;
 use mend_report::{Asked, LookFault};
 use std::alloc::Global;
@@ -12,7 +12,7 @@ use std::hash::RandomState;
 use topo_outline::OpenFault;
 
 /// The text with its points (TopoJSON 1.0, 2.2.1 and 2.2.2) on the grid that is asked for, and the same
-/// asked of it, but that its points are counted, and lie there. A text stays where it has no points, where its grid stays,
+/// asked of it, but that its points lie there. A text stays where it has no points, where its grid stays,
 /// and where it can't be read: then reading it tells its fault.
 pub(crate) fn with_points_on_grid(
     alloc: Global,
@@ -27,11 +27,8 @@ pub(crate) fn with_points_on_grid(
     ensures too_long { 67108864 < length text.items →
         AnswersAs (λ pair. pair.0.items) result (Ok text.items) }
     ensures asked { IfOk result (λ pair. AsksOfLying asked pair.1) }
-    ensures counted { Json 100 text.items →
-        IfOk result (λ pair. pair.1.grid.points ≡ point_needs text.items) }
 {
     let mut asked = asked;
-    asked.grid.points = point_needs(alloc, alloc, text.as_slice())?;
     let digits = point_digits(alloc, alloc, seed, text.as_slice(), asked.grid)?;
     asked.grid.points_lie = true;
     match digits {

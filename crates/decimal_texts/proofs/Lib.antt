@@ -16,8 +16,6 @@ pub mod Ranging
 pub mod Fits
 pub mod Finding
 pub mod Changing
-pub mod Needing
 pub mod NewTexts
 mod PointExamples
-mod NeedExamples
 pub mod Common

@@ -11,7 +11,6 @@ pub use Rattle.decimal_texts.specs.Found.{found_value}
 pub use Rattle.decimal_texts.specs.Geometries.{all_geometries, has_type, is_of, collected, says, value_in}
 unfoldable pub use Rattle.decimal_texts.specs.Geometries.{geometries_in, value_named}
 pub use Rattle.decimal_texts.specs.Gives.{IsPointFault, AnswersAs}
-pub use Rattle.decimal_texts.specs.Needs.{all_units, greater, greatest, needs_of, needs_with, point_needs, units_of}
 pub use Rattle.decimal_texts.specs.Points.{all_coordinates, coordinates_of, first_two}
 pub use Rattle.decimal_texts.specs.Rounded.{bytes_between, all_or_fault, fits_grid, number_on_grid, rounded_points}
 unfoldable pub use Rattle.decimal_texts.specs.Rounded.{new_text, spliced}

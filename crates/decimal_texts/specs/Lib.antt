@@ -8,7 +8,6 @@ pub mod Dropped
 pub mod Found
 pub mod Points
 pub mod Rounded
-pub mod Needs
 pub mod Changes
 pub mod Gives
 pub mod Common

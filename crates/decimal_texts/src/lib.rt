@@ -9,9 +9,8 @@
 //! `type` is `null`. The value of `type` becomes `null` and spaces, the member `arcs` becomes spaces,
 //! and every other value keeps its place. [`rounded_points`] puts the points of a topology on a grid
 //! of whole numbers: each coordinate of a Point or a MultiPoint becomes the whole number that it is
-//! rounded to, and all else is as it stands, byte for byte; heights stay as they are. [`point_needs`]
-//! tells how many decimals these coordinates have, and how far they lie. All walk over the geometries
-//! of the text by [`all_geometries`].
+//! rounded to, and all else is as it stands, byte for byte; heights stay as they are. Both walk over
+//! the geometries of the text by [`all_geometries`].
 #![tactic(auto)]
 
 mod decimal;
@@ -20,7 +19,6 @@ mod dropped;
 mod fault;
 mod fine;
 mod geometries;
-mod needs;
 mod points;
 mod reading;
 mod rounding;
@@ -33,7 +31,6 @@ pub use dropped::{Dropped, without_lines};
 pub use fault::PointFault;
 pub use fine::{decimals, is_rounded, rounded};
 pub use geometries::{Shape, all_geometries, has_type, value_in};
-pub use needs::{GridNeeds, point_needs};
 pub use reading::decimal_of;
 pub use shifted::push_shifted;
 pub use whole::rounded_points;

@@ -1,8 +1,7 @@
 -- The greatest of what the coordinates have, as the loops come to it.
 use Rattle.kit_words.proofs.Common.{◌≡◌, ℕ, ◌+◌, ◌<◌, List, length, get_or, drop, map, ap, ℤ, Vec, fold}
 use Rattle.topo_outline.proofs.Common.{tail_at}
-use Rattle.decimal_texts.specs.Common.{greater}
-use Rattle.grid_reader.specs.Common.{FinePos, greatest_from, coordinates, fine_seen, arcs_seen}
+use Rattle.grid_reader.specs.Common.{FinePos, greater, greatest_from, coordinates, fine_seen, arcs_seen}
 
 abbrev pub greatest_in : {A : Type 0} → (ℤ → ℕ) → ℕ → List (Vec FinePos A) → ℕ
 greatest_in f n arcs = fold greater n (map f (coordinates (arcs_seen arcs)))

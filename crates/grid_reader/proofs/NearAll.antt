@@ -7,10 +7,10 @@ use Rattle.json_spans.specs.Common.{Node, items, kind_of}
 use Rattle.topo_outline.specs.Common.{is_list, is_number, not_whole, out_of_range, bad_position, ◌>>=◌, each}
 use Rattle.topo_reader.specs.Common.{has_two}
 use Rattle.topo_reader.proofs.Common.{bind_ok, demand_ok, ok_same}
-use Rattle.decimal_texts.specs.Common.{Parts, parts_of, fine, greater}
+use Rattle.decimal_texts.specs.Common.{Parts, parts_of, fine}
 use Rattle.grid_reader.specs.Common.{Wants, FinePosition, fine_origin, fits_finer_grid, fine_sum, fine_coordinate, first_two_of, fine_pair_of, fine_pair}
 use Rattle.grid_reader.specs.Common.{fine_position, before_next_fine, fine_positions, fine_arc, fine_arcs, xy, coordinates}
-use Rattle.grid_reader.specs.Common.{greatest_from, furthest, furthest_of_all, decimals_of_all, smaller, fitting, decimals_kept}
+use Rattle.grid_reader.specs.Common.{greater, greatest_from, furthest, most_decimals, smaller, fitting, decimals_kept}
 use Rattle.grid_reader.specs.Common.{IsNear}
 
 -- both coordinates are at most so far from 0
@@ -141,7 +141,6 @@ arcs_near finer far d f (a ∷ arcs) low le = (arc_near finer far d f a low.0 le
 -- the positions that were read are near on their grid
 pub all_near : (wants : Wants) (delta : Bool) (n : Node) (arcs : List (List FinePosition)) → fine_arcs wants delta n ≡ Ok arcs → AllByRecursion (AllByRecursion (IsNear (decimals_kept wants arcs) wants.finer)) arcs
 all_near wants delta n arcs h =
-    let far = furthest_of_all wants arcs in
-    arcs_near wants.finer far (decimals_kept wants arcs) (fitting_fits wants.finer far (smaller wants.digits (decimals_of_all wants arcs))) arcs
+    arcs_near wants.finer (furthest arcs) (decimals_kept wants arcs) (fitting_fits wants.finer (furthest arcs) (smaller wants.digits (most_decimals arcs))) arcs
     (each_within wants delta (items n) arcs h)
-    (all_up_to far 0 arcs (both_below wants.points.furthest (furthest arcs) far (omega arith)).1).1
+    (all_up_to (furthest arcs) 0 arcs (omega arith)).1

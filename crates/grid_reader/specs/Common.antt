@@ -2,7 +2,7 @@
 pub use Rattle.grid_reader.specs.Fine.{FinePosition, before_next_fine, fine_coordinate, fine_arcs, fits_finer_grid, fine_origin, fine_pair}
 pub use Rattle.grid_reader.specs.Fine.{fine_pair_of, fine_sum, first_two_of}
 unfoldable pub use Rattle.grid_reader.specs.Fine.{fine_arc, fine_position, fine_positions}
-pub use Rattle.grid_reader.specs.Grid.{arcs_on, coordinates, decimals_kept, decimals_of_all, finer_by, furthest, furthest_of_all, greatest_from}
+pub use Rattle.grid_reader.specs.Grid.{arcs_on, coordinates, decimals_kept, finer_by, furthest, greater, greatest_from}
 pub use Rattle.grid_reader.specs.Grid.{has_further, heights, is_moved, smaller, most_decimals, positions_moved, position_on_grid, xy}
 unfoldable pub use Rattle.grid_reader.specs.Grid.{fitting}
 pub use Rattle.grid_reader.specs.Near.{IsNear}

@@ -1,10 +1,10 @@
 -- The grid that positions are put on: how many decimals it has, and where they stand on it.
-use Rattle.std.specs.Prelude.{ℕ, zero, suc, ◌+◌, ◌-◌, ◌*◌, ◌^◌, ◌||◌, ◌==◌, ℤ, pos, ◌*ℤ◌, unsigned_abs, Bool, nat_le, if◌then◌else◌, List, [], ◌∷◌, map, length}
+use Rattle.std.specs.Prelude.{ℕ, zero, suc, ◌+◌, ◌-◌, ◌*◌, ◌^◌, ◌||◌, ℤ, pos, ◌*ℤ◌, unsigned_abs, Bool, nat_le, if◌then◌else◌, List, [], ◌∷◌, map, length}
 use Rattle.std.specs.List.{flat_map, fold, filter}
 use Rattle.json_spans.specs.Common.{Node, items}
 use Rattle.grid_geometry.specs.Common.{Position, position}
 use Rattle.topo_reader.specs.Common.{Arc}
-use Rattle.decimal_texts.specs.Common.{decimals, greater, greatest, is_rounded, rounded}
+use Rattle.decimal_texts.specs.Common.{decimals, rounded, is_rounded}
 use Rattle.grid_reader.specs.declared.wants.Wants.{Wants}
 use Rattle.grid_reader.specs.Fine.{FinePosition}
 
@@ -15,6 +15,13 @@ xy p = p.x ∷ p.y ∷ []
 
 abbrev pub coordinates : List (List FinePosition) → List ℤ
 coordinates arcs = flat_map (flat_map xy) arcs
+
+abbrev pub greater : ℕ → ℕ → ℕ
+greater a b = if nat_le a b then b else a
+
+-- the greatest of the numbers, and 0 where there is none
+abbrev pub greatest : List ℕ → ℕ
+greatest ns = fold greater 0 ns
 
 -- the greatest of a number and of those that the positions' coordinates have
 abbrev pub greatest_from : (ℤ → ℕ) → ℕ → List FinePosition → ℕ
@@ -27,15 +34,6 @@ most_decimals arcs = greatest (map decimals (coordinates arcs))
 -- how far the furthest coordinate is from 0
 abbrev pub furthest : List (List FinePosition) → ℕ
 furthest arcs = greatest (map unsigned_abs (coordinates arcs))
-
--- of the points' coordinates too
-abbrev pub furthest_of_all : Wants → List (List FinePosition) → ℕ
-furthest_of_all wants arcs = greater wants.points.furthest (furthest arcs)
-
--- the same; where the arcs have whole numbers their grid stays, and points as they stand
-abbrev pub decimals_of_all : Wants → List (List FinePosition) → ℕ
-decimals_of_all wants arcs =
-    if most_decimals arcs == 0 then 0 else greater wants.points.decimals (most_decimals arcs)
 
 -- the greatest number of decimals, up to the last argument, with which so far a coordinate is within
 -- 10^12, on a grid 10^finer times as fine again
@@ -50,7 +48,7 @@ smaller a b = if nat_le a b then a else b
 -- how many decimals are kept: as many as there are, as are asked for, and as fit
 abbrev pub decimals_kept : Wants → List (List FinePosition) → ℕ
 decimals_kept wants arcs =
-    fitting wants.finer (furthest_of_all wants arcs) (smaller wants.digits (decimals_of_all wants arcs))
+    fitting wants.finer (furthest arcs) (smaller wants.digits (most_decimals arcs))
 
 -- ---- the positions
 

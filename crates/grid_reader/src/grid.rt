@@ -2,9 +2,9 @@
 ghost use Rattle.std.specs.Prelude.{◌≡◌, ◌≤◌, ◌*◌, ◌+◌, ◌^◌, map, length, unsigned_abs, IfOk, IfSome, ◌-◌, ◌*ℤ◌, pos};
 ghost use Rattle.std.specs.List.{filter, list_all, AllByRecursion};
 ghost use Rattle.json_spans.specs.Common.{node, items};
-ghost use Rattle.decimal_texts.specs.Common.{decimals, greater, rounded};
+ghost use Rattle.decimal_texts.specs.Common.{decimals, rounded};
 ghost use Rattle.topo_reader.specs.Common.{positions_of};
-ghost use Rattle.grid_reader.specs.Grid.{smaller, greatest_from, most_decimals, furthest, fitting, decimals_kept, decimals_of_all, furthest_of_all, position_on_grid, is_moved, positions_moved, has_further, heights};
+ghost use Rattle.grid_reader.specs.Grid.{greater, smaller, greatest_from, most_decimals, furthest, fitting, decimals_kept, position_on_grid, is_moved, positions_moved, has_further, heights};
 ghost use Rattle.grid_reader.specs.Near.{IsNear};
 ghost use Rattle.grid_reader.specs.Seen.{fine_seen, arcs_seen};
 ghost use Rattle.grid_reader.specs.Wholes.{is_whole_number, has_wholes, all_whole};
@@ -31,7 +31,7 @@ fn most_in_arc(before: usize, arc: &[FinePos]) -> usize
 }
 
 /// The most decimals that a coordinate has.
-fn most_decimals<A: Allocator + Copy>(arcs: &[Vec<FinePos, A>]) -> usize
+pub(crate) fn most_decimals<A: Allocator + Copy>(arcs: &[Vec<FinePos, A>]) -> usize
     ensures { result ≡ most_decimals (arcs_seen arcs.now) }
 {
     let mut most = 0;
@@ -78,30 +78,17 @@ fn fitting(finer: usize, far: u128, most: usize) -> usize
     kept
 }
 
-/// The most decimals that a coordinate has, of points too where those of arcs have some.
-pub(crate) fn decimals_of_all<A: Allocator + Copy>(wants: Wants, arcs: &[Vec<FinePos, A>]) -> usize
-    ensures { result ≡ decimals_of_all wants (arcs_seen arcs.now) }
-{
-    let most = most_decimals(arcs);
-    if most == 0 {
-        0
-    } else {
-        wants.points.decimals.max(most)
-    }
-}
-
 /// How many decimals are kept, where a coordinate has at most so many.
 pub(crate) fn digits_of<A: Allocator + Copy>(
     wants: Wants,
     most: usize,
     arcs: &[Vec<FinePos, A>],
 ) -> usize
-    requires { most ≡ decimals_of_all wants (arcs_seen arcs.now) }
+    requires { most ≡ most_decimals (arcs_seen arcs.now) }
     ensures value { result ≡ decimals_kept wants (arcs_seen arcs.now) }
     ensures bound { result ≤ 24 }
 {
-    let far = wants.points.furthest.max(furthest(arcs));
-    fitting(wants.finer, far, wants.digits.min(most))
+    fitting(wants.finer, furthest(arcs), wants.digits.min(most))
 }
 
 // ---- the positions

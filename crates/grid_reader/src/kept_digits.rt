@@ -10,7 +10,7 @@ ghost use Rattle.grid_reader.specs.Seen.{arcs_seen};
 
 use crate::fine::fine_arcs;
 use crate::fine_pos::FinePos;
-use crate::grid::{decimals_of_all, digits_of};
+use crate::grid::{digits_of, most_decimals};
 use crate::reading::{MAX_BYTES, has_points, opened_on};
 use crate::wants::Wants;
 use json_spans::{ScanFault, Span, scan};
@@ -45,7 +45,7 @@ fn digits_kept<A: Allocator + Copy>(
         d ≡ digits_kept wants (view_outline outline.entry) (arcs_seen fine.now)) }
     ensures few { IfOk result (λ d. IfSome d (λ digits. digits ≤ 24)) }
 {
-    let digits = digits_of(wants, decimals_of_all(wants, fine), fine);
+    let digits = digits_of(wants, most_decimals(fine), fine);
     if digits + wants.finer == 0 {
         return Ok(None);
     }

@@ -6,7 +6,7 @@ ghost use Rattle.topo_outline.specs.Common.{Gives, view_item, view_layer, view_o
 ghost use Rattle.topo_reader.specs.Common.{document_of, IsOfWalks, walks_read, OpensIn, IsFaultIn};
 ghost use Rattle.topo_reader.specs.Common.{feature_positions};
 ghost use Rattle.grid_reader.specs.Opening.{is_kept_text, has_points, demand_points_lie, opened_on, grid_opening, ReadsOnGrid};
-ghost use Rattle.grid_reader.specs.Grid.{decimals_of_all, decimals_kept, position_on_grid};
+ghost use Rattle.grid_reader.specs.Grid.{most_decimals, decimals_kept, position_on_grid};
 ghost use Rattle.grid_reader.specs.Near.{IsNear};
 ghost use Rattle.grid_reader.specs.OnGridView.{view_on_grid};
 ghost use Rattle.grid_reader.specs.Seen.{arcs_seen};
@@ -14,7 +14,7 @@ ghost use Rattle.grid_reader.specs.Told.{IsToldOf, IsToldAt, IsTold};
 
 use crate::fine::fine_arcs;
 use crate::fine_pos::FinePos;
-use crate::grid::{all_whole, arcs_on, decimals_of_all, digits_of, heights, moved};
+use crate::grid::{all_whole, arcs_on, digits_of, heights, most_decimals, moved};
 use crate::told::Told;
 use crate::transform::{Transform, transform_on};
 use crate::wants::Wants;
@@ -89,7 +89,7 @@ fn told_of<A: Allocator + Copy>(
     fine: &[Vec<FinePos, A>],
     arcs: Span<'_>,
 ) -> Option<Told>
-    requires most { most ≡ decimals_of_all wants (arcs_seen fine.now) }
+    requires most { most ≡ most_decimals (arcs_seen fine.now) }
     requires digits { digits ≡ decimals_kept wants (arcs_seen fine.now) }
     requires few { digits ≤ 24 }
     ensures { IfSome result (λ t. IsToldOf wants (arcs_seen fine.now) (node arcs.entry) t) }
@@ -155,7 +155,7 @@ pub(crate) fn opened_on<'a, A: Allocator + Copy>(
     ensures told { IfOk result (λ read.
         IsToldOf wants (arcs_seen fine.now) (node outline.entry.arcs) read.told) }
 {
-    let most = decimals_of_all(wants, fine);
+    let most = most_decimals(fine);
     let digits = digits_of(wants, most, fine);
     let Some(told) = told_of(wants, most, digits, fine, outline.arcs) else {
         return Err(OpenFault::OutOfMemory);
@@ -194,7 +194,7 @@ fn opened<'a, A: Allocator + Copy>(
 /// The coordinates are read as exact decimals; what follows the 24th is rounded down. All are put on
 /// one grid of whole numbers: of the decimals that are there, at most `wants.digits` are kept, and
 /// fewer where the furthest coordinate would pass 10^12; the rest is rounded to the nearest, and halves
-/// up. Those of `wants.points` are counted where the arcs have decimals. The transform becomes that of the grid. With `wants.drop_heights`, numbers after the first two
+/// up. The transform becomes that of the grid. With `wants.drop_heights`, numbers after the first two
 /// of a position are left out. The phases and the faults are those of `topo_reader::read_walks`, where
 /// `OutOfRange` is reported of a coordinate beyond 10^12 on a grid 10^`wants.finer` times as fine, and
 /// `Unsupported` of a point where the grid is finer than that of the text: points are kept as they

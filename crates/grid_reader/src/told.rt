@@ -3,7 +3,7 @@
 /// What is reported of the grid that a map was put on.
 #[derive(Clone, Copy, Debug, PartialEq, Eq)]
 pub struct Told {
-    /// The most decimals that a coordinate has, of 24, with those of `Wants::points`.
+    /// The most decimals that a coordinate has, of 24.
     pub decimals: usize,
     /// How many of them are kept.
     pub digits: usize,

@@ -1,8 +1,6 @@
 //! What is asked of coordinates.
 ghost use Rattle.std.specs.Prelude.{◌≤◌};
 
-use decimal_texts::GridNeeds;
-
 /// What is asked of the coordinates of a map.
 #[derive(Clone, Copy, Debug)]
 pub struct Wants {
@@ -14,9 +12,6 @@ pub struct Wants {
     pub drop_heights: bool,
     /// Whether points and several points lie on the grid that is asked for already.
     pub points_lie: bool,
-    /// What the coordinates of points need of the grid: they are counted where those of arcs have
-    /// decimals.
-    pub points: GridNeeds,
     ghost few_digits: { digits ≤ 24 },
     ghost not_too_fine: { finer ≤ 12 },
 }

@@ -1,7 +1,6 @@
 //! What is asked about a map, and what is reported of it.
 ghost use Rattle.std.specs.Prelude.{◌≡◌};
 
-use decimal_texts::GridNeeds;
 use grid_reader::{Told, Wants};
 use std::alloc::{Allocator, Global};
 use walk_faults::Findings;
@@ -28,7 +27,6 @@ impl Asked {
             finer: 0,
             drop_heights: false,
             points_lie: false,
-            points: GridNeeds::NONE,
         };
         Asked {
             grid,

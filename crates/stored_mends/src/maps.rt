@@ -1,7 +1,6 @@
 // What is reported of a map, and what it is mended to.
 use crate::cases::Case;
 use crate::stored::Stored;
-use decimal_texts::GridNeeds;
 use grid_reader::Wants;
 use mend_report::{
     Asked, LookFault, Remade, RepairFault, Report, Texts, is_open, mend_map, report_map,
@@ -16,7 +15,6 @@ pub(crate) fn asked_of(case: &Case<'_>) -> Asked {
         finer: case.number("finer", 0).min(12),
         drop_heights: case.has("heights"),
         points_lie: case.has("lying"),
-        points: GridNeeds::NONE,
     };
     Asked {
         grid,

@@ -1,7 +1,7 @@
 // The lines and the points of a text.
 use crate::maps::asked_of;
 use crate::stored::Stored;
-use decimal_texts::{PointFault, point_needs, rounded_points, without_lines};
+use decimal_texts::{PointFault, rounded_points, without_lines};
 use grid_reader::point_digits;
 use std::alloc::AllocError;
 use std::hash::RandomState;
@@ -43,8 +43,7 @@ pub(crate) fn compare_on_grid(stored: &mut Stored<'_>) -> Result<(), AllocError>
 /// Compares how many decimals the grid keeps on which the points of a map are to be put.
 pub(crate) fn compare_digits(stored: &mut Stored<'_>, seed: RandomState) -> Result<(), AllocError> {
     let (alloc, text) = (stored.alloc, stored.given("text")?);
-    let mut grid = asked_of(&stored.case).grid;
-    grid.points = point_needs(alloc, alloc, text.as_str().as_bytes())?;
+    let grid = asked_of(&stored.case).grid;
     match point_digits(alloc, alloc, seed, text.as_str().as_bytes(), grid)? {
         Some(digits) => stored.compare_number("keeps", digits),
         None => stored.compare("keeps", b"none"),

@@ -1,6 +1,6 @@
 use Rattle.kit_words.proofs.Common.{◌≡◌, ◌+◌, drop, map, sym, ap, ap₂, ◌∙◌, arith, ℕ, max, to_z-of_z}
-use Rattle.decimal_texts.specs.Common.{decimals, greater}
-use Rattle.grid_reader.specs.Common.{greatest_from, fine_seen}
+use Rattle.decimal_texts.specs.Common.{decimals}
+use Rattle.grid_reader.specs.Common.{greater, greatest_from, fine_seen}
 use Rattle.grid_reader.proofs.Greatest.{step}
 use Rattle.grid_reader.proofs.Reach.{near_fits}
 use Rattle.grid_reader.proofs.grid.most_in_arc.Goals as goal
