@@ -1,4 +1,8 @@
 //! What the arguments of the program ask for.
+ghost use Rattle.std.specs.Prelude.{◌≡◌};
+ghost use Rattle.geo_text.specs.Common.{view_asked};
+ghost use Rattle.border_export.specs.Asked.{wants_of};
+
 use geo_text::Asked;
 use program_ends::{FileArgument, Role};
 
@@ -21,7 +25,9 @@ pub struct Arguments {
 
 impl Arguments {
     /// What is asked of the text.
-    pub(crate) fn asked(&self) -> Asked<'_> {
+    pub(crate) fn asked(&self) -> Asked<'_>
+        ensures { view_asked result ≡ wants_of self.now }
+    {
         Asked {
             layer: self.layer.as_ref().map(|name| name.as_str()),
             decimals: self.decimals,

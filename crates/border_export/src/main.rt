@@ -4,6 +4,7 @@
 mod arguments;
 mod command_line;
 mod ending;
+mod exporting;
 mod help;
 mod writing;
 

@@ -1,12 +1,11 @@
 //! The files of the program: what is read, what is written, and in which order.
-ghost use Rattle.std.specs.Prelude.{◌≡◌, []};
+ghost use Rattle.std.specs.Prelude.{◌≡◌, None, IsSome};
 
 use crate::arguments::Arguments;
-use crate::ending::{common_ending, status_of};
-use device_io::ToWriter;
-use geo_text::{ExportFault, export};
+use crate::ending::ending_of_export;
+use crate::exporting::layer_text;
+use geo_text::ExportFault;
 use program_ends::{Ending, Errors, Paths, Stop, hash_seed, map_bytes, replace_file};
-use std::alloc::Allocator;
 use std::io::Write;
 
 /// The paths of the files that the arguments name.
@@ -20,46 +19,24 @@ fn paths_of(arguments: &Arguments) -> Paths<'_> {
     }
 }
 
-/// An empty text, with room for twice a map's length where there is so much memory.
-fn room_for_text<A: Allocator>(alloc: A, length: usize) -> Vec<u8, A>
-    ensures { result.items ≡ [] }
+/// Writes FILE where the ending has something for it, and leaves it after a fault.
+fn save<'a>(rt: &HostRuntime, ending: Ending<'a>, file: &str) -> Ending<'a>
+    ensures { ending.entry.file ≡ None → result ≡ ending.entry }
 {
-    let mut text = Vec::new(alloc);
-    let _ = text.reserve(length.saturating_mul(2));
-    text
-}
-
-/// Says why the layer is not written, and answers the status.
-fn end_of_fault<E: Write>(
-    fault: &ExportFault<'_>,
-    paths: &Paths<'_>,
-    errors: &mut Errors<'_, E>,
-) -> u8 {
-    match common_ending(fault) {
-        Some(ending) => errors.end(ending, paths),
-        None => {
-            let _ = writeln!(errors.writer, "{fault}");
-            status_of(fault)
-        }
+    match ending.file {
+        Some(text) => ending.once_written(replace_file(rt, file, text)),
+        None => ending,
     }
 }
 
-/// Writes FILE, and answers the status.
-fn save<E: Write>(
-    rt: &HostRuntime,
-    text: &[u8],
-    paths: &Paths<'_>,
-    errors: &mut Errors<'_, E>,
-) -> u8 {
-    let ending = Ending {
-        status: 0,
-        file: Some(text),
-        line: None,
-    };
-    errors.end(
-        ending.once_written(replace_file(rt, paths.file, text)),
-        paths,
-    )
+/// Says what is wrong with the layer. Of the map and of memory the line of the ending tells.
+fn say_fault<E: Write>(fault: &ExportFault<'_>, errors: &mut Errors<'_, E>) {
+    match fault {
+        ExportFault::Open(_) | ExportFault::Device => {}
+        _ => {
+            let _ = writeln!(errors.writer, "{fault}");
+        }
+    }
 }
 
 /// Reads MAP, and writes the layer that is asked for in FILE.
@@ -68,22 +45,14 @@ fn write_read<E: Write>(
     arguments: &Arguments,
     errors: &mut Errors<'_, E>,
 ) -> Result<u8, Stop> {
-    let alloc = rt.alloc();
-    let paths = paths_of(arguments);
     let seed = hash_seed(rt)?;
-    let map = map_bytes(rt, paths.map)?;
-    let mut text = ToWriter::new(room_for_text(alloc, map.len()));
-    match export(
-        alloc,
-        alloc,
-        seed,
-        map.as_slice(),
-        arguments.asked(),
-        &mut text,
-    ) {
-        Ok(()) => Ok(save(rt, text.writer.as_slice(), &paths, errors)),
-        Err(fault) => Ok(end_of_fault(&fault, &paths, errors)),
+    let map = map_bytes(rt, arguments.map.as_str())?;
+    let outcome = layer_text(rt.alloc(), seed, map.as_slice(), arguments);
+    if let Err(fault) = &outcome {
+        say_fault(fault, errors);
     }
+    let ending = save(rt, ending_of_export(&outcome), arguments.out.as_str());
+    Ok(errors.end(ending, &paths_of(arguments)))
 }
 
 /// Writes the layer that the arguments ask for. Answers the status that the program ends with; the line that says why it
