@@ -1,5 +1,5 @@
 //! What the arguments of the program ask for.
-ghost use Rattle.std.specs.Prelude.{◌≡◌};
+ghost use Rattle.std.specs.Prelude.{◌≡◌, option_map, string_bytes};
 ghost use Rattle.geo_text.specs.Common.{view_asked};
 ghost use Rattle.border_export.specs.Asked.{wants_of};
 
@@ -23,13 +23,23 @@ pub struct Arguments {
     pub flattens: bool,
 }
 
+/// The text of a name.
+fn text_of(name: &Option<String>) -> Option<&str>
+    ensures { option_map (λ text. text.now) result ≡ option_map string_bytes name.now }
+{
+    match name {
+        Some(text) => Some(text.as_str()),
+        None => None,
+    }
+}
+
 impl Arguments {
     /// What is asked of the text.
     pub(crate) fn asked(&self) -> Asked<'_>
         ensures { view_asked result ≡ wants_of self.now }
     {
         Asked {
-            layer: self.layer.as_ref().map(|name| name.as_str()),
+            layer: text_of(&self.layer),
             decimals: self.decimals,
             keeps_winding: self.keeps_winding,
             flattens: self.flattens,
