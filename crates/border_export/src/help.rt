@@ -3,7 +3,7 @@
 /// What the program does.
 pub(crate) const ABOUT: &str = "Writes a layer of a TopoJSON map as GeoJSON";
 
-/// What is written, the statuses, and examples. They are those of docs/FORMATS.md.
+/// What is written, the statuses, and examples. They are those of docs/MENDING.md and docs/FORMATS.md.
 pub(crate) const LINES: &str = "\
 Each feature is a line. Ids, properties and members that the editor does not know stand there as they do
 in MAP. Every coordinate is the exact decimal, the same in each polygon that has the vertex; where the
