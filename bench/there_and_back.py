@@ -203,6 +203,14 @@ class Way:
         return counts
 
 
+def system_of(path, layer):
+    """A reference system that a layer may have: degrees, or metres."""
+    extent = re.search(r"Extent: \((.*)\) - \((.*)\)", must("ogrinfo", "-ro", "-so", path, layer))
+    least, greatest = ([float(z) for z in side.split(", ")] for side in extent.groups())
+    is_degrees = all(abs(z) <= most for side in (least, greatest) for z, most in zip(side, (180, 90)))
+    return "EPSG:4326" if is_degrees else "EPSG:32618"
+
+
 def texts_of(path, folder):
     """The texts of GeoJSON that a file is or that are made of it, with what each is called."""
     text = path.read_text()
@@ -214,7 +222,7 @@ def texts_of(path, folder):
     for layer, (form, words) in itertools.product(layers, FORMS.items()):
         made = folder / "areas.geojson"
         made.unlink(missing_ok=True)
-        must("ogr2ogr", "-f", "GeoJSON", "-a_srs", "EPSG:4326", *words, made, path, layer)
+        must("ogr2ogr", "-f", "GeoJSON", "-a_srs", system_of(path, layer), *words, made, path, layer)
         yield f"{path.name} {layer}, {form}", made
 
 
