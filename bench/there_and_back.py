@@ -1,7 +1,7 @@
 #!/usr/bin/env python3
 """Takes maps from GeoJSON to the editor's grid and back, and compares what comes back with what went in.
 
-A topology is made GeoJSON by `ogr2ogr` first, a text for each layer, with 6 decimals and with all that GDAL writes. Then
+A topology is made GeoJSON by `ogr2ogr` first, a text for each layer and each way in which GDAL writes coordinates. Then
 border_mend makes a map of the text, and border_export a text of the map. What comes back has to have the same Features in
 order: each id, property and member as the same text; each ring and point with the same coordinates, as decimals, wherever
 the ring begins and in whichever direction, but for what border_mend told that it changed: a ring with a `path` or a
@@ -23,9 +23,11 @@ import tempfile
 import running
 from topology import entries, items
 
-KINDS = {"Polygon": 1, "MultiPolygon": 2}
-FORMS = {"6 decimals": ["-lco", "COORDINATE_PRECISION=6"], "all decimals": ["-lco", "COORDINATE_PRECISION=15"],
-         "RFC 7946": ["-lco", "RFC7946=YES"]}
+KINDS = {"Polygon", "MultiPolygon"}
+# More decimals than any number has that is looked at.
+EXACTLY = 40
+FORMS = {f"{count} decimals": ["-lco", f"COORDINATE_PRECISION={count}"] for count in (2, 6, 15)}
+FORMS["RFC 7946"] = ["-lco", "RFC7946=YES"]
 
 
 class Differs(Exception):
@@ -59,38 +61,32 @@ def numbers(position):
     return tuple(fractions.Fraction(token) for token in items(position))
 
 
-def least_first(ring):
-    """The corners of a ring, without those that are the one before, from the least on, in the direction that comes first."""
-    corners = [corner for corner, _ in itertools.groupby(map(numbers, items(ring)))][:-1]
-    if not corners:
-        return corners
-    at = corners.index(min(corners))
+def rounded(number, digits):
+    """A number with so many decimals: halves up."""
+    scale = 10**digits
+    return fractions.Fraction((2 * number * scale + 1) // 2, scale)
+
+
+def corners_of(ring, digits):
+    """The corners of a ring on a grid of so many decimals, each once, from the least on, in the direction that comes first."""
+    positions = (tuple(rounded(number, digits) for number in numbers(position)) for position in items(ring))
+    corners = [corner for corner, _ in itertools.groupby(positions)]
+    if len(corners) > 1 and corners[0] == corners[-1]:
+        corners.pop()
+    at = corners.index(min(corners)) if corners else 0
     turned = corners[at:] + corners[:at]
     return min(turned, turned[:1] + turned[:0:-1])
 
 
-def polygons(kind, coordinates):
-    """The polygons of a geometry, each as a list of rings."""
+def polygons(kind, coordinates, digits):
+    """The polygons of a geometry on the grid, each as a list of rings."""
     found = [coordinates] if kind == "Polygon" else items(coordinates)
-    return [[least_first(ring) for ring in items(polygon)] for polygon in found]
+    return [[corners_of(ring, digits) for ring in items(polygon)] for polygon in found]
 
 
-def rounded(value, digits):
-    """A polygon on a grid of so many decimals: halves up."""
-    scale = 10**digits
-    return fractions.Fraction((2 * value * scale + 1) // 2, scale) if isinstance(value, fractions.Fraction) else \
-        type(value)(rounded(one, digits) for one in value)
-
-
-def on_grid(rings, digits):
-    """Rings on the grid: corners that fall together are one, and the least comes first again."""
-    for ring in rings:
-        corners = [corner for corner, _ in itertools.groupby(rounded(ring, digits))]
-        if len(corners) > 1 and corners[0] == corners[-1]:
-            corners.pop()
-        at = corners.index(min(corners)) if corners else 0
-        turned = corners[at:] + corners[:at]
-        yield min(turned, turned[:1] + turned[:0:-1])
+def flat(coordinates, digits):
+    """All numbers of a point, or of several."""
+    return [rounded(fractions.Fraction(token), digits) for token in re.findall(r"[^\[\],\s]+", coordinates)]
 
 
 class Told:
@@ -117,18 +113,15 @@ def compare_shape(before, after, told, number):
     if after["type"] != before["type"]:
         raise Differs(f"{after['type']} and not {before['type']}")
     if kind not in KINDS:
-        one, other = (re.sub(r"\s", "", side["coordinates"]) for side in (before, after))
-        flat = [re.findall(r"[^\[\],]+", side) for side in (one, other)]
-        exact = [[rounded(fractions.Fraction(token), told.digits) for token in side] for side in flat]
-        if exact[0] != exact[1]:
-            raise Differs(f"{other[:80]} and not {one[:80]}")
+        if flat(before["coordinates"], told.digits) != flat(after["coordinates"], EXACTLY):
+            raise Differs(f"{after['coordinates'][:80]} and not {before['coordinates'][:80]}")
         return 1, 0
-    one, other = (polygons(kind, side["coordinates"]) for side in (before, after))
+    one = polygons(kind, before["coordinates"], told.digits)
+    other = polygons(kind, after["coordinates"], EXACTLY)
     if list(map(len, one)) != list(map(len, other)):
         raise Differs("other rings")
     same = changed = 0
     for ring, back in zip(itertools.chain(*one), itertools.chain(*other)):
-        ring = next(on_grid([ring], told.digits))
         if ring == back:
             same += 1
         elif told.names(ring):
