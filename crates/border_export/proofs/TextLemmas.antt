@@ -1,5 +1,5 @@
 -- What a list of bytes took is the text of the layer.
-use Rattle.kit_words.proofs.Common.{◌≡◌, ◌∙◌, ap, sym, subst, ℕ, List, [], ◌++◌, Option, Some, Result, Ok}
+use Rattle.kit_words.proofs.Common.{◌≡◌, ◌∙◌, ap, sym, subst, ℕ, List, [], ◌++◌, Option, Some, Ok}
 use Rattle.std.specs.Io.KnownBytes.{Appends}
 use Rattle.device_io.specs.declared.Sink as sink
 use Rattle.topo_reader.specs.Common.{document_of}
