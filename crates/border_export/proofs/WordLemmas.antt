@@ -1,5 +1,5 @@
 -- What clap found is what the arguments ask for.
-use Rattle.kit_words.proofs.Common.{◌≡◌, ◌∙◌, ap, refl, sym, subst, Bool, true, false, ℕ, List, [], Option, Some, None}
+use Rattle.kit_words.proofs.Common.{◌≡◌, ◌∙◌, ap, refl, subst, Bool, true, false, ℕ, List, [], Option, Some, None}
 use Rattle.kit_words.proofs.Common.{option_map, codes, Bor}
 use Rattle.std.specs.Prelude.{unwrap_or}
 use Rattle.clap.specs.Words.{App, HasMatchesOf, Row, Text, first_of, first_value, found_of, is_simple, matches_of, one_of, one_text, rows_of}
