@@ -18,7 +18,7 @@ import xml.dom.minidom
 import xml.parsers.expat
 
 TOP = pathlib.Path(__file__).resolve().parent.parent
-EDIT, SHOW, MEND = "edit", "show", "mend"
+EDIT, SHOW, MEND, EXPORT = "edit", "show", "mend", "export"
 NOBODY = 65534
 LIMIT = 60
 
@@ -28,7 +28,7 @@ Link = collections.namedtuple("Link", "to")
 Twin = collections.namedtuple("Twin", "of")
 Pipe = collections.namedtuple("Pipe", "text", defaults=("",))
 Folder = collections.namedtuple("Folder", "mode", defaults=(0o777,))
-# The text of a whole map, list of places or picture.
+# The text of a whole map, list of places, picture or GeoJSON.
 WHOLE = object()
 
 OLD = "what stood here before\n" * 100
@@ -72,6 +72,7 @@ WRITERS = [
     Writer("FILE of border_mend", MEND, ["wards.json", "--out", "PATH"], 0, "save fault\n", WHOLE),
     Writer("places", MEND, ["wards.json", "--places", "PATH"], 1, "save fault\n", WHOLE),
     Writer("picture", SHOW, ["squares.json", "--out", "PATH"], 0, "save fault\n", WHOLE),
+    Writer("GeoJSON", EXPORT, ["squares.json", "--out", "PATH"], 0, "save fault\n", WHOLE),
 ]
 LONG, LONG_UMLAUTS = "n" * 255, "ä" * 127
 NEW_MODE, MODES = 0o666 & ~0o022, (0o600, 0o640, 0o664, 0o755)
@@ -151,6 +152,9 @@ ONE_FILE = [
     (SHOW, "squares.json --out link", {"link": Link("squares.json")}, "--out MAP|BEFORE"),
     (SHOW, "squares.json after.json --out squares.json", {"after.json": Text(FILES["squares.json"])}, "--out MAP|BEFORE"),
     (SHOW, "squares.json after.json --out ./after.json", {"after.json": Text(FILES["squares.json"])}, "--out AFTER"),
+    (EXPORT, "squares.json --out squares.json", {}, "--out MAP"),
+    (EXPORT, "squares.json --out ./squares.json", {}, "--out MAP"),
+    (EXPORT, "link --out squares.json", {"link": Link("squares.json")}, "--out MAP"),
 ]
 # FILE may be MAP, however it is named, and a hard link is another file: a run with status 0, and the name that gets the text.
 APART = [
@@ -178,6 +182,8 @@ NOT_UTF8 = [
     (MEND, [b"wards.json", b"--places", b"\xff"]),
     (SHOW, [b"\xff.json", b"--out", b"saved"]),
     (SHOW, [b"squares.json", b"--out", b"\xff"]),
+    (EXPORT, [b"\xff.json", b"--out", b"saved"]),
+    (EXPORT, [b"squares.json", b"--out", b"saved", b"--layer", b"\xff"]),
 ]
 
 
@@ -253,7 +259,7 @@ def entries_of(folder):
 
 
 def is_whole(text):
-    """Whether a text is a whole map, list of places, or picture."""
+    """Whether a text is a whole map, list of places, GeoJSON, or picture."""
     with contextlib.suppress(ValueError):
         return json.loads(text)["type"] in ("Topology", "FeatureCollection")
     with contextlib.suppress(xml.parsers.expat.ExpatError):

@@ -1,5 +1,5 @@
 #!/usr/bin/env python3
-"""Runs the built programs border_edit, border_mend and border_show with each growth of their memory refused in turn.
+"""Runs the built programs border_edit, border_mend, border_show and border_export with each growth of their memory refused.
 
 The tests of the gate refuse growths of one allocator. Here the C library's `malloc` and `realloc` are
 refused under the whole program, one call a run: also those for the words, for the files, and for what is
@@ -9,7 +9,7 @@ where the growth was not needed, as it would have ended. The script has an edit 
 undos, and questions. So it is with `--refused` and two lines more that are refused, where the run may also
 end so when FILE holds the map and FILE2 a front of the list. border_mend mends a map that has decimals, a line,
 points and sides that cross: such a run ends with the same statuses and lines, and FILE is as it was. So it is with
-border_show, which draws the surroundings of a feature that an edit has removed.
+border_show, which draws the surroundings of a feature that an edit has removed, and with border_export.
 
 It needs a C compiler, for the few lines that stand before the C library. The programs have to stand already
 (`rt ci` leaves them); others can be named. bench/program.py runs this too. The status is 0 where each run ended so.
@@ -47,6 +47,10 @@ BROKEN = """{"type":"Topology","objects":{"land":{"type":"Polygon","arcs":[[0]]}
 GONE = """{"type":"Topology","objects":{"land":{"type":"GeometryCollection","geometries":[{"type":"Polygon","id":"A","arcs":[[0]]},
 {"type":"Polygon","id":"\\u0042","arcs":[[1]]}]}},"arcs":[[[0,0],[10,0],[10,10],[0,10],[0,0]],[[20,0],[30,0],[30,10],[20,10],[20,0]]]}"""
 LEFT = """{"type":"Topology","objects":{"land":{"type":"Polygon","id":"A","arcs":[[0]]}},"arcs":[[[0,0],[10,10],[10,0],[0,10],[0,0]]]}"""
+# A collection within a collection, with members, beside another layer.
+NESTED = """{"type":"Topology","transform":{"scale":[0.25,1e-1],"translate":[0,0]},"crs":{"n":1},"objects":{"a":{"type":null},"land":
+{"type":"GeometryCollection","geometries":[{"type":"GeometryCollection","geometries":[{"type":"Polygon","id":"A","arcs":[[0]],
+"geometry":{"c":1}},{"type":"MultiPoint","coordinates":[[1,20]]}]}]}},"arcs":[[[0,0],[10,0],[0,10],[-10,-10]]]}"""
 # More than the growths of the run.
 MANY = 100_000
 REFUSING = r"""
@@ -162,37 +166,33 @@ def mended(program, folder, library):
     return nth - 1, wanting, wrong
 
 
-Drawn = collections.namedtuple("Drawn", "status answers said file")
+Made = collections.namedtuple("Made", "status answers said file")
 
 
-def draw(program, folder, more):
+def make(words, out, more):
     """The status, what stands on standard output and standard error, and what FILE holds."""
-    out = folder / "drawn.svg"
     out.write_text(BEFORE)
-    words = [program, folder / "gone.json", folder / "left.json", "--feature", "B", "--ids", "--out", out]
-    ran = subprocess.run(words, capture_output=True, text=True, timeout=60, env={**os.environ, **more})
-    return Drawn(ran.returncode, ran.stdout, ran.stderr, out.read_text())
+    ran = subprocess.run([*words, "--out", out], capture_output=True, text=True, timeout=60, env={**os.environ, **more})
+    return Made(ran.returncode, ran.stdout, ran.stderr, out.read_text())
 
 
-def drawing_wants(done):
-    """Whether a run of border_show ended as one for want of memory is to end."""
-    return done in (Drawn(3, "", said, BEFORE) for said in ("out of memory\n", "save fault\n"))
+def making_wants(done):
+    """Whether a run that makes one file ended as one for want of memory is to end."""
+    return done in (Made(3, "", said, BEFORE) for said in ("out of memory\n", "save fault\n"))
 
 
-def drawn(program, folder, library):
-    """The same counts of border_show."""
-    (folder / "gone.json").write_text(GONE)
-    (folder / "left.json").write_text(LEFT)
-    whole = draw(program, folder, {})
-    if whole.status != 0 or "left.json: B" not in whole.file or "conflict" not in whole.file:
-        print(f"the map is not drawn: {whole}")
+def made(words, out, library, holds):
+    """The same counts of a run that makes one file, which holds these texts."""
+    whole = make(words, out, {})
+    if whole.status != 0 or not all(text in whole.file for text in holds):
+        print(f"{out.name} is not made: {whole}")
         return 0, 0, 1
     wrong = wanting = 0
     for nth in range(1, MANY):
-        done = draw(program, folder, {"LD_PRELOAD": str(library), "REFUSED": str(nth)})
+        done = make(words, out, {"LD_PRELOAD": str(library), "REFUSED": str(nth)})
         if done.status == 100:  # there are fewer growths
             break
-        if drawing_wants(done):
+        if making_wants(done):
             wanting += 1
         elif done != whole:
             wrong += 1
@@ -200,8 +200,23 @@ def drawn(program, folder, library):
     return nth - 1, wanting, wrong
 
 
-def refused(edit, mend, show):
-    """The counts of each of the four runs."""
+def drawn(program, folder, library):
+    """The same counts of border_show."""
+    (folder / "gone.json").write_text(GONE)
+    (folder / "left.json").write_text(LEFT)
+    words = [program, folder / "gone.json", folder / "left.json", "--feature", "B", "--ids"]
+    return made(words, folder / "drawn.svg", library, ["left.json: B", "conflict"])
+
+
+def exported(program, folder, library):
+    """The same counts of border_export."""
+    (folder / "nested.json").write_text(NESTED)
+    words = [program, folder / "nested.json", "--layer", "land", "--flatten"]
+    return made(words, folder / "areas.geojson", library, ["[0.25,2]", '"c":1'])
+
+
+def refused(edit, mend, show, export):
+    """The counts of each of the five runs."""
     with tempfile.TemporaryDirectory() as name:
         folder = pathlib.Path(name)
         shutil.copy(MAP, folder / "squares.json")
@@ -210,12 +225,14 @@ def refused(edit, mend, show):
             yield tried(edit, folder, library, is_listed)
         yield mended(mend, folder, library)
         yield drawn(show, folder, library)
+        yield exported(export, folder, library)
 
 
 def told(programs):
     """Runs all, writes what differs, and counts the runs and those that differ."""
-    tries = list(refused(programs["edit"], programs["mend"], programs["show"]))
-    for what, (_, wanting, _) in zip(("border_edit", "border_edit --refused", "border_mend", "border_show"), tries):
+    tries = list(refused(*(programs[name] for name in ("edit", "mend", "show", "export"))))
+    names = "border_edit", "border_edit --refused", "border_mend", "border_show", "border_export"
+    for what, (_, wanting, _) in zip(names, tries):
         if not wanting:
             print(f"{what}: no growth was wanting")
     return sum(growths for growths, _, _ in tries), sum(wrong or int(not wanting) for _, wanting, wrong in tries)
@@ -223,7 +240,7 @@ def told(programs):
 
 def main():
     words = argparse.ArgumentParser(description=__doc__.split("\n", 1)[0])
-    running.add_programs(words, "edit", "mend", "show")
+    running.add_programs(words, "edit", "mend", "show", "export")
     if not file_ends.compiler():
         print("no compiler")
         return 2

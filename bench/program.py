@@ -1,7 +1,8 @@
 #!/usr/bin/env python3
-"""Runs the built program border_edit to each of its ends, and looks at FILE before and after; and runs border_mend and
-border_show to each of theirs (bench/mend_ends.py, bench/show_ends.py), all three programs on files of all kinds
-(bench/file_ends.py), and all three with each growth of their memory refused in turn (bench/growths.py).
+"""Runs the built program border_edit to each of its ends, and looks at FILE before and after; and runs border_mend,
+border_show and border_export to each of theirs (bench/mend_ends.py, bench/show_ends.py, bench/export_ends.py), all four
+programs on files of all kinds (bench/file_ends.py), and all four with each growth of their memory refused in turn
+(bench/growths.py).
 
 Tests of the crates call what `main` calls. Here the program itself is called: with arguments, on files, on devices
 that are full, with little memory, and with a terminal as standard error. The rows of bench/edit_ends.txt are run, and
@@ -26,6 +27,7 @@ import sys
 import tempfile
 
 import edit_ends
+import export_ends
 import file_ends
 import growths
 import mend_ends
@@ -199,6 +201,7 @@ def advised_ends(words, listing):
     yield Row("no advice, full output", full, 3, None, "write fault\n", KEPT, output="/dev/full", terminal=True)
     yield from mending_advised()
     yield from drawing_advised()
+    yield from exporting_advised()
 
 
 def mending_advised():
@@ -232,6 +235,19 @@ def drawing_advised():
     ):
         told = f"{said}\n" + (f"{path}: {ADVICE[advice]}\n" if path else "")
         yield Row(f"border_show {' '.join(words)}, advice", words, status, "", told, KEPT, terminal=True, program="show")
+
+
+def exporting_advised():
+    """The same of border_export, which names no file where the layer can't be written."""
+    for words, status, said, path, advice in (
+        (["cut.json", "--out", "saved.json"], 2, "open: not json at 1", "cut.json", "not json"),
+        (["halves.json", "--out", "saved.json"], 2, "open: not whole at 79", "halves.json", "not whole"),
+        (["none.json", "--out", "saved.json"], 3, "map fault", "none.json", "read"),
+        (["squares.json", "--out", "."], 3, "save fault", ".", "write"),
+        (["squares.json", "--layer", "none", "--out", "saved.json"], 2, "no layer", None, None),
+    ):
+        told = f"{said}\n" + (f"{path}: {ADVICE[advice]}\n" if path else "")
+        yield Row(f"border_export {' '.join(words)}, advice", words, status, "", told, KEPT, terminal=True, program="export")
 
 
 def strict_ends(words):
@@ -351,9 +367,9 @@ def faults(program, row):
 
 def main():
     words = argparse.ArgumentParser(description=__doc__.split("\n", 1)[0])
-    running.add_programs(words, "edit", "show", "mend")
+    running.add_programs(words, "edit", "show", "mend", "export")
     programs = vars(words.parse_args())
-    rows = [*file_ends.rows(), *mend_ends.rows(), *show_ends.rows()]
+    rows = [*file_ends.rows(), *mend_ends.rows(), *show_ends.rows(), *export_ends.rows()]
     parts = [file_ends.told(programs, rows), edit_ends.told(programs["edit"])]
     if file_ends.compiler():
         parts.append(growths.told(programs))

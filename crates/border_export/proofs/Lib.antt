@@ -1,0 +1,4 @@
+pub mod RuleLemmas
+pub mod WordLemmas
+pub mod TextLemmas
+mod Examples

@@ -1,0 +1,12 @@
+pub mod Style
+pub mod Faults
+pub mod Names
+pub mod Rings
+pub mod Small
+pub mod Points
+pub mod Features
+pub mod Back
+pub mod Gives
+pub mod Seen
+pub mod Pointed
+pub mod Common

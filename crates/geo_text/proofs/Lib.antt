@@ -1,0 +1,21 @@
+pub mod Counted
+pub mod FrontNames
+pub mod FrontTexts
+pub mod Collections
+pub mod Opened
+pub mod Sides
+pub mod ItemTexts
+pub mod Closing
+pub mod OneItem
+pub mod ReadRings
+pub mod Styled
+pub mod AskedLayers
+pub mod Sent
+pub mod ItemsSent
+pub mod LayersSent
+pub mod Inside
+pub mod ShortTexts
+pub mod PointPlaces
+pub mod NearFaults
+pub mod Refusing
+mod Examples

@@ -1,0 +1,9 @@
+pub mod Wants
+pub mod Items
+pub mod Layer
+pub mod Found
+pub mod Text
+pub mod Places
+pub mod Seen
+pub mod Exported
+pub mod Common
