@@ -3,7 +3,7 @@ use Rattle.kit_words.proofs.Common.{◌≡◌, ℕ, zero, suc, ◌+◌, ◌-◌,
 use Rattle.kit_words.proofs.Common.{AllByRecursion, length-drop, prefix_len-le-length, subst, sym}
 use Rattle.std.proofs.lemmas.List.{length-take}
 use Rattle.json_spans.specs.Common.{IsListOf, IsObjectOf, Node, after_comma, has_first, if_more, is_space, items, member_of, members, one_longer}
-use Rattle.json_spans.specs.Common.{part_len, parts_from, parts_left, raw_parts, skip_step, spaces_before, spaces_behind, trimmed, value_of}
+use Rattle.json_spans.specs.Common.{part_len, parts_from, parts_left, raw_parts, skip_step, spaces_before, spaces_behind, trimmed}
 use Rattle.json_spans.specs.Parts.{colon_at, comma_at}
 use Rattle.json_spans.specs.Walk.{behind_colon}
 use Rattle.json_spans.specs.declared.parts.Skip.{Skip}

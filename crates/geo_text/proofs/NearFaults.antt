@@ -1,5 +1,5 @@
 -- Where a coordinate of a point is at fault, its place is within the point's text.
-use Rattle.kit_words.proofs.Common.{◌≡◌, ℕ, zero, suc, ℤ, ◌+◌, ◌-◌, ◌≤◌, ◌^◌, ◌&&◌, ◌++◌, ◌∷◌, [], Bool, true, false, not, cond, if◌then◌else◌, List, length, map, take, filter, find, min, nat_le, unsigned_abs, arith, codes, Option, Some, None, Result, Ok, Err, refl, subst}
+use Rattle.kit_words.proofs.Common.{◌≡◌, ℕ, zero, suc, ℤ, ◌+◌, ◌-◌, ◌≤◌, ◌^◌, ◌&&◌, ◌∷◌, [], Bool, true, false, not, cond, if◌then◌else◌, List, length, map, take, find, min, nat_le, unsigned_abs, arith, codes, Option, Some, None, Result, Ok, Err, refl, subst}
 use Rattle.kit_words.proofs.Common.{AllByRecursion}
 use Rattle.json_spans.specs.Common.{Node, items, members, whole_of}
 use Rattle.json_spans.specs.declared.number.NotWhole.{NotWhole}
@@ -11,13 +11,12 @@ use Rattle.map_text.specs.Common.{comma_if, further, list_text, member, member_t
 use Rattle.grid_decimals.specs.Common.{GridOf, grid_of, least_decimals, x_text, y_text}
 use Rattle.geo_features.specs.declared.fault.ExportFault.{ExportFault}
 use Rattle.geo_features.specs.declared.fault.ExportFault.TheVariants as fault
-use Rattle.geo_text.specs.Exported.{IsNear}
 use Rattle.geo_features.specs.Faults.{GeoFault, demand, each, each_at, few_decimals, nested, no_layer, of_map, of_opening, point_not_whole, point_out_of_range, several_layers, ◌>>=◌}
-use Rattle.geo_features.specs.Features.{collection_end, geometry_of_form, is_null, leaf_geometry, not_of_form, others_text, own_text, point_geometry}
+use Rattle.geo_features.specs.Features.{collection_end, geometry_of_form, leaf_geometry, others_text, own_text, point_geometry}
 use Rattle.geo_features.specs.Gives.{IsSendFault}
-use Rattle.geo_text.specs.Items.{At, after_item, after_text, before_in, before_text, begin_at, close_text, item_text, items_text, items_texts, open_text, standing_text}
-use Rattle.geo_text.specs.Layer.{asked_from, asked_layer, front_of, front_text, has_name, is_asked, layer_head, layer_items, name_text, not_of_collection}
-use Rattle.geo_text.specs.Layer.{points_in, the_only}
+use Rattle.geo_text.specs.Items.{At, after_item, after_text, before_in, before_text, begin_at, close_text, item_text, items_text, items_texts, standing_text}
+use Rattle.geo_text.specs.Layer.{asked_from, asked_layer, collection_members, front_of, front_text, has_name, is_asked, layer_head, layer_items, name_text}
+use Rattle.geo_text.specs.Layer.{not_of_collection, points_in, the_only}
 use Rattle.geo_features.specs.Names.{feature_members, first_of, geometry_members, is_bare, is_one_of, members_in, not_of_feature, tested_members, unless_wrong}
 use Rattle.geo_features.specs.Points.{coordinates_from, named, number_at, number_from, placed_text, point_coordinates, point_head, point_node, point_number, point_position, positions_text}
 use Rattle.geo_text.specs.Text.{decimals_for, geo_text, longest_side, style_of, there}
@@ -257,18 +256,14 @@ text_by most wants d short =
     let items : AllByRecursion (IsShortItem most) (layer_items found.1.items) =
     inside_short most found.1.items (only_of (λ f. IsShortLayer most f.1) (asked_from wants.layer 0 d.layers) found (asked_short most wants.layer 0 d.layers short) is) in
     then_by most (style_of wants d) _ (style_by most wants d)
-    (λ s same. then_by most (front_of found.1.name (layer_head found.1.items) d.members) _ (front_by most found.1.name _ _)
+    (λ s same. then_by most (front_of found.1.name (layer_head found.1.items) d.members) _ (front_by most found.1.name (layer_head found.1.items) (collection_members (layer_head found.1.items) d.members))
     (λ front e. then_by most (items_text wants.flattens s (begin_at found.0) (layer_items found.1.items)) _
     (then_by most (items_texts wants.flattens s (begin_at found.0) (layer_items found.1.items)) _ (items_by most wants.flattens s (begin_at found.0) (layer_items found.1.items) items) (λ text f. tt))
     (λ rest f. tt))))
 
 -- so is that of the code's fault
-pub near_fault : (r : Result Text GeoFault) (e : ExportFault) → IsSendFault e r → FailsBy 67108864 r → IsNear e
-near_fault r (fault.PointNotWhole point place) is h = subst (FailsBy 67108864) is h
-near_fault r (fault.PointOutOfRange point place) is h = subst (FailsBy 67108864) is h
-near_fault r (fault.Open f) is h = tt
-near_fault r fault.NoLayer is h = tt
-near_fault r fault.SeveralLayers is h = tt
-near_fault r (fault.FewDecimals asked least) is h = tt
-near_fault r (fault.Nested feature) is h = tt
-near_fault r fault.Device is h = tt
+pub near_not_whole : (most : ℕ) (r : Result Text GeoFault) (e : ExportFault) (n place : ℕ) → e ≡ fault.PointNotWhole n place → IsSendFault e r → FailsBy most r → place ≤ most
+near_not_whole most r e n place is sent h = subst (FailsBy most) (subst (λ (f : ExportFault). IsSendFault f r) is sent) h
+
+pub near_out_of_range : (most : ℕ) (r : Result Text GeoFault) (e : ExportFault) (n place : ℕ) → e ≡ fault.PointOutOfRange n place → IsSendFault e r → FailsBy most r → place ≤ most
+near_out_of_range most r e n place is sent h = subst (FailsBy most) (subst (λ (f : ExportFault). IsSendFault f r) is sent) h

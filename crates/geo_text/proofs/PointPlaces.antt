@@ -1,6 +1,6 @@
 -- Where the points of a map stand in its text.
 use Rattle.kit_words.proofs.Common.{◌≡◌, ◌∙◌, ap, sym, ℕ, zero, suc, ◌≤◌, ◌<◌, ◌∷◌, [], Bool, true, false, if◌then◌else◌, List, length, map, flat_map, get_or, arith, codes, AllByRecursion, all_joined}
-use Rattle.kit_words.proofs.Common.{Option, Some, length-map, slice_get, get_or-map, get_or_past, get_or_from_slice_get, slice_get_within}
+use Rattle.kit_words.proofs.Common.{length-map, get_or-map}
 use Rattle.json_spans.specs.Common.{Node, items, members, node}
 use Rattle.json_spans.specs.declared.span.Span.{Span}
 use Rattle.topo_reader.specs.Common.{root_of}
@@ -67,18 +67,10 @@ place_at ns n = get_or (map (λ p. p.at_byte) ns) n 0
 
 module _ (bytes : List ℕ) (spans : List Span) (all : map node spans ≡ all_geometries shape.Points (root_of bytes)) (n : ℕ) where
   -- the point with this number
-  pub place_there : (s : Span) → slice_get spans n ≡ Some s → s.at ≡ point_place bytes n
+  pub place_there : (s : Span) → n < length spans → s ≡ get_or spans n s → s.at ≡ point_place bytes n
   unfolding place_at
-  place_there s h =
-      let lt : n < length spans = slice_get_within spans n s h in
+  place_there s lt is =
       sym (ap (λ (ns : List Node). place_at ns n) (sym all)
       ∙ get_or-map (λ (p : Node). p.at_byte) (map node spans) n (node s) 0 (omega (arith, length-map spans node))
       ∙ ap (λ (p : Node). p.at_byte) (get_or-map node spans n s (node s) lt)
-      ∙ ap (λ (t : Span). t.at) (get_or_from_slice_get spans n s s h))
-
-  -- there is none
-  pub place_past : length spans ≤ n → 0 ≡ point_place bytes n
-  unfolding place_at
-  place_past le =
-      let many : length (map (λ (p : Node). p.at_byte) (map node spans)) ≡ length spans = length-map (map node spans) (λ p. p.at_byte) ∙ length-map spans node in
-      sym (ap (λ (ns : List Node). place_at ns n) (sym all) ∙ get_or_past (map (λ p. p.at_byte) (map node spans)) n 0 (omega arith))
+      ∙ ap (λ (t : Span). t.at) (sym is))

@@ -1,5 +1,5 @@
 -- The texts of the points of a map are no longer than the map.
-use Rattle.kit_words.proofs.Common.{◌≡◌, ℕ, ◌+◌, ◌≤◌, ◌++◌, ◌∷◌, [], List, length, arith, Some, AllByRecursion, all_joined, subst, sym}
+use Rattle.kit_words.proofs.Common.{◌≡◌, ℕ, ◌+◌, ◌≤◌, ◌∷◌, [], List, length, arith, Some, AllByRecursion, all_joined, subst, sym}
 use Rattle.grid_geometry.specs.Common.{Position}
 use Rattle.json_spans.specs.Common.{Node}
 use Rattle.json_spans.proofs.Common.{padded_root}

@@ -1,10 +1,9 @@
 -- What sending the text of a layer does.
-use Rattle.std.specs.Prelude.{◌≡◌, ◌⊎◌, ℕ, ◌+◌, ◌≤◌, Bool, List, ◌++◌, Result, Ok, MatchResult}
+use Rattle.std.specs.Prelude.{◌≡◌, ◌⊎◌, ℕ, Bool, List, ◌++◌, Result, Ok, MatchResult}
 use Rattle.std.specs.Io.KnownBytes.{Appends}
 use Rattle.device_io.specs.Common.{Took}
 use Rattle.device_io.specs.declared.Sink as sink
 use Rattle.topo_outline.specs.Common.{items_from}
-use Rattle.topo_outline.specs.declared.fault.OpenFault.TheVariants as map_fault
 use Rattle.topo_reader.specs.Common.{document_of, IsFault, Opened, Opens}
 use Rattle.ring_machine.specs.Common.{Text}
 use Rattle.geo_features.specs.Style.{Style}
@@ -13,7 +12,7 @@ use Rattle.geo_features.specs.Faults.{GeoFault, ◌>>=◌}
 use Rattle.geo_text.specs.Items.{begin_at, items_text}
 use Rattle.geo_text.specs.Layer.{front_of}
 use Rattle.geo_text.specs.Found.{FoundText, head_of_pieces, head_or_none, inside_pieces}
-use Rattle.geo_text.specs.Places.{placed, point_place}
+use Rattle.geo_text.specs.Places.{placed}
 use Rattle.geo_features.specs.Gives.{IsGeoFault, IsSendFault, of_device}
 use Rattle.geo_text.specs.Text.{geo_text}
 use Rattle.geo_features.specs.declared.fault.ExportFault.{ExportFault}
@@ -64,17 +63,3 @@ abbrev pub IsRefused : Wants → List ℕ → ExportFault → Type 0
 IsRefused wants bytes (fault.Open f) = IsFault bytes f ⊎ IsUnwritten wants bytes (fault.Open f)
 IsRefused wants bytes fault.Device = Unit {0}
 IsRefused wants bytes e = IsUnwritten wants bytes e
-
--- the place in a point's own text is no greater than a map may have bytes
-abbrev pub IsNear : ExportFault → Type 0
-IsNear (fault.PointNotWhole point place) = place ≤ 67108864
-IsNear (fault.PointOutOfRange point place) = place ≤ 67108864
-IsNear e = Unit {0}
-
--- the same fault, at its place in the map's text
-abbrev pub IsPlaced : List ℕ → ExportFault → ExportFault → Type 0
-IsPlaced bytes (fault.PointNotWhole point place) e =
-    e ≡ fault.Open (map_fault.NotWhole (point_place bytes point + place))
-IsPlaced bytes (fault.PointOutOfRange point place) e =
-    e ≡ fault.Open (map_fault.OutOfRange (point_place bytes point + place))
-IsPlaced bytes f e = e ≡ f

@@ -170,20 +170,22 @@ pub fn export<'a, A: Allocator + Copy, W: Sink>(
         Ok(raw) => raw,
         Err(fault) => return Err(ExportFault::Open(fault)),
     };
-    match send_layer(alloc, heap, &raw, asked, out) {
-        Ok(()) => Ok(()),
-        Err(ExportFault::PointNotWhole { point, place }) => {
+    let Err(fault) = send_layer(alloc, heap, &raw, asked, out) else {
+        return Ok(());
+    };
+    match fault {
+        ExportFault::PointNotWhole { point, place } => {
             let from = point_place(alloc, heap, bytes, point)?;
             Err(ExportFault::Open(OpenFault::NotWhole {
                 place: from + place,
             }))
         }
-        Err(ExportFault::PointOutOfRange { point, place }) => {
+        ExportFault::PointOutOfRange { point, place } => {
             let from = point_place(alloc, heap, bytes, point)?;
             Err(ExportFault::Open(OpenFault::OutOfRange {
                 place: from + place,
             }))
         }
-        Err(fault) => Err(fault),
+        _ => Err(fault),
     }
 }

@@ -9,18 +9,16 @@ ghost use Rattle.geo_text.specs.Layer.{missing_members, name_text};
 ghost use Rattle.geo_text.specs.Found.{head_or_none};
 ghost use Rattle.geo_features.specs.Gives.{Appends};
 
-use geo_features::{ExportFault, Names, bad_member, first_of, is_one_of, names_of, push_member, push_member_if, push_members};
+use geo_features::{
+    ExportFault, Names, bad_member, first_of, is_one_of, names_of, push_member, push_member_if,
+    push_members,
+};
 use json_spans::{Span, TextFault, text as decoded};
 use std::alloc::{AllocError, Allocator, Global};
 use topo_outline::{Head, KeptMember, OpenFault, Token};
 
 /// The names that the members of a collection may not have (RFC 7946, 7.1).
-const NOT_OF_COLLECTION: &[&str] = &[
-    "features",
-    "coordinates",
-    "geometries",
-    "geometry",
-];
+const NOT_OF_COLLECTION: &[&str] = &["features", "coordinates", "geometries", "geometry"];
 
 /// Whether a name is among these.
 fn is_among<A: Allocator + Copy>(

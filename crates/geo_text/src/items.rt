@@ -13,10 +13,14 @@ ghost use Rattle.geo_text.specs.Seen.{HasRoom, view_progress};
 ghost use Rattle.geo_features.specs.Seen.{view_style};
 ghost use Rattle.geo_features.specs.Small.{all_small, each_small};
 
-use crate::progress::Progress;
 use crate::lines::{push_line_begin, push_list_end};
+use crate::progress::Progress;
 use device_io::{Sink, put_all};
-use geo_features::{ExportFault, NOT_OF_FEATURE, Point, Style, is_bare, is_null, not_of_form, push_collection_begin, push_collection_end, push_comma, push_feature_begin, push_own, push_point, push_shape};
+use geo_features::{
+    ExportFault, NOT_OF_FEATURE, Point, Style, is_bare, is_null, not_of_form,
+    push_collection_begin, push_collection_end, push_comma, push_feature_begin, push_own,
+    push_point, push_shape,
+};
 use grid_geometry::Pos;
 use std::alloc::{Allocator, Global};
 use topo_outline::{Head, Item, KeptMember, RawFeature};
