@@ -3,8 +3,8 @@ use Rattle.kit_words.proofs.Common.{◌≡◌, refl, true, [], ◌∷◌, List, 
 use Rattle.clap.specs.Words.{Text, first_of, is_simple, matches_of, one_of}
 use Rattle.clap.proofs.OnLiterals.{clap_on_literals}
 use Rattle.topo_outline.specs.declared.fault.OpenFault.TheVariants as map_fault
-use Rattle.geo_text.specs.declared.fault.ExportFault.{ExportFault}
-use Rattle.geo_text.specs.declared.fault.ExportFault.TheVariants as fault
+use Rattle.geo_features.specs.declared.fault.ExportFault.{ExportFault}
+use Rattle.geo_features.specs.declared.fault.ExportFault.TheVariants as fault
 use Rattle.border_export.specs.Asked.{export_program}
 use Rattle.border_export.specs.Endings.{TellsFault}
 use Rattle.border_export.specs.Status.{export_status}
