@@ -83,13 +83,13 @@ def geojson(checks):
         taken.write_text("another file")
         with Served(path) as page:
             began = page.begin()
-            checks.same("GeoJSON", (began["opens"], began["findings"][:1], began["out"]), (False, ["geojson"], new.name))
+            checks.same("GeoJSON", (began["opens"], began["findings"][:1], began["out"]), (False, ["geojson"], str(new)))
             checks.same("mended", (page.post("mend")[1]["opens"], page.post("save")[0]), (True, 200))
             checks.same("the file, and the one beside it", (path.read_text(), taken.read_text()), (GEOJSON, "another file"))
         run("border_mend", path, "--out", files / "made.json")
         checks.same("the map", new.read_bytes(), (files / "made.json").read_bytes())
         with Served(path, "--out", files / "out.json") as page:
-            checks.same("a file that was named", page.begin()["out"], "out.json")
+            checks.same("a file that was named", page.begin()["out"], str(files / "out.json"))
 
 
 def places(checks):
