@@ -1,10 +1,10 @@
 //! Commands that tests name, and what the editor answers them.
 ghost use Rattle.edit_records.specs.Commands.{IsSound};
 
-use crate::maps::{GridEditor, Heap};
+use crate::maps::GridEditor;
 use arc_store::{EditFault, IdText, Path};
 use grid_geometry::Pos;
-use std::alloc::Global;
+use std::alloc::{Allocator, Global};
 use std::process::Abort;
 use undo_ring::{Answer, Command};
 
@@ -83,7 +83,7 @@ pub(crate) fn check_path<R: Abort>(rt: &R, command: &Command)
 }
 
 /// Whether an answer tells of a change.
-pub(crate) fn is_change(answer: &Answer<Heap<'_>>) -> bool {
+pub(crate) fn is_change<A: Allocator + Copy>(answer: &Answer<A>) -> bool {
     match answer {
         Answer::Done => true,
         Answer::Made(_) => true,
@@ -95,10 +95,10 @@ pub(crate) fn is_change(answer: &Answer<Heap<'_>>) -> bool {
 }
 
 /// Gives an edit that changes the map to its editor; whether there was memory for it.
-pub(crate) fn is_made<R: Abort>(
+pub(crate) fn is_made<R: Abort, A: Allocator + Copy>(
     rt: &R,
     alloc: Global,
-    editor: &mut GridEditor<'_, '_>,
+    editor: &mut GridEditor<'_, A>,
     call: Call,
 ) -> bool {
     let command = command_of(rt, alloc, call);
@@ -112,10 +112,10 @@ pub(crate) fn is_made<R: Abort>(
 }
 
 /// The answer as text.
-fn text_of<R: Abort>(
+fn text_of<R: Abort, A: Allocator + Copy>(
     rt: &R,
     alloc: Global,
-    answer: &Result<Answer<Heap<'_>>, EditFault>,
+    answer: &Result<Answer<A>, EditFault>,
 ) -> String {
     let text = match answer {
         Ok(Answer::Done) => format!(in alloc; "done"),
@@ -152,10 +152,10 @@ fn said_of(text: &str, wanted: &str) -> Said {
 }
 
 /// Gives a call to the editor; whether it is answered so.
-pub(crate) fn say<R: Abort>(
+pub(crate) fn say<R: Abort, A: Allocator + Copy>(
     rt: &R,
     alloc: Global,
-    editor: &mut GridEditor<'_, '_>,
+    editor: &mut GridEditor<'_, A>,
     call: Call,
     wanted: &str,
 ) -> Said {

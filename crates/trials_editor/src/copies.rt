@@ -1,9 +1,9 @@
 //! Copies of a map: an edit of one leaves the map as it was, and so does a copy in which an allocation
 //! fails, each in turn.
 use crate::commands::{Call, is_made};
-use crate::maps::{GridEditor, GridMap, Heap, MANY, SQUARES, editor_of, first_growth};
+use crate::maps::{GridEditor, GridMap, MANY, SQUARES, editor_of, first_growth};
 use crate::written::{counts_of, is_written, written};
-use std::alloc::Global;
+use std::alloc::{Allocator, Global};
 use std::process::Abort;
 use test_aids::Refusing;
 use undo_ring::Editor;
@@ -31,7 +31,7 @@ fn text_after<R: Abort>(rt: &R, alloc: Global, calls: &[Call]) -> Vec<u8> {
 }
 
 /// Whether there is memory for a copy.
-fn is_copied(map: &GridMap<'_, '_>) -> bool {
+fn is_copied<A: Allocator + Copy>(map: &GridMap<'_, A>) -> bool {
     let copy = map.copy();
     let is_copied = copy.is_ok();
     drop(copy);
@@ -39,12 +39,12 @@ fn is_copied(map: &GridMap<'_, '_>) -> bool {
 }
 
 /// Whether the editor of a copy edits it, and the map stays.
-fn stands_alone<'h, R: Abort>(
+fn stands_alone<R: Abort, A: Allocator + Copy>(
     rt: &R,
     alloc: Global,
-    calm: Heap<'h>,
-    map: &GridMap<'_, 'h>,
-    editor: &mut GridEditor<'_, 'h>,
+    calm: A,
+    map: &GridMap<'_, A>,
+    editor: &mut GridEditor<'_, A>,
     texts: &[Vec<u8>; 2],
 ) -> bool {
     let [before, after] = texts;
@@ -57,11 +57,11 @@ fn stands_alone<'h, R: Abort>(
 }
 
 /// A map that is copied again, where an allocation failed, and the copy is edited.
-fn copy_again<'h, R: Abort>(
+fn copy_again<R: Abort, A: Allocator + Copy>(
     rt: &R,
     alloc: Global,
-    calm: Heap<'h>,
-    map: &GridMap<'_, 'h>,
+    calm: A,
+    map: &GridMap<'_, A>,
     texts: &[Vec<u8>; 2],
 ) {
     let is_kept = is_written(rt, alloc, calm, map, texts[0].as_slice());

@@ -4,7 +4,7 @@ use crate::commands::{Call, Said, at, say};
 use crate::maps::{GridEditor, GridMap, editor_of, map_of};
 use arc_store::Spot;
 use grid_geometry::Seg;
-use std::alloc::Global;
+use std::alloc::{Allocator, Global};
 use std::process::Abort;
 use test_aids::{Refusing, TWO_SQUARES};
 
@@ -32,7 +32,11 @@ const ROW: &str = r#"{"type":"Topology","objects":{"m":{"type":"GeometryCollecti
 /// tested against the lower side, and the new upper side against the left side, once each, though
 /// these two have two cells in common; the boxes of the others do not meet. The two new sides are
 /// tested against each other. No side that stays has its box at the way of the corner.
-fn move_a_corner<R: Abort>(rt: &R, alloc: Global, editor: &mut GridEditor<'_, '_>) {
+fn move_a_corner<R: Abort, A: Allocator + Copy>(
+    rt: &R,
+    alloc: Global,
+    editor: &mut GridEditor<'_, A>,
+) {
     assert_eq!(rt;
         (editor.map().segment_count(), editor.map().tests()),
         (256, 0)
@@ -52,9 +56,9 @@ fn few_pairs_are_tested(rt: HostRuntime) {
 }
 
 /// So many rings have the segment.
-fn is_used<R: Abort>(
+fn is_used<R: Abort, A: Allocator + Copy>(
     rt: &R,
-    map: &GridMap<'_, '_>,
+    map: &GridMap<'_, A>,
     p: (i64, i64),
     q: (i64, i64),
     rings: usize,
@@ -65,7 +69,7 @@ fn is_used<R: Abort>(
 
 /// The common side is in both squares, borders meet at its end, and a corner of one square stands
 /// between two others of its ring of four.
-fn see_squares<R: Abort>(rt: &R, map: &GridMap<'_, '_>) {
+fn see_squares<R: Abort, A: Allocator + Copy>(rt: &R, map: &GridMap<'_, A>) {
     let between = Spot::Between(at(rt, (0, 10)), at(rt, (10, 0)), 4);
     assert_eq!(rt; (map.feature_count(), map.vertex_count()), (2, 6));
     assert_eq!(rt; (map.segment_count(), map.position_count()), (7, 8));
@@ -88,7 +92,11 @@ const ID: &str = "a\"/\\\n\t\u{8}\u{c}\r\u{1}\u{1f}\u{7f}\u{e9}\u{20ac}\u{1f5fa}
 const ESCAPED: &str = "\"a\\\"/\\\\\\n\\t\\b\\f\\r\\u0001\\u001f\u{7f}\u{e9}\u{20ac}\u{1f5fa}\"";
 
 /// The second square has the id that it is given.
-fn give_an_id<R: Abort>(rt: &R, alloc: Global, editor: &mut GridEditor<'_, '_>) {
+fn give_an_id<R: Abort, A: Allocator + Copy>(
+    rt: &R,
+    alloc: Global,
+    editor: &mut GridEditor<'_, A>,
+) {
     let said = say(rt, alloc, editor, Call::Rename(1, ID), "done");
     let feature = editor.map().feature(1).expect(rt, "a feature");
     assert!(rt; said == Said::Wanted && feature.id() == Some(ESCAPED.as_bytes()));

@@ -5,21 +5,18 @@ ghost use Rattle.topo_reader.specs.DocumentView.{view_raw};
 
 use arc_store::Map;
 use segment_index::GridIndex;
-use std::alloc::Global;
+use std::alloc::{Allocator, Global};
 use std::hash::RandomState;
 use std::process::Abort;
 use test_aids::{Refusing, fixed_seed};
 use topo_reader::{RawDoc, read};
 use undo_ring::Editor;
 
-/// A heap that may refuse an allocation.
-pub(crate) type Heap<'h> = &'h Refusing<Global>;
-
-/// A map in such a heap, with a grid.
-pub(crate) type GridMap<'a, 'h> = Map<'a, GridIndex<Heap<'h>>, Heap<'h>>;
+/// A map with a grid, in a heap that may refuse an allocation.
+pub(crate) type GridMap<'a, A> = Map<'a, GridIndex<A>, A>;
 
 /// An editor of such a map.
-pub(crate) type GridEditor<'a, 'h> = Editor<'a, GridIndex<Heap<'h>>, Heap<'h>>;
+pub(crate) type GridEditor<'a, A> = Editor<'a, GridIndex<A>, A>;
 
 /// More than the allocations of any run below.
 pub(crate) const MANY: u64 = 4000;
@@ -43,12 +40,12 @@ pub(crate) const ACROSS: &str =
     r#"{"type":"Topology","objects":{"m":{"type":"GeometryCollection","geometries":[{"type":"Polygon","arcs":[[0]]},{"type":"Polygon","arcs":[[1]]}]}},"arcs":[[[0,0],[30,0],[30,30],[0,30],[0,0]],[[10,12],[20,20],[10,14],[10,12]]]}"#;
 
 /// The map of what was read, in a grid; `None` where an allocation failed.
-fn built<'a, 'h>(
-    heap: Heap<'h>,
+fn built<'a, A: Allocator + Copy>(
+    heap: A,
     alloc: Global,
     seed: RandomState,
-    raw: RawDoc<'a, Heap<'h>>,
-) -> Option<GridMap<'a, 'h>>
+    raw: RawDoc<'a, A>,
+) -> Option<GridMap<'a, A>>
     requires rings { IsOfRings (view_raw raw) }
 {
     match GridIndex::new(heap, raw.extent()) {
@@ -61,11 +58,11 @@ fn built<'a, 'h>(
 }
 
 /// The map of the text, in a heap that may refuse an allocation; `None` where it did.
-pub(crate) fn map_of<'a, 'h>(
-    heap: Heap<'h>,
+pub(crate) fn map_of<'a, A: Allocator + Copy>(
+    heap: A,
     alloc: Global,
     text: &'a [u8],
-) -> Option<GridMap<'a, 'h>> {
+) -> Option<GridMap<'a, A>> {
     let seed = fixed_seed()?;
     match read(heap, alloc, seed, text) {
         Ok(raw) => built(heap, alloc, seed, raw),
@@ -74,12 +71,12 @@ pub(crate) fn map_of<'a, 'h>(
 }
 
 /// An editor of the map of the text, in a heap that may refuse an allocation; `None` where it did.
-pub(crate) fn editor_of<'a, 'h>(
-    heap: Heap<'h>,
+pub(crate) fn editor_of<'a, A: Allocator + Copy>(
+    heap: A,
     alloc: Global,
     text: &'a str,
     depth: usize,
-) -> Option<GridEditor<'a, 'h>>
+) -> Option<GridEditor<'a, A>>
     requires least { 1 ≤ depth }
     requires most { depth ≤ 1000 }
 {
@@ -96,7 +93,7 @@ pub(crate) fn editor_of<'a, 'h>(
 }
 
 /// Whether there is an editor of the text in this heap.
-fn is_begun(heap: Heap<'_>, alloc: Global, text: &str) -> bool {
+fn is_begun<A: Allocator + Copy>(heap: A, alloc: Global, text: &str) -> bool {
     let editor = editor_of(heap, alloc, text, 9);
     let is_there = editor.is_some();
     drop(editor);

@@ -3,11 +3,10 @@
 //! undo that was refused one has changed nothing. Made again, each has its usual answer.
 use crate::commands::{Call, EACH_KIND, Said, is_made, say};
 use crate::maps::{
-    ACROSS, GridEditor, GridMap, Heap, INSIDE, MANY, SQUARES, THREE, editor_of, first_growth,
-    map_of,
+    ACROSS, GridEditor, GridMap, INSIDE, MANY, SQUARES, THREE, editor_of, first_growth, map_of,
 };
 use crate::written::{Counts, counts_of, is_written, written};
-use std::alloc::Global;
+use std::alloc::{Allocator, Global};
 use std::process::Abort;
 use test_aids::{Refusing, TWO_SQUARES};
 use undo_ring::{Editor, UndoFault};
@@ -27,7 +26,12 @@ struct State {
 }
 
 /// The state of the map.
-fn state_of<'h, R: Abort>(rt: &R, alloc: Global, calm: Heap<'h>, map: &GridMap<'_, 'h>) -> State {
+fn state_of<R: Abort, A: Allocator + Copy>(
+    rt: &R,
+    alloc: Global,
+    calm: A,
+    map: &GridMap<'_, A>,
+) -> State {
     State {
         text: written(rt, alloc, calm, map),
         counts: counts_of(map),
@@ -35,11 +39,11 @@ fn state_of<'h, R: Abort>(rt: &R, alloc: Global, calm: Heap<'h>, map: &GridMap<'
 }
 
 /// Whether this is the state of the map.
-fn stands<'h, R: Abort>(
+fn stands<R: Abort, A: Allocator + Copy>(
     rt: &R,
     alloc: Global,
-    calm: Heap<'h>,
-    map: &GridMap<'_, 'h>,
+    calm: A,
+    map: &GridMap<'_, A>,
     state: &State,
 ) -> bool {
     counts_of(map) == state.counts && is_written(rt, alloc, calm, map, state.text.as_slice())
@@ -74,11 +78,11 @@ enum Outcome {
 
 /// Makes a call, again where it was refused memory. Until then the map was as before, with this next
 /// number, or a thinning was made in part.
-fn make_again<'h, R: Abort>(
+fn make_again<R: Abort, A: Allocator + Copy>(
     rt: &R,
     alloc: Global,
-    calm: Heap<'h>,
-    editor: &mut GridEditor<'_, 'h>,
+    calm: A,
+    editor: &mut GridEditor<'_, A>,
     usual: &Usual,
     next: u32,
 ) -> Outcome {
@@ -95,11 +99,11 @@ fn make_again<'h, R: Abort>(
 }
 
 /// Makes a call, twice where it was refused memory.
-fn make_twice<'h, R: Abort>(
+fn make_twice<R: Abort, A: Allocator + Copy>(
     rt: &R,
     alloc: Global,
-    calm: Heap<'h>,
-    editor: &mut GridEditor<'_, 'h>,
+    calm: A,
+    editor: &mut GridEditor<'_, A>,
     usual: &Usual,
 ) -> Outcome {
     let next = editor.map().next_number();
@@ -112,11 +116,11 @@ fn make_twice<'h, R: Abort>(
 
 /// Takes the newest change back, twice where that was refused memory; whether it was. Until then the
 /// map was as after the change. An undo tests nothing.
-fn undo_twice<'h, R: Abort>(
+fn undo_twice<R: Abort, A: Allocator + Copy>(
     rt: &R,
     alloc: Global,
-    calm: Heap<'h>,
-    editor: &mut GridEditor<'_, 'h>,
+    calm: A,
+    editor: &mut GridEditor<'_, A>,
     usual: &Usual,
 ) -> bool {
     let next = editor.map().next_number();
@@ -135,11 +139,11 @@ fn undo_twice<'h, R: Abort>(
 }
 
 /// A change is made once more and taken back, after the allocation that was refused.
-fn goes_again<'h, R: Abort>(
+fn goes_again<R: Abort, A: Allocator + Copy>(
     rt: &R,
     alloc: Global,
-    calm: Heap<'h>,
-    editor: &mut GridEditor<'_, 'h>,
+    calm: A,
+    editor: &mut GridEditor<'_, A>,
     usual: &Usual,
 ) -> bool {
     let said = say(rt, alloc, editor, usual.call, usual.answer);
@@ -149,12 +153,12 @@ fn goes_again<'h, R: Abort>(
 
 /// Makes a call and takes it back, where an allocation may be refused. Gives what came of it, and
 /// whether the undo was refused memory.
-fn make_and_undo<'h, R: Abort>(
+fn make_and_undo<R: Abort, A: Allocator + Copy>(
     rt: &R,
     alloc: Global,
-    refusing: Heap<'_>,
-    calm: Heap<'h>,
-    editor: &mut GridEditor<'_, 'h>,
+    refusing: &Refusing<Global>,
+    calm: A,
+    editor: &mut GridEditor<'_, A>,
     usual: &Usual,
 ) -> (Outcome, bool) {
     let outcome = make_twice(rt, alloc, calm, editor, usual);
@@ -402,7 +406,7 @@ fn sweeps(rt: HostRuntime) {
 // ---- a whole history
 
 /// Makes one edit of each kind, once more where it was refused memory.
-fn make_all<R: Abort>(rt: &R, alloc: Global, editor: &mut GridEditor<'_, '_>) {
+fn make_all<R: Abort, A: Allocator + Copy>(rt: &R, alloc: Global, editor: &mut GridEditor<'_, A>) {
     for edit in EACH_KIND {
         if !is_made(rt, alloc, editor, *edit) {
             assert!(rt; is_made(rt, alloc, editor, *edit), "{edit:?}");
@@ -411,7 +415,7 @@ fn make_all<R: Abort>(rt: &R, alloc: Global, editor: &mut GridEditor<'_, '_>) {
 }
 
 /// Takes the newest change back; whether there was memory for it.
-fn is_undone<R: Abort>(rt: &R, editor: &mut GridEditor<'_, '_>) -> bool {
+fn is_undone<R: Abort, A: Allocator + Copy>(rt: &R, editor: &mut GridEditor<'_, A>) -> bool {
     let undone = editor.undo();
     assert!(rt; undone != Err(UndoFault::NothingToUndo));
     undone.is_ok()
@@ -419,7 +423,11 @@ fn is_undone<R: Abort>(rt: &R, editor: &mut GridEditor<'_, '_>) -> bool {
 
 /// Takes so many changes back, each once more where it was refused memory. Gives how many undos were
 /// refused.
-fn undo_all<R: Abort>(rt: &R, editor: &mut GridEditor<'_, '_>, count: usize) -> u32 {
+fn undo_all<R: Abort, A: Allocator + Copy>(
+    rt: &R,
+    editor: &mut GridEditor<'_, A>,
+    count: usize,
+) -> u32 {
     let mut refused = 0u32;
     for _ in 0..count {
         if !is_undone(rt, editor) {
@@ -433,11 +441,11 @@ fn undo_all<R: Abort>(rt: &R, editor: &mut GridEditor<'_, '_>, count: usize) -> 
 
 /// Makes one edit of each kind and takes all back, where an allocation may be refused once. Gives how
 /// many undos were refused.
-fn make_and_undo_all<'h, R: Abort>(
+fn make_and_undo_all<R: Abort, A: Allocator + Copy>(
     rt: &R,
     alloc: Global,
-    calm: Heap<'h>,
-    editor: &mut GridEditor<'_, 'h>,
+    calm: A,
+    editor: &mut GridEditor<'_, A>,
 ) -> u32 {
     let before = written(rt, alloc, calm, editor.map());
     make_all(rt, alloc, editor);
@@ -481,12 +489,12 @@ fn one_edit_of_each_kind(rt: HostRuntime) {
 
 /// Whether there is memory for the history of the map; where there is none, the map is handed back as
 /// it was.
-fn is_begun<'h, R: Abort>(
+fn is_begun<R: Abort, A: Allocator + Copy>(
     rt: &R,
     alloc: Global,
-    heap: Heap<'h>,
-    calm: Heap<'h>,
-    map: GridMap<'_, 'h>,
+    heap: A,
+    calm: A,
+    map: GridMap<'_, A>,
     text: &[u8],
 ) -> bool {
     let (is_begun, is_same) = match Editor::new(heap, map, DEPTH) {
@@ -498,7 +506,7 @@ fn is_begun<'h, R: Abort>(
 }
 
 /// Whether there is memory for the history of the map of the squares, which opens.
-fn opened<'h, R: Abort>(rt: &R, alloc: Global, heap: Heap<'h>, calm: Heap<'h>) -> bool {
+fn opened<R: Abort, A: Allocator + Copy>(rt: &R, alloc: Global, heap: A, calm: A) -> bool {
     let other = map_of(calm, alloc, SQUARES.as_bytes()).expect(rt, "the text opens");
     let text = written(rt, alloc, calm, &other);
     drop(other);

@@ -1,13 +1,13 @@
 //! The text of a map as it is then, and its counts.
-use crate::maps::{GridMap, Heap};
+use crate::maps::GridMap;
 use device_io::ToWriter;
 use grid_geometry::{Pos, Seg};
-use std::alloc::Global;
+use std::alloc::{Allocator, Global};
 use std::process::Abort;
 use topo_writer::write;
 
 /// The text of the map, where there is memory for it.
-fn try_write<'h>(alloc: Global, calm: Heap<'h>, map: &GridMap<'_, 'h>) -> Option<Vec<u8>> {
+fn try_write<A: Allocator + Copy>(alloc: Global, calm: A, map: &GridMap<'_, A>) -> Option<Vec<u8>> {
     let mut out = ToWriter::new(Vec::new(alloc));
     match write(calm, map, &mut out) {
         Ok(()) => Some(out.writer),
@@ -16,11 +16,11 @@ fn try_write<'h>(alloc: Global, calm: Heap<'h>, map: &GridMap<'_, 'h>) -> Option
 }
 
 /// The text of the map. Its own heap may refuse an allocation once; then it is written again.
-pub(crate) fn written<'h, R: Abort>(
+pub(crate) fn written<R: Abort, A: Allocator + Copy>(
     rt: &R,
     alloc: Global,
-    calm: Heap<'h>,
-    map: &GridMap<'_, 'h>,
+    calm: A,
+    map: &GridMap<'_, A>,
 ) -> Vec<u8> {
     match try_write(alloc, calm, map) {
         Some(text) => text,
@@ -29,11 +29,11 @@ pub(crate) fn written<'h, R: Abort>(
 }
 
 /// Whether the map is written so.
-pub(crate) fn is_written<'h, R: Abort>(
+pub(crate) fn is_written<R: Abort, A: Allocator + Copy>(
     rt: &R,
     alloc: Global,
-    calm: Heap<'h>,
-    map: &GridMap<'_, 'h>,
+    calm: A,
+    map: &GridMap<'_, A>,
     text: &[u8],
 ) -> bool {
     let found = written(rt, alloc, calm, map);
@@ -47,7 +47,7 @@ pub(crate) fn is_written<'h, R: Abort>(
 pub(crate) type Counts = (usize, usize, usize, usize, usize);
 
 /// How many rings have each side of the first outer ring of this feature but its last, added up.
-fn users_along(map: &GridMap<'_, '_>, n: u32) -> usize {
+fn users_along<A: Allocator + Copy>(map: &GridMap<'_, A>, n: u32) -> usize {
     let Some(positions) = map.ring(n, 0, 0) else {
         return 0;
     };
@@ -62,7 +62,7 @@ fn users_along(map: &GridMap<'_, '_>, n: u32) -> usize {
 }
 
 /// The counts of the map.
-pub(crate) fn counts_of(map: &GridMap<'_, '_>) -> Counts {
+pub(crate) fn counts_of<A: Allocator + Copy>(map: &GridMap<'_, A>) -> Counts {
     let mut users = 0usize;
     for n in 0..map.next_number() {
         users = users.wrapping_add(users_along(map, n));
