@@ -2,12 +2,12 @@
 import base64
 import re
 
-# What stands behind the key of a page, when the checksum is taken that shows that its request was understood.
+# The text that RFC 6455 (1.3) appends to the page's key. The answer has the checksum of both.
 MARK = "258EAFA5-E914-47DA-95CA-C5AB0DC85B11"
 # A key: 16 bytes as base64.
 KEY = "[A-Za-z0-9+/]{22}=="
-# The two bytes that a frame begins with: whether it is the last one of its message, bits that mean nothing yet, its kind;
-# whether it is masked, and its size, or what says that the size stands behind them in 2 or in 8 bytes.
+# The bits of a frame's first byte: the last frame of its message, reserved bits, the kind of frame. Of the second byte:
+# masked, and the size. The sizes 126 and 127 mean that the size follows in 2 or in 8 bytes.
 LAST, RESERVED, KIND = 0x80, 0x70, 0x0F
 MASKED, SIZE, SIZE_OF_2, SIZE_OF_8 = 0x80, 0x7F, 126, 127
 # Kinds of frames: a further part of a message, a message's first part, and from CLOSE on what is no part of one.
