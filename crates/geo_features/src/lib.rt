@@ -2,7 +2,7 @@
 //!
 //! Each function appends to a text of bytes. Coordinates are the exact decimals of a grid, as a [`Style`] asks for them;
 //! ids, properties and members that are not known stand as they do in the map, byte for byte. An [`ExportFault`] says
-//! why what is asked for is not written; the text may then have a front of it.
+//! why what is asked for is not written; the text may then have a prefix of it.
 #![tactic(auto)]
 
 // The value of a result, or a return of its fault: what `?` does where it converts nothing. The
