@@ -1,8 +1,8 @@
 #!/usr/bin/env python3
 """Runs the built program border_edit to each of its ends, and looks at FILE before and after; and runs border_mend,
 border_show and border_export to each of theirs (bench/mend_ends.py, bench/show_ends.py, bench/export_ends.py), all four
-programs on files of all kinds (bench/file_ends.py), and all four with each growth of their memory refused in turn
-(bench/growths.py).
+programs on files of all kinds (bench/file_ends.py), all four with each growth of their memory refused in turn
+(bench/growths.py), and border_export on hostile texts (bench/export_hostile.py).
 
 Tests of the crates call what `main` calls. Here the program itself is called: with arguments, on files, on devices
 that are full, with little memory, and with a terminal as standard error. The rows of bench/edit_ends.txt are run, and
@@ -28,6 +28,7 @@ import tempfile
 
 import edit_ends
 import export_ends
+import export_hostile
 import file_ends
 import growths
 import mend_ends
@@ -371,6 +372,8 @@ def main():
     programs = vars(words.parse_args())
     rows = [*file_ends.rows(), *mend_ends.rows(), *show_ends.rows(), *export_ends.rows()]
     parts = [file_ends.told(programs, rows), edit_ends.told(programs["edit"])]
+    # fewer and smaller texts than that script has by itself, which takes longer than all of this
+    parts.append(export_hostile.told(programs["export"], count=300, size=1000))
     if file_ends.compiler():
         parts.append(growths.told(programs))
     else:
