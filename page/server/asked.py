@@ -39,7 +39,7 @@ def options(words):
                     formatter_class=argparse.RawDescriptionHelpFormatter)
     add = parser.add_argument
     add("map", metavar="MAP", type=pathlib.Path, help="a map as TopoJSON, such as examples/columbus.json, or GeoJSON")
-    add("--out", metavar="FILE", type=pathlib.Path, help="the file that Save writes; if it is not given MAP, or if that is GeoJSON a new file beside it")
+    add("--out", metavar="FILE", type=pathlib.Path, help="the file that Save writes, as GeoJSON if its name ends in .geojson; if it is not given MAP, as what it is")
     add("--port", metavar="N", type=port, default=0, help="the port of the page; any free one if it is not given")
     add("--no-open", action="store_true", help="prints the address of the page, and opens no browser")
     return parser.parse_args(words)

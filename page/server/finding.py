@@ -1,4 +1,4 @@
-"""The three programs. Each is found when it is needed first, since one that is not proved takes minutes to build."""
+"""The four programs. Each is found when it is needed first, since one that is not proved takes minutes to build."""
 import programs
 
 

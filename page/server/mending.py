@@ -1,4 +1,6 @@
 """What the other two programs do for a map that does not open: its faults, its picture, and mending it."""
+import mmap
+import re
 import subprocess
 
 from child import environment
@@ -6,6 +8,8 @@ from child import environment
 
 # The programs that run.
 RUNNING = set()
+# Lines of a report on a file of GeoJSON of which a map is made without any change, if it has no points.
+SOUND = re.compile("geojson|decimals [0-9]+ digits [0-9]+ rounded 0|counts short 0 repeats 0 on 0 cross 0")
 
 
 def run(program, *arguments):
@@ -36,6 +40,17 @@ def findings(border_mend, map_path):
     """All that stops a map from opening, and whether border_mend can read the map."""
     status, report, _ = run(border_mend, map_path)
     return lines_of(report), status in (0, 1)
+
+
+def is_sound_geojson(findings):
+    """Whether findings are those of GeoJSON of which a map is made without any change."""
+    return findings[:1] == ["geojson"] and all(map(SOUND.fullmatch, findings))
+
+
+def has_points(path):
+    """Whether a file of GeoJSON may have points."""
+    with open(path, "rb") as file, mmap.mmap(file.fileno(), 0, access=mmap.ACCESS_READ) as text:
+        return bool(re.search(rb'"(?:Multi)?Point"', text))
 
 
 def picture(border_show, map_path, place=None):

@@ -1,17 +1,10 @@
 """Names of files: how they are shown, and whether one can be written. It is read before all else, so it needs little."""
-import itertools
 import os
 
 
 def shown(name):
     """A file name that may stand in a line of text."""
     return "".join(letter if letter.isprintable() else "?" for letter in str(name))
-
-
-def name_of_map(path):
-    """A name beside a file of GeoJSON that no file has, for the map that is made of it."""
-    names = (path.with_name(f"{path.stem}{number}.json") for number in itertools.chain([""], itertools.count(2)))
-    return next(name for name in names if not os.path.lexists(name))
 
 
 def why_not_writable(path):

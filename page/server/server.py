@@ -8,7 +8,8 @@ Everything is below /TOKEN/, on the loopback address alone.
 | GET `all.js` | | all modules of the page as one |
 | GET `map` | | MAP as it is in its file, also while it is opened, nothing once it was edited |
 | GET `document`, `script`, `picture` | | the text of the map; the log as a script; a map that does not open as SVG |
-| `begin` | | `owner`, `name`, `out`, `proved`, `opens`; then either what is edited or what stops it |
+| GET `geojson` | | the map as GeoJSON, where Save writes that |
+| `begin` | | `owner`, `name`, `proved`, `opens`; of FILE `out`, `format` and `over`; then what is edited or what stops it |
 | of a map that opens | | `log`, `counts` (when it was opened), `undos` (how many are possible), `unsaved` |
 | of one that does not | | `fault`, `findings`, `mendable` |
 | `edit` | `owner`, `act`, `lines` | `answers` up to a refusal, `accepted`, `entries` of the log, `counts` now, `undos`, `unsaved` |
@@ -306,6 +307,12 @@ class Handler(Connection):
             self.send(200, text, "text/plain; charset=utf-8")
         elif name == "picture":
             self._send_picture()
+        elif name == "geojson" and server.session.is_geojson:
+            with server.lock:
+                file = server.session.geojson()
+                server.visits.hear()
+            with file:
+                self._send_file(file)
         elif name == "socket":
             self._open_socket()
         else:

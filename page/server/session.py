@@ -7,10 +7,11 @@ import shutil
 import tempfile
 import time
 
+import exporting
 import mending
 import saving
 from child import DEPTH, Child, Ended
-from paths import name_of_map, shown, why_not_writable
+from paths import shown, why_not_writable
 
 # Bytes of a map that opens.
 MOST_BYTES = 67_108_864
@@ -53,7 +54,7 @@ class Session:
     """A map, what was done to it, and the file that it is saved in."""
 
     def __init__(self, programs, map_path, out):
-        """`programs` finds the three programs."""
+        """`programs` finds the four programs."""
         self.programs, self.out = programs, out
         # as they are shown
         self.name, self.file = shown(map_path.name), shown(out)
@@ -65,6 +66,8 @@ class Session:
         self.findings, self.is_mendable = [], False
         # what FILE holds, as far as is known here, and what was written in it; of MAP that is read while it is opened
         self.is_saved_over = out == map_path
+        # whether FILE is GeoJSON: by its name, or by what MAP is where it is MAP
+        self.is_geojson = not self.is_saved_over and out.suffix.lower() == ".geojson"
         self.seen = None if self.is_saved_over else saving.fingerprint(out)
         self.written = None
         self.scratch = pathlib.Path(tempfile.mkdtemp(prefix="border_edit-"))
@@ -90,15 +93,13 @@ class Session:
 
     def open(self):
         """Waits until the map is open, or known not to open."""
-        opening = self.opening
-        try:
-            if self.is_saved_over:
-                self.seen = saving.fingerprint(self.base)
-            self._open(self.base, opening)
-        finally:
-            self.opening = None
-            if self.child is not opening:
-                opening.end()
+        if self.is_geojson:
+            self.programs.look_for("border_export")
+        if self.is_saved_over:
+            self.seen = saving.fingerprint(self.base)
+        self._open(self.base, self.opening)
+        if self.is_geojson and self.mended_by is None and self.child is not None:
+            self._must_be_exported()
 
     def give_up(self):
         """Has a map not opened that is being opened."""
@@ -109,6 +110,7 @@ class Session:
 
     def _open(self, base, child):
         """Takes a map that border_edit opens; where it does not open, tells what stops it."""
+        self.opening = child
         try:
             self.counts, = child.ask(["count"])
         except Ended as ended:
@@ -116,15 +118,39 @@ class Session:
                 raise
             self.fault = mending.without_open(str(ended))
             self.findings, self.is_mendable = mending.findings(self.programs.path("border_mend"), base)
-            if self.findings[:1] == ["geojson"] and self.is_saved_over:
-                self._save_beside()
+            if self.findings[:1] == ["geojson"]:
+                self._take_geojson()
         else:
             self.base, self.child = base, child
+        finally:
+            self.opening = None
+            if self.child is not child:
+                child.end()
 
-    def _save_beside(self):
-        """Has a file of GeoJSON stay as it is: the map that is made of it is saved in a new file."""
-        self.out = name_of_map(self.out)
-        self.file, self.is_saved_over, self.seen = shown(self.out), False, None
+    def _take_geojson(self):
+        """MAP is GeoJSON, and so is what is saved over it. Where nothing has to be mended, a map is made of it at once."""
+        if self.is_saved_over:
+            self.is_geojson = True
+            self.programs.look_for("border_export")
+        if mending.has_points(self.base):
+            # which border_mend rounds to the grid of the borders, and does not tell
+            self.findings.insert(1, "points")
+        if self.is_mendable and mending.is_sound_geojson(self.findings):
+            self.mend(None)
+            # saved as GeoJSON it is what it was
+            self.saved_state = self.states[-1] if self.is_geojson else None
+        if self.is_geojson:
+            # whether it is proved is told with the page
+            self.programs.path("border_export")
+
+    def _must_be_exported(self):
+        """Tries whether a topology can be GeoJSON, before anyone edits it."""
+        made = self.scratch / "made.geojson"
+        try:
+            exporting.export(self.programs.path("border_export"), self.base, made)
+        except exporting.NotExported as why:
+            raise RuntimeError(f"{self.name} can't be written as GeoJSON: {why}") from None
+        made.unlink()
 
     # ---- what is there
 
@@ -138,9 +164,15 @@ class Session:
         """How many changes can be taken back."""
         return len(self.states) - 1
 
+    @property
+    def format(self):
+        """What FILE is written as."""
+        return "GeoJSON" if self.is_geojson else "TopoJSON"
+
     def begin(self):
         """What a page needs to know at first."""
-        known = {"name": self.name, "out": self.file, "proved": self.programs.are_proved}
+        known = {"name": self.name, "out": self.file, "format": self.format, "over": self.is_saved_over,
+                 "proved": self.programs.are_proved}
         if self.child is None:
             stops = {"fault": self.fault, "findings": self.findings, "mendable": self.is_mendable}
             return {**known, "opens": False, **stops}
@@ -174,6 +206,27 @@ class Session:
             raise
         return file
 
+    def geojson(self):
+        """The map as GeoJSON, as Save writes it, as a file that is gone once it is closed."""
+        self._must_be_open()
+        return self._with_child(self._exported)
+
+    def _exported(self):
+        """A file without a name, with what border_export makes of the map."""
+        edited, made = self.scratch / "edited.json", self.scratch / "made.geojson"
+        try:
+            with open(edited, "wb") as file, contextlib.closing(self.child.document()) as pieces:
+                file.writelines(pieces)
+            exporting.export(self.programs.path("border_export"), edited, made)
+            return open(made, "rb")
+        except exporting.NotExported as why:
+            raise Refusal(f"the map can't be written as GeoJSON: {why}") from None
+        except OSError as fault:
+            raise Refusal(f"the map can't be written as GeoJSON: {fault.filename or self.scratch}: {fault.strerror}") from None
+        finally:
+            for path in (edited, made):
+                path.unlink(missing_ok=True)
+
     def unedited(self):
         """The file of the map, also while it is opened; nothing where there are edits, or where it is too large."""
         return None if self.log or self.base.stat().st_size > MOST_BYTES else self.base
@@ -190,7 +243,10 @@ class Session:
         if self.mended_by is not None:
             rows.append(f"# It was mended: border_mend {self.name} --out MENDED{self.mended_by}")
         base = self.name if self.mended_by is None else "MENDED"
-        rows.append(f"# To make them again: border_edit {base} THIS --out FILE --undo {DEPTH}")
+        edited = "EDITED" if self.is_geojson else "FILE"
+        rows.append(f"# To make them again: border_edit {base} THIS --out {edited} --undo {DEPTH}")
+        if self.is_geojson:
+            rows.append(f"# And then: border_export EDITED --out FILE {' '.join(exporting.ARGUMENTS)}")
         for entry in self.log:
             line, answer = entry["line"], entry["answer"]
             rows.append(line if is_accepted(answer) else comment(f"{answer}: {line}"))
@@ -326,7 +382,7 @@ class Session:
 
     def _write(self, force, now):
         """Writes FILE, which holds `now`: the text that it has then."""
-        with contextlib.closing(self.child.document()) as pieces:
+        with contextlib.closing(self._saved()) as pieces:
             text = saving.Counted(pieces)
 
             def before():
@@ -338,6 +394,15 @@ class Session:
 
             saving.replace(self.out, text, before=before)
         return text
+
+    def _saved(self):
+        """What Save writes, piece by piece."""
+        if not self.is_geojson:
+            yield from self.child.document()
+            return
+        with self._exported() as file:
+            while piece := file.read(saving.PIECE):
+                yield piece
 
     def _look(self, force):
         """What FILE holds before it is written over. Refuses where the user should be asked first."""

@@ -46,11 +46,12 @@ def start_browser(downloads, size=(1280, 800), name="chromium"):
 class Page:
     """The page of a map: its server, and a browser that shows it."""
 
-    def __init__(self, driver, map_path, *words):
+    def __init__(self, driver, map_path, *words, **environment):
         self.driver = driver
         command = [TOP / "edit", str(map_path), "--no-open", *map(str, words)]
         # with this Python, and not one that a name of the path leads to by a script
-        env = {**os.environ, "PATH": os.pathsep.join([os.path.dirname(sys.executable), os.environ["PATH"]])}
+        path = os.pathsep.join([os.path.dirname(sys.executable), os.environ["PATH"]])
+        env = {**os.environ, "PATH": path, **environment}
         self.server = subprocess.Popen(command, stdout=subprocess.PIPE, stderr=subprocess.PIPE, env=env)
         self.url = self.server.stdout.readline().decode().strip()
         if not self.url:

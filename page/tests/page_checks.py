@@ -1,4 +1,5 @@
 """Checks of a page: a line for each, and how many passed and failed."""
+import json
 
 COUNTS = {"passed": 0, "failed": 0}
 
@@ -33,3 +34,10 @@ def is_map(page, name):
 
 def document(page):
     return page.later("editor.talk.text('document')")
+
+
+def put(folder, name, text):
+    """A file with a text, or with a value as JSON."""
+    path = folder / name
+    path.write_text(text if isinstance(text, str) else json.dumps(text))
+    return path

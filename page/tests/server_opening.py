@@ -12,7 +12,6 @@ CROSSES = ["cross 0 10 10 10 / 5 5 5 15", "cross 5 5 15 5 / 10 0 10 10"]
 PATHS = ["path 0 10 5 10 10 10", "path 5 5 5 10 5 15", "path 5 5 10 5 15 5", "path 10 0 10 5 10 10"]
 DECIMALS = of_rings([[0, 0], [1.5, 0], [1.5, 1.5], [0, 1.5]])
 NO_COUNTS = "counts short 0 repeats 0 on 0 cross 0"
-GEOJSON = '{"type":"Polygon","coordinates":[[[0,0],[1.5,0],[1.5,1.5],[0,0]]]}'
 # Maps, what stops them, what border_mend finds, whether it can read them, and whether they can be drawn.
 MAPS = [
     ("two squares over each other", CROSSING, "conflict 0 10 10 10 / 5 5 5 15",
@@ -36,9 +35,8 @@ def do_not_open(checks):
             with Served(path) as page:
                 began = page.begin()
                 checks.same(name, {key: began[key] for key in began if key != "proved"},
-                            {"owner": 1, "name": "map.json", "out": str(path), "opens": False, "fault": fault,
-                             "findings": findings,
-                             "mendable": is_mendable})
+                            {"owner": 1, "name": "map.json", "out": str(path), "format": "TopoJSON", "over": True,
+                             "opens": False, "fault": fault, "findings": findings, "mendable": is_mendable})
                 status, _, answer = page.ask("GET", page.base + "picture")
                 checks.same("its picture", (status, answer.getheader("Content-Type") if is_drawn else ""),
                             (200, "image/svg+xml") if is_drawn else (404, ""))
@@ -73,23 +71,6 @@ def names(checks):
                 status, text = page.get("picture")
                 checks.same(f"name {name[:20]!r}", (status, drawn in text), (200, True))
                 checks.same("mended", (page.post("mend")[1]["opens"], page.post("save")[0]), (True, 200))
-
-
-def geojson(checks):
-    """A file of GeoJSON stays as it is: the map that is made of it is saved in a new file beside it."""
-    with folder() as files:
-        path, taken, new = files / "areas.geojson", files / "areas.json", files / "areas2.json"
-        path.write_text(GEOJSON)
-        taken.write_text("another file")
-        with Served(path) as page:
-            began = page.begin()
-            checks.same("GeoJSON", (began["opens"], began["findings"][:1], began["out"]), (False, ["geojson"], str(new)))
-            checks.same("mended", (page.post("mend")[1]["opens"], page.post("save")[0]), (True, 200))
-            checks.same("the file, and the one beside it", (path.read_text(), taken.read_text()), (GEOJSON, "another file"))
-        run("border_mend", path, "--out", files / "made.json")
-        checks.same("the map", new.read_bytes(), (files / "made.json").read_bytes())
-        with Served(path, "--out", files / "out.json") as page:
-            checks.same("a file that was named", page.begin()["out"], str(files / "out.json"))
 
 
 def places(checks):
@@ -206,4 +187,4 @@ def policy_of_pictures(checks):
             checks.same("none of a map that opens", page.get("picture")[0], 404)
 
 
-GROUPS = [do_not_open, names, geojson, places, mended, digits, dies_after_mending, policy_of_pictures]
+GROUPS = [do_not_open, names, places, mended, digits, dies_after_mending, policy_of_pictures]

@@ -5,7 +5,6 @@ import json
 import math
 import pathlib
 import shutil
-import subprocess
 import sys
 import traceback
 
@@ -13,15 +12,14 @@ sys.path.insert(0, str(pathlib.Path(__file__).resolve().parent))
 sys.path.insert(1, str(pathlib.Path(__file__).resolve().parents[1]))
 
 from browser import By, Keys, Page, new_folder, start_browser
-from page_checks import COUNTS, act_of, document, is_map, same, true, verbs
+from page_checks import COUNTS, act_of, document, is_map, put, same, true, verbs
+from page_files import files_and_tabs, test_mending, test_not_mendable
+from page_geojson import GEOJSON, ROUNDED, exporting, test_geojson, test_geojson_mended
+from page_keys import by_keys
 from page_socket import test_socket
-import programs
 
 EXAMPLES = pathlib.Path(__file__).resolve().parents[2] / "examples"
 TOUCHING = pathlib.Path(__file__).resolve().parent / "maps/touching.json"
-BORDER_EDIT = programs.find("border_edit")[0]
-# Elements that Tab may reach before it leaves the page.
-MOST_TABS = 60
 # Two layers over the same borders: two zones of one feature, and two fields that make up the first one.
 TWO_LAYERS = {
     "type": "Topology",
@@ -59,16 +57,6 @@ BROKEN_OFF = """(async () => {
   delete talk.get;
   return [why, asked];
 })()"""
-
-
-def saved_by_program(page, map_path, folder):
-    """What border_edit makes of the page's script, and what it answers."""
-    script = folder / "script.txt"
-    script.write_text(page.later("editor.talk.text('script')"))
-    out = folder / "again.json"
-    command = [BORDER_EDIT, map_path, script, "--out", out, "--undo", "1000"]
-    done = subprocess.run(command, capture_output=True, text=True)
-    return done, out.read_bytes() if out.exists() else None
 
 
 def test_first_drawing(page, asked):
@@ -331,118 +319,6 @@ def test_measuring(page):
     true("Esc ends measuring", page.js("return tools.sketch.kind === null") and not page.is_shown("hint"))
 
 
-def test_underlay(page, folder):
-    """A file is drawn below the map, and taken away again."""
-    line = {"type": "LineString", "coordinates": [[8, 11], [11, 14]]}
-    page.element("underlayFile").send_keys(str(put(folder, "line.geojson", line)))
-    page.wait("editor.view.underlay.length === 1")
-    same("a file lies below the map", page.text("underlay"), "Remove underlay")
-    page.button("underlay")
-    same("it is taken away", [page.text("underlay"), page.js("return editor.view.underlay.length")], ["Underlay…", 0])
-    page.element("underlayFile").send_keys(str(put(folder, "none.geojson", "no")))
-    page.wait("!document.getElementById('note').hidden")
-    same("a file that is none", [page.text("underlay"), "none.geojson" in page.text("note")], ["Underlay…", True])
-    page.keys(Keys.ESCAPE)
-
-
-def unload_asks(page):
-    return page.js("const event = new Event('beforeunload', {cancelable: true}); "
-                   "window.dispatchEvent(event); return event.defaultPrevented")
-
-
-def test_saving(page, map_path, out, folder):
-    true("closing the tab with unsaved changes asks", unload_asks(page))
-    page.keys(Keys.CONTROL, "s")
-    page.wait("!editor.isUnsaved")
-    same("the page says that all is saved", page.text("state"), "All changes saved")
-    done, text = saved_by_program(page, map_path, folder)
-    same("the script runs without a refusal", (done.returncode, "refused" in done.stdout), (0, False))
-    true("the saved file is byte for byte what border_edit makes of the script", out.read_bytes() == text)
-    true("closing the tab does not ask any more", not unload_asks(page))
-
-
-def test_saving_troubles(page, out):
-    """Another program changes the file, and the folder is gone."""
-    out.write_bytes(out.read_bytes() + b"\n")
-    page.js("editor.select([3])")
-    page.later("editor.edit('rename 3 \"three\"')")
-    page.button("save")
-    page.wait("document.getElementById('ask').open")
-    said = page.text("askText")
-    true("a file that another program changed is asked for", "changed by another program" in said, said)
-    page.button("askNo")
-    true("“Cancel” leaves it", out.read_bytes().endswith(b"\n") and page.js("return editor.isUnsaved"))
-    page.button("save")
-    page.wait("document.getElementById('ask').open")
-    page.button("askYes")
-    page.wait("!editor.isUnsaved")
-    true("“Save anyway” writes it", b'"three"' in out.read_bytes())
-    page.later("editor.edit('rename 3 \"drei\"')")
-    away = out.parent.with_name("away")
-    out.parent.rename(away)
-    page.button("save")
-    page.wait("document.getElementById('note').className === ''")
-    true("no folder: the page says that it is not saved", "Not saved" in page.text("note"), page.text("note"))
-    true("and why", "there is no folder" in page.text("note"), page.text("note"))
-    true("the changes stay unsaved", page.js("return editor.isUnsaved"))
-    away.rename(out.parent)
-    page.button("save")
-    page.wait("!editor.isUnsaved")
-    true("and saves it later", b'"drei"' in out.read_bytes())
-
-
-def test_loading_again(page):
-    features = page.js("return editor.model.order")
-    page.load()
-    same("loaded again, the page has the same features", page.js("return editor.model.order"), features)
-    is_map(page, "loading again")
-    page.keys(Keys.CONTROL, "z")
-    same("undo goes on from before", verbs(act_of(page)), ["undo"])
-    is_map(page, "undo from before")
-    for _ in range(3):
-        page.keys(Keys.CONTROL, "z")
-    is_map(page, "undo of a thinning from before")
-
-
-def test_downloads(page, downloads):
-    page.button("script")
-    page.button("download")
-    page.wait("true")
-    wanted = [downloads / "edits.txt", downloads / "columbus.json"]
-    for _ in range(200):
-        if all(path.exists() for path in wanted):
-            break
-        page.later("new Promise(done => setTimeout(done, 20))")
-    true("Script and Download give files", all(path.exists() for path in wanted))
-    true("the file is the map as it is", wanted[1].exists() and wanted[1].read_text() == document(page))
-
-
-def test_two_tabs(page):
-    first = page.driver.current_window_handle
-    page.driver.switch_to.new_window("tab")
-    page.load()
-    second = page.driver.current_window_handle
-    page.driver.switch_to.window(first)
-    length = page.js("return editor.log.length")
-    page.later("editor.edit('delete 0')")
-    true("the older tab says that it is closed", "another tab" in page.text("note"), page.text("note"))
-    same("and its edit is not made", page.js("return editor.log.length"), length)
-    true("its buttons can't be used", page.js("return document.getElementById('cut').disabled"))
-    true("it closes without asking", not unload_asks(page))
-    page.driver.close()
-    page.driver.switch_to.window(second)
-    page.later("editor.edit('rename 1 \"newer\"')")
-    same("the newer tab edits", page.last(), ('rename 1 "newer"', "ok"))
-
-
-def test_server_gone(page):
-    page.server.kill()
-    page.server.wait()
-    page.later("editor.edit('rename 1 \"late\"')")
-    true("a server that is gone is said in words", "cannot be reached" in page.text("note"), page.text("note"))
-    true("and what is drawn stays", page.js("return editor.model.features.size > 40"))
-
-
 # ---- layers, colours, names, hostile texts
 
 def choose(page, name, value):
@@ -518,234 +394,11 @@ def test_hostile(page):
     same("nothing runs", page.js("return window.hit || 0"), 0)
 
 
-# ---- a map that does not open
-
-def test_mending(page, out):
-    page.load("!document.getElementById('mending').hidden")
-    page.wait("document.getElementById('pictureImage').complete")
-    true("the fault is said in words", "cross or lie on each other" in page.text("mendFault"), page.text("mendFault"))
-    lines = page.js("return [...document.querySelectorAll('#findings code')].map(c => c.textContent)")
-    findings = ["on 770 1130 / 760 860 780 1400", "cross 760 860 1400 840 / 960 870 1180 830"]
-    same("all findings are listed", lines, findings)
-    true("in words too", "The vertex 770 1130 lies on the border" in page.text("findings"))
-    true("a picture is shown", page.js("return document.getElementById('pictureImage').naturalWidth") > 0)
-    same("Mend has the focus", page.js("return document.activeElement.id"), "mend")
-    page.driver.find_element(By.CSS_SELECTOR, "#findings li:nth-child(2) button").click()
-    page.wait("document.getElementById('pictureImage').src.startsWith('blob:')")
-    page.wait("document.getElementById('pictureImage').complete && document.getElementById('pictureImage').naturalWidth")
-    true("a click on a finding shows its place", page.is_shown("pictureWhole"))
-    page.element("pictureWhole").click()
-    page.wait("document.getElementById('pictureImage').src.endsWith('/picture')")
-    true("and the whole map again", not page.is_shown("pictureWhole"))
-    page.js("document.getElementById('mend').focus()")
-    page.chain().send_keys(Keys.ENTER).perform()
-    page.wait("document.getElementById('ask').open")
-    true("the report says what mending did", "has new vertices" in page.text("askReport"), page.text("askReport"))
-    page.element("askYes").click()
-    page.settle()
-    state = page.js("return [editor.model.features.size, editor.isUnsaved]")
-    same("the map is open, with unsaved changes", state, [4, True])
-    is_map(page, "mending")
-    page.keys(Keys.CONTROL, "s")
-    page.wait("!editor.isUnsaved")
-    command = [BORDER_EDIT, out, "-", "--out", out.with_suffix(".end")]
-    done = subprocess.run(command, input="count\n", capture_output=True, text=True)
-    true("the saved map opens", done.stdout.startswith("features 4 "), done.stderr)
-
-
-def test_not_mendable(page):
-    page.load("!document.getElementById('mending').hidden")
-    true("a file that is no JSON: said in words", "not JSON" in page.text("mendFault"), page.text("mendFault"))
-    true("there is nothing to mend", not page.is_shown("mendForm") and page.is_shown("mendNot"))
-
-
-# ---- by keys alone
-
-def go_to(page, name):
-    """Finds a feature by its name; the cursor is in the middle of it then."""
-    page.keys("/")
-    page.keys(Keys.CONTROL, "a")
-    page.type(name + Keys.ENTER)
-    page.settle()
-
-
-def steps(page, key, count, *held):
-    """Presses a key so many times, others held."""
-    chain = page.chain()
-    for each in held:
-        chain.key_down(each)
-    for _ in range(count):
-        chain.send_keys(key)
-    for each in held:
-        chain.key_up(each)
-    chain.perform()
-    page.settle()
-
-
-def test_keys_vertices(page):
-    go_to(page, "8")
-    same("/ finds a feature", page.js("return editor.selected"), [8])
-    page.keys(Keys.ARROW_RIGHT)
-    true("arrows move a cursor", page.js("return tools.isByKeys"))
-    page.keys("v")
-    vertex = page.js("return tools.vertex")
-    true("V goes to the nearest vertex", vertex is not None)
-    page.keys(" ")
-    steps(page, Keys.ARROW_UP, 2)
-    page.keys(" ")
-    line, answer = page.last()
-    same("Space, arrows, Space move a vertex", (line.split()[:3], answer), (["move", *map(str, vertex)], "ok"))
-    is_map(page, "moving by keys")
-    page.keys("b")
-    page.keys("i")
-    line, answer = page.last()
-    same("I adds a vertex on a border", (line.split()[0], answer), ("insert", "ok"))
-    page.keys("v")
-    page.keys(Keys.DELETE)
-    same("Delete removes it", page.last(), (f"remove {' '.join(line.split()[5:])}", "ok"))
-    page.keys(" ")
-    page.keys("v")
-    page.keys(" ")
-    steps(page, Keys.ARROW_LEFT, 3)
-    length = len(page.log())
-    page.keys(Keys.ESCAPE)
-    true("Esc puts a vertex back", page.js("return tools.drag === null") and len(page.log()) == length)
-    is_map(page, "vertices by keys")
-
-
-def test_keys_features(page):
-    go_to(page, "8")
-    page.keys("s")
-    page.keys(Keys.ARROW_LEFT)
-    page.keys("b")
-    page.keys(Keys.ENTER)
-    first = page.js("return tools.sketch.path.length")
-    same("S, then Enter on a border begins a cut", first, 1)
-    x, y, u, v = page.js("const b = editor.model.features.get(8).box, p = tools.pointer; "
-                         "return [(b[0] + b[2]) / 2, (b[1] + b[3]) / 2, ...editor.view.place(p.x, p.y)]")
-    cursor_to(page, (2 * x - u, 2 * y - v))
-    page.keys("b")
-    page.keys(Keys.ENTER)
-    if page.js("return tools.sketch.kind") == "cut":
-        page.keys(Keys.ENTER)
-    page.answer("half")
-    same("and Enter on another ends it", verbs(act_of(page))[-1:], ["split"])
-    part = int(page.last()[1].split()[1])
-    same("the part is selected", page.js("return editor.selected"), [part])
-    go_to(page, "half")
-    page.keys(Keys.ESCAPE)
-    page.keys(Keys.ENTER)
-    same("Enter selects", page.js("return editor.selected.length"), 1)
-    page.keys(Keys.SHIFT, Keys.DELETE)
-    same("Shift+Delete deletes", verbs(act_of(page)), ["delete"])
-    page.keys(Keys.CONTROL, "z")
-    go_to(page, "4")
-    page.keys(Keys.F2)
-    page.answer("four")
-    same("F2 gives an id", page.last(), ('rename 4 "four"', "ok"))
-    is_map(page, "features by keys")
-
-
-def test_keys_reshape(page):
-    """From one end of the border between 40 and 46, over a place in 46, to the other end."""
-    go_to(page, "46")
-    page.keys("r")
-    ring = json.loads(page.later("editor.talk.ask('rings 46').then(a => a[0])"))[0][0]
-    other = json.loads(page.later("editor.talk.ask('rings 40').then(a => a[0])"))[0][0]
-    common = [at for at in ring if at in other]
-    for at in (common[0], common[-1]):
-        cursor_to(page, at)
-        page.keys("v")
-        page.keys(Keys.ENTER)
-        if at == common[0]:
-            go = page.js("const b = editor.model.features.get(46).box; return [(b[0] + b[2]) / 2, (b[1] + b[3]) / 2]")
-            cursor_to(page, go)
-            page.keys(Keys.ENTER)
-    same("R, Enter, Enter, Enter give a piece away", verbs(act_of(page)), ["split", "merge"])
-    is_map(page, "a reshape by keys")
-    page.keys(Keys.CONTROL, "z")
-    same("Ctrl+Z takes it back", verbs(act_of(page)), ["undo", "undo"])
-
-
-def cursor_to(page, at):
-    """Moves the cursor to a position of the grid with arrows, and with Ctrl for the last pixels."""
-    for pixels, held in ((12, []), (1, [Keys.CONTROL])):
-        x, y = page.js("const [x, y] = editor.view.screen(...arguments), p = tools.pointer; return [x - p.x, y - p.y]", *at)
-        steps(page, Keys.ARROW_RIGHT if x > 0 else Keys.ARROW_LEFT, round(abs(x) / pixels), *held)
-        steps(page, Keys.ARROW_DOWN if y > 0 else Keys.ARROW_UP, round(abs(y) / pixels), *held)
-
-
-def test_keys_merge(page):
-    go_to(page, "39")
-    page.keys(Keys.ENTER)
-    first = page.js("return editor.selected[0]")
-    near = page.later(f"editor.neighboursOf({first})")
-    for _ in range(40):
-        page.keys(Keys.ARROW_RIGHT)
-        if page.js("return tools.feature !== null && tools.feature !== arguments[0]", first):
-            break
-    other = page.js("return tools.feature")
-    page.keys(Keys.SHIFT, Keys.ENTER)
-    same("Shift+Enter selects one more", page.js("return editor.selected"), [first, other])
-    page.keys("m")
-    true("the other is its neighbour", other in near, (other, near))
-    same("M merges", page.last(), (f"merge {first} {other}", "ok"))
-    is_map(page, "merging by keys")
-
-
-def test_keys_rest(page):
-    vertices = page.js("return editor.vertices")
-    page.keys("t")
-    same("T opens the slider, which has the focus", page.js("return document.activeElement.id"), "thinShare")
-    for _ in range(30):
-        page.chain().send_keys(Keys.ARROW_LEFT).perform()
-    page.wait("document.getElementById('thinBusy').hidden && document.getElementById('thinShare').value === '70'")
-    page.settle()
-    true("arrows thin", page.js("return editor.vertices") <= 0.7 * vertices, page.js("return editor.vertices"))
-    page.keys(Keys.TAB)
-    page.keys(Keys.TAB)
-    same("Tab goes to Keep", page.js("return document.activeElement.id"), "thinKeep")
-    page.keys(Keys.ENTER)
-    true("Enter keeps", not page.is_shown("thinning") and page.js("return editor.vertices") <= 0.7 * vertices)
-    page.keys("d")
-    page.keys("v")
-    page.keys(Keys.ENTER)
-    steps(page, Keys.ARROW_UP, 5)
-    page.keys(Keys.ENTER)
-    true("D measures", page.text("hint").startswith("Length "), page.text("hint"))
-    page.keys(Keys.ESCAPE)
-    page.keys("?")
-    true("? opens the help", page.js("return document.getElementById('help').open"))
-    page.keys(Keys.ESCAPE)
-    page.keys(Keys.CONTROL, "s")
-    page.wait("!editor.isUnsaved")
-    true("Ctrl+S saves", page.text("state") == "All changes saved")
-
-
-def test_focus(page):
-    """Every button and list is reached by Tab, has a name, and shows that it has the focus."""
-    page.js("document.getElementById('find').focus()")
-    reached = []
-    # behind the last one the focus leaves the page, for the browser's own buttons
-    while page.js("return document.hasFocus() && document.activeElement !== document.body") and len(reached) < MOST_TABS:
-        reached.append(page.js("const e = document.activeElement; return [e.id || e.tagName, getComputedStyle(e).outlineStyle]"))
-        page.chain().send_keys(Keys.TAB).perform()
-    wanted = {"find", "underlay", "script", "download", "helpOpen", "undo", "cut", "reshape", "thin", "measure", "zoomIn", "fit",
-              "map", "tabLayers", "nameBy", "colourBy"}
-    same("Tab reaches all", wanted - {name for name, _ in reached}, set())
-    unseen = [name for name, outline in reached if outline == "none"]
-    same("the focus is seen", unseen, [])
-    unnamed = page.js("return [...document.querySelectorAll('button, input, select')].filter(e => !e.textContent.trim() "
-                      "&& !e.getAttribute('aria-label') && !e.getAttribute('aria-labelledby') && !e.labels?.length)"
-                      ".map(e => e.id)")
-    same("all have names", unnamed, [])
-
-
 # ---- all of them
 
-def with_page(driver, map_path, words, tests):
+def with_page(driver, map_path, words, tests, **environment):
     """Runs tests on a page; a fault in one is a failed check, and ends this page."""
-    page = Page(driver, map_path, *words)
+    page = Page(driver, map_path, *words, **environment)
     try:
         tests(page)
     except Exception:
@@ -772,12 +425,6 @@ def main():
     return 1 if COUNTS["failed"] or not COUNTS["passed"] else 0
 
 
-def put(folder, name, text):
-    path = folder / name
-    path.write_text(text if isinstance(text, str) else json.dumps(text))
-    return path
-
-
 def run_all(driver, folder, downloads):
     columbus = shutil.copy(EXAMPLES / "columbus.json", folder / "columbus.json")
     saved, mended = folder / "saved/out.json", folder / "mended.json"
@@ -794,6 +441,9 @@ def run_all(driver, folder, downloads):
     wards = shutil.copy(EXAMPLES / "wards.json", folder / "wards.json")
     with_page(driver, wards, ["--out", mended], lambda page: test_mending(page, mended))
     with_page(driver, put(folder, "broken.json", '{"type":"Topology",'), [], test_not_mendable)
+    areas, rounded = put(folder, "areas.geojson", GEOJSON), put(folder, "rounded.json", ROUNDED)
+    with_page(driver, areas, [], lambda page: test_geojson(page, areas, downloads), **exporting(folder))
+    with_page(driver, rounded, [], lambda page: test_geojson_mended(page, rounded))
     with_page(driver, shutil.copy(TOUCHING, folder / "touching.json"), [], test_touching)
     with_page(driver, shutil.copy(EXAMPLES / "squares.json", folder / "squares.json"), [], test_socket)
 
@@ -816,28 +466,6 @@ def edits_by_mouse(page):
     test_thinning(page)
     test_broken_off(page)
     test_measuring(page)
-
-
-def files_and_tabs(page, map_path, out, folder, downloads):
-    test_underlay(page, folder)
-    test_saving(page, map_path, out, folder)
-    test_saving_troubles(page, out)
-    test_loading_again(page)
-    test_downloads(page, downloads)
-    # saving was refused three times, which the browser writes there
-    same("nothing else is written on the console", [text for text in page.errors() if "/save" not in text], [])
-    test_two_tabs(page)
-    test_server_gone(page)
-
-
-def by_keys(page):
-    page.load()
-    test_keys_vertices(page)
-    test_keys_features(page)
-    test_keys_reshape(page)
-    test_keys_merge(page)
-    test_keys_rest(page)
-    test_focus(page)
 
 
 if __name__ == "__main__":

@@ -1,7 +1,7 @@
 #!/usr/bin/env python3
 """Tests the server of the page without a browser. A line for each check; status 1 where one failed.
 
-The programs are found as `./edit` finds them; BORDER_EDIT, BORDER_SHOW and BORDER_MEND name others. Arguments are names
+The programs are found as `./edit` finds them; BORDER_EDIT, BORDER_SHOW, BORDER_MEND and BORDER_EXPORT name others. Arguments are names
 of groups, to run these alone.
 """
 import concurrent.futures
@@ -14,6 +14,7 @@ import server_asking
 import server_dying
 import server_editing
 import server_ending
+import server_geojson
 import server_large
 import server_opening
 import server_saving
@@ -22,7 +23,7 @@ import server_starting
 
 # The groups that take longest come first.
 MODULES = [server_large, server_ending, server_socket, server_dying, server_starting, server_opening, server_saving,
-           server_asking, server_editing]
+           server_geojson, server_asking, server_editing]
 # Groups that are run at once: most of the time a group waits for a server.
 AT_ONCE = 4
 

@@ -5,16 +5,23 @@ import { by, give } from "./dom.js";
 import { linesOf } from "./underlay.js";
 import { TEXT } from "./words.js";
 
+/**
+ * The name of a file in its folder.
+ * @param {string} file
+ */
+export const nameOf = file => file.slice(file.lastIndexOf("/") + 1);
+
 export class Files {
   /**
    * @param {import("./editor.js").Editor} editor
    * @param {import("./panel.js").Panel} panel
-   * @param {string} name of the map
+   * @param {import("./talk.js").Began} began
    */
-  constructor(editor, panel, name) {
+  constructor(editor, panel, began) {
     this.editor = editor;
     this.panel = panel;
-    this.name = name;
+    this.name = nameOf(began.out);
+    this.format = began.format;
   }
 
   /**
@@ -38,7 +45,11 @@ export class Files {
 
   async script() { give("edits.txt", "text/plain", await this.editor.talk.text("script")); }
 
-  async download() { give(this.name, "application/json", await this.editor.talk.text("document")); }
+  /** Gives the browser what Save would write. */
+  async download() {
+    const [text, kind] = this.format === "GeoJSON" ? ["geojson", "application/geo+json"] : ["document", "application/json"];
+    give(this.name, kind, await this.editor.talk.text(text));
+  }
 
   /** @param {File | undefined} file */
   async underlay(file) {

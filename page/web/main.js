@@ -5,7 +5,7 @@ import { by } from "./dom.js";
 import { early } from "./early.js";
 import { Editor } from "./editor.js";
 import { Features } from "./features.js";
-import { Files } from "./files.js";
+import { Files, nameOf } from "./files.js";
 import { Keys } from "./keys.js";
 import { Layers } from "./layers.js";
 import { Measuring } from "./measuring.js";
@@ -31,7 +31,11 @@ async function start() {
   const drawing = draw(), began = await talk.begin();
   document.title = TEXT.title(began.name);
   by("name").textContent = by("name").title = began.name;
-  by("save").title = TEXT.savesTo(began.out);
+  by("save").title = `${TEXT.savesTo(began.out, began.format)} (Ctrl+S)`;
+  by("target").textContent = TEXT.savesTo(nameOf(began.out), began.format);
+  by("target").title = began.out;
+  // where it is not what one expects
+  by("target").hidden = began.over && began.format === "TopoJSON";
   by("unproved").hidden = began.proved;
   by("unproved").textContent = TEXT.unproved;
   const drawn = await drawing;
@@ -56,7 +60,7 @@ async function open(began, drawn) {
   const units = new Units(editor.model.transform), layers = new Layers(editor);
   const panel = new Panel(editor, layers, units, new Measuring(editor.model, units));
   const features = new Features(editor, panel), tools = new Tools(editor, panel, features);
-  const thinning = new Thinning(editor, panel), files = new Files(editor, panel, began.name);
+  const thinning = new Thinning(editor, panel), files = new Files(editor, panel, began);
   editor.view.layers.push(ctx => paint(ctx, tools));
   wireEdits(tools, features, thinning);
   wireView(files);

@@ -36,6 +36,7 @@ export class Mending {
     by("mendCount").textContent = findings.length ? TEXT.mendCount(findings.length) : "";
     by("findings").hidden = !findings.length;
     by("findings").replaceChildren(...findings.map(line => make("li", this.finding(line))));
+    by("mendSaves").textContent = `${TEXT.savesTo(began.out, began.format)}.`;
     by("mendForm").hidden = !began.mendable;
     by("mendNot").hidden = began.mendable;
     by("mend").focus();

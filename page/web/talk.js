@@ -13,6 +13,8 @@ import { parsedStream } from "./topology.js";
  * @property {number} owner
  * @property {string} name file of the map
  * @property {string} out file that is written at saving
+ * @property {string} format what it is written as: TopoJSON or GeoJSON
+ * @property {boolean} over whether it is the file of the map
  * @property {boolean} proved whether the program was built with its proofs
  * @property {boolean} opens
  * @property {LogEntry[]} log edits so far

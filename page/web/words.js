@@ -74,6 +74,7 @@ const FAULTS = [
 const FINDINGS = [
   [/^opens$/, "Nothing stops the map from opening."],
   [/^geojson$/, "The file is GeoJSON. Mending makes a map of it."],
+  [/^points$/, "The file has points. They are rounded to the grid, which has as many decimals as the borders."],
   [/^decimals (\d+) digits (\d+) rounded (\d+)/, "Coordinates have up to $1 decimals. The grid keeps $2, and $3 positions are rounded."],
   [/^heights (\d+)/, "$1 positions have heights, which are left out."],
   [/^lines (\d+)/, "$1 lines are left out."],
@@ -146,7 +147,7 @@ export const TEXT = {
   notSaved: "Not saved.",
   saving: "Saving …",
   saved: (/** @type {string} */ file, /** @type {number} */ bytes) => `Saved ${file} (${grouped(bytes)} bytes).`,
-  savesTo: (/** @type {string} */ file) => `Save to ${file} (Ctrl+S)`,
+  savesTo: (/** @type {string} */ file, /** @type {string} */ format) => format === "GeoJSON" ? `Saves GeoJSON to ${file}` : `Saves to ${file}`,
   saveAnyway: "Save anyway",
   saveAll: (/** @type {string} */ reason) => `${sentence(reason)} Save all the same?`,
   ok: "OK",
