@@ -44,6 +44,8 @@ ROWS = [
     Row("a picture", "show", "MAP --out DISK/old", 0, "save fault", "old"),
     Row("a new picture", "show", "MAP --out DISK/new", 0, "save fault", "new"),
     Row("a picture of an edit", "show", "MAP LOOSE --out DISK/old", 0, "save fault", "old"),
+    Row("GeoJSON", "export", "MAP --out DISK/old", 0, "save fault", "old"),
+    Row("new GeoJSON", "export", "MAP --out DISK/new", 0, "save fault", "new"),
 ]
 
 
@@ -184,7 +186,7 @@ def tried(disk, programs):
 def main():
     signal.signal(signal.SIGTERM, lambda number, _: sys.exit(128 + number))  # so that the file system is taken away
     words = argparse.ArgumentParser(description=__doc__, formatter_class=argparse.RawDescriptionHelpFormatter)
-    running.add_programs(words, "edit", "show", "mend")
+    running.add_programs(words, "edit", "show", "mend", "export")
     programs = vars(words.parse_args())
     with tempfile.TemporaryDirectory() as name:
         folder = pathlib.Path(name)

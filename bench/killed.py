@@ -1,14 +1,15 @@
 #!/usr/bin/env python3
-"""Kills the built program border_edit while it saves 40 MB over the map that it opened, and looks what is left.
+"""Kills the built programs border_edit and border_export while they write 40 MB, and looks what is left.
 
-The map is made here: a partition whose features have long properties, so that it is large and soon opened. An undisturbed
-run tells what the new map is, and how long its parts take. Then each run begins with the old map as FILE and as MAP, and is
-killed: most runs at a moment drawn from the time in which FILE is written, which begins once something in its folder
-changes, and some at a moment drawn from the whole run. FILE has to be the old map or the new one, whole. What stands beside
-it is counted and removed; its name has to have FILE's name and the program's in it.
+The map is made here: a partition whose features have long properties, so that it is large and soon opened. border_edit saves
+it over itself, border_export as GeoJSON over another text. An undisturbed run tells what the new text is, and how long its
+parts take. Then each run begins with the old text as FILE, and is killed: most runs at a moment drawn from the time in which
+FILE is written, which begins once something in its folder changes, and some at a moment drawn from the whole run. FILE has
+to be the old text or the new one, whole. What stands beside it is counted and removed; its name has to have FILE's name in
+it, and that of the repository.
 
-The last line counts how the runs ended. The status is 1 where a map was lost, where something beside FILE does not say
-whose it is, or where no run was killed while it wrote, so that nothing was tried.
+The last line of each program counts how the runs ended. The status is 1 where a text was lost, where something beside FILE
+does not say whose it is, or where no run was killed while it wrote, so that nothing was tried.
 """
 import argparse
 import collections
@@ -31,7 +32,6 @@ MEGABYTE = 1_000_000
 ANYWHERE = 0.1
 # How long to wait before the folder is looked at again, and how long for a run to begin writing, in seconds.
 PAUSE, LATE = 0.0002, 120
-NAME = "map.json"
 SCRIPT = "delete 0\n"
 
 Times = collections.namedtuple("Times", "begins ends")
@@ -48,14 +48,11 @@ def make_map(path, size):
 
 
 class Place:
-    """The folder of FILE, and the program that writes it."""
+    """The folder of FILE, the text that FILE has before, and the program and its arguments that write it."""
 
-    def __init__(self, program, folder, old):
-        self.program, self.old = program, old
-        self.folder = folder / "maps"
+    def __init__(self, file, old, words):
+        self.folder, self.file, self.old, self.words = file.parent, file, old, words
         self.folder.mkdir()
-        self.file, self.script = self.folder / NAME, folder / "script.txt"
-        self.script.write_text(SCRIPT)
         self.put_old()
 
     def put_old(self):
@@ -68,8 +65,7 @@ class Place:
         return os.listdir(self.folder), found.st_ino, found.st_size
 
     def started(self):
-        words = [self.program, self.file, self.script, "--out", self.file]
-        return subprocess.Popen(words, stdin=subprocess.DEVNULL, stdout=subprocess.DEVNULL, stderr=subprocess.PIPE)
+        return subprocess.Popen(self.words, stdin=subprocess.DEVNULL, stdout=subprocess.DEVNULL, stderr=subprocess.PIPE)
 
     def has_begun(self, child):
         """Waits until FILE is being written, and answers whether it was before the program ended."""
@@ -103,14 +99,14 @@ class Place:
 
     def left(self):
         """What stands beside FILE; it is removed."""
-        names = [name for name in os.listdir(self.folder) if name != NAME]
+        names = [name for name in os.listdir(self.folder) if name != self.file.name]
         for name in names:
             (self.folder / name).unlink()
         return names
 
 
-def map_left(text, old, new):
-    """Which map FILE is after a run that was killed."""
+def text_left(text, old, new):
+    """Which text FILE has after a run that was killed."""
     if text in (old, new):
         return "old" if text == old else "new"
     if not text:
@@ -118,17 +114,17 @@ def map_left(text, old, new):
     return "a part" if new.startswith(text) or old.startswith(text) else "another text"
 
 
-def is_named(name):
-    return NAME in name and "border_edit" in name
+def is_named(name, file):
+    return file.name in name and "border_edit" in name
 
 
 def kill_all(place, new, runs, draw, times):
-    """How many runs left each kind of map, and how often each name stood beside it."""
+    """How many runs left each kind of text, and how often each name stood beside it."""
     found, beside = collections.Counter(), collections.Counter()
     for number in range(1, runs + 1):
         place.killed(draw, times)
         text, names = place.file.read_bytes(), place.left()
-        kind = map_left(text, place.old, new)
+        kind = text_left(text, place.old, new)
         found[kind] += 1
         beside.update(names)
         if kind not in ("old", "new"):
@@ -138,38 +134,52 @@ def kill_all(place, new, runs, draw, times):
     return found, beside
 
 
-def told(found, beside, runs):
+def told(found, beside, runs, file):
     """Says how the runs ended, and answers the status."""
     lost = runs - found["old"] - found["new"]
-    strange = [name for name in beside if not is_named(name)]
+    strange = [name for name in beside if not is_named(name, file)]
     for name, count in beside.items():
-        print(f"{count} runs left {name} beside FILE" + ("" if is_named(name) else ", which does not say whose it is"))
+        print(f"{count} runs left {name} beside FILE" + (", which does not say whose it is" if name in strange else ""))
     if not beside and not lost:
         print("no run was killed while it wrote FILE: nothing was tried")
-    print(f"{runs} runs killed: {found['old']} left the old map, {found['new']} the new one, {lost} neither")
+    print(f"{runs} runs killed: {found['old']} left the old text, {found['new']} the new one, {lost} neither")
     return 1 if lost or strange or not beside else 0
+
+
+def places(options, folder):
+    """What each program writes over."""
+    made, script = folder / "made.json", folder / "script.txt"
+    make_map(made, options.megabytes * MEGABYTE)
+    script.write_text(SCRIPT)
+    old, file = made.read_bytes(), folder / "maps/map.json"
+    yield Place(file, old, [options.edit, file, script, "--out", file])
+    file = folder / "areas/areas.geojson"
+    yield Place(file, old, [options.export, made, "--out", file])
+
+
+def tried(place, options):
+    """Kills one program, and answers the status."""
+    times, new = place.times(), place.file.read_bytes()
+    if new == place.old or place.left():
+        raise SystemExit("an undisturbed run does not replace FILE, and nothing else")
+    size = f"{len(new) / MEGABYTE:.1f} MB"
+    print(f"{pathlib.Path(place.words[0]).name}: {size}, FILE is written from {times.begins:.2f} to {times.ends:.2f} s", flush=True)
+    place.put_old()
+    found, beside = kill_all(place, new, options.runs, random.Random(options.seed), times)
+    return told(found, beside, options.runs, place.file)
 
 
 def main():
     words = argparse.ArgumentParser(description=__doc__, formatter_class=argparse.RawDescriptionHelpFormatter)
-    running.add_programs(words, "edit")
-    words.add_argument("--runs", type=int, default=200, help="how many runs are killed (%(default)s)")
+    running.add_programs(words, "edit", "export")
+    words.add_argument("--runs", type=int, default=200, help="how many runs of each program are killed (%(default)s)")
     words.add_argument("--megabytes", type=int, default=40, help="the size of the map (%(default)s)")
     words.add_argument("--seed", type=int, default=1, help="what the moments are drawn from (%(default)s)")
     words.add_argument("--folder", type=pathlib.Path, default=maps.MADE, help="on which file system (%(default)s)")
     options = words.parse_args()
     options.folder.mkdir(parents=True, exist_ok=True)
     with tempfile.TemporaryDirectory(dir=options.folder) as name:
-        folder = pathlib.Path(name)
-        make_map(folder / "made.json", options.megabytes * MEGABYTE)
-        place = Place(options.edit, folder, (folder / "made.json").read_bytes())
-        times, new = place.times(), place.file.read_bytes()
-        if new == place.old or place.left():
-            raise SystemExit("an undisturbed run does not replace FILE, and nothing else")
-        print(f"{len(place.old) / MEGABYTE:.1f} MB: FILE is written from {times.begins:.2f} to {times.ends:.2f} s", flush=True)
-        place.put_old()
-        found, beside = kill_all(place, new, options.runs, random.Random(options.seed), times)
-    return told(found, beside, options.runs)
+        return max([tried(place, options) for place in places(options, pathlib.Path(name))])
 
 
 if __name__ == "__main__":
