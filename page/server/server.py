@@ -9,7 +9,7 @@ Everything is below /TOKEN/, on the loopback address alone.
 | GET `map` | | MAP as it is in its file, also while it is opened, nothing once it was edited |
 | GET `document`, `script`, `picture` | | the text of the map; the log as a script; a map that does not open as SVG |
 | GET `geojson` | | the map as GeoJSON, where Save writes that |
-| `begin` | | `owner`, `name`, `proved`, `opens`; of FILE `out`, `format` and `over`; then what is edited or what stops it |
+| `begin` | | `owner`, `name`, `proved`, `socket`, `opens`; of FILE `out`, `format`, `over`; then what is edited or what stops it |
 | of a map that opens | | `log`, `counts` (when it was opened), `undos` (how many are possible), `unsaved` |
 | of one that does not | | `fault`, `findings`, `mendable` |
 | `edit` | `owner`, `act`, `lines` | `answers` up to a refusal, `accepted`, `entries` of the log, `counts` now, `undos`, `unsaved` |
@@ -19,7 +19,7 @@ Everything is below /TOKEN/, on the loopback address alone.
 | `mend` | `owner`, perhaps `digits` | `report`, `opens` |
 | `place` | `owner`, `x`, `y`, `width` | `picture`: that square of a map that does not open, as SVG |
 | `alive`, `leave` | `owner` | nothing |
-| GET `socket` | texts `edit`, `try`, `ask`, `alive` | a WebSocket, on which these are answered |
+| GET `socket` | texts with the names that `begin` tells | a WebSocket, on which these are answered |
 
 The others are POST with JSON. What is not done is answered with `reason`: 400 for what makes no sense, 403 for
 who may not ask, 404 for a name that there is not, 409 for what can't be done now, with `force` if it can be forced
@@ -196,7 +196,7 @@ class Server(socketserver.ThreadingTCPServer):
         self.has_warned = False
         if owner == 1:
             self.on_first_page()
-        return {"owner": owner, **self.session.begin()}
+        return {"owner": owner, "socket": ON_SOCKET, **self.session.begin()}
 
     def service_actions(self):
         """Ends the server where no page is there any more. It is called twice a second."""

@@ -119,7 +119,7 @@ def log_and_script(checks):
             began = page.begin()
             checks.same("what a page gets", {name: began[name] for name in began if name != "proved"},
                         {"owner": 1, "name": "map.json", "out": str(files / "out.json"), "format": "TopoJSON", "over": False,
-                         "opens": True, "log": [], "counts": "features 2 vertices 6 segments 7", "unsaved": False, "undos": 0})
+                         "socket": ["edit", "try", "ask", "alive"], "opens": True, "log": [], "counts": "features 2 vertices 6 segments 7", "unsaved": False, "undos": 0})
             page.edit("insert 0 0 10 0 5 0", "insert 10 10 0 10 5 10", act=1)
             page.edit('split 0 "C" 5 0 5 10', act=1)
             page.edit("move 5 0 6 0", "move 1 1 2 2", act=2)

@@ -36,7 +36,7 @@ def do_not_open(checks):
                 began = page.begin()
                 checks.same(name, {key: began[key] for key in began if key != "proved"},
                             {"owner": 1, "name": "map.json", "out": str(path), "format": "TopoJSON", "over": True,
-                             "opens": False, "fault": fault, "findings": findings, "mendable": is_mendable})
+                             "socket": ["edit", "try", "ask", "alive"], "opens": False, "fault": fault, "findings": findings, "mendable": is_mendable})
                 status, _, answer = page.ask("GET", page.base + "picture")
                 checks.same("its picture", (status, answer.getheader("Content-Type") if is_drawn else ""),
                             (200, "image/svg+xml") if is_drawn else (404, ""))

@@ -23,9 +23,9 @@ class StandIn {
 }
 
 /** A socket of the page, and the browser's, in a state. */
-function opened(readyState) {
+function opened(readyState, taken = SHORT) {
   const socket = new Socket();
-  socket.open();
+  socket.open(taken);
   StandIn.newest.readyState = readyState;
   return { socket, browser: StandIn.newest };
 }
@@ -59,7 +59,7 @@ async function checkStates(check) {
   const unopened = new Socket();
   check("before it is opened", await unopened.send("edit", {}), null);
   StandIn.isForbidden = true;
-  unopened.open();
+  unopened.open(SHORT);
   StandIn.isForbidden = false;
   check("where it is forbidden", await unopened.send("edit", {}), null);
   for (const [what, state] of STATES) {
@@ -70,6 +70,7 @@ async function checkStates(check) {
   const { socket, browser } = opened(OPEN);
   check("its address", browser.address, "ws://127.0.0.1:7/token/socket");
   check("a long request is a POST", await socket.send("edit", { lines: [LONG] }), null);
+  check("and what the server does not take here", await opened(OPEN, ["ask"]).socket.send("edit", {}), null);
   const answers = [1, 2, 3].map(number => socket.send("ask", { number }));
   for (const number of [1, 2, 3]) browser.answer({ status: 200, said: { number } });
   check("answers in their order", JSON.stringify((await Promise.all(answers)).map(answer => answer.said.number)), "[1,2,3]");
@@ -91,7 +92,7 @@ async function checkTalk(check) {
   talk.owner = 4;
   check("without a socket", await talk.attempt("move 1 1 2 2"), "posted");
   check("what was posted", posts.pop(), 'try {"owner":4,"line":"move 1 1 2 2"}');
-  talk.socket.open();
+  talk.socket.open(SHORT);
   const browser = StandIn.newest;
   browser.open();
   const attempt = talk.attempt("move 1 1 2 2");

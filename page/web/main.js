@@ -67,7 +67,7 @@ async function open(began, drawn) {
   wireFind(panel, tools);
   const discard = () => { const { isOpen } = thinning; if (isOpen) thinning.discard(); return isOpen; };
   new Keys(tools, { save: () => files.save(), thin: () => thinning.open(), discard });
-  talk.socket.open();
+  talk.socket.open(began.socket);
   // for tests
   Object.assign(window, { editor, tools });
   panel.show();

@@ -3,8 +3,8 @@
 
 /** @typedef {import("./early.js").Posted} Posted */
 
-/** requests that the server answers on it, and those of them that change nothing */
-const TAKEN = ["edit", "try", "ask", "alive"], QUESTIONS = ["try", "ask", "alive"];
+/** requests that change nothing */
+const QUESTIONS = ["try", "ask", "alive"];
 /** characters of a request, at most; the server takes no more than 1 MiB */
 const MOST = 1 << 16;
 
@@ -17,8 +17,18 @@ export class Socket {
    */
   asked = [];
 
-  /** Opens it. Until that is done nothing is sent on it, and nothing once it is closed, or if it can't be opened. */
-  open() {
+  /**
+   * names of requests that the server answers on it
+   * @type {string[]}
+   */
+  taken = [];
+
+  /**
+   * Opens it. Until that is done nothing is sent on it, and nothing once it is closed, or if it can't be opened.
+   * @param {string[]} taken
+   */
+  open(taken) {
+    this.taken = taken;
     try {
       this.socket = new WebSocket(new URL("socket", location.href).href.replace("http", "ws"));
     } catch (fault) {
@@ -37,7 +47,7 @@ export class Socket {
    */
   async send(name, given) {
     const { socket } = this, text = JSON.stringify({ name, ...given });
-    if (socket?.readyState !== WebSocket.OPEN || !TAKEN.includes(name) || text.length > MOST) return null;
+    if (socket?.readyState !== WebSocket.OPEN || !this.taken.includes(name) || text.length > MOST) return null;
     return new Promise(answered => {
       this.asked.push({ name, answered });
       socket.send(text);

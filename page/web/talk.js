@@ -15,6 +15,7 @@ import { parsedStream } from "./topology.js";
  * @property {string} out file that is written at saving
  * @property {string} format what it is written as: TopoJSON or GeoJSON
  * @property {boolean} over whether it is the file of the map
+ * @property {string[]} socket names of requests that are answered on a WebSocket
  * @property {boolean} proved whether the program was built with its proofs
  * @property {boolean} opens
  * @property {LogEntry[]} log edits so far
