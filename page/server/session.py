@@ -136,12 +136,19 @@ class Session:
             # which border_mend rounds to the grid of the borders, and does not tell
             self.findings.insert(1, "points")
         if self.is_mendable and mending.is_sound_geojson(self.findings):
-            self.mend(None)
-            # saved as GeoJSON it is what it was
-            self.saved_state = self.states[-1] if self.is_geojson else None
+            self._mend_at_once()
         if self.is_geojson:
             # whether it is proved is told with the page
             self.programs.path("border_export")
+
+    def _mend_at_once(self):
+        """Opens GeoJSON that needs no mending. Saved as GeoJSON it is what it was; else there is something to save."""
+        try:
+            self.mend(None)
+        except Refusal:
+            # the page offers it too, and says why it can't be done
+            return
+        self.saved_state = self.states[-1] if self.is_geojson else None
 
     def _must_be_exported(self):
         """Tries whether a topology can be GeoJSON, before anyone edits it."""

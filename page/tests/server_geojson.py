@@ -129,6 +129,27 @@ def to_be_mended(checks):
                         (200, ["[[[[1,0],[1,1],[2,1],[2,0]]]]"]))
 
 
+# border_mend, of which no map comes.
+NO_MAP = """#!/bin/sh
+[ "$2" = --out ] && echo 'open: too large bytes' >&2 && exit 2
+exec "$REAL" "$@"
+"""
+
+
+def not_mended(checks):
+    """No map can be made of GeoJSON of which nothing else is known: the page offers it, and says why it fails."""
+    with folder() as files:
+        path, program = files / "areas.geojson", files / "stand_in"
+        path.write_text(AREAS)
+        program.write_text(NO_MAP)
+        program.chmod(0o755)
+        with Served(path, BORDER_MEND=program, REAL=PATHS["border_mend"]) as page:
+            began = page.begin()
+            checks.same("it does not open", [began[key] for key in ("opens", "format", "mendable")], [False, "GeoJSON", True])
+            checks.same("nor when it is asked for", page.post("mend"),
+                        (409, {"reason": "the map can't be mended: too large bytes", "force": False}))
+
+
 def script(checks):
     """The log as a script, and the lines in it that say how the file is made again."""
     with folder() as files:
@@ -254,4 +275,4 @@ def no_geojson(checks):
             checks.same("nothing is written", os.listdir(files), ["map.json"])
 
 
-GROUPS = [over_geojson, formats, to_be_mended, script, faults, no_room, other_writers, no_geojson]
+GROUPS = [over_geojson, formats, to_be_mended, not_mended, script, faults, no_room, other_writers, no_geojson]
