@@ -37,7 +37,7 @@ SETTINGS = {
     "browser.shell.checkDefaultBrowser": False, "browser.startup.page": 0, "browser.tabs.warnOnClose": False,
     # files are saved without a question
     "browser.download.folderList": 2, "browser.download.alwaysOpenPanel": False,
-    "browser.helperApps.neverAsk.saveToDisk": "application/json,text/plain",
+    "browser.helperApps.neverAsk.saveToDisk": "application/json,application/geo+json,text/plain",
     # what scripts write on the console goes to standard output
     "devtools.console.stdout.content": True,
 }
