@@ -6,7 +6,7 @@ Everything is below /TOKEN/, on the loopback address alone.
 |---|---|---|
 | GET, no name; each file of the page | | the page |
 | GET `all.js` | | all modules of the page as one |
-| GET `map` | | MAP as it is in its file, also while it is opened, nothing once it was edited |
+| GET `map` | | MAP as it is in its file, also while it is opened, nothing once it was edited, or of GeoJSON |
 | GET `document`, `script`, `picture` | | the text of the map; the log as a script; a map that does not open as SVG |
 | GET `geojson` | | the map as GeoJSON, where Save writes that |
 | `begin` | | `owner`, `name`, `proved`, `socket`, `opens`; of FILE `out`, `format`, `over`; then what is edited or what stops it |
@@ -319,7 +319,7 @@ class Handler(Connection):
             raise BadRequest(404, "no such name")
 
     def _send_map(self):
-        """Sends MAP as it is in its file, which may still be opened meanwhile; nothing if it was edited or is too large."""
+        """Sends MAP as it is in its file, which may still be opened meanwhile; nothing if it was edited, or can't be read."""
         path = self.server.session.unedited()
         if path is None:
             self.send(200, b"")

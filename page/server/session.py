@@ -50,6 +50,11 @@ def comment(text):
     return f"# {text}".encode()[:MOST_LINE].decode(errors="ignore")
 
 
+def is_geojson_name(path):
+    """Whether a file is GeoJSON by its name."""
+    return path.suffix.lower() == ".geojson"
+
+
 class Session:
     """A map, what was done to it, and the file that it is saved in."""
 
@@ -67,7 +72,7 @@ class Session:
         # what FILE holds, as far as is known here, and what was written in it; of MAP that is read while it is opened
         self.is_saved_over = out == map_path
         # whether FILE is GeoJSON: by its name, or by what MAP is where it is MAP
-        self.is_geojson = not self.is_saved_over and out.suffix.lower() == ".geojson"
+        self.is_geojson = not self.is_saved_over and is_geojson_name(out)
         self.seen = None if self.is_saved_over else saving.fingerprint(out)
         self.written = None
         self.scratch = pathlib.Path(tempfile.mkdtemp(prefix="border_edit-"))
@@ -235,8 +240,10 @@ class Session:
                 path.unlink(missing_ok=True)
 
     def unedited(self):
-        """The file of the map, also while it is opened; nothing where there are edits, or where it is too large."""
-        return None if self.log or self.base.stat().st_size > MOST_BYTES else self.base
+        """The file of the map, also while it is opened; nothing where there are edits, where it is too large, or where its
+        name says that it is GeoJSON, which the page does not read."""
+        is_other = is_geojson_name(self.base) or self.base.stat().st_size > MOST_BYTES
+        return None if self.log or is_other else self.base
 
     def picture(self, place=None):
         """A map that does not open, or a place in it, as SVG; nothing where the map opens, or can't be drawn."""

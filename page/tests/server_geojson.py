@@ -42,6 +42,8 @@ def over_geojson(checks):
                 began = page.begin()
                 checks.same(f"{name} opens", [began[key] for key in ("opens", "out", "format", "over", "unsaved", "counts")],
                             [True, str(path), "GeoJSON", True, False, "features 2 vertices 6 segments 7"])
+                if path.suffix == ".geojson":
+                    checks.same("the page is not given what it can't read", page.get("map"), (200, b""))
                 checks.same("on its grid", page.questions("area 0", "rings 1"), ["200", "[[[[15,0],[25,0],[25,10],[15,10]]]]"])
                 checks.same("edits", page.edit("move 15 10 16 12", 'rename 1 "B"'), (["ok", "ok"], True))
                 edited = AREAS.replace("[1.5,1]", "[1.6,1.2]").replace(
