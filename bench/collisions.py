@@ -15,9 +15,10 @@ twelve places are looked at, and how many keys are compared.
 
 Both maps are of triangles beside each other, each a feature, none with a position of another. They have the same x, and
 the second one has its y drawn. For each there is one line: its positions, the groups and the keys of the table under
-the fixed seed, and the processor seconds of a run of the program with an empty script, the least of several runs.
+the fixed seed, and the processor seconds of a run of border_edit with an empty script, and of one of border_export, each the
+least of several runs.
 
-The program has to stand already (`rt ci` leaves it); another one can be named. Without the compiler g++ nothing is
+The programs have to stand already (`rt ci` leaves them); others can be named. Without the compiler g++ nothing is
 measured, and the status is 0. Else it is 0 where the first map takes at most 1.5 times as long as the second one.
 """
 import argparse
@@ -30,10 +31,10 @@ import sys
 import tempfile
 
 from maps import apart_from_all, arc_text, shape_text
-from running import Failed, Runner
+from running import Failed, Runner, spent_by_children
 
 TOP = pathlib.Path(__file__).resolve().parent.parent
-PROGRAM = TOP / "crates" / "border_edit" / "out" / "border_edit"
+PROGRAM, EXPORT = (TOP / "crates" / name / "out" / name for name in ("border_edit", "border_export"))
 SOURCE = TOP / "bench" / "collisions" / "main.cpp"
 COMPILER = ["g++", "-std=c++17", "-O2", "-Wall", "-Wextra"]
 # The greatest coordinate, and how many positions of one hash are looked for at most: there are few more.
@@ -87,11 +88,22 @@ def maps_made(folder, tool, options):
         yield path, f"{name:12} {len(positions):>7} positions {groups:>14,} groups {keys:>14,} keys"
 
 
+def exported(options, folder, path):
+    """The processor seconds that border_export takes."""
+    start = spent_by_children()
+    words = [options.export, path, "--out", folder / "areas.geojson"]
+    done = subprocess.run(words, stderr=subprocess.PIPE, text=True, timeout=options.limit, check=False)
+    if done.returncode:
+        raise Failed(f"border_export ends with status {done.returncode}: {done.stderr.strip()}")
+    return spent_by_children() - start
+
+
 def seconds_of(options, folder, paths):
-    """The processor seconds that each map takes, the least of several runs in turn."""
+    """The processor seconds that each map takes, in border_edit and in border_export, the least of several runs in turn."""
     runner = Runner(options.program, options.limit, folder)
-    rounds = [[runner.accepted(path, []).seconds for path in paths] for _ in range(options.runs)]
-    return [min(seconds) for seconds in zip(*rounds)]
+    runs = lambda path: (runner.accepted(path, []).seconds, exported(options, folder, path))
+    rounds = [[runs(path) for path in paths] for _ in range(options.runs)]
+    return [tuple(map(min, zip(*each))) for each in zip(*rounds)]
 
 
 def measured(options, folder):
@@ -104,11 +116,12 @@ def measured(options, folder):
     except Failed as reason:
         print(*lines, f"failed: {reason}", sep="\n")
         return 1
-    for line, seconds in zip(lines, (picked, drawn)):
-        print(f"{line} {seconds:8.3f} s")
-    is_alike = picked <= MOST_TIMES * drawn
+    for line, (opened, written) in zip(lines, (picked, drawn)):
+        print(f"{line} {opened:8.3f} s, {written:.3f} s as GeoJSON")
+    times = [one / max(other, 1e-9) for one, other in zip(picked, drawn)]
+    is_alike = max(times) <= MOST_TIMES
     told = "" if is_alike else f", more than {MOST_TIMES}"
-    print(f"the first one takes {picked / max(drawn, 1e-9):.2f} times as long{told}")
+    print(f"the first one takes {times[0]:.2f} times as long, {times[1]:.2f} as GeoJSON{told}")
     return 0 if is_alike else 1
 
 
@@ -122,7 +135,8 @@ def positions_given(text):
 def options_given():
     parser = argparse.ArgumentParser(description=__doc__, formatter_class=argparse.RawDescriptionHelpFormatter)
     add = parser.add_argument
-    add("--program", type=pathlib.Path, default=PROGRAM, help="the executable (%(default)s)")
+    add("--program", type=pathlib.Path, default=PROGRAM, help="border_edit (%(default)s)")
+    add("--export", type=pathlib.Path, default=EXPORT, help="border_export (%(default)s)")
     add("--positions", type=positions_given, default=100_000, metavar="N",
         help=f"of each map, as far as they make whole triangles; at most {MOST_POSITIONS} (%(default)s)")
     add("--runs", type=int, default=5, help="of the program on each map (%(default)s)")
@@ -136,10 +150,11 @@ def main():
     if not shutil.which(COMPILER[0]):
         print(f"{COMPILER[0]} is not there, nothing is measured")
         return 0
-    if not os.access(options.program, os.X_OK):
-        print(f"{options.program}: not there, nothing is measured; --help says how to build it")
-        return 1
-    options.program = options.program.resolve()
+    for program in options.program, options.export:
+        if not os.access(program, os.X_OK):
+            print(f"{program}: not there, nothing is measured; --help says how to build it")
+            return 1
+    options.program, options.export = options.program.resolve(), options.export.resolve()
     with tempfile.TemporaryDirectory(prefix="border_edit-collisions-") as name:
         return measured(options, pathlib.Path(name))
 
