@@ -154,7 +154,10 @@ ONE_FILE = [
     (SHOW, "squares.json after.json --out ./after.json", {"after.json": Text(FILES["squares.json"])}, "--out AFTER"),
     (EXPORT, "squares.json --out squares.json", {}, "--out MAP"),
     (EXPORT, "squares.json --out ./squares.json", {}, "--out MAP"),
+    (EXPORT, "squares.json --out HERE/squares.json", {}, "--out MAP"),
+    (EXPORT, "squares.json --out link", {"link": Link("squares.json")}, "--out MAP"),
     (EXPORT, "link --out squares.json", {"link": Link("squares.json")}, "--out MAP"),
+    (EXPORT, "squares.json --out sub/../squares.json", {"sub": Folder()}, "--out MAP"),
 ]
 # FILE may be MAP, however it is named, and a hard link is another file: a run with status 0, and the name that gets the text.
 APART = [
@@ -167,6 +170,8 @@ APART = [
     (MEND, "wards.json --out wards.json", {}, "wards.json"),
     (MEND, "wards.json --out link", {"link": Link("wards.json")}, "wards.json"),
     (SHOW, "squares.json squares.json --out saved", {}, "saved"),
+    (EXPORT, "squares.json --out twin", {"twin": Twin("squares.json")}, "twin"),
+    (EXPORT, "squares.json --out sub/squares.json", {"sub": Folder()}, "sub/squares.json"),
 ]
 # Arguments that are not UTF-8.
 NOT_UTF8 = [
@@ -215,6 +220,7 @@ def rows():
         yield Row(f"border_{program} {words}", program, words.split(), 0, "", before, {**twins, gets: Text(WHOLE)})
     for program, words in NOT_UTF8:
         yield Row(f"border_{program} {words}", program, words, 64, [])
+    yield Row("GeoJSON to standard output", EXPORT, ["squares.json", "--out", "/dev/stdout"], 0, "", output=["", WHOLE])
     yield Row("FILE is standard output", EDIT, ["squares.json", "accepted.txt", "--out", "/dev/stdout"], 0, "",
               output=["ok\n240\n", WHOLE])
 
