@@ -20,7 +20,7 @@ use std::hash::RandomState;
 use topo_outline::{OpenFault, Outline, read_outline};
 
 /// How the points of a topology are put on a grid.
-#[derive(Clone, Copy, Debug, PartialEq, Eq)]
+#[derive(Clone, Copy)]
 pub struct PointGrid {
     /// What they need of it.
     pub needs: PointNeeds,
@@ -37,13 +37,13 @@ impl PointGrid {
 }
 
 /// Nothing where something was not read, unless on allocation failure.
-fn none_after<T: Copy>(fault: &OpenFault<'_>, none: T) -> Result<T, AllocError>
-    ensures none { IfOk result (λ t. t ≡ none) }
+fn none_after<T: Copy>(fault: &OpenFault<'_>, nothing: T) -> Result<T, AllocError>
+    ensures none { IfOk result (λ t. t ≡ nothing) }
     ensures fault { OnOk result (fault.now ≢ OpenFault.OutOfMemory) }
 {
     match fault {
         OpenFault::OutOfMemory => Err(AllocError),
-        _ => Ok(none),
+        _ => Ok(nothing),
     }
 }
 
@@ -161,7 +161,9 @@ pub fn point_grid<A: Allocator + Copy>(
     }
     match scan(alloc, bytes) {
         Ok(root) => grid_in(alloc, heap, seed, wants, root.span()),
-        Err(ScanFault::NotJson { place: _ } | ScanFault::TooDeep { place: _ }) => Ok(PointGrid::NONE),
+        Err(ScanFault::NotJson { place: _ } | ScanFault::TooDeep { place: _ }) => Ok(
+            PointGrid::NONE,
+        ),
         Err(ScanFault::OutOfMemory) => Err(AllocError),
     }
 }

@@ -10,7 +10,7 @@ use json_spans::{Span, bytes, items};
 use std::alloc::{AllocError, Allocator, Global};
 
 /// What the coordinates of points need of a grid on which all of them are whole numbers.
-#[derive(Clone, Copy, Debug, PartialEq, Eq)]
+#[derive(Clone, Copy, Debug)]
 pub struct PointNeeds {
     /// The most decimals that one of them has, of 24.
     pub decimals: usize,
