@@ -4,7 +4,7 @@ use Rattle.grid_reader.proofs.needs.point_needs.Goals as goal
 
 pub loop-point-preserved : goal.loop-point-preserved
 loop-point-preserved g c =
-    turn _ c.loop-point.point-index c.point-item.result c.loop-point.needs _ _ (omega arith) c.point-item.is c.in_ok-with_point-needs.ensures
+    turn _ c.loop-point.point-index c.point-item.result c.loop-point.needs _ _ (omega arith) c.point-item.is c.in_ok-needs.ensures
     c.loop-point.invariant
 
 pub returns : goal.returns
