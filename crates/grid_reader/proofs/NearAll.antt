@@ -147,13 +147,10 @@ module _ (wants : Wants) (delta : Bool) (n : Node) (arcs : List (List FinePositi
       (each_within wants delta (items n) arcs are)
       (all_up_to far 0 arcs le).1
 
+  near_on : (b : Bool) → AllByRecursion (AllByRecursion (IsNear (cond b (digits_fitting wants (furthest_of_all wants arcs) (decimals_of_all wants arcs)) (digits_fitting wants (furthest arcs) (most_decimals arcs))) wants.finer)) arcs
+  near_on true = near_with (furthest_of_all wants arcs) (decimals_of_all wants arcs) (both_below wants.points.furthest (furthest arcs) (furthest_of_all wants arcs) (omega arith)).1
+  near_on false = near_with (furthest arcs) (most_decimals arcs) (omega arith)
+
   -- the positions that were read are near on their grid
   pub all_near : AllByRecursion (AllByRecursion (IsNear (decimals_kept wants arcs) wants.finer)) arcs
-  all_near = by (nat_le of_arcs of_all)
-    where
-      of_arcs = digits_fitting wants (furthest arcs) (most_decimals arcs)
-      of_all = digits_fitting wants (furthest_of_all wants arcs) (decimals_of_all wants arcs)
-
-      by : (b : Bool) → AllByRecursion (AllByRecursion (IsNear (cond b of_all of_arcs) wants.finer)) arcs
-      by true = near_with (furthest_of_all wants arcs) (decimals_of_all wants arcs) (both_below wants.points.furthest (furthest arcs) (furthest_of_all wants arcs) (omega arith)).1
-      by false = near_with (furthest arcs) (most_decimals arcs) (omega arith)
+  all_near = near_on (nat_le (digits_fitting wants (furthest arcs) (most_decimals arcs)) (digits_fitting wants (furthest_of_all wants arcs) (decimals_of_all wants arcs)))

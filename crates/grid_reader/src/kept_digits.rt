@@ -5,7 +5,7 @@ ghost use Rattle.json_spans.specs.Common.{Json, node};
 ghost use Rattle.topo_outline.specs.Common.{view_outline, IsPlaced};
 ghost use Rattle.grid_reader.specs.Grid.{decimals_kept};
 ghost use Rattle.grid_reader.specs.Near.{IsNear};
-ghost use Rattle.grid_reader.specs.PointDigits.{digits_kept, digits_at, no_grid, grid_at, grid_in, point_grid};
+ghost use Rattle.grid_reader.specs.PointDigits.{digits_kept, digits_at, no_grid, grid_for, grid_at, grid_in, point_grid};
 ghost use Rattle.grid_reader.specs.Seen.{arcs_seen};
 
 use crate::fine::fine_arcs;
@@ -95,7 +95,25 @@ fn digits_at<A: Allocator + Copy>(
     }
 }
 
-/// How the points of one with this root and outline are put on a grid, where it has any.
+/// How points that need so much are put on the grid of one with this outline.
+fn grid_for<A: Allocator + Copy>(
+    alloc: A,
+    heap: Global,
+    wants: Wants,
+    outline: Outline<'_, A>,
+    needs: PointNeeds,
+) -> Result<PointGrid, AllocError>
+    requires { IsPlaced outline }
+    ensures grid { IfOk result (λ g. g ≡ grid_for wants (view_outline outline.entry) needs) }
+    ensures few { IfOk result (λ g. IfSome g.digits (λ digits. digits ≤ 24)) }
+{
+    let mut counting = wants;
+    counting.points = needs;
+    let digits = digits_at(alloc, heap, counting, outline)?;
+    Ok(PointGrid { needs, digits })
+}
+
+/// How the points of one with this root and outline are put there, where it has any.
 fn grid_at<'a, A: Allocator + Copy>(
     alloc: A,
     heap: Global,
@@ -104,17 +122,15 @@ fn grid_at<'a, A: Allocator + Copy>(
     outline: Outline<'a, A>,
 ) -> Result<PointGrid, AllocError>
     requires { IsPlaced outline }
-    ensures grid { IfOk result (λ g. g ≡ grid_at wants (node root.entry) (view_outline outline.entry)) }
+    ensures grid { IfOk result (λ g.
+        g ≡ grid_at wants (node root.entry) (view_outline outline.entry)) }
     ensures few { IfOk result (λ g. IfSome g.digits (λ digits. digits ≤ 24)) }
 {
     if !has_points(outline.layers.values().as_slice()) {
         return Ok(PointGrid::NONE);
     }
     let needs = point_needs(alloc, heap, root)?;
-    let mut counting = wants;
-    counting.points = needs;
-    let digits = digits_at(alloc, heap, counting, outline)?;
-    Ok(PointGrid { needs, digits })
+    grid_for(alloc, heap, wants, outline, needs)
 }
 
 /// How those of the topology whose root this is are put there.
