@@ -24,7 +24,7 @@ points_on_grid grid text = rounded_to grid text (point_grid grid text).digits
 abbrev pub points_needed : Wants → List ℕ → PointNeeds
 points_needed grid text = (point_grid grid text).needs
 
--- the same is asked, of a text whose points lie on the grid
+-- the same is asked, of a text whose points lie on the grid, and count
 pub record AsksOfLying (before after : Asked) : Type 0 where
   pub digits : after.grid.digits ≡ before.grid.digits
   pub finer : after.grid.finer ≡ before.grid.finer

@@ -7,6 +7,7 @@ pub mod Naming
 pub mod Points
 pub mod Needing
 mod DigitExamples
+pub mod DigitLaws
 pub mod Opened
 pub mod NewTransform
 pub mod WholeNumbers
