@@ -1,5 +1,5 @@
 -- What the coordinates of points need of a grid: how many decimals they have, and how far the furthest is from 0.
-use Rattle.std.specs.Prelude.{ℕ, ◌^◌, unsigned_abs, ℤ, nat_le, if◌then◌else◌, List, Option, Some, None}
+use Rattle.std.specs.Prelude.{◌^◌, unsigned_abs, ℤ, nat_le, if◌then◌else◌, List, Option, Some, None}
 use Rattle.std.specs.List.{fold}
 use Rattle.json_spans.specs.Common.{Node}
 use Rattle.decimal_texts.specs.Common.{Parts, parts_of, decimals, fine}
