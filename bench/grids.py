@@ -20,7 +20,7 @@ import sys
 import tempfile
 
 import loose_maps
-from topology import after_space, differences, entries, read, sums, values
+from topology import Unreadable, after_space, differences, entries, read, sums, values
 
 TOP = pathlib.Path(__file__).resolve().parent.parent
 REACH = 10**12
@@ -311,9 +311,18 @@ def texts(given):
         yield f"drawn {number}", draw, loose_maps.drawn(draw)
 
 
+def is_whole(path):
+    """Whether a map has whole numbers."""
+    try:
+        read(path.read_text(encoding="utf-8"))
+    except Unreadable:
+        return False
+    return True
+
+
 def main():
     words = argparse.ArgumentParser(description=__doc__, formatter_class=argparse.RawDescriptionHelpFormatter)
-    here = sorted((TOP / "examples").glob("*.json"))
+    here = list(filter(is_whole, sorted((TOP / "examples").glob("*.json"))))
     mend = TOP / "crates/border_mend/out/border_mend"
     words.add_argument("map", nargs="*", type=pathlib.Path, default=here, help="real maps")
     words.add_argument("--program", default=mend, help="the mender (%(default)s)")
