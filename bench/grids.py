@@ -20,11 +20,12 @@ import sys
 import tempfile
 
 import loose_maps
-from topology import after_space, differences, entries, read, sums, values
+from topology import Unreadable, after_space, differences, entries, read, sums, values
 
 TOP = pathlib.Path(__file__).resolve().parent.parent
 REACH = 10**12
 PLACES = 24
+NUMBER = r"-?[0-9][0-9.eE+-]*"
 
 decimal.getcontext().prec = 100
 
@@ -175,18 +176,27 @@ def divided(number, power):
     return f"{'-' * sign}{text}e{exponent - power}"
 
 
-class Grid:
-    """The grid of a map with decimals, where so many are kept at most, and it is made finer by a power of ten."""
+def kept(numbers, digits, finer):
+    """How many decimals numbers have, and how many of them are kept, of so many at most: as many as fit."""
+    decimals, far = max(map(decimals_of, numbers), default=0), max(map(abs, numbers), default=0)
+    fitting = [k for k in range(min(digits, decimals) + 1) if far * 10 ** (k + finer) <= REACH]
+    return decimals, max(fitting, default=0)
 
-    def __init__(self, pairs, are_differences, digits, finer):
+
+class Grid:
+    """The grid of a map with decimals, where so many are kept at most, and it is made finer by a power of ten. Where
+    the numbers of arcs have decimals, those of points are counted, and never make it coarser."""
+
+    def __init__(self, pairs, are_differences, point_numbers, digits, finer):
         cut = [[tuple(map(cut_number, p)) for p in arc] for arc in pairs]
         cut = [sums(arc) for arc in cut] if are_differences else cut
         all_numbers = [c for arc in cut for p in arc for c in p]
-        self.decimals = max(map(decimals_of, all_numbers), default=0)
-        far = max(map(abs, all_numbers), default=0)
-        self.fits = far * 10**finer <= REACH
-        fitting = [k for k in range(min(digits, self.decimals) + 1) if far * 10 ** (k + finer) <= REACH]
-        self.digits, self.finer = max(fitting, default=0), finer
+        self.fits = all(abs(c) * 10**finer <= REACH for c in all_numbers)
+        self.decimals, self.digits = kept(all_numbers, digits, finer)
+        self.finer = finer
+        if self.decimals:
+            self.decimals, of_all = kept(all_numbers + point_numbers, digits, finer)
+            self.digits = max(self.digits, of_all)
         self.arcs = [[tuple(map(self.nearest, p)) for p in arc] for arc in cut]
         self.rounded = sum(any((c * 10**self.digits).denominator > 1 for c in p) for arc in cut for p in arc)
 
@@ -198,7 +208,7 @@ class Grid:
         """The text of a point's coordinate on the grid, or else the fault that it is told with."""
         if not self.digits + self.finer:
             return text, None
-        if not re.fullmatch(r"-?[0-9][0-9.eE+-]*", text):
+        if not re.fullmatch(NUMBER, text):
             return None, "not whole"
         number = cut_number(fractions.Fraction(text))
         if abs(number) * 10 ** (self.digits + self.finer) > REACH:
@@ -254,6 +264,12 @@ def wanted(grid, is_whole, heights, lines, report):
     return "".join(rest[:1] + told + rest[1:] if rest[:1] == ["opens\n"] else told + rest)
 
 
+def point_numbers(text):
+    """What the coordinates of points are that are numbers of less than 10^13."""
+    told = [fractions.Fraction(c) for c in coordinates(text) if re.fullmatch(NUMBER, c)]
+    return [cut_number(number) for number in told if abs(number) < 10 * REACH]
+
+
 def coordinates(text):
     """The texts of the points' coordinates, in their order."""
     return [text[start:end] for start, end in point_spans(text)]
@@ -262,7 +278,7 @@ def coordinates(text):
 def fault_of(mender, blurred, digits, finer):
     """What is wrong with one map, and what was tried of it."""
     text, heights = blurred.written()
-    grid = Grid(blurred.pairs, bool(blurred.transform), digits, finer)
+    grid = Grid(blurred.pairs, bool(blurred.transform), point_numbers(text), digits, finer)
     dropped = ["heights"] * blurred.heights + ["lines"] * bool(blurred.lines)
     words = ["--digits", str(digits), "--refine", str(finer), *(["--drop", ",".join(dropped)] if dropped else [])]
     status, report, said, saved = mender.ran(text, words)
@@ -295,9 +311,18 @@ def texts(given):
         yield f"drawn {number}", draw, loose_maps.drawn(draw)
 
 
+def is_whole(path):
+    """Whether a map has whole numbers."""
+    try:
+        read(path.read_text(encoding="utf-8"))
+    except Unreadable:
+        return False
+    return True
+
+
 def main():
     words = argparse.ArgumentParser(description=__doc__, formatter_class=argparse.RawDescriptionHelpFormatter)
-    here = sorted((TOP / "examples").glob("*.json"))
+    here = list(filter(is_whole, sorted((TOP / "examples").glob("*.json"))))
     mend = TOP / "crates/border_mend/out/border_mend"
     words.add_argument("map", nargs="*", type=pathlib.Path, default=here, help="real maps")
     words.add_argument("--program", default=mend, help="the mender (%(default)s)")

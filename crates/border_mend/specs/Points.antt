@@ -1,6 +1,7 @@
 -- The points of a map, put on the grid that is asked for.
 use Rattle.std.specs.Prelude.{◌≡◌, ℕ, true, List, Option, Some, None, Result, Ok}
-use Rattle.grid_reader.specs.PointDigits.{point_digits}
+use Rattle.grid_reader.specs.PointDigits.{point_grid}
+use Rattle.grid_reader.specs.declared.needs.PointNeeds.{PointNeeds}
 use Rattle.grid_reader.specs.declared.wants.Wants.{Wants}
 use Rattle.mend_report.specs.declared.asked.Asked.{Asked}
 use Rattle.mend_report.specs.declared.looking.LookFault.{LookFault}
@@ -17,9 +18,13 @@ rounded_to grid text (Some digits) = rounded_points digits grid.finer text
 
 -- the text with its points on the grid that is asked for
 abbrev pub points_on_grid : Wants → List ℕ → Result (List ℕ) PointFault
-points_on_grid grid text = rounded_to grid text (point_digits grid text)
+points_on_grid grid text = rounded_to grid text (point_grid grid text).digits
 
--- the same is asked, of a text whose points lie on the grid
+-- what its points need of that grid
+abbrev pub points_needed : Wants → List ℕ → PointNeeds
+points_needed grid text = (point_grid grid text).needs
+
+-- the same is asked, of a text whose points lie on the grid, and count
 pub record AsksOfLying (before after : Asked) : Type 0 where
   pub digits : after.grid.digits ≡ before.grid.digits
   pub finer : after.grid.finer ≡ before.grid.finer

@@ -9,7 +9,7 @@ use crate::asked::Words;
 use crate::help;
 use clap::error::ErrorKind;
 use clap::{Arg, ArgAction, Command};
-use grid_reader::Wants;
+use grid_reader::{PointNeeds, Wants};
 use mend_report::Asked;
 use program_ends::{VERSION, copied, is_file};
 use std::alloc::{AllocError, Global};
@@ -124,6 +124,7 @@ fn asked_of(
         finer,
         drop_heights,
         points_lie: false,
+        points: PointNeeds::NONE,
     };
     let asked = Asked {
         grid,

@@ -5,6 +5,9 @@ pub mod Scaled
 pub mod NearAll
 pub mod Naming
 pub mod Points
+pub mod Needing
+mod DigitExamples
+pub mod DigitLaws
 pub mod Opened
 pub mod NewTransform
 pub mod WholeNumbers

@@ -10,7 +10,8 @@ use Rattle.topo_reader.proofs.Common.{bind_ok, demand_ok, ok_same}
 use Rattle.decimal_texts.specs.Common.{Parts, parts_of, fine}
 use Rattle.grid_reader.specs.Common.{Wants, FinePosition, fine_origin, fits_finer_grid, fine_sum, fine_coordinate, first_two_of, fine_pair_of, fine_pair}
 use Rattle.grid_reader.specs.Common.{fine_position, before_next_fine, fine_positions, fine_arc, fine_arcs, xy, coordinates}
-use Rattle.grid_reader.specs.Common.{greater, greatest_from, furthest, most_decimals, smaller, fitting, decimals_kept}
+use Rattle.grid_reader.specs.Common.{greater, greatest_from, furthest, furthest_of_all, most_decimals, decimals_of_all, smaller, fitting}
+use Rattle.grid_reader.specs.Common.{digits_fitting, decimals_kept}
 use Rattle.grid_reader.specs.Common.{IsNear}
 
 -- both coordinates are at most so far from 0
@@ -138,9 +139,18 @@ arcs_near : (finer far d : ℕ) → Fits finer far d → (arcs : List (List Fine
 arcs_near finer far d f [] low le = tt
 arcs_near finer far d f (a ∷ arcs) low le = (arc_near finer far d f a low.0 le.0, arcs_near finer far d f arcs low.1 le.1)
 
--- the positions that were read are near on their grid
-pub all_near : (wants : Wants) (delta : Bool) (n : Node) (arcs : List (List FinePosition)) → fine_arcs wants delta n ≡ Ok arcs → AllByRecursion (AllByRecursion (IsNear (decimals_kept wants arcs) wants.finer)) arcs
-all_near wants delta n arcs h =
-    arcs_near wants.finer (furthest arcs) (decimals_kept wants arcs) (fitting_fits wants.finer (furthest arcs) (smaller wants.digits (most_decimals arcs))) arcs
-    (each_within wants delta (items n) arcs h)
-    (all_up_to (furthest arcs) 0 arcs (omega arith)).1
+module _ (wants : Wants) (delta : Bool) (n : Node) (arcs : List (List FinePosition)) (are : fine_arcs wants delta n ≡ Ok arcs) where
+  -- with so many decimals as fit where no coordinate is further from 0
+  near_with : (far most : ℕ) → furthest arcs ≤ far → AllByRecursion (AllByRecursion (IsNear (digits_fitting wants far most) wants.finer)) arcs
+  near_with far most le =
+      arcs_near wants.finer far (digits_fitting wants far most) (fitting_fits wants.finer far (smaller wants.digits most)) arcs
+      (each_within wants delta (items n) arcs are)
+      (all_up_to far 0 arcs le).1
+
+  near_on : (b : Bool) → AllByRecursion (AllByRecursion (IsNear (cond b (digits_fitting wants (furthest_of_all wants arcs) (decimals_of_all wants arcs)) (digits_fitting wants (furthest arcs) (most_decimals arcs))) wants.finer)) arcs
+  near_on true = near_with (furthest_of_all wants arcs) (decimals_of_all wants arcs) (both_below wants.points.furthest (furthest arcs) (furthest_of_all wants arcs) (omega arith)).1
+  near_on false = near_with (furthest arcs) (most_decimals arcs) (omega arith)
+
+  -- the positions that were read are near on their grid
+  pub all_near : AllByRecursion (AllByRecursion (IsNear (decimals_kept wants arcs) wants.finer)) arcs
+  all_near = near_on (nat_le (digits_fitting wants (furthest arcs) (most_decimals arcs)) (digits_fitting wants (furthest_of_all wants arcs) (decimals_of_all wants arcs)))

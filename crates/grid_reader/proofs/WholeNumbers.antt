@@ -21,7 +21,7 @@ use Rattle.decimal_texts.proofs.Wholes.{whole_has_parts, whole_is_fine}
 use Rattle.decimal_texts.proofs.Zeros.{zeros_all}
 use Rattle.grid_reader.specs.Common.{Wants, FinePosition, fits_finer_grid, fine_sum, fine_coordinate, first_two_of, fine_pair_of, fine_pair}
 use Rattle.grid_reader.specs.Common.{fine_position, xy, coordinates, greater, greatest_from, most_decimals, smaller}
-use Rattle.grid_reader.specs.Common.{fitting, furthest, decimals_kept, position_on_grid, arcs_on, finer_by, has_further, is_whole_number}
+use Rattle.grid_reader.specs.Common.{fitting, furthest, furthest_of_all, decimals_kept, position_on_grid, arcs_on, finer_by, has_further, is_whole_number}
 use Rattle.grid_reader.specs.Common.{has_wholes}
 
 -- ---- whole numbers in units
@@ -222,7 +222,8 @@ unfolding fitting
 none_fit finer far most = let none : smaller most 0 ≡ 0 = grind arith in rw none refl
 
 pub no_digits : (wants : Wants) (found : List Arc) → decimals_kept wants (arcs_scaled found) ≡ 0
-no_digits wants found = rw (none_in_arcs found) (none_fit wants.finer (furthest (arcs_scaled found)) wants.digits)
+no_digits wants found =
+    rw (none_in_arcs found, none_fit wants.finer (furthest (arcs_scaled found)) wants.digits, none_fit wants.finer (furthest_of_all wants (arcs_scaled found)) wants.digits) refl
 
 unrounded : (z : ℤ) → rounded 0 (in_units z) ≡ z
 unrounded (pos n) = omega (arith, ints)

@@ -1,5 +1,5 @@
 -- The grid that positions are put on: how many decimals it has, and where they stand on it.
-use Rattle.std.specs.Prelude.{ℕ, zero, suc, ◌+◌, ◌-◌, ◌*◌, ◌^◌, ◌||◌, ℤ, pos, ◌*ℤ◌, unsigned_abs, Bool, nat_le, if◌then◌else◌, List, [], ◌∷◌, map, length}
+use Rattle.std.specs.Prelude.{ℕ, zero, suc, ◌+◌, ◌-◌, ◌*◌, ◌^◌, ◌||◌, ◌==◌, ℤ, pos, ◌*ℤ◌, unsigned_abs, Bool, nat_le, if◌then◌else◌, List, [], ◌∷◌, map, length}
 use Rattle.std.specs.List.{flat_map, fold, filter}
 use Rattle.json_spans.specs.Common.{Node, items}
 use Rattle.grid_geometry.specs.Common.{Position, position}
@@ -45,10 +45,29 @@ fitting finer far (suc k) =
 abbrev pub smaller : ℕ → ℕ → ℕ
 smaller a b = if nat_le a b then a else b
 
--- how many decimals are kept: as many as there are, as are asked for, and as fit
+-- how many decimals are kept where a coordinate is so far from 0, and one has so many: as many as there
+-- are, as are asked for, and as fit
+abbrev pub digits_fitting : Wants → ℕ → ℕ → ℕ
+digits_fitting wants far most = fitting wants.finer far (smaller wants.digits most)
+
+-- the most decimals of all, where a coordinate of the arcs has at most so many: those of points count
+-- too, but where the arcs have whole numbers, since then their grid stays, and points as they stand
+abbrev pub decimals_with : Wants → ℕ → ℕ
+decimals_with wants most = if most == 0 then 0 else greater wants.points.decimals most
+
+abbrev pub decimals_of_all : Wants → List (List FinePosition) → ℕ
+decimals_of_all wants arcs = decimals_with wants (most_decimals arcs)
+
+-- how far the furthest coordinate of arcs and points is from 0
+abbrev pub furthest_of_all : Wants → List (List FinePosition) → ℕ
+furthest_of_all wants arcs = greater wants.points.furthest (furthest arcs)
+
+-- how many decimals are kept: those of the arcs alone, or more where arcs and points fit with more; so
+-- no point makes the grid coarser
 abbrev pub decimals_kept : Wants → List (List FinePosition) → ℕ
 decimals_kept wants arcs =
-    fitting wants.finer (furthest arcs) (smaller wants.digits (most_decimals arcs))
+    greater (digits_fitting wants (furthest arcs) (most_decimals arcs))
+    (digits_fitting wants (furthest_of_all wants arcs) (decimals_of_all wants arcs))
 
 -- ---- the positions
 

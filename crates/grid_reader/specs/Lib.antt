@@ -1,5 +1,6 @@
 pub mod Fine
 pub mod Grid
+pub mod Needs
 pub mod Seen
 pub mod Near
 pub mod Transform

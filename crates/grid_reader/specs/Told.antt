@@ -6,14 +6,14 @@ use Rattle.topo_reader.specs.Common.{root_of}
 use Rattle.grid_reader.specs.declared.wants.Wants.{Wants}
 use Rattle.grid_reader.specs.declared.told.Told.{Told}
 use Rattle.grid_reader.specs.Fine.{FinePosition, fine_arcs}
-use Rattle.grid_reader.specs.Grid.{most_decimals, decimals_kept, positions_moved, heights}
+use Rattle.grid_reader.specs.Grid.{decimals_of_all, decimals_kept, positions_moved, heights}
 use Rattle.grid_reader.specs.Wholes.{all_whole}
 
 -- how many decimals the coordinates have, how many are kept, how many positions were rounded, how
 -- many had further numbers, and whether all coordinates are written as whole numbers
 pub record IsToldOf (wants : Wants) (fine : List (List FinePosition)) (arcs : Node) (told : Told)
     : Type 0 where
-  pub decimals : told.decimals ≡ most_decimals fine
+  pub decimals : told.decimals ≡ decimals_of_all wants fine
   pub digits : told.digits ≡ decimals_kept wants fine
   pub rounded : told.rounded ≡ positions_moved (decimals_kept wants fine) fine
   pub heights : told.heights ≡ (if wants.drop_heights then heights arcs else 0)

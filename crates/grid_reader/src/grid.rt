@@ -4,7 +4,7 @@ ghost use Rattle.std.specs.List.{filter, list_all, AllByRecursion};
 ghost use Rattle.json_spans.specs.Common.{node, items};
 ghost use Rattle.decimal_texts.specs.Common.{decimals, rounded};
 ghost use Rattle.topo_reader.specs.Common.{positions_of};
-ghost use Rattle.grid_reader.specs.Grid.{greater, smaller, greatest_from, most_decimals, furthest, fitting, decimals_kept, position_on_grid, is_moved, positions_moved, has_further, heights};
+ghost use Rattle.grid_reader.specs.Grid.{greater, smaller, greatest_from, most_decimals, furthest, fitting, digits_fitting, decimals_with, decimals_kept, position_on_grid, is_moved, positions_moved, has_further, heights};
 ghost use Rattle.grid_reader.specs.Near.{IsNear};
 ghost use Rattle.grid_reader.specs.Seen.{fine_seen, arcs_seen};
 ghost use Rattle.grid_reader.specs.Wholes.{is_whole_number, has_wholes, all_whole};
@@ -78,7 +78,26 @@ fn fitting(finer: usize, far: u128, most: usize) -> usize
     kept
 }
 
-/// How many decimals are kept, where a coordinate has at most so many.
+/// How many decimals are kept where a coordinate is so far from 0, and one has so many.
+fn digits_fitting(wants: Wants, far: u128, most: usize) -> usize
+    ensures value { result ≡ digits_fitting wants far most }
+    ensures bound { result ≤ 24 }
+{
+    fitting(wants.finer, far, wants.digits.min(most))
+}
+
+/// The most decimals of all, where a coordinate of the arcs has at most so many.
+pub(crate) fn decimals_with(wants: Wants, most: usize) -> usize
+    ensures { result ≡ decimals_with wants most }
+{
+    if most == 0 {
+        0
+    } else {
+        wants.points.decimals.max(most)
+    }
+}
+
+/// How many decimals are kept, where a coordinate of the arcs has at most so many.
 pub(crate) fn digits_of<A: Allocator + Copy>(
     wants: Wants,
     most: usize,
@@ -88,7 +107,14 @@ pub(crate) fn digits_of<A: Allocator + Copy>(
     ensures value { result ≡ decimals_kept wants (arcs_seen arcs.now) }
     ensures bound { result ≤ 24 }
 {
-    fitting(wants.finer, furthest(arcs), wants.digits.min(most))
+    let far = furthest(arcs);
+    let of_arcs = digits_fitting(wants, far, most);
+    let of_all = digits_fitting(
+        wants,
+        wants.points.furthest.max(far),
+        decimals_with(wants, most),
+    );
+    of_arcs.max(of_all)
 }
 
 // ---- the positions

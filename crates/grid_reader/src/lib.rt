@@ -18,12 +18,14 @@ mod fine;
 mod fine_pos;
 mod grid;
 mod kept_digits;
+mod needs;
 mod reading;
 mod told;
 mod transform;
 mod wants;
 
-pub use kept_digits::point_digits;
+pub use kept_digits::{PointGrid, point_grid};
+pub use needs::PointNeeds;
 pub use reading::{OnGrid, read_on_grid};
 pub use told::Told;
 pub use transform::Transform;

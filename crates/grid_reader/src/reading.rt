@@ -14,7 +14,7 @@ ghost use Rattle.grid_reader.specs.Told.{IsToldOf, IsToldAt, IsTold};
 
 use crate::fine::fine_arcs;
 use crate::fine_pos::FinePos;
-use crate::grid::{all_whole, arcs_on, digits_of, heights, most_decimals, moved};
+use crate::grid::{all_whole, arcs_on, decimals_with, digits_of, heights, most_decimals, moved};
 use crate::told::Told;
 use crate::transform::{Transform, transform_on};
 use crate::wants::Wants;
@@ -101,7 +101,7 @@ fn told_of<A: Allocator + Copy>(
         0
     };
     Some(Told {
-        decimals: most,
+        decimals: decimals_with(wants, most),
         digits,
         rounded,
         heights,
@@ -194,7 +194,8 @@ fn opened<'a, A: Allocator + Copy>(
 /// The coordinates are read as exact decimals; what follows the 24th is rounded down. All are put on
 /// one grid of whole numbers: of the decimals that are there, at most `wants.digits` are kept, and
 /// fewer where the furthest coordinate would pass 10^12; the rest is rounded to the nearest, and halves
-/// up. The transform becomes that of the grid. With `wants.drop_heights`, numbers after the first two
+/// up. Where the arcs have decimals, `wants.points` may add to those that are kept, and takes none
+/// away. The transform becomes that of the grid. With `wants.drop_heights`, numbers after the first two
 /// of a position are left out. The phases and the faults are those of `topo_reader::read_walks`, where
 /// `OutOfRange` is reported of a coordinate beyond 10^12 on a grid 10^`wants.finer` times as fine, and
 /// `Unsupported` of a point where the grid is finer than that of the text: points are kept as they

@@ -3,7 +3,8 @@
 /// What is reported of the grid that a map was put on.
 #[derive(Clone, Copy, Debug, PartialEq, Eq)]
 pub struct Told {
-    /// The most decimals that a coordinate has, of 24.
+    /// The most decimals that a coordinate has, of 24: one of an arc, and where these have some, of a
+    /// point that counts.
     pub decimals: usize,
     /// How many of them are kept.
     pub digits: usize,

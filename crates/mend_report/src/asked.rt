@@ -1,7 +1,7 @@
 //! What is asked about a map, and what is reported of it.
 ghost use Rattle.std.specs.Prelude.{◌≡◌};
 
-use grid_reader::{Told, Wants};
+use grid_reader::{PointNeeds, Told, Wants};
 use std::alloc::{Allocator, Global};
 use walk_faults::Findings;
 
@@ -27,6 +27,7 @@ impl Asked {
             finer: 0,
             drop_heights: false,
             points_lie: false,
+            points: PointNeeds::NONE,
         };
         Asked {
             grid,

@@ -1,7 +1,7 @@
 // What is reported of a map, and what it is mended to.
 use crate::cases::Case;
 use crate::stored::Stored;
-use grid_reader::Wants;
+use grid_reader::{PointNeeds, Wants};
 use mend_report::{
     Asked, LookFault, Remade, RepairFault, Report, Texts, is_open, mend_map, report_map,
 };
@@ -15,6 +15,7 @@ pub(crate) fn asked_of(case: &Case<'_>) -> Asked {
         finer: case.number("finer", 0).min(12),
         drop_heights: case.has("heights"),
         points_lie: case.has("lying"),
+        points: PointNeeds::NONE,
     };
     Asked {
         grid,

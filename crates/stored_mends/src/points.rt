@@ -2,7 +2,7 @@
 use crate::maps::asked_of;
 use crate::stored::Stored;
 use decimal_texts::{PointFault, rounded_points, without_lines};
-use grid_reader::point_digits;
+use grid_reader::point_grid;
 use std::alloc::AllocError;
 use std::hash::RandomState;
 
@@ -44,7 +44,7 @@ pub(crate) fn compare_on_grid(stored: &mut Stored<'_>) -> Result<(), AllocError>
 pub(crate) fn compare_digits(stored: &mut Stored<'_>, seed: RandomState) -> Result<(), AllocError> {
     let (alloc, text) = (stored.alloc, stored.given("text")?);
     let grid = asked_of(&stored.case).grid;
-    match point_digits(alloc, alloc, seed, text.as_str().as_bytes(), grid)? {
+    match point_grid(alloc, alloc, seed, text.as_str().as_bytes(), grid)?.digits {
         Some(digits) => stored.compare_number("keeps", digits),
         None => stored.compare("keeps", b"none"),
     }
