@@ -1,5 +1,4 @@
 """What the other two programs do for a map that does not open: its faults, its picture, and mending it."""
-import mmap
 import re
 import subprocess
 
@@ -8,8 +7,9 @@ from child import environment
 
 # The programs that run.
 RUNNING = set()
-# Lines of a report on a file of GeoJSON of which a map is made without any change, if it has no points.
-SOUND = re.compile("geojson|decimals [0-9]+ digits [0-9]+ rounded 0|counts short 0 repeats 0 on 0 cross 0")
+# Lines of a report on a file of GeoJSON of which a map is made without any change. Where a point is rounded, there are
+# more decimals than are kept.
+SOUND = re.compile(r"geojson|decimals ([0-9]+) digits \1 rounded 0|counts short 0 repeats 0 on 0 cross 0")
 
 
 def run(program, *arguments):
@@ -45,12 +45,6 @@ def findings(border_mend, map_path):
 def is_sound_geojson(findings):
     """Whether findings are those of GeoJSON of which a map is made without any change."""
     return findings[:1] == ["geojson"] and all(map(SOUND.fullmatch, findings))
-
-
-def has_points(path):
-    """Whether a file of GeoJSON may have points."""
-    with open(path, "rb") as file, mmap.mmap(file.fileno(), 0, access=mmap.ACCESS_READ) as text:
-        return bool(re.search(rb'"(?:Multi)?Point"', text))
 
 
 def picture(border_show, map_path, place=None):

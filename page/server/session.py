@@ -137,9 +137,6 @@ class Session:
         if self.is_saved_over:
             self.is_geojson = True
             self.programs.look_for("border_export")
-        if mending.has_points(self.base):
-            # which border_mend rounds to the grid of the borders, and does not tell
-            self.findings.insert(1, "points")
         if self.is_mendable and mending.is_sound_geojson(self.findings):
             self._mend_at_once()
         if self.is_geojson:

@@ -71,7 +71,7 @@ def test_geojson_mended(page, path):
     """GeoJSON whose coordinates have to be rounded: the user is asked first."""
     page.load("!document.getElementById('mending').hidden")
     same("the page says where it will be saved", page.text("mendSaves"), f"Saves GeoJSON to {path}.")
-    true("what is rounded is listed", "1 positions are rounded" in page.text("findings"), page.text("findings"))
+    true("what is rounded is listed", "1 vertices are rounded" in page.text("findings"), page.text("findings"))
     page.button("mend")
     page.wait("document.getElementById('ask').open")
     page.element("askYes").click()

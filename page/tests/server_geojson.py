@@ -116,12 +116,16 @@ def to_be_mended(checks):
             checks.same("mended", (page.post("mend")[1]["opens"], page.begin()["unsaved"]), (True, True))
             checks.same("saved", (page.post("save")[0], path.read_text()), (200, CUT))
             checks.same("what it held is kept", (files / "areas.geojson.orig").read_text(), CROSSING)
-    with folder() as files:
-        path, point = files / "areas.geojson", '{"type":"Feature","geometry":{"type":"Point","coordinates":[1.25,0]}}'
-        path.write_text(AREAS.replace("[\n", "[\n" + point + ",\n", 1))
-        with Served(path) as page:
-            checks.same("a point", (page.begin()["opens"], page.begin()["findings"]),
-                        (False, ["geojson", "points", "decimals 1 digits 1 rounded 0", "counts short 0 repeats 0 on 0 cross 0"]))
+    # the second point is so far away that the grid keeps one decimal alone, as it does for the borders
+    for x, opens, findings in [("1.25", True, []), ("25000000000.125", False, ["geojson", "decimals 3 digits 1 rounded 0",
+                                                                              "counts short 0 repeats 0 on 0 cross 0"])]:
+        with folder() as files:
+            path = files / "areas.geojson"
+            point = '{"type":"Feature","geometry":{"type":"Point","coordinates":[%s,0]}}' % x
+            path.write_text(AREAS.replace("[\n", "[\n" + point + ",\n", 1))
+            with Served(path) as page:
+                began = page.begin()
+                checks.same(f"a point at {x}", (began["opens"], began["findings"]), (opens, findings))
     with folder() as files:
         path = files / "areas.geojson"
         path.write_text(AREAS.replace("2.5,", "250000000000.5,"))

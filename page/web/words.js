@@ -74,8 +74,7 @@ const FAULTS = [
 const FINDINGS = [
   [/^opens$/, "Nothing stops the map from opening."],
   [/^geojson$/, "The file is GeoJSON. Mending makes a map of it."],
-  [/^points$/, "The file has points. They are rounded to the grid, which has as many decimals as the borders."],
-  [/^decimals (\d+) digits (\d+) rounded (\d+)/, "Coordinates have up to $1 decimals. The grid keeps $2, and $3 positions are rounded."],
+  [/^decimals (\d+) digits (\d+) rounded (\d+)/, "Coordinates have up to $1 decimals. The grid keeps $2: $3 vertices are rounded, and points that have more."],
   [/^heights (\d+)/, "$1 positions have heights, which are left out."],
   [/^lines (\d+)/, "$1 lines are left out."],
   [/^short (\d+) (\d+) (\d+)/, "Feature $1: a ring has fewer than three positions."],
