@@ -22,6 +22,9 @@ these edits are put in the place of the others, and `rt must-fail` called. RT_JO
 is written after every eighth edit, so that not much is lost where this is ended. The status is 0 where each of them is
 refused.
 
+With --together edits of different functions are first tried in one check (bench/together.py), which costs a crate
+about its proof; what that can't tell is then tried as ever.
+
 --compare fails, with a line for each, where an edit was not tried on what stands (unless its crate is to try), or was
 not refused; where a row has no edit, and where a crate is to try that has no edits, or none that is untried. The last
 line counts the edits that are refused on what stands, what failed, and what is to try.
@@ -37,6 +40,8 @@ import signal
 import subprocess
 import sys
 import tempfile
+
+import together
 
 TOP = pathlib.Path(__file__).resolve().parent.parent
 PAGE = "bench/edits.txt"
@@ -223,12 +228,26 @@ def try_portion(top, crate, names, room, kit):
     page.write()
 
 
-def try_crate(top, crate, names, room, kit, anew):
+def try_together(top, crate, names, room, kit):
+    """Tries edits of a crate together, and returns the names of those of which that told nothing."""
+    folder = room / "crates" / crate / "inner-edits"
+    shutil.copytree(top / "crates" / crate / "inner-edits", folder, dirs_exist_ok=True)
+    stands = what_stands(room, crate, names, kit)
+    found = {f"{crate}/{name}": verdict for name, verdict in together.tried(crate, folder.parent, names).items()}
+    page = Page(top)
+    page.rows.update({name: Row(*stands[name], found[name]) for name in stands if name in found})
+    page.write()
+    return [name for name in names if f"{crate}/{name}" not in found]
+
+
+def try_crate(top, crate, names, room, kit, anew, is_together):
     """Tries edits of a crate, those that were not tried on what stands or all. Returns whether all are refused then."""
     page, stands = Page(top), what_stands(top, crate, names, kit)
     untried = [name for name in names if anew or page.lack(f"{crate}/{name}", stands[f"{crate}/{name}"])]
     if untried and not room.exists():
         copy_crates(top, room)
+    if untried and is_together:
+        untried = try_together(top, crate, untried, room, kit)
     if untried:
         # (where that fails, `rt must-fail` says why)
         subprocess.run(["rt", "check"], cwd=room / "crates" / crate, **how_in(room))
@@ -246,6 +265,7 @@ def main(words=None, top=TOP):
     parser = argparse.ArgumentParser(description=__doc__, formatter_class=argparse.RawDescriptionHelpFormatter)
     parser.add_argument("names", nargs="*", metavar="NAME", help="a crate; all that have inner edits, if none is named")
     parser.add_argument("--anew", action="store_true", help="tries each edit, also where it was tried on what stands")
+    parser.add_argument("--together", action="store_true", help="tries edits of different functions in one check")
     parser.add_argument("--compare", action="store_true", help="tries none: compares the page with the sources")
     options = parser.parse_args(words)
     edits = inner_edits(top)
@@ -257,7 +277,8 @@ def main(words=None, top=TOP):
     signal.signal(signal.SIGTERM, lambda number, _: sys.exit(128 + number))
     with tempfile.TemporaryDirectory() as folder:
         room = pathlib.Path(folder, "copy")
-        refused = [try_crate(top, name, edits[name], room, kit(), options.anew) for name in options.names or edits]
+        refused = [try_crate(top, name, edits[name], room, kit(), options.anew, options.together)
+                   for name in options.names or edits]
     return 0 if all(refused) else 1
 
 

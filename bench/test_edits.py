@@ -2,8 +2,8 @@
 """Tests bench/edits.py on a small repository, with a stand-in for the toolchain that proves nothing.
 
 First the comparison: each row changes a repository whose page is full, and says how the comparison ends. Then the
-trying: each row changes the same repository further, tries edits, and says which were tried and what the page has. The
-last line is `N passed, M failed`.
+trying: each row changes the same repository further, tries edits, and says which were tried and what the page has. Then
+what is read of a check that edits share, and which edits share one. The last line is `N passed, M failed`.
 """
 import os
 import pathlib
@@ -12,6 +12,8 @@ import shutil
 import subprocess
 import sys
 import tempfile
+
+import together
 
 HERE = pathlib.Path(__file__).resolve().parent
 REFUSED, MISSED = "refused, as it must be: src/lib.rt:1:1", "NOT REFUSED: the crate is still proved"
@@ -50,7 +52,8 @@ class Repository:
         self.folder = folder
 
     def make(self):
-        for name, text in {**FILES, "kit/rt": STAND_IN, "bench/edits.py": (HERE / "edits.py").read_text()}.items():
+        for name, text in {**FILES, "kit/rt": STAND_IN, "bench/edits.py": (HERE / "edits.py").read_text(),
+                           "bench/together.py": (HERE / "together.py").read_text()}.items():
             self.put(name, text)
         (self.folder / "kit/rt").chmod(0o755)
         return self
@@ -206,6 +209,31 @@ TRIED = [
     ("nothing", nothing, ["three"], [], 2, {}, None, []),
 ]
 
+# Where an edit stands, what a check of the crate `one` says of its functions, and what that says of the edit.
+BY_ANOTHER = "not proved; it calls `one::put`, which is not proved"
+SHARED = [
+    ([("", "put")], {"one::put": "no holes"}, "NOT REFUSED"),
+    ([("", "put")], {"one::Set::put": "not proved; it stands on `proofs.put`, which antt refuses"}, "refused"),
+    ([("", "put")], {"one::put": "depends on a hole in `Rattle.one.proofs.put.Answers.returns`"}, "refused"),
+    ([("", "put")], {"one::put": "could not tell"}, None),
+    ([("", "put")], {"one::put": BY_ANOTHER}, None),
+    ([("", "put")], {}, None),
+    ([("", "put")], {"one::output": "not proved", "one::put": "no holes"}, "NOT REFUSED"),
+    ([("", "put")], {"two::put": "not proved"}, None),
+    ([("a::b", "put")], {"one::a::put": "not proved"}, None),
+    ([("a::b", "put")], {"one::a::b::Set::put": "not proved"}, "refused"),
+    ([("", "new")], {"one::Set::new": "no holes", "one::Map::new": "not proved"}, "refused"),
+    ([("", "put"), ("", "add")], {"one::put": "no holes", "one::add": "not proved"}, "refused"),
+    ([("", "put"), ("", "add")], {"one::put": "no holes", "one::add": BY_ANOTHER}, None),
+]
+# The functions that edits stand in, and which of them share a check.
+ROUNDS = [
+    (["put"], [["0"]]),
+    (["put", "add"], [["0", "1"]]),
+    (["put", "put", "add"], [["0", "2"], ["1"]]),
+    (["put", "put", "put"], [["0"], ["1"], ["2"]]),
+]
+
 
 class Checks:
     passed = failed = 0
@@ -257,6 +285,27 @@ def check_tried(checks, made):
     checks.check("the gate's edits are left alone", gate, [REFUSED, REFUSED])
 
 
+def changes_at(places):
+    return [together.Change("src/lib.rt", "", "", place) for place in places]
+
+
+def check_shared(checks):
+    for places, said, verdict in SHARED:
+        checks.check(f"shared, {said}", together.verdict_of("one", changes_at(places), said), verdict)
+    for names, rounds in ROUNDS:
+        edits = {str(number): changes_at([("", name)]) for number, name in enumerate(names)}
+        checks.check(f"rounds of {names}", together.in_rounds(edits), rounds)
+    sources = {"src/lib.rt": "fn add() {\n    1\n}\n\nfn put() {\n    2\n}\n", "src/a/b.rt": "fn new() {\n    2\n}\n"}
+    with tempfile.TemporaryDirectory() as folder:
+        edit = pathlib.Path(folder, "it.edit")
+        for file, old, wanted in [("lib", "2", [("", "put")]), ("a/b", "2", [("a::b", "new")]), ("lib", "4", None),
+                                  ("lib", "}", None), ("c", "2", None)]:
+            text = f"file: src/{file}.rt\nold: {old}\nnew: 3\n"
+            edit.write_text(text)
+            changes = together.changes_of(edit, sources)
+            checks.check(f"where an edit stands, {text}", changes and [change.place for change in changes], wanted)
+
+
 def main():
     checks = Checks()
     with tempfile.TemporaryDirectory() as folder:
@@ -266,6 +315,7 @@ def main():
         check_compared(checks, full)
         check_unread(checks, full)
         check_tried(checks, empty)
+    check_shared(checks)
     print(f"{checks.passed} passed, {checks.failed} failed")
     return 1 if checks.failed else 0
 
