@@ -683,6 +683,13 @@ BORDERS = [
     ("thin", 0), ("insert", (10, 0), (10, 10), (11, 5)), ("split", 1, "new", [(11, 5), (15, 6), (20, 10)]),
     ("move", (11, 5), (9, 5)), ("thin", 100), ("merge", 0, 1),
 ]
+# A feature that is a layer leaves an empty collection in its place.
+LAYERS = [("delete", 0), ("rename", 1, "new"), ("delete", 1)]
+# Parts of the first feature stand right behind it, before a point.
+PARTS = [
+    ("split", 0, "first", [(4, 0), (1, 1), (0, 0)]), ("split", 0, "second", [(1, 1), (0, 4)]), ("delete", 2),
+    ("rename", 0, "new"), ("rename", 1, "new"), ("delete", 0),
+]
 # A new feature has a number that no feature ever had.
 NEXT = [("split", 0, "last", [(0, 0), (10, 10)])]
 HISTORIES = [
@@ -690,6 +697,8 @@ HISTORIES = [
     History("a corner goes to and fro", "two squares", 50, TO_AND_FRO, "area 0"),
     History("all features go", "kept texts", 100, ALL_FEATURES, "document"),
     History("borders are thinned and cut", "kept texts", 100, BORDERS, "document"),
+    History("layers leave empty collections", "two layers", 100, LAYERS, "document"),
+    History("parts stand behind their feature", "a point between", 100, PARTS, "document"),
 ]
 HEADING = "== {} The answers are those of the model of bench/second_opinion.py, which writes this file.\n"
 # A longer saved text is stored as its length and sum.

@@ -1,3 +1,1 @@
 pub mod NothingLaid
-pub mod TestedFrames
-pub mod RingsPut

@@ -2,7 +2,6 @@
 use crate::given::{Place, at};
 use grid_geometry::Pos;
 use point_queries::RingBoxes;
-use std::alloc::{AllocError, Global};
 use std::process::Abort;
 
 /// What is asked of the box of a triangle: the positions p and q that it grows by, if it does, a
@@ -40,33 +39,53 @@ const ROWS: &[Row] = &[
     ),
 ];
 
-/// The box of the triangle.
-fn boxes_of_triangle(alloc: Global) -> Result<RingBoxes, AllocError> {
-    let mut boxes = RingBoxes::new(alloc);
+/// Adds the box of the triangle; whether there was memory.
+fn has_triangle(boxes: &mut RingBoxes) -> bool {
     let ring = [
         Pos::new(0, 0).unwrap(),
         Pos::new(10, 2).unwrap(),
         Pos::new(4, 8).unwrap(),
     ];
-    boxes.add(&ring)?;
-    Ok(boxes)
+    boxes.add(&ring).is_ok()
 }
 
-/// The greatest x of the box around the boxes of a row's position, also of a copy.
-fn reached<R: Abort>(rt: &R, alloc: Global, row: &Row) -> Result<(i64, i64), AllocError> {
-    let mut boxes = boxes_of_triangle(alloc)?;
-    if let Some((p, q)) = row.1 {
-        boxes.grow(at(rt, p), at(rt, q))?;
+/// The boxes grow as a row says, if they do; whether there was memory.
+fn has_grown<R: Abort>(rt: &R, boxes: &mut RingBoxes, by: Option<(Place, Place)>) -> bool {
+    match by {
+        Some((p, q)) => boxes.grow(at(rt, p), at(rt, q)).is_ok(),
+        None => true,
     }
-    let asked = at(rt, row.2);
-    let copied = boxes.copy()?;
-    Ok((boxes.around(asked)?.x1, copied.around(asked)?.x1))
+}
+
+/// Whether the box around the boxes of the position has this greatest x.
+fn reach(boxes: &RingBoxes, p: Pos, x: i64) -> bool {
+    match boxes.around(p) {
+        Ok(around) => around.x1 == x,
+        Err(_) => false,
+    }
+}
+
+/// Whether that of a copy has it.
+fn copy_reaches(boxes: &RingBoxes, p: Pos, x: i64) -> bool {
+    match boxes.copy() {
+        Ok(copied) => reach(&copied, p, x),
+        Err(_) => false,
+    }
+}
+
+/// Whether the boxes of the triangle reach as far as a row says, also those of a copy.
+fn reach_as_far<R: Abort>(rt: &R, boxes: &mut RingBoxes, row: &Row) -> bool {
+    let p = at(rt, row.2);
+    has_triangle(boxes)
+        && has_grown(rt, boxes, row.1)
+        && reach(boxes, p, row.3)
+        && copy_reaches(boxes, p, row.3)
 }
 
 #[test]
 fn boxes_reach_as_far_as_they_have_grown(rt: HostRuntime) {
     for row in ROWS {
-        let found = reached(&rt, rt.alloc(), row).expect(&rt, "memory");
-        assert!(rt; found == (row.3, row.3), "{}", row.0);
+        let reach = reach_as_far(&rt, &mut RingBoxes::new(rt.alloc()), row);
+        assert!(rt; reach, "{}", row.0);
     }
 }

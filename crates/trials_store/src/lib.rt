@@ -1,12 +1,9 @@
-//! Tests of rings and of what stores them: parts of polygons and joined rings, frames of features, rings
-//! laid in tables, how far boxes of rings reach, and which features of a map hold a position and which
-//! are neighbours.
+//! Tests of rings and of what stores them: parts of polygons and joined rings, rings laid in tables, and
+//! how far boxes of rings reach.
 #![tactic(auto)]
 
 #[cfg(test)]
 mod boxes;
-#[cfg(test)]
-mod frames;
 #[cfg(test)]
 mod given;
 #[cfg(test)]
@@ -14,12 +11,6 @@ mod joining;
 #[cfg(test)]
 mod laid;
 #[cfg(test)]
-mod maps;
-#[cfg(test)]
-mod neighbours;
-#[cfg(test)]
 mod parts;
-#[cfg(test)]
-mod places;
 #[cfg(test)]
 mod turned;
