@@ -125,7 +125,7 @@ def to_be_mended(checks):
             path.write_text(AREAS.replace("[\n", "[\n" + point + ",\n", 1))
             with Served(path) as page:
                 began = page.begin()
-                checks.same(f"a point at {x}", (began["opens"], began["findings"]), (opens, findings))
+                checks.same(f"a point at {x}", (began["opens"], began.get("findings", [])), (opens, findings))
     with folder() as files:
         path = files / "areas.geojson"
         path.write_text(AREAS.replace("2.5,", "250000000000.5,"))
