@@ -215,6 +215,8 @@ SHARED = [
     ([("", "put")], {"one::put": "no holes"}, "NOT REFUSED"),
     ([("", "put")], {"one::Set::put": "not proved; it stands on `proofs.put`, which antt refuses"}, "refused"),
     ([("", "put")], {"one::put": "depends on a hole in `Rattle.one.proofs.put.Answers.returns`"}, "refused"),
+    ([("", "put")], {"one::put": "no proof: `search` did not prove `returns`"}, "refused"),
+    ([("", "put")], {"one::put": "no proof: it calls `one::add`, which is not proved"}, None),
     ([("", "put")], {"one::put": "could not tell"}, None),
     ([("", "put")], {"one::put": BY_ANOTHER}, None),
     ([("", "put")], {}, None),

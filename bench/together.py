@@ -13,7 +13,8 @@ FUNCTION = re.compile(r"\bfn (\w+)")
 LINE = re.compile(r"fn (\S+): (.*)")
 FAULT = re.compile(r"(src/\S+?):(\d+):\d+: error")
 # What a check says of a function with nothing against it, and of one whose proof stands on one that has none.
-PROVED, BY_ANOTHER = ("no holes", "proved"), "; it calls "
+PROVED, BY_ANOTHER = ("no holes", "proved"), "it calls `"
+NOT_PROVED = "not proved", "depends on a hole", "no proof"
 
 # A change of a file, and where it stands: the module's path and the function's name.
 Change = collections.namedtuple("Change", "file old new place")
@@ -92,7 +93,7 @@ def verdict_of(crate, changes, said):
     for change in changes:
         texts = said_at(crate, change.place, said)
         own = [text for text in texts if not text.startswith(PROVED) and BY_ANOTHER not in text]
-        if any(text.startswith(("not proved", "depends on a hole")) for text in own):
+        if any(text.startswith(NOT_PROVED) for text in own):
             return "refused"
         verdicts.add(bool(texts) and all(text.startswith(PROVED) for text in texts))
     return "NOT REFUSED" if verdicts == {True} else None
