@@ -1,0 +1,5 @@
+pub mod Levels
+pub mod Sides
+pub mod Borders
+pub mod Sweep
+pub mod Common

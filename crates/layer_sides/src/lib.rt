@@ -1,0 +1,2 @@
+//! The borders of the polygons of a layer, and which polygons hold each side of them.
+#![tactic(auto)]
