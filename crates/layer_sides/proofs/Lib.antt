@@ -1,2 +1,8 @@
 mod Examples
 pub mod InOrder
+pub mod Ascending
+pub mod Odds
+pub mod Standings
+pub mod Numbers
+pub mod Cancelling
+pub mod Bridge

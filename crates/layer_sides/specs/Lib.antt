@@ -3,4 +3,5 @@ pub mod Sides
 pub mod Borders
 pub mod Sweep
 pub mod Seen
+pub mod Standing
 pub mod Common

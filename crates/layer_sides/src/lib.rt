@@ -2,7 +2,9 @@
 #![tactic(auto)]
 
 mod border;
+mod borders;
 mod fault;
+mod standing;
 
 pub use border::Border;
 pub use fault::SideFault;
