@@ -2,7 +2,7 @@
 use Rattle.kit_words.proofs.Common.{◌≡◌, ◌<◌, ℕ, zero, suc, Bool, true, refl, sym, ap, ap₂, ◌∙◌, subst, List, [], ◌∷◌}
 use Rattle.kit_words.proofs.Common.{◌++◌, map, inl, inr, ◌⊎◌, AllByRecursion, IsStrictlySortedBy, Ordering, Less, Equal}
 use Rattle.kit_words.proofs.Common.{IsTotalOrder, tied_itself}
-use Rattle.ring_machine.proofs.Common.{In, in_recursion}
+use Rattle.ring_machine.proofs.Common.{In, in_right, in_recursion}
 
 module _ {X : Type 0} (cmp : X → X → Ordering) where
   all_front : (P : X → Type 0) (xs ys : List X) → AllByRecursion P (xs ++ ys) → AllByRecursion P xs
@@ -26,6 +26,14 @@ module _ {X : Type 0} (cmp : X → X → Ordering) where
   unfolding IsStrictlySortedBy
   rises_back [] ys h = h
   rises_back (x ∷ xs) ys h = rises_back xs ys h.1
+
+  -- each of the first ones is less than each of those after them
+  pub rises_across : (xs ys : List X) → IsStrictlySortedBy cmp (xs ++ ys) → (a b : X) → In a xs → In b ys → cmp a b ≡ Less
+  unfolding IsStrictlySortedBy
+  rises_across [] ys h a b i j = absurd i
+  rises_across (x ∷ xs) ys h a b (inl e) j =
+      subst (λ z. cmp z b ≡ Less) e (in_recursion (λ z. cmp x z ≡ Less) (xs ++ ys) b h.0 (in_right b xs ys j))
+  rises_across (x ∷ xs) ys h a b (inr i) j = rises_across xs ys h.1 a b i j
 
   pub rises_last : (xs : List X) (y : X) → IsStrictlySortedBy cmp (xs ++ y ∷ []) → (a : X) → In a xs → cmp a y ≡ Less
   unfolding IsStrictlySortedBy

@@ -5,4 +5,6 @@ pub mod Odds
 pub mod Standings
 pub mod Numbers
 pub mod Cancelling
+pub mod Gathered
+pub mod Grouping
 pub mod Bridge

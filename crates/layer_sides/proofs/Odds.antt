@@ -173,7 +173,7 @@ module _ {X : Type 0} (eq : X → X → Bool) (same_by : (x y : X) → eq x y �
       ∙ odd-xor (λ x. odd (λ y. eq y x && f x) ys) rest xs
       ∙ ap₂ xor there (odd_evens rest xs even) ∙ xor-none (odd (λ y. odd (eq y) xs && f y) ys)
     where
-      abbrev rest : X → Bool
+      rest : X → Bool
       rest x = f x && not (list_any (eq x) ys)
 
       eq-sym : (x y : X) → eq y x ≡ eq x y

@@ -14,7 +14,6 @@ use crate::border::Border;
 use crate::fault::SideFault;
 use crate::standing::{Standing, odd_standing};
 use grid_geometry::{Pos, Seg};
-use smallvec::SmallVec;
 use std::alloc::{AllocError, Allocator};
 
 /// The most polygons of a layer: their numbers are 32 bits long.
@@ -48,14 +47,14 @@ fn border_of<A: Allocator + Copy>(
     ensures { IfOk result (λ b. border_seen b
         ≡ record { segment = segment; bounds = map (λ x. x.polygon) own.now; right = [] }) }
 {
-    let mut bounds = SmallVec::new(alloc);
+    let mut bounds = Vec::new(alloc);
     for x in own {
         bounds.push(x.polygon)?;
     }
     Ok(Border {
         segment,
         bounds,
-        right: SmallVec::new(alloc),
+        right: Vec::new(alloc),
     })
 }
 
