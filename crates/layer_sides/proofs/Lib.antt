@@ -8,3 +8,4 @@ pub mod Cancelling
 pub mod Gathered
 pub mod Grouping
 pub mod Bridge
+pub mod Layers

@@ -59,6 +59,17 @@ odd-only b test (x ∷ xs) = ap (xor (test x && b)) (odd-only b test xs) ∙ bot
     both : (p q b : Bool) → xor (p && b) (q && b) ≡ (xor p q && b)
     both p q b = grind arith
 
+-- an odd number is not none
+pub odd-some : {X : Type 0} (test : X → Bool) (xs : List X) → odd test xs ≡ true
+    → (x : X) × In x xs × (test x ≡ true)
+odd-some test [] h = absurd (false≢true h)
+odd-some {X} test (x ∷ xs) h = by (test x) refl h (λ k. odd-some test xs k)
+  where
+    by : (b : Bool) → test x ≡ b → xor b (odd test xs) ≡ true
+        → (odd test xs ≡ true → (y : X) × In y xs × (test y ≡ true)) → (y : X) × In y (x ∷ xs) × (test y ≡ true)
+    by true e k rest = (x, inl refl, e)
+    by false e k rest = let y = rest k in (y.0, inr y.1, y.2)
+
 -- ---- by a number
 
 odd_next : (n : ℕ) → ((n + 1) % 2 == 1) ≡ not (n % 2 == 1)

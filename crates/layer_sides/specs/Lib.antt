@@ -4,4 +4,5 @@ pub mod Borders
 pub mod Sweep
 pub mod Seen
 pub mod Standing
+pub mod Under
 pub mod Common

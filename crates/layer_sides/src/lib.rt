@@ -4,7 +4,10 @@
 mod border;
 mod borders;
 mod fault;
+mod sides;
 mod standing;
+mod sweep;
 
 pub use border::Border;
 pub use fault::SideFault;
+pub use sides::{Sides, sides_of};
