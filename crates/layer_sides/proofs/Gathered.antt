@@ -2,10 +2,11 @@
 use Rattle.kit_words.proofs.Common.{◌≡◌, ◌≤◌, ◌+◌, ◌<◌, ℕ, suc, Bool, true, false, refl, sym, ap, ap₂, ◌∙◌, subst, cond}
 use Rattle.kit_words.proofs.Common.{List, [], ◌∷◌, ◌++◌, map, take, length, get_or, inl, inr, ◌⊎◌, ◌&&◌, ◌==◌, not, arith}
 use Rattle.kit_words.proofs.Common.{and_parts, or_parts, not-true, flat_map, list_all, map-append, Decides-eqb, take_more}
-use Rattle.kit_words.proofs.Common.{append-nil, append_assoc}
+use Rattle.kit_words.proofs.Common.{append-nil, append_assoc, length-map, length-take-le, mapped_more, Vec}
 use Rattle.grid_geometry.specs.Common.{Position, position_eq, Edge, edges, Segment, segment_eq, xor}
 use Rattle.ring_machine.specs.Common.{has, is_distinct, is_ring, segment_of, segments}
 use Rattle.ring_machine.proofs.Common.{edges_to, edges_is, first_or, In, position_eq-sym, ring_long, ring_distinct, xor-none}
+use Rattle.ring_parts.specs.Common.{rings_seen, polygons_seen}
 use Rattle.layer_sides.specs.Common.{Polygon, is_bounding}
 use Rattle.layer_sides.specs.declared.standing.Standing.{Standing}
 use Rattle.layer_sides.specs.Standing.{stands, stands_at, standing_in_ring, standing_in, standing_from, standing_eq}
@@ -107,3 +108,14 @@ standing-append n (q ∷ ps) p =
     let e : suc n + length ps ≡ n + length (q ∷ ps) = omega arith in
     ap (λ z. standing_in n q ++ z) (standing-append (suc n) ps p ∙ ap (λ z. standing_from (suc n) ps ++ standing_in z p) e)
     ∙ sym (append_assoc (standing_in n q) (standing_from (suc n) ps) (standing_in (n + length (q ∷ ps)) p))
+
+pub standing_next : {A : Type 0} (polygons : List (Vec (Vec Position A) A)) (i n : ℕ) (p : Vec (Vec Position A) A) (before after : List Standing)
+    → i < length polygons → p ≡ get_or polygons i p → n ≡ i → before ≡ standing_from 0 (polygons_seen (take i polygons))
+    → after ≡ before ++ standing_in n (rings_seen p.items) → after ≡ standing_from 0 (polygons_seen (take (i + 1) polygons))
+standing_next {A} polygons i n p before after l e same so_far is =
+    let seen : Vec (Vec Position A) A → Polygon = λ polygon. rings_seen polygon.items in
+    let number : n ≡ 0 + length (map seen (take i polygons)) =
+    omega (arith, same, length-map (take i polygons) seen, length-take-le i polygons (omega (arith, l))) in
+    is ∙ ap₂ (λ y z. y ++ standing_in z (rings_seen p.items)) so_far number
+    ∙ sym (standing-append 0 (map seen (take i polygons)) (rings_seen p.items))
+    ∙ ap (standing_from 0) (sym (mapped_more seen polygons i p l e))

@@ -4,7 +4,7 @@ use Rattle.kit_words.proofs.Common.{List, [], ◌∷◌, ◌++◌, map, length, 
 use Rattle.kit_words.proofs.Common.{Contains, IsTrue, flat_map, flat_map-append, list_all, nat_le, nat_tests, false≢true}
 use Rattle.kit_words.proofs.Common.{append-nil, append_assoc, map-append, length-map, length-take-le, length-drop}
 use Rattle.kit_words.proofs.Common.{take-append-drop, get_or-take, nat_cmp, Ordering, Less, Equal, Greater, IsStrictlySortedBy}
-use Rattle.kit_words.proofs.Common.{ordering_then, count_by}
+use Rattle.kit_words.proofs.Common.{ordering_then, count_by, below_more, get_or_default, ◌+◌}
 use Rattle.grid_geometry.specs.Common.{Segment, segment_cmp}
 use Rattle.ring_machine.specs.Common.{is_ring}
 use Rattle.ring_machine.proofs.Common.{In, in-append, in_left, in_right, contains_in, in_contains, any_in, in_any, in-map}
@@ -186,6 +186,10 @@ pub grouping-step : (odd rest own more : List Standing) (borders borders' : List
     → ((z : Standing) (zs : List Standing) → more ≡ z ∷ zs → z.segment ≡ x.segment → ⊥)
     → b ≡ border_for x.segment own → borders' ≡ borders ++ b ∷ [] → IsGrouping odd more borders'
 grouping-step odd rest own more borders borders' x b rising h parts i alike other is new =
+    let c = border_for x.segment own in
+    let in_rest : In x rest = subst (In x) parts (in_left x own more i) in
+    let rest_rises : IsStrictlySortedBy standing_cmp rest =
+    rises_back standing_cmp (flat_map numbered borders) rest (subst (IsStrictlySortedBy standing_cmp) (sym h.done) rising) in
     subst (IsGrouping odd more) (sym (new ∙ ap (λ z. borders ++ z ∷ []) is)) (record {
       done =
           ap (λ z. z ++ more) (flat_map-append numbered borders (c ∷ []) ∙ ap (λ z. flat_map numbered borders ++ z) (append-nil (numbered c) ∙ renumbered x.segment own alike))
@@ -213,20 +217,18 @@ grouping-step odd rest own more borders borders' x b rising h parts i alike othe
       ];
     })
   where
-    abbrev c : Bordering
-    c = border_for x.segment own
-
-    in_rest : In x rest
-    in_rest = subst (In x) parts (in_left x own more i)
-
-    rest_rises : IsStrictlySortedBy standing_cmp rest
-    rest_rises = rises_back standing_cmp (flat_map numbered borders) rest (subst (IsStrictlySortedBy standing_cmp) (sym h.done) rising)
-
     some : (ys : List Standing) (y : Standing) → In y ys → nat_le 1 (length (map (λ (z : Standing). z.polygon) ys)) ≡ true
     some [] y j = absurd j
     some (z ∷ zs) y j = grind (arith, nat_tests)
 
 -- ---- by the length of the run
+
+-- one more of the segment
+pub run_more : (rest : List Standing) (i : ℕ) (y : Standing) (s : Segment) → ((k : ℕ) (x : Standing) → k < i → (get_or rest k x).segment ≡ s)
+    → i < length rest → y ≡ get_or rest i y → y.segment ≡ s → (k : ℕ) (x : Standing) → k < i + 1 → (get_or rest k x).segment ≡ s
+run_more rest i y s h l e same k x m =
+    below_more (λ n. (z : Standing) → (get_or rest n z).segment ≡ s) i (λ n b z. h n z b)
+    (λ z. sym (ap (λ (w : Standing). w.segment) (e ∙ get_or_default rest i y z l)) ∙ same) k m x
 
 in_run : (rest : List Standing) (n : ℕ) (s : Segment) → n ≤ length rest → ((k : ℕ) (y : Standing) → k < n → (get_or rest k y).segment ≡ s)
     → (y : Standing) → In y (take n rest) → y.segment ≡ s
