@@ -1,5 +1,5 @@
 -- Ascending lists, each element once: the only lists of their elements, one after another, and from behind.
-use Rattle.kit_words.proofs.Common.{◌≡◌, ◌<◌, ℕ, zero, suc, Bool, true, refl, sym, ap, ap₂, ◌∙◌, subst, List, [], ◌∷◌}
+use Rattle.kit_words.proofs.Common.{◌≡◌, refl, sym, ap, ap₂, ◌∙◌, subst, List, [], ◌∷◌}
 use Rattle.kit_words.proofs.Common.{◌++◌, map, inl, inr, ◌⊎◌, AllByRecursion, IsStrictlySortedBy, Ordering, Less, Equal}
 use Rattle.kit_words.proofs.Common.{IsTotalOrder, tied_itself}
 use Rattle.ring_machine.proofs.Common.{In, in_right, in_recursion}

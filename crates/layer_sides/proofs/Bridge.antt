@@ -1,15 +1,15 @@
 -- What the sweep finds by the borders alone is what holds their right sides.
-use Rattle.kit_words.proofs.Common.{◌≡◌, ℕ, zero, Bool, true, false, refl, sym, ap, ap₂, ◌∙◌, subst, cond, List, [], ◌∷◌}
-use Rattle.kit_words.proofs.Common.{◌++◌, map, inl, inr, ◌⊎◌, ◌&&◌, ◌%◌, ◌==◌, Contains, IsTrue, flat_map, fold, count_by}
+use Rattle.kit_words.proofs.Common.{◌≡◌, ℕ, Bool, true, false, refl, sym, ap, ap₂, ◌∙◌, cond, List, [], ◌∷◌}
+use Rattle.kit_words.proofs.Common.{◌++◌, map, ◌&&◌, flat_map, fold}
 use Rattle.kit_words.proofs.Common.{map-append, is_gt}
 use Rattle.grid_geometry.specs.Common.{Position, position_cmp, Segment, segment_eq, segment_cmp, Edge, links, edges, is_counted, is_odd_count}
 use Rattle.grid_geometry.specs.Common.{is_inside, xor}
 use Rattle.ring_machine.specs.Common.{segment_of, segments, is_in_polygon}
-use Rattle.ring_machine.proofs.Common.{In, contains_in, in_contains, in_any, in-map, segment_eq-true, xor-assoc, xor-comm, xor-none}
+use Rattle.ring_machine.proofs.Common.{In, contains_in, in_contains, in_any, segment_eq-true, xor-assoc, xor-none}
 use Rattle.ring_machine.proofs.Walks.{is_counted-reverse}
-use Rattle.layer_sides.specs.Common.{Polygon, Right, doubled, middle, holds, holds_middle, holders, is_bounding, is_border, bounded, numbers_from}
+use Rattle.layer_sides.specs.Common.{Polygon, Right, doubled, middle, holds, holders, is_bounding}
 use Rattle.layer_sides.specs.Common.{Bordering, AreBorders, AreHeld, AreSwept, counts_for, has_number, is_odd_at}
-use Rattle.layer_sides.proofs.Odds.{odd, odd-append, odd-alike, odd-none, odd-map, odd-flat, odd_count, odd_by}
+use Rattle.layer_sides.proofs.Odds.{odd, odd-alike, odd-none, odd-map, odd-flat, odd_count, odd_by}
 use Rattle.layer_sides.proofs.Standings.{segment_total, segment_eq-refl}
 use Rattle.layer_sides.proofs.Numbers.{test_from, has-numbers, numbers-ascend, same_numbers, IsNumbered, there, absent, numbered_as}
 

@@ -1,7 +1,7 @@
 -- Of ascending standings equal ones cancel in pairs, one after another.
 use Rattle.kit_words.proofs.Common.{◌≡◌, ◌↔◌, ◌<◌, ◌≤◌, ◌+◌, ◌-◌, ◌%◌, ℕ, zero, suc, Bool, true, false, refl, sym, ap}
-use Rattle.kit_words.proofs.Common.{ap₂, ◌∙◌, subst, cond, List, [], ◌∷◌, ◌++◌, length, take, get_or, inl, inr, ◌⊎◌}
-use Rattle.kit_words.proofs.Common.{◌||◌, ◌&&◌, arith, not, ◌==◌, IsTrue, AllByRecursion, count_by, IsSorted}
+use Rattle.kit_words.proofs.Common.{◌∙◌, subst, cond, List, [], ◌∷◌, ◌++◌, length, take, get_or, inl, inr}
+use Rattle.kit_words.proofs.Common.{◌||◌, arith, not, ◌==◌, IsTrue, count_by, IsSorted}
 use Rattle.kit_words.proofs.Common.{IsStrictlySortedBy, is_lt, ordering_reverse, Ordering, Less, Equal, Greater}
 use Rattle.kit_words.proofs.Common.{false≢true, nat_tests, take_more, get_or-take, get_or_default, length-take-le}
 use Rattle.kit_words.proofs.Common.{length-append, get_or_at, take_at, list_any-append, ranks_by, sorted_far}

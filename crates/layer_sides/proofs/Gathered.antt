@@ -1,15 +1,15 @@
 -- The segments of polygons with their numbers, and how often they stand there.
-use Rattle.kit_words.proofs.Common.{◌≡◌, ◌≤◌, ◌+◌, ◌<◌, ℕ, suc, Bool, true, false, refl, sym, ap, ap₂, ◌∙◌, subst, cond}
-use Rattle.kit_words.proofs.Common.{List, [], ◌∷◌, ◌++◌, map, take, length, get_or, inl, inr, ◌⊎◌, ◌&&◌, ◌==◌, not, arith}
-use Rattle.kit_words.proofs.Common.{and_parts, or_parts, not-true, flat_map, list_all, map-append, Decides-eqb, take_more}
+use Rattle.kit_words.proofs.Common.{◌≡◌, ◌+◌, ◌<◌, ℕ, suc, Bool, true, false, refl, sym, ap, ap₂, ◌∙◌, subst, cond}
+use Rattle.kit_words.proofs.Common.{List, [], ◌∷◌, ◌++◌, map, take, length, get_or, inl, inr, ◌&&◌, ◌==◌, not, arith}
+use Rattle.kit_words.proofs.Common.{and_parts, or_parts, not-true, flat_map, list_all, map-append, Decides-eqb}
 use Rattle.kit_words.proofs.Common.{append-nil, append_assoc, length-map, length-take-le, mapped_more, Vec}
 use Rattle.grid_geometry.specs.Common.{Position, position_eq, Edge, edges, Segment, segment_eq, xor}
 use Rattle.ring_machine.specs.Common.{has, is_distinct, is_ring, segment_of, segments}
-use Rattle.ring_machine.proofs.Common.{edges_to, edges_is, first_or, In, position_eq-sym, ring_long, ring_distinct, xor-none}
+use Rattle.ring_machine.proofs.Common.{edges_to, edges_is, In, position_eq-sym, ring_long, ring_distinct, xor-none}
 use Rattle.ring_parts.specs.Common.{rings_seen, polygons_seen}
 use Rattle.layer_sides.specs.Common.{Polygon, is_bounding}
 use Rattle.layer_sides.specs.declared.standing.Standing.{Standing}
-use Rattle.layer_sides.specs.Standing.{stands, stands_at, standing_in_ring, standing_in, standing_from, standing_eq}
+use Rattle.layer_sides.specs.Standing.{stands, stands_at, standing_in, standing_from, standing_eq}
 use Rattle.layer_sides.proofs.Odds.{odd, odd-append, odd-map, odd-only, odd_count}
 use Rattle.layer_sides.proofs.Numbers.{test_from, none_less, differ}
 

@@ -1,10 +1,10 @@
 -- Standings that ascend, grouped by segment, are the borders of their polygons.
-use Rattle.kit_words.proofs.Common.{◌≡◌, ◌≤◌, ◌<◌, ◌-◌, ℕ, zero, suc, Bool, true, false, refl, sym, ap, ap₂, ◌∙◌, subst}
-use Rattle.kit_words.proofs.Common.{List, [], ◌∷◌, ◌++◌, map, length, take, drop, get_or, inl, inr, ◌⊎◌, ◌%◌, ◌==◌, arith}
-use Rattle.kit_words.proofs.Common.{Contains, IsTrue, flat_map, flat_map-append, list_all, nat_le, nat_tests, false≢true}
-use Rattle.kit_words.proofs.Common.{append-nil, append_assoc, map-append, length-map, length-take-le, length-drop}
+use Rattle.kit_words.proofs.Common.{◌≡◌, ◌≤◌, ◌<◌, ℕ, zero, suc, true, refl, sym, ap, ap₂, ◌∙◌, subst}
+use Rattle.kit_words.proofs.Common.{List, [], ◌∷◌, ◌++◌, map, length, take, drop, get_or, inl, inr, arith}
+use Rattle.kit_words.proofs.Common.{flat_map, flat_map-append, list_all, nat_le, nat_tests, false≢true}
+use Rattle.kit_words.proofs.Common.{append-nil, append_assoc, map-append, length-take-le, length-drop}
 use Rattle.kit_words.proofs.Common.{take-append-drop, get_or-take, nat_cmp, Ordering, Less, Equal, Greater, IsStrictlySortedBy}
-use Rattle.kit_words.proofs.Common.{ordering_then, count_by, below_more, get_or_default, ◌+◌}
+use Rattle.kit_words.proofs.Common.{ordering_then, below_more, get_or_default, ◌+◌}
 use Rattle.grid_geometry.specs.Common.{Segment, segment_cmp}
 use Rattle.ring_machine.specs.Common.{is_ring}
 use Rattle.ring_machine.proofs.Common.{In, in-append, in_left, in_right, contains_in, in_contains, any_in, in_any, in-map}

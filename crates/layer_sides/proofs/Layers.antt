@@ -1,12 +1,12 @@
 -- The borders of a layer as the sweep takes them, and as it leaves them.
-use Rattle.kit_words.proofs.Common.{◌≡◌, ◌+◌, ◌*◌, ℕ, Bool, true, false, refl, sym, ap, ◌∙◌, subst, List, [], ◌∷◌, map, length}
-use Rattle.kit_words.proofs.Common.{inl, inr, Contains, arith, IsStrictlySortedBy, nat_cmp, flat_map, length-map, false≢true}
-use Rattle.grid_geometry.specs.Common.{Segment, segment_cmp, segment_eq, conflict, xor}
+use Rattle.kit_words.proofs.Common.{◌≡◌, ◌+◌, ◌*◌, ℕ, true, refl, sym, ap, ◌∙◌, subst, List, [], ◌∷◌, map, length}
+use Rattle.kit_words.proofs.Common.{inl, inr, Contains, arith, IsStrictlySortedBy, nat_cmp, flat_map, length-map}
+use Rattle.grid_geometry.specs.Common.{Segment, segment_cmp, segment_eq}
 use Rattle.ring_machine.specs.Common.{segments}
 use Rattle.ring_machine.proofs.Common.{In, contains_in, in_contains, any_in, in-map, in-flat_map, segment_eq-true}
 use Rattle.layer_sides.specs.Common.{Polygon, Bordering, AreBorders, IsProperLayer, segments_in, bounded, is_bounding, is_border}
 use Rattle.layer_sides.specs.Under.{AreApart, AreSorted}
-use Rattle.layer_sides.proofs.Odds.{odd, odd_count, odd-some}
+use Rattle.layer_sides.proofs.Odds.{odd_count, odd-some}
 use Rattle.layer_sides.proofs.Numbers.{numbers-ascend}
 
 -- ---- as the sweep takes them

@@ -1,7 +1,7 @@
 -- Ascending numbers of polygons that pass a test.
-use Rattle.kit_words.proofs.Common.{◌≡◌, ◌<◌, ◌≤◌, ℕ, zero, suc, Bool, true, false, refl, sym, ap, ap₂, ◌∙◌, subst, cond}
-use Rattle.kit_words.proofs.Common.{List, [], ◌∷◌, inl, inr, ◌⊎◌, ◌||◌, ◌==◌, arith, nat_tests, AllByRecursion, list_any}
-use Rattle.kit_words.proofs.Common.{IsStrictlySortedBy, nat_cmp, Less, false≢true, Decides-eqb, eqb-false, by_bool, nat_cmp_is}
+use Rattle.kit_words.proofs.Common.{◌≡◌, ◌<◌, ◌≤◌, ℕ, suc, Bool, true, false, refl, sym, ap, ◌∙◌, subst, cond}
+use Rattle.kit_words.proofs.Common.{List, [], ◌∷◌, inl, inr, ◌||◌, ◌==◌, arith, AllByRecursion}
+use Rattle.kit_words.proofs.Common.{IsStrictlySortedBy, nat_cmp, Less, Decides-eqb, by_bool, nat_cmp_is}
 use Rattle.kit_words.proofs.Common.{nat_cmp_total}
 use Rattle.ring_machine.proofs.Common.{In, any_in, in_any}
 use Rattle.layer_sides.specs.Common.{Polygon, numbers_from, has_number}

@@ -1,10 +1,10 @@
 -- Odd numbers: of lists one after another, of pairs of two lists, and of elements that cancel in pairs.
 use Rattle.kit_words.proofs.Common.{◌≡◌, ℕ, ◌+◌, ◌%◌, ◌==◌, Bool, true, false, refl, sym, ap, ap₂, ◌∙◌, subst, cond, not, List, []}
 use Rattle.kit_words.proofs.Common.{◌∷◌, ◌++◌, map, inl, inr, arith, list_any, flat_map, false≢true, ◌&&◌, ◌||◌}
-use Rattle.kit_words.proofs.Common.{count_by, nat_tests, sum_by-cons, by_bool, Ordering, Less, IsStrictlySortedBy}
+use Rattle.kit_words.proofs.Common.{count_by, nat_tests, sum_by-cons, Ordering, IsStrictlySortedBy}
 use Rattle.kit_words.proofs.Common.{IsTotalOrder, false_from_ne_true}
 use Rattle.grid_geometry.specs.Common.{xor}
-use Rattle.ring_machine.proofs.Common.{In, any_in, in_any, same_answer, xor-assoc, xor-comm, xor-none}
+use Rattle.ring_machine.proofs.Common.{In, any_in, in_any, same_answer, xor-assoc, xor-none}
 use Rattle.layer_sides.proofs.Ascending.{not_less, rises_first, rises_rest}
 
 -- an odd number of the elements pass the test

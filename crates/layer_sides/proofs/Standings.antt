@@ -1,8 +1,8 @@
 -- The order of segments, and of segments with numbers of polygons.
-use Rattle.kit_words.proofs.Common.{◌≡◌, ℕ, Bool, true, refl, sym, ap, ap₂, ◌∙◌, ◌&&◌, ◌==◌, Ordering, Less, Equal, Greater}
-use Rattle.kit_words.proofs.Common.{ordering_then, is_lt, nat_cmp, nat_cmp_total, IsTotalOrder, int_cmp_total, on_total}
+use Rattle.kit_words.proofs.Common.{◌≡◌, Bool, true, refl, sym, ap, ap₂, ◌∙◌, ◌&&◌, ◌==◌, Ordering, Less, Equal, Greater}
+use Rattle.kit_words.proofs.Common.{ordering_then, is_lt, nat_cmp, nat_cmp_total, IsTotalOrder, on_total}
 use Rattle.kit_words.proofs.Common.{then_total, tied_itself, and_parts, Decides-eqb, nat_cmp-IsAntisymmetric}
-use Rattle.grid_geometry.specs.Common.{Position, position_cmp, Segment, segment_cmp, segment_eq}
+use Rattle.grid_geometry.specs.Common.{position_cmp, Segment, segment_cmp, segment_eq}
 use Rattle.grid_geometry.proofs.Common.{position_cmp-exact}
 use Rattle.ring_machine.proofs.Common.{position_total, position_eq-refl, segment_eq-true}
 use Rattle.layer_sides.specs.declared.standing.Standing.{Standing}

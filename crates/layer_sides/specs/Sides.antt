@@ -1,5 +1,5 @@
 -- The sides of a segment, and which polygons hold them.
-use Rattle.std.specs.Prelude.{ℕ, suc, ◌+ℤ◌, ◌%◌, ◌==◌, Bool, false, List, [], ◌∷◌, map, if◌then◌else◌}
+use Rattle.std.specs.Prelude.{ℕ, suc, ◌+ℤ◌, ◌%◌, ◌==◌, Bool, List, [], ◌∷◌, map, if◌then◌else◌}
 use Rattle.std.specs.List.{count_by, flat_map, list_any}
 use Rattle.grid_geometry.specs.Common.{Position, position, Segment, segment_eq, xor}
 use Rattle.ring_machine.specs.Common.{segments, is_in_polygon}

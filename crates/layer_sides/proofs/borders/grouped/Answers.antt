@@ -1,7 +1,7 @@
-use Rattle.kit_words.proofs.Common.{◌≡◌, ◌∙◌, ◌∷◌, ◌<◌, ◌++◌, [], ap, map-append, arith, length}
+use Rattle.kit_words.proofs.Common.{◌∙◌, ◌∷◌, [], ap, map-append, arith}
 use Rattle.ring_machine.proofs.Common.{contains_in}
 use Rattle.layer_sides.specs.Common.{border_seen, borders_seen}
-use Rattle.layer_sides.proofs.Grouping.{IsGrouping, grouping-none, grouping-next, grouping-all}
+use Rattle.layer_sides.proofs.Grouping.{grouping-none, grouping-next, grouping-all}
 use Rattle.layer_sides.proofs.borders.grouped.Goals as goal
 
 pub loop-rest-init : goal.loop-rest-init
