@@ -1,2 +1,8 @@
 //! The borders of the polygons of a layer, and which polygons hold each side of them.
 #![tactic(auto)]
+
+mod border;
+mod fault;
+
+pub use border::Border;
+pub use fault::SideFault;
