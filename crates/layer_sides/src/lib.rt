@@ -1,8 +1,19 @@
 //! The borders of the polygons of a layer, and which polygons hold each side of them.
 #![tactic(auto)]
 
+mod begun;
 mod border;
+mod faces;
 mod fault;
+mod holding;
+mod levels;
+mod numbers;
+mod sweep;
+mod under;
+mod vertices;
+
+#[cfg(test)]
+mod tests;
 
 pub use border::Border;
 pub use fault::SideFault;
