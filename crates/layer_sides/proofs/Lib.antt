@@ -1,2 +1,3 @@
 mod Examples
 pub mod InOrder
+pub mod Crossing
