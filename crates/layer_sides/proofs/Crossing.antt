@@ -1,6 +1,6 @@
 -- Where two segments cross: what the heights of their ends say of the areas between them. The origin is a position that both reach.
 use Rattle.kit_words.proofs.Common.{ℤ, pos, ◌≡◌, ◌+ℤ◌, ◌-ℤ◌, ◌*ℤ◌, neg_ℤ, ◌≤ℤ◌, ◌<ℤ◌, arith, ap, ◌∙◌, ints, by_lt_z, sym}
-use Rattle.kit_words.proofs.Common.{refl, int_lt, int_eq, ◌&&◌, ◌||◌}
+use Rattle.kit_words.proofs.Common.{refl, int_lt, int_eq, ◌&&◌, ◌||◌, true, false}
 use Rattle.grid_geometry.proofs.Algebra.{expand, comm, assoc, dist, dist_right, neg_left, neg_right, weak, zero_negs}
 use Rattle.grid_geometry.proofs.Algebra.{up_up, up_down, down_up, down_down, above_above, below_above, above_below}
 use Rattle.grid_geometry.proofs.Balances.{turn}
@@ -209,11 +209,25 @@ heights m x y x' y' hl hr =
     (λ (k : y' <ℤ y). higher x x' y y' _ _ k (omega (arith, ints, step m y' y (omega (arith, ints)) k)))
     (λ (k : y ≤ℤ y'). let e : y ≡ y' = omega (arith, ints) in level x x' y y' _ _ e (omega (arith, ints, ap (λ z. m *ℤ z) e))))
   where
+    below : (k l : ℤ) → k <ℤ l → int_lt k l ≡ true
+    below k l h = grind (arith, ints)
+
+    above : (k l : ℤ) → l ≤ℤ k → int_lt k l ≡ false
+    above k l h = grind (arith, ints)
+
+    differs : (k l : ℤ) → l <ℤ k → int_eq k l ≡ false
+    differs k l h = grind (arith, ints)
+
+    equals : (k l : ℤ) → k ≡ l → int_eq k l ≡ true
+    equals k l h = grind (arith, ints)
+
     lower : (x x' y y' k l : ℤ) → y <ℤ y' → k <ℤ l → (int_lt y y' || (int_eq y y' && int_lt x' x)) ≡ int_lt k l
-    lower x x' y y' k l h e = grind (arith, ints)
+    lower x x' y y' k l h e = rw (below y y' h, below k l e)
 
     higher : (x x' y y' k l : ℤ) → y' <ℤ y → l <ℤ k → (int_lt y y' || (int_eq y y' && int_lt x' x)) ≡ int_lt k l
-    higher x x' y y' k l h e = grind (arith, ints)
+    higher x x' y y' k l h e = rw (above y y' (weak _ _ h), differs y y' h, above k l (weak _ _ e))
 
     level : (x x' y y' k l : ℤ) → y ≡ y' → k -ℤ l ≡ x' -ℤ x → (int_lt y y' || (int_eq y y' && int_lt x' x)) ≡ int_lt k l
-    level x x' y y' k l h e = grind (arith, ints)
+    level x x' y y' k l h e =
+        rw (above y y' (omega (arith, ints)), equals y y' h)
+        (by_lt_z x' x (λ (g : x' <ℤ x). rw (below x' x g, below k l (omega (arith, ints)))) (λ (g : x ≤ℤ x'). rw (above x' x g, above k l (omega (arith, ints)))))
