@@ -1,2 +1,4 @@
 mod Examples
 pub mod InOrder
+pub mod Crossing
+pub mod Levels
