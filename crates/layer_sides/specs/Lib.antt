@@ -3,5 +3,6 @@ pub mod Sides
 pub mod Borders
 pub mod Order
 pub mod Sweep
+pub mod Under
 pub mod Seen
 pub mod Common

@@ -1,4 +1,12 @@
 // The vertices of borders, in the order in which the sweep comes to them.
+ghost use Rattle.std.specs.Prelude.{◌≡◌, ◌++◌, ◌∷◌, [], ◌<◌, map, length, Contains, IfOk, OnOk};
+ghost use Rattle.std.specs.List.{All, flat_map};
+ghost use Rattle.grid_geometry.specs.Common.{IsSegment, position_cmp};
+ghost use Rattle.layer_sides.specs.Levels.{bottom, top};
+ghost use Rattle.layer_sides.specs.Under as spec;
+ghost use Rattle.layer_sides.specs.Under.{AreVertices, Ascends, BegunBelow};
+ghost use Rattle.layer_sides.specs.Seen.{borders_seen, vertices_seen};
+
 use crate::border::Border;
 use crate::fault::SideFault;
 use crate::levels::{bottom_of, top_of};
@@ -15,12 +23,16 @@ pub(crate) struct Vertex<A: Allocator + Copy = Global> {
 }
 
 /// The position turned by a quarter, so that the order of turned positions is that of levels.
-fn turned(p: Pos) -> Pos {
+fn turned(p: Pos) -> Pos
+    ensures { result ≡ spec.turned p }
+{
     Pos::new(p.y(), -p.x()).unwrap_or(p)
 }
 
 /// The position that is turned by a quarter to this one.
-fn turned_back(p: Pos) -> Pos {
+fn turned_back(p: Pos) -> Pos
+    ensures { spec.turned result ≡ p }
+{
     Pos::new(-p.y(), p.x()).unwrap_or(p)
 }
 
@@ -28,7 +40,9 @@ fn turned_back(p: Pos) -> Pos {
 fn turned_ends<A: Allocator + Copy>(
     alloc: A,
     borders: &[Border<A>],
-) -> Result<Vec<Pos, A>, AllocError> {
+) -> Result<Vec<Pos, A>, AllocError>
+    ensures { IfOk result (λ found. found.items ≡ flat_map spec.turned_ends (borders_seen borders.now)) }
+{
     let mut found = Vec::new(alloc);
     for border in borders {
         found.push(turned(bottom_of(border.segment)))?;
@@ -38,7 +52,9 @@ fn turned_ends<A: Allocator + Copy>(
 }
 
 /// Sorts positions, each once.
-fn sort_once<A: Allocator + Copy>(positions: &mut Vec<Pos, A>) {
+fn sort_once<A: Allocator + Copy>(positions: &mut Vec<Pos, A>)
+    ensures { Ascends position_cmp (Contains positions.old.items) positions.new.items }
+{
     positions.sort_unstable();
     positions.dedup();
 }
@@ -47,7 +63,10 @@ fn sort_once<A: Allocator + Copy>(positions: &mut Vec<Pos, A>) {
 fn bare<A: Allocator + Copy>(
     alloc: A,
     levels: &[Pos],
-) -> Result<Vec<Vertex<A>, A>, AllocError> {
+) -> Result<Vec<Vertex<A>, A>, AllocError>
+    ensures levels { IfOk result (λ found. map (λ v. spec.turned v.0) (vertices_seen found.items) ≡ levels.now) }
+    ensures bare { IfOk result (λ found. All (λ v. v.1 ≡ []) (vertices_seen found.items)) }
+{
     let mut found = Vec::new(alloc);
     for level in levels {
         found.push(Vertex {
@@ -64,7 +83,9 @@ fn note<A: Allocator + Copy>(
     vertices: &mut Vec<Vertex<A>, A>,
     place: usize,
     at: Pos,
-) -> Result<(), SideFault> {
+) -> Result<(), SideFault>
+    ensures { OnOk result (spec.Notes place at (vertices_seen vertices.old.items) (vertices_seen vertices.new.items)) }
+{
     if let Ok(vertex) = levels.binary_search(&turned(at)) {
         if vertex < vertices.len() && vertices[vertex].at == at {
             vertices[vertex].begun.push(place)?;
@@ -79,7 +100,13 @@ fn note_all<A: Allocator + Copy>(
     levels: &[Pos],
     vertices: &mut Vec<Vertex<A>, A>,
     borders: &[Border<A>],
-) -> Result<(), SideFault> {
+) -> Result<(), SideFault>
+    requires rising { spec.AreRising (vertices_seen vertices.old.items) }
+    requires bare { All (λ v. v.1 ≡ []) (vertices_seen vertices.old.items) }
+    ensures same { OnOk result (map (λ v. v.0) (vertices_seen vertices.new.items)
+        ≡ map (λ v. v.0) (vertices_seen vertices.old.items)) }
+    ensures begun { OnOk result (BegunBelow (borders_seen borders.now) (length borders.now) (vertices_seen vertices.new.items)) }
+{
     for (place, border) in borders.iter().enumerate() {
         note(levels, vertices, place, bottom_of(border.segment))?;
     }
@@ -90,7 +117,9 @@ fn note_all<A: Allocator + Copy>(
 pub(crate) fn vertices_of<A: Allocator + Copy>(
     alloc: A,
     borders: &[Border<A>],
-) -> Result<Vec<Vertex<A>, A>, SideFault> {
+) -> Result<Vec<Vertex<A>, A>, SideFault>
+    ensures { IfOk result (λ found. AreVertices (borders_seen borders.now) (vertices_seen found.items)) }
+{
     let mut levels = turned_ends(alloc, borders)?;
     sort_once(&mut levels);
     let mut found = bare(alloc, levels.as_slice())?;
