@@ -1,4 +1,6 @@
 // Which sides of borders lie in one face: those that come to stand beside each other in the list.
+ghost use Rattle.std.specs.Prelude.{◌≡◌, ◌≤◌, length, IfOk};
+
 use std::alloc::{AllocError, Allocator};
 
 /// Sides that are united: 2i is the left side of border i, 2i + 1 its right side, the last the outside.
@@ -95,14 +97,17 @@ impl<A: Allocator + Copy> Faces<A> {
         self.join_at(list, to);
     }
 
-    /// Of each side the least one of its face.
-    pub(crate) fn labels(&self, alloc: A) -> Result<Vec<u32, A>, AllocError> {
+    /// Of each of so many sides the least one of its face.
+    pub(crate) fn labels(&self, alloc: A, count: usize) -> Result<Vec<u32, A>, AllocError>
+        requires { count ≤ 4294967295 }
+        ensures { IfOk result (λ labels. length labels.items ≡ count) }
+    {
         let mut labels = Vec::new(alloc);
-        for (side, lesser) in self.lesser.iter().enumerate() {
-            let mut label = side as u32;
-            if let Some(known) = labels.get(*lesser) {
-                label = *known;
-            }
+        for side in 0..count {
+            let label = match labels.get(self.lesser_of(side)) {
+                Some(label) => *label,
+                None => side as u32,
+            };
             labels.push(label)?;
         }
         Ok(labels)

@@ -1,4 +1,13 @@
 // Which polygons hold the sides of the borders at a vertex.
+ghost use Rattle.std.specs.Prelude.{◌≡◌, ◌++◌, ◌<◌, ◌≤◌, ℕ, length, slice_set, IfOk, OnOk};
+ghost use Rattle.std.specs.List.Sorted.{IsStrictlySortedBy};
+ghost use Rattle.std.specs.Ordering.{nat_cmp};
+ghost use Rattle.grid_geometry.specs.Common.{xor};
+ghost use Rattle.layer_sides.specs.Sweep.{has_number};
+ghost use Rattle.layer_sides.specs.Under.{AreApartFrom, AreBelow, AreNumbered, AreOddOf, AreSorted, Rewrites, border_at};
+ghost use Rattle.layer_sides.specs.Under.{borders_at, bounds_of, is_odd_of, with_right};
+ghost use Rattle.layer_sides.specs.Seen.{borders_seen};
+
 use crate::border::Border;
 use crate::fault::SideFault;
 use crate::numbers::flipped;
@@ -12,7 +21,12 @@ fn left_of_first<A: Allocator + Copy>(
     alloc: A,
     borders: &[Border<A>],
     list: &[usize],
-) -> Result<Vec<u32, A>, AllocError> {
+) -> Result<Vec<u32, A>, AllocError>
+    requires below { AreBelow (length borders.now) list.now }
+    requires sorted { AreSorted (bounds_of (borders_seen borders.now)) }
+    requires numbered { AreNumbered (borders_at (borders_seen borders.now) list.now) }
+    ensures { IfOk result (λ found. AreOddOf (borders_at (borders_seen borders.now) list.now) found.items) }
+{
     match list.first() {
         Some(place) => {
             let border = &borders[*place];
@@ -22,6 +36,22 @@ fn left_of_first<A: Allocator + Copy>(
     }
 }
 
+/// Writes the numbers of the polygons that hold the right side of the border at this place.
+fn set_right<A: Allocator + Copy>(
+    alloc: A,
+    borders: &mut Vec<Border<A>, A>,
+    place: usize,
+    numbers: &[u32],
+) -> Result<(), AllocError>
+    requires { place < length borders.old.items }
+    ensures { OnOk result (borders_seen borders.new.items
+        ≡ slice_set (borders_seen borders.old.items) place
+        (with_right (border_at (borders_seen borders.old.items) place) numbers.now)) }
+{
+    borders[place].right = SmallVec::from_slice(alloc, numbers)?;
+    Ok(())
+}
+
 /// Writes the numbers of the polygons that hold the right side of the border at this place; the numbers
 /// of those that hold its left side.
 fn write_right<A: Allocator + Copy>(
@@ -29,44 +59,80 @@ fn write_right<A: Allocator + Copy>(
     borders: &mut Vec<Border<A>, A>,
     place: usize,
     numbers: &[u32],
-) -> Result<Vec<u32, A>, AllocError> {
-    borders[place].right = SmallVec::from_slice(alloc, numbers)?;
+) -> Result<Vec<u32, A>, AllocError>
+    requires place { place < length borders.old.items }
+    requires sorted { AreSorted (bounds_of (borders_seen borders.old.items)) }
+    requires numbers { IsStrictlySortedBy nat_cmp numbers.now }
+    ensures set { OnOk result (borders_seen borders.new.items
+        ≡ slice_set (borders_seen borders.old.items) place
+        (with_right (border_at (borders_seen borders.old.items) place) numbers.now)) }
+    ensures either { IfOk result (λ found. (n : ℕ) → has_number n found.items
+        ≡ xor (has_number n (border_at (borders_seen borders.old.items) place).bounds) (has_number n numbers.now)) }
+    ensures ascending { IfOk result (λ found. IsStrictlySortedBy nat_cmp found.items) }
+{
+    set_right(alloc, borders, place, numbers)?;
     flipped(alloc, numbers, borders[place].bounds.as_slice())
 }
 
 /// Writes the right sides of these borders, from the last to the first; the numbers of the polygons
-/// that hold the left side of the first. Those that hold the right side of the last are given.
+/// that hold the left side of the first. Those behind them in the list have their numbers. Fails on
+/// allocation failure, and where there is no room for so many numbers.
 fn write_begun<A: Allocator + Copy>(
     alloc: A,
     borders: &mut Vec<Border<A>, A>,
     begun: &[usize],
-    mut numbers: Vec<u32, A>,
+    behind: &[usize],
     room: &mut usize,
-) -> Result<Vec<u32, A>, SideFault> {
-    for place in begun.iter().rev() {
+) -> Result<Vec<u32, A>, SideFault>
+    requires below { AreBelow (length borders.old.items) (begun.now ++ behind.now) }
+    requires apart { AreApartFrom behind.now begun.now }
+    requires sorted { AreSorted (bounds_of (borders_seen borders.old.items)) }
+    requires numbered { AreNumbered (borders_at (borders_seen borders.old.items) behind.now) }
+    ensures rewrites { OnOk result
+        (Rewrites begun.now (borders_seen borders.old.items) (borders_seen borders.new.items)) }
+    ensures numbered { OnOk result (AreNumbered (borders_at (borders_seen borders.new.items) (begun.now ++ behind.now))) }
+    ensures odd { IfOk result
+        (λ found. AreOddOf (borders_at (borders_seen borders.new.items) (begun.now ++ behind.now)) found.items) }
+{
+    let mut numbers = left_of_first(alloc, borders.as_slice(), behind)?;
+    let mut count = begun.len();
+    while count > 0 {
+        count -= 1;
         let Some(left) = room.checked_sub(numbers.len()) else {
             return Err(SideFault::TooLarge);
         };
         *room = left;
-        numbers = write_right(alloc, borders, *place, numbers.as_slice())?;
+        numbers = write_right(alloc, borders, begun[count], numbers.as_slice())?;
     }
     Ok(numbers)
 }
 
-/// Writes the right sides of the borders that begin at v, from left to right, in the place of those from
-/// one place of the list to before another. Fails on allocation failure, where there is no room for
-/// so many numbers, and where what holds the left side of the first of them is not what held it before.
+/// Writes the right sides of the borders that begin at v, from left to right, in the place of those that
+/// end there; both lists go on with those behind them. Fails on allocation failure, where there is no
+/// room for so many numbers, and where other polygons would hold what is left of them than did before.
 pub(crate) fn write_sides<A: Allocator + Copy>(
     alloc: A,
     borders: &mut Vec<Border<A>, A>,
-    (ended, behind): (&[usize], &[usize]),
+    ended: &[usize],
     begun: &[usize],
+    behind: &[usize],
     v: Pos,
     room: &mut usize,
-) -> Result<(), SideFault> {
+) -> Result<(), SideFault>
+    requires below { AreBelow (length borders.old.items) (begun.now ++ behind.now) }
+    requires below_too { AreBelow (length borders.old.items) ended.now }
+    requires apart { AreApartFrom behind.now begun.now }
+    requires sorted { AreSorted (bounds_of (borders_seen borders.old.items)) }
+    requires numbered { AreNumbered (borders_at (borders_seen borders.old.items) behind.now) }
+    requires numbered_too { AreNumbered (borders_at (borders_seen borders.old.items) ended.now) }
+    ensures rewrites { OnOk result
+        (Rewrites begun.now (borders_seen borders.old.items) (borders_seen borders.new.items)) }
+    ensures numbered { OnOk result (AreNumbered (borders_at (borders_seen borders.new.items) (begun.now ++ behind.now))) }
+    ensures same { OnOk result ((n : ℕ) → is_odd_of n (borders_at (borders_seen borders.new.items) (begun.now ++ behind.now))
+        ≡ is_odd_of n (borders_at (borders_seen borders.old.items) ended.now)) }
+{
     let before = left_of_first(alloc, borders.as_slice(), ended)?;
-    let numbers = left_of_first(alloc, borders.as_slice(), behind)?;
-    let after = write_begun(alloc, borders, begun, numbers, room)?;
+    let after = write_begun(alloc, borders, begun, behind, room)?;
     if before.as_slice() == after.as_slice() {
         Ok(())
     } else {

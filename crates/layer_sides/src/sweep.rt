@@ -1,4 +1,13 @@
 // The sweep over the borders of a layer.
+ghost use Rattle.std.specs.Prelude.{◌≡◌, ◌+◌, ◌*◌, length, IfOk, OnOk};
+ghost use Rattle.std.specs.List.Sorted.{IsStrictlySortedBy};
+ghost use Rattle.grid_geometry.specs.Common.{segment_cmp};
+ghost use Rattle.layer_sides.specs.Levels.{is_under_way};
+ghost use Rattle.layer_sides.specs.Sweep.{AreSwept};
+ghost use Rattle.layer_sides.specs.Under.{AreApart, AreSegments, AreSorted, AreVertices, BegunAt, Rewrites, Stands};
+ghost use Rattle.layer_sides.specs.Under.{StandsAtEach, awaits, bounds_of};
+ghost use Rattle.layer_sides.specs.Seen.{borders_seen, segments_seen, vertex_seen, vertices_seen};
+
 use crate::begun::in_order;
 use crate::border::Border;
 use crate::faces::Faces;
@@ -23,12 +32,21 @@ fn go_over<A: Allocator + Copy>(
     vertex: &Vertex<A>,
     room: &mut usize,
     faces: &mut Faces<A>,
-) -> Result<Vec<usize, A>, SideFault> {
+) -> Result<Vec<usize, A>, SideFault>
+    requires segments { AreSegments (segments_seen borders.old.items) }
+    requires apart { AreApart (segments_seen borders.old.items) }
+    requires sorted { AreSorted (bounds_of (borders_seen borders.old.items)) }
+    requires awaits { Stands (borders_seen borders.old.items) (awaits vertex.now.at) list.now }
+    requires begun { BegunAt (segments_seen borders.old.items) (length borders.old.items) (vertex_seen vertex.now) }
+    ensures rewrites { OnOk result (Rewrites vertex.now.begun.items
+        (borders_seen borders.old.items) (borders_seen borders.new.items)) }
+    ensures stands { IfOk result (λ next. Stands (borders_seen borders.new.items) (is_under_way vertex.now.at) next.items) }
+{
     let Some((from, to)) = ended_at(borders.as_slice(), list, vertex.at) else {
         return Err(SideFault::Unswept(vertex.at));
     };
     let begun = in_order(alloc, borders.as_slice(), vertex.begun.as_slice(), vertex.at)?;
-    write_sides(alloc, borders, (&list[from..], &list[to..]), begun.as_slice(), vertex.at, room)?;
+    write_sides(alloc, borders, &list[from..], begun.as_slice(), &list[to..], vertex.at, room)?;
     let next = with_begun(alloc, list, from, to, begun.as_slice())?;
     faces.join_along(next.as_slice(), from, from + begun.len());
     Ok(next)
@@ -40,7 +58,15 @@ fn go_over_all<A: Allocator + Copy>(
     borders: &mut Vec<Border<A>, A>,
     vertices: &[Vertex<A>],
     faces: &mut Faces<A>,
-) -> Result<(), SideFault> {
+) -> Result<(), SideFault>
+    requires segments { AreSegments (segments_seen borders.old.items) }
+    requires apart { AreApart (segments_seen borders.old.items) }
+    requires sorted { AreSorted (bounds_of (borders_seen borders.old.items)) }
+    requires vertices { AreVertices (segments_seen borders.old.items) (vertices_seen vertices.now) }
+    ensures segments { OnOk result (segments_seen borders.new.items ≡ segments_seen borders.old.items) }
+    ensures bounds { OnOk result (bounds_of (borders_seen borders.new.items) ≡ bounds_of (borders_seen borders.old.items)) }
+    ensures stands { OnOk result (StandsAtEach (borders_seen borders.new.items) is_under_way (vertices_seen vertices.now)) }
+{
     let mut list = Vec::new(alloc);
     let mut room = MOST_NUMBERS;
     for vertex in vertices {
@@ -57,12 +83,21 @@ fn go_over_all<A: Allocator + Copy>(
 pub(crate) fn sweep<A: Allocator + Copy>(
     alloc: A,
     borders: &mut Vec<Border<A>, A>,
-) -> Result<Vec<u32, A>, SideFault> {
+) -> Result<Vec<u32, A>, SideFault>
+    requires ascending { IsStrictlySortedBy segment_cmp (segments_seen borders.old.items) }
+    requires apart { AreApart (segments_seen borders.old.items) }
+    requires sorted { AreSorted (bounds_of (borders_seen borders.old.items)) }
+    ensures swept { OnOk result (AreSwept (borders_seen borders.new.items)) }
+    ensures segments { OnOk result (segments_seen borders.new.items ≡ segments_seen borders.old.items) }
+    ensures bounds { OnOk result (bounds_of (borders_seen borders.new.items) ≡ bounds_of (borders_seen borders.old.items)) }
+    ensures labels { IfOk result (λ labels. length labels.items ≡ 2 * length borders.old.items + 1) }
+{
     if borders.len() > MOST_BORDERS {
         return Err(SideFault::TooLarge);
     }
     let vertices = vertices_of(alloc, borders.as_slice())?;
-    let mut faces = Faces::new(alloc, 2 * borders.len() + 1)?;
+    let sides = 2 * borders.len() + 1;
+    let mut faces = Faces::new(alloc, sides)?;
     go_over_all(alloc, borders, vertices.as_slice(), &mut faces)?;
-    Ok(faces.labels(alloc)?)
+    Ok(faces.labels(alloc, sides)?)
 }

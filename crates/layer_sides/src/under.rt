@@ -1,11 +1,24 @@
 // The list of the borders under way, from left to right: the place of a vertex in it.
+ghost use Rattle.std.specs.Prelude.{◌≡◌, ◌<◌, ◌≤◌, ◌++◌, ◌∷◌, [], ℕ, List, length, take, drop, IsTrue, IfOk, IfSome};
+ghost use Rattle.std.specs.List.{All};
+ghost use Rattle.grid_geometry.specs.Common.{IsSegment};
+ghost use Rattle.layer_sides.specs.Levels.{top};
+ghost use Rattle.layer_sides.specs.Order as order;
+ghost use Rattle.layer_sides.specs.Under as spec;
+ghost use Rattle.layer_sides.specs.Under.{AreBelow, CutsAt};
+ghost use Rattle.layer_sides.specs.Seen.{segments_seen};
+
 use crate::border::Border;
 use crate::levels::{is_left, is_right, top_of};
 use grid_geometry::{Pos, Seg};
 use std::alloc::{AllocError, Allocator};
 
 /// The segment of the border at this place.
-pub(crate) fn segment_at<A: Allocator + Copy>(borders: &[Border<A>], place: usize) -> Seg {
+pub(crate) fn segment_at<A: Allocator + Copy>(borders: &[Border<A>], place: usize) -> Seg
+    requires { place < length borders.now }
+    ensures value { result ≡ spec.segment_at (segments_seen borders.now) place }
+    ensures ordered { IsSegment result }
+{
     borders[place].segment
 }
 
@@ -15,7 +28,10 @@ pub(crate) fn place_of<A: Allocator + Copy>(
     borders: &[Border<A>],
     list: &[usize],
     v: Pos,
-) -> usize {
+) -> usize
+    requires { AreBelow (length borders.now) list.now }
+    ensures { result ≤ length list.now }
+{
     let mut low = 0;
     let mut high = list.len();
     while low < high {
@@ -30,7 +46,11 @@ pub(crate) fn place_of<A: Allocator + Copy>(
 }
 
 /// How many of the first borders of the list end at v.
-fn ended<A: Allocator + Copy>(borders: &[Border<A>], list: &[usize], v: Pos) -> usize {
+fn ended<A: Allocator + Copy>(borders: &[Border<A>], list: &[usize], v: Pos) -> usize
+    requires { AreBelow (length borders.now) list.now }
+    ensures bound { result ≤ length list.now }
+    ensures ended { All (λ i. top (spec.segment_at (segments_seen borders.now) i) ≡ v) (take result list.now) }
+{
     for (count, place) in list.iter().enumerate() {
         if top_of(segment_at(borders, *place)) != v {
             return count;
@@ -40,7 +60,11 @@ fn ended<A: Allocator + Copy>(borders: &[Border<A>], list: &[usize], v: Pos) -> 
 }
 
 /// Whether v is strictly on the right of the last border of the list; true of an empty one.
-fn is_behind<A: Allocator + Copy>(borders: &[Border<A>], list: &[usize], v: Pos) -> bool {
+fn is_behind<A: Allocator + Copy>(borders: &[Border<A>], list: &[usize], v: Pos) -> bool
+    requires { AreBelow (length borders.now) list.now }
+    ensures { IsTrue result → (front : List ℕ) (i : ℕ) → list.now ≡ front ++ i ∷ []
+        → IsTrue (order.is_right v (spec.segment_at (segments_seen borders.now) i)) }
+{
     match list.last() {
         Some(place) => is_right(v, segment_at(borders, *place)),
         None => true,
@@ -48,7 +72,11 @@ fn is_behind<A: Allocator + Copy>(borders: &[Border<A>], list: &[usize], v: Pos)
 }
 
 /// Whether v is strictly on the left of the first border of the list; true of an empty one.
-fn is_before<A: Allocator + Copy>(borders: &[Border<A>], list: &[usize], v: Pos) -> bool {
+fn is_before<A: Allocator + Copy>(borders: &[Border<A>], list: &[usize], v: Pos) -> bool
+    requires { AreBelow (length borders.now) list.now }
+    ensures { IsTrue result → (i : ℕ) (back : List ℕ) → list.now ≡ i ∷ back
+        → IsTrue (order.is_left v (spec.segment_at (segments_seen borders.now) i)) }
+{
     match list.first() {
         Some(place) => is_left(v, segment_at(borders, *place)),
         None => true,
@@ -61,7 +89,10 @@ pub(crate) fn ended_at<A: Allocator + Copy>(
     borders: &[Border<A>],
     list: &[usize],
     v: Pos,
-) -> Option<(usize, usize)> {
+) -> Option<(usize, usize)>
+    requires { AreBelow (length borders.now) list.now }
+    ensures { IfSome result (λ cut. CutsAt (segments_seen borders.now) list.now v cut.0 cut.1) }
+{
     let from = place_of(borders, list, v);
     let (front, rest) = list.split_at(from);
     let count = ended(borders, rest, v);
@@ -80,7 +111,11 @@ pub(crate) fn with_begun<A: Allocator + Copy>(
     from: usize,
     to: usize,
     begun: &[usize],
-) -> Result<Vec<usize, A>, AllocError> {
+) -> Result<Vec<usize, A>, AllocError>
+    requires rising { from ≤ to }
+    requires bound { to ≤ length list.now }
+    ensures { IfOk result (λ found. found.items ≡ take from list.now ++ begun.now ++ drop to list.now) }
+{
     let mut found = Vec::new(alloc);
     found.extend_from_slice(&list[..from])?;
     found.extend_from_slice(begun)?;

@@ -1,11 +1,10 @@
 // The vertices of borders, in the order in which the sweep comes to them.
-ghost use Rattle.std.specs.Prelude.{◌≡◌, ◌++◌, ◌∷◌, [], ◌<◌, map, length, Contains, IfOk, OnOk};
+ghost use Rattle.std.specs.Prelude.{◌≡◌, [], map, length, Contains, IfOk, OnOk};
 ghost use Rattle.std.specs.List.{All, flat_map};
-ghost use Rattle.grid_geometry.specs.Common.{IsSegment, position_cmp};
-ghost use Rattle.layer_sides.specs.Levels.{bottom, top};
+ghost use Rattle.grid_geometry.specs.Common.{position_cmp};
 ghost use Rattle.layer_sides.specs.Under as spec;
-ghost use Rattle.layer_sides.specs.Under.{AreVertices, Ascends, BegunBelow};
-ghost use Rattle.layer_sides.specs.Seen.{borders_seen, vertices_seen};
+ghost use Rattle.layer_sides.specs.Under.{AreSegments, AreVertices, Ascends, BegunAt};
+ghost use Rattle.layer_sides.specs.Seen.{segments_seen, vertices_seen};
 
 use crate::border::Border;
 use crate::fault::SideFault;
@@ -41,7 +40,8 @@ fn turned_ends<A: Allocator + Copy>(
     alloc: A,
     borders: &[Border<A>],
 ) -> Result<Vec<Pos, A>, AllocError>
-    ensures { IfOk result (λ found. found.items ≡ flat_map spec.turned_ends (borders_seen borders.now)) }
+    ensures ends { IfOk result (λ found. found.items ≡ flat_map spec.turned_ends (segments_seen borders.now)) }
+    ensures segments { OnOk result (AreSegments (segments_seen borders.now)) }
 {
     let mut found = Vec::new(alloc);
     for border in borders {
@@ -105,7 +105,7 @@ fn note_all<A: Allocator + Copy>(
     requires bare { All (λ v. v.1 ≡ []) (vertices_seen vertices.old.items) }
     ensures same { OnOk result (map (λ v. v.0) (vertices_seen vertices.new.items)
         ≡ map (λ v. v.0) (vertices_seen vertices.old.items)) }
-    ensures begun { OnOk result (BegunBelow (borders_seen borders.now) (length borders.now) (vertices_seen vertices.new.items)) }
+    ensures begun { OnOk result (All (BegunAt (segments_seen borders.now) (length borders.now)) (vertices_seen vertices.new.items)) }
 {
     for (place, border) in borders.iter().enumerate() {
         note(levels, vertices, place, bottom_of(border.segment))?;
@@ -118,7 +118,8 @@ pub(crate) fn vertices_of<A: Allocator + Copy>(
     alloc: A,
     borders: &[Border<A>],
 ) -> Result<Vec<Vertex<A>, A>, SideFault>
-    ensures { IfOk result (λ found. AreVertices (borders_seen borders.now) (vertices_seen found.items)) }
+    ensures vertices { IfOk result (λ found. AreVertices (segments_seen borders.now) (vertices_seen found.items)) }
+    ensures segments { OnOk result (AreSegments (segments_seen borders.now)) }
 {
     let mut levels = turned_ends(alloc, borders)?;
     sort_once(&mut levels);
