@@ -2,3 +2,4 @@ mod Examples
 pub mod InOrder
 pub mod Crossing
 pub mod Levels
+pub mod Places

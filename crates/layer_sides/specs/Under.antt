@@ -1,8 +1,8 @@
 -- Words of the sweep: its vertices, the list of the borders under way, and what is kept with them.
-use Rattle.std.specs.Prelude.{ℕ, ◌≡◌, ◌<◌, ◌≤◌, ◌+◌, ◌==◌, ◌&&◌, ◌++◌, ◌↔◌, Bool, not, false, pos, neg_ℤ}
+use Rattle.std.specs.Prelude.{ℕ, suc, ◌≡◌, ◌<◌, ◌≤◌, ◌+◌, ◌==◌, ◌&&◌, ◌++◌, ◌↔◌, Bool, not, false, pos, neg_ℤ}
 use Rattle.std.specs.Prelude.{List, [], ◌∷◌, map, length, take, drop, Contains, IsTrue, IsFalse, nat_lt, slice_index_or}
 use Rattle.std.specs.Prelude.{slice_range, slice_set, if◌then◌else◌}
-use Rattle.std.specs.List.{All, AllAdjacentBelow, count_by}
+use Rattle.std.specs.List.{All, AllAdjacentBelow, AllByRecursion}
 use Rattle.std.specs.List.Sorted.{IsStrictlySortedBy}
 use Rattle.std.specs.Ordering.{nat_cmp}
 use Rattle.std.specs.declared.cmp.Ordering.{Ordering}
@@ -22,7 +22,8 @@ pub record Ascends {X : Type 0} (cmp : X → X → Ordering) (P : X → Type 0) 
 
 -- how often a place stands among these
 abbrev pub times : ℕ → List ℕ → ℕ
-times i places = count_by (λ k. k == i) places
+times i [] = 0
+times i (k ∷ ks) = if k == i then suc (times i ks) else times i ks
 
 -- these are the places below n that pass, each once
 abbrev pub ListsPlaces : ℕ → (ℕ → Bool) → List ℕ → Type 0
@@ -135,7 +136,7 @@ twice s = record { lo = doubled s.lo; hi = doubled s.hi }
 -- each segment lies before those behind it, also on a grid that is twice as fine
 abbrev pub AreInOrder : List Segment → Type 0
 AreInOrder [] = Unit {0}
-AreInOrder (s ∷ ss) = All (λ t. InOrder (twice s) (twice t)) ss × AreInOrder ss
+AreInOrder (s ∷ ss) = AllByRecursion (λ t. InOrder (twice s) (twice t)) ss × AreInOrder ss
 
 -- an odd number of the borders bound polygon n
 abbrev pub is_odd_of : ℕ → List Bordering → Bool

@@ -6,7 +6,7 @@ ghost use Rattle.layer_sides.specs.Seen.{segments_seen};
 
 use crate::border::Border;
 use crate::fault::SideFault;
-use crate::levels::{is_right, top_of};
+use crate::ends::{is_right, top_of};
 use crate::under::{place_of, segment_at};
 use grid_geometry::Pos;
 use std::alloc::{AllocError, Allocator};

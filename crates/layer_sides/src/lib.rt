@@ -3,10 +3,10 @@
 
 mod begun;
 mod border;
+mod ends;
 mod faces;
 mod fault;
 mod holding;
-mod levels;
 mod numbers;
 mod sweep;
 mod under;

@@ -9,7 +9,7 @@ ghost use Rattle.layer_sides.specs.Under.{AreBelow, CutsAt};
 ghost use Rattle.layer_sides.specs.Seen.{segments_seen};
 
 use crate::border::Border;
-use crate::levels::{is_left, is_right, top_of};
+use crate::ends::{is_left, is_right, top_of};
 use grid_geometry::{Pos, Seg};
 use std::alloc::{AllocError, Allocator};
 

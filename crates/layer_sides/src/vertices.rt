@@ -8,7 +8,7 @@ ghost use Rattle.layer_sides.specs.Seen.{segments_seen, vertices_seen};
 
 use crate::border::Border;
 use crate::fault::SideFault;
-use crate::levels::{bottom_of, top_of};
+use crate::ends::{bottom_of, top_of};
 use grid_geometry::Pos;
 use std::alloc::{AllocError, Allocator, Global};
 
