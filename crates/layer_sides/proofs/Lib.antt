@@ -2,3 +2,6 @@ mod Examples
 pub mod InOrder
 pub mod Crossing
 pub mod Levels
+pub mod Placing
+pub mod Touching
+pub mod Orders
