@@ -5,3 +5,6 @@ pub mod Levels
 pub mod Placing
 pub mod Touching
 pub mod Orders
+pub mod Events
+pub mod Doubling
+pub mod Middles
