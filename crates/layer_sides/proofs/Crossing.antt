@@ -204,10 +204,16 @@ step m y y' hm h =
 pub heights : (m x y x' y' : ℤ) → (x -ℤ x') <ℤ m → (x' -ℤ x) <ℤ m
     → (int_lt y y' || (int_eq y y' && int_lt x' x)) ≡ int_lt (tilted m x y) (tilted m x' y')
 heights m x y x' y' hl hr =
-    by_lt_z y y' (λ (h : y <ℤ y'). lower x x' y y' _ _ h (omega (arith, ints, step m y y' (omega (arith, ints)) h)))
+    let k = tilted m x y in
+    let l = tilted m x' y' in
+    let hm : pos 0 <ℤ m = omega (arith, ints) in
+    by_lt_z y y' (λ (h : y <ℤ y'). let g : k <ℤ l = omega (arith, ints, step m y y' hm h) in lower x x' y y' k l h g)
     (λ (h : y' ≤ℤ y). by_lt_z y' y
-    (λ (k : y' <ℤ y). higher x x' y y' _ _ k (omega (arith, ints, step m y' y (omega (arith, ints)) k)))
-    (λ (k : y ≤ℤ y'). let e : y ≡ y' = omega (arith, ints) in level x x' y y' _ _ e (omega (arith, ints, ap (λ z. m *ℤ z) e))))
+    (λ (h : y' <ℤ y). let g : l <ℤ k = omega (arith, ints, step m y' y hm h) in higher x x' y y' k l h g)
+    (λ (e : y ≤ℤ y').
+    let h : y ≡ y' = omega (arith, ints) in
+    let g : k -ℤ l ≡ x' -ℤ x = omega (arith, ints, ap (λ z. m *ℤ z) h) in
+    level x x' y y' k l h g))
   where
     below : (k l : ℤ) → k <ℤ l → int_lt k l ≡ true
     below k l h = grind (arith, ints)

@@ -18,6 +18,12 @@ lt_left x y = grind (arith, ints)
 lt_right : (x y : ℤ) → int_lt (x +ℤ y) (y +ℤ y) ≡ int_lt x y
 lt_right x y = grind (arith, ints)
 
+back_left : (x y : ℤ) → int_lt (x +ℤ y) (x +ℤ x) ≡ int_lt y x
+back_left x y = grind (arith, ints)
+
+back_right : (x y : ℤ) → int_lt (y +ℤ y) (x +ℤ y) ≡ int_lt y x
+back_right x y = grind (arith, ints)
+
 eq_left : (x y : ℤ) → int_eq (x +ℤ x) (x +ℤ y) ≡ int_eq x y
 eq_left x y = grind (arith, ints)
 
@@ -28,10 +34,10 @@ abbrev half : Position → Position → Position
 half a b = record { x = a.x +ℤ b.x; y = a.y +ℤ b.y }
 
 first_half : (a b : Position) → level_lt (doubled a) (half a b) ≡ level_lt a b
-first_half a b = λ i. lt_left a.y b.y i || (eq_left a.y b.y i && lt_right b.x a.x i)
+first_half a b = λ i. lt_left a.y b.y i || (eq_left a.y b.y i && back_left a.x b.x i)
 
 second_half : (a b : Position) → level_lt (half a b) (doubled b) ≡ level_lt a b
-second_half a b = λ i. lt_right a.y b.y i || (eq_right a.y b.y i && lt_left b.x a.x i)
+second_half a b = λ i. lt_right a.y b.y i || (eq_right a.y b.y i && back_right a.x b.x i)
 
 half-comm : (a b : Position) → half a b ≡ half b a
 half-comm a b = λ i. record { x = swapped a.x b.x i; y = swapped a.y b.y i }
