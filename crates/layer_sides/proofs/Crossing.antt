@@ -1,6 +1,6 @@
 -- Where two segments cross: what the heights of their ends say of the areas between them. The origin is a position that both reach.
 use Rattle.kit_words.proofs.Common.{ℤ, pos, ◌≡◌, ◌+ℤ◌, ◌-ℤ◌, ◌*ℤ◌, neg_ℤ, ◌≤ℤ◌, ◌<ℤ◌, arith, ap, ◌∙◌, ints, by_lt_z, sym}
-use Rattle.kit_words.proofs.Common.{refl, int_lt, int_eq, ◌&&◌, ◌||◌, true, false}
+use Rattle.kit_words.proofs.Common.{refl, int_lt, int_eq, ◌&&◌, ◌||◌, true, false, ap₂}
 use Rattle.grid_geometry.proofs.Algebra.{expand, comm, assoc, dist, dist_right, neg_left, neg_right, weak, zero_negs}
 use Rattle.grid_geometry.proofs.Algebra.{up_up, up_down, down_up, down_down, above_above, below_above, above_below}
 use Rattle.grid_geometry.proofs.Balances.{turn}
@@ -40,7 +40,7 @@ balance_across a1 a2 b1 b2 c1 c2 d1 d2 =
     simp expand (omega (arith, ints, swap b2 c1 d1, mix c1 a2 d1, cycle b1 c2 d1, mix b1 d2 c1, swap c2 a1 d1, cycle c1 d2 a1))
 
 -- the two ways to part a quadrilateral
-quad : (a1 a2 b1 b2 c1 c2 d1 d2 : ℤ)
+pub quad : (a1 a2 b1 b2 c1 c2 d1 d2 : ℤ)
     → area a1 a2 b1 b2 c1 c2 +ℤ area c1 c2 d1 d2 a1 a2 ≡ area a1 a2 b1 b2 d1 d2 +ℤ area c1 c2 d1 d2 b1 b2
 quad a1 a2 b1 b2 c1 c2 d1 d2 =
     omega (arith, ints, comm c1 a2, comm c2 a1, comm b1 d2, comm b2 d1)
@@ -56,7 +56,7 @@ less m k l = simp expand (omega (arith, ints))
 spread : (p m x y : ℤ) → p *ℤ tilted m x y ≡ m *ℤ (p *ℤ y) -ℤ p *ℤ x
 spread p m x y = less p (m *ℤ y) x ∙ ap (λ z. z -ℤ p *ℤ x) (aside p m y)
 
-between : (m x y x' y' : ℤ) → tilted m x y -ℤ tilted m x' y' ≡ tilted m (x -ℤ x') (y -ℤ y')
+pub between : (m x y x' y' : ℤ) → tilted m x y -ℤ tilted m x' y' ≡ tilted m (x -ℤ x') (y -ℤ y')
 between m x y x' y' = omega (arith, ints, less m y y')
 
 spread_between : (u m x y x' y' : ℤ)
@@ -204,10 +204,16 @@ step m y y' hm h =
 pub heights : (m x y x' y' : ℤ) → (x -ℤ x') <ℤ m → (x' -ℤ x) <ℤ m
     → (int_lt y y' || (int_eq y y' && int_lt x' x)) ≡ int_lt (tilted m x y) (tilted m x' y')
 heights m x y x' y' hl hr =
-    by_lt_z y y' (λ (h : y <ℤ y'). lower x x' y y' _ _ h (omega (arith, ints, step m y y' (omega (arith, ints)) h)))
+    let k = tilted m x y in
+    let l = tilted m x' y' in
+    let hm : pos 0 <ℤ m = omega (arith, ints) in
+    by_lt_z y y' (λ (h : y <ℤ y'). let g : k <ℤ l = omega (arith, ints, step m y y' hm h) in lower x x' y y' k l h g)
     (λ (h : y' ≤ℤ y). by_lt_z y' y
-    (λ (k : y' <ℤ y). higher x x' y y' _ _ k (omega (arith, ints, step m y' y (omega (arith, ints)) k)))
-    (λ (k : y ≤ℤ y'). let e : y ≡ y' = omega (arith, ints) in level x x' y y' _ _ e (omega (arith, ints, ap (λ z. m *ℤ z) e))))
+    (λ (h : y' <ℤ y). let g : l <ℤ k = omega (arith, ints, step m y' y hm h) in higher x x' y y' k l h g)
+    (λ (e : y ≤ℤ y').
+    let h : y ≡ y' = omega (arith, ints) in
+    let g : k -ℤ l ≡ x' -ℤ x = omega (arith, ints, ap (λ z. m *ℤ z) h) in
+    level x x' y y' k l h g))
   where
     below : (k l : ℤ) → k <ℤ l → int_lt k l ≡ true
     below k l h = grind (arith, ints)
@@ -225,9 +231,12 @@ heights m x y x' y' hl hr =
     lower x x' y y' k l h e = rw (below y y' h, below k l e)
 
     higher : (x x' y y' k l : ℤ) → y' <ℤ y → l <ℤ k → (int_lt y y' || (int_eq y y' && int_lt x' x)) ≡ int_lt k l
-    higher x x' y y' k l h e = rw (above y y' (weak _ _ h), differs y y' h, above k l (weak _ _ e))
+    higher x x' y y' k l h e =
+        ap₂ (λ p q. p || (q && int_lt x' x)) (above y y' (weak _ _ h)) (differs y y' h) ∙ sym (above k l (weak _ _ e))
 
     level : (x x' y y' k l : ℤ) → y ≡ y' → k -ℤ l ≡ x' -ℤ x → (int_lt y y' || (int_eq y y' && int_lt x' x)) ≡ int_lt k l
     level x x' y y' k l h e =
-        rw (above y y' (omega (arith, ints)), equals y y' h)
-        (by_lt_z x' x (λ (g : x' <ℤ x). rw (below x' x g, below k l (omega (arith, ints)))) (λ (g : x ≤ℤ x'). rw (above x' x g, above k l (omega (arith, ints)))))
+        ap₂ (λ p q. p || (q && int_lt x' x)) (above y y' (omega (arith, ints))) (equals y y' h)
+        ∙ by_lt_z x' x
+        (λ (g : x' <ℤ x). below x' x g ∙ sym (below k l (omega (arith, ints))))
+        (λ (g : x ≤ℤ x'). above x' x g ∙ sym (above k l (omega (arith, ints))))

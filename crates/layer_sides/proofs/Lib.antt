@@ -3,3 +3,9 @@ pub mod InOrder
 pub mod Crossing
 pub mod Levels
 pub mod Places
+pub mod Placing
+pub mod Touching
+pub mod Orders
+pub mod Events
+pub mod Doubling
+pub mod Middles
