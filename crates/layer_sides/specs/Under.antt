@@ -52,8 +52,8 @@ abbrev pub AreSegments : List Segment → Type 0
 AreSegments ss = (s : Segment) → Contains ss s → IsSegment s
 
 -- no two segments conflict
-abbrev pub AreApart : List Segment → Type 0
-AreApart ss = (s t : Segment) → Contains ss s → Contains ss t → IsFalse (conflict s t)
+abbrev pub NoneConflict : List Segment → Type 0
+NoneConflict ss = (s t : Segment) → Contains ss s → Contains ss t → IsFalse (conflict s t)
 
 -- ---- vertices
 
@@ -113,9 +113,17 @@ borders_at bs places = map (border_at bs) places
 abbrev pub bounds_of : List Bordering → List (List ℕ)
 bounds_of bs = map (λ b. b.bounds) bs
 
+-- no two borders conflict
+abbrev pub AreApart : List Bordering → Type 0
+AreApart bs = (b c : Bordering) → Contains bs b → Contains bs c → IsFalse (conflict b.segment c.segment)
+
+-- the numbers of the polygons that each border bounds ascend
+abbrev pub AreSorted : List Bordering → Type 0
+AreSorted bs = (b : Bordering) → Contains bs b → IsStrictlySortedBy nat_cmp b.bounds
+
 -- all these lists of numbers ascend
-abbrev pub AreSorted : List (List ℕ) → Type 0
-AreSorted bounds = All (IsStrictlySortedBy nat_cmp) bounds
+abbrev pub AreAscending : List (List ℕ) → Type 0
+AreAscending bounds = All (IsStrictlySortedBy nat_cmp) bounds
 
 -- the border with these numbers for its right side
 abbrev pub with_right : Bordering → List ℕ → Bordering

@@ -4,7 +4,7 @@ ghost use Rattle.std.specs.List.Sorted.{IsStrictlySortedBy};
 ghost use Rattle.std.specs.Ordering.{nat_cmp};
 ghost use Rattle.grid_geometry.specs.Common.{xor};
 ghost use Rattle.layer_sides.specs.Sweep.{has_number};
-ghost use Rattle.layer_sides.specs.Under.{AreApartFrom, AreBelow, AreNumbered, AreOddOf, AreSorted, Rewrites, border_at};
+ghost use Rattle.layer_sides.specs.Under.{AreApartFrom, AreBelow, AreNumbered, AreOddOf, AreAscending, Rewrites, border_at};
 ghost use Rattle.layer_sides.specs.Under.{borders_at, bounds_of, is_odd_of, with_right};
 ghost use Rattle.layer_sides.specs.Seen.{borders_seen};
 
@@ -12,7 +12,6 @@ use crate::border::Border;
 use crate::fault::SideFault;
 use crate::numbers::flipped;
 use grid_geometry::Pos;
-use smallvec::SmallVec;
 use std::alloc::{AllocError, Allocator};
 
 /// The numbers of the polygons that hold the left side of the first border of the list, all of whose
@@ -23,7 +22,7 @@ fn left_of_first<A: Allocator + Copy>(
     list: &[usize],
 ) -> Result<Vec<u32, A>, AllocError>
     requires below { AreBelow (length borders.now) list.now }
-    requires sorted { AreSorted (bounds_of (borders_seen borders.now)) }
+    requires sorted { AreAscending (bounds_of (borders_seen borders.now)) }
     requires numbered { AreNumbered (borders_at (borders_seen borders.now) list.now) }
     ensures { IfOk result (λ found. AreOddOf (borders_at (borders_seen borders.now) list.now) found.items) }
 {
@@ -36,42 +35,40 @@ fn left_of_first<A: Allocator + Copy>(
     }
 }
 
-/// Writes the numbers of the polygons that hold the right side of the border at this place.
+/// Puts these numbers with the border at this place, as those of the polygons that hold its right side.
 fn set_right<A: Allocator + Copy>(
-    alloc: A,
     borders: &mut Vec<Border<A>, A>,
     place: usize,
-    numbers: &[u32],
-) -> Result<(), AllocError>
+    numbers: Vec<u32, A>,
+)
     requires { place < length borders.old.items }
-    ensures { OnOk result (borders_seen borders.new.items
-        ≡ slice_set (borders_seen borders.old.items) place
-        (with_right (border_at (borders_seen borders.old.items) place) numbers.now)) }
+    ensures { borders_seen borders.new.items ≡ slice_set (borders_seen borders.old.items) place
+        (with_right (border_at (borders_seen borders.old.items) place) numbers.items) }
 {
-    borders[place].right = SmallVec::from_slice(alloc, numbers)?;
-    Ok(())
+    borders[place].right = numbers;
 }
 
-/// Writes the numbers of the polygons that hold the right side of the border at this place; the numbers
-/// of those that hold its left side.
+/// The numbers of the polygons that hold the left side of the border at this place. Those that hold its
+/// right side are put with it.
 fn write_right<A: Allocator + Copy>(
     alloc: A,
     borders: &mut Vec<Border<A>, A>,
     place: usize,
-    numbers: &[u32],
+    numbers: Vec<u32, A>,
 ) -> Result<Vec<u32, A>, AllocError>
     requires place { place < length borders.old.items }
-    requires sorted { AreSorted (bounds_of (borders_seen borders.old.items)) }
-    requires numbers { IsStrictlySortedBy nat_cmp numbers.now }
+    requires sorted { AreAscending (bounds_of (borders_seen borders.old.items)) }
+    requires numbers { IsStrictlySortedBy nat_cmp numbers.items }
     ensures set { OnOk result (borders_seen borders.new.items
         ≡ slice_set (borders_seen borders.old.items) place
-        (with_right (border_at (borders_seen borders.old.items) place) numbers.now)) }
+        (with_right (border_at (borders_seen borders.old.items) place) numbers.items)) }
     ensures either { IfOk result (λ found. (n : ℕ) → has_number n found.items
-        ≡ xor (has_number n (border_at (borders_seen borders.old.items) place).bounds) (has_number n numbers.now)) }
+        ≡ xor (has_number n (border_at (borders_seen borders.old.items) place).bounds) (has_number n numbers.items)) }
     ensures ascending { IfOk result (λ found. IsStrictlySortedBy nat_cmp found.items) }
 {
-    set_right(alloc, borders, place, numbers)?;
-    flipped(alloc, numbers, borders[place].bounds.as_slice())
+    let left = flipped(alloc, numbers.as_slice(), borders[place].bounds.as_slice())?;
+    set_right(borders, place, numbers);
+    Ok(left)
 }
 
 /// Writes the right sides of these borders, from the last to the first; the numbers of the polygons
@@ -86,7 +83,7 @@ fn write_begun<A: Allocator + Copy>(
 ) -> Result<Vec<u32, A>, SideFault>
     requires below { AreBelow (length borders.old.items) (begun.now ++ behind.now) }
     requires apart { AreApartFrom behind.now begun.now }
-    requires sorted { AreSorted (bounds_of (borders_seen borders.old.items)) }
+    requires sorted { AreAscending (bounds_of (borders_seen borders.old.items)) }
     requires numbered { AreNumbered (borders_at (borders_seen borders.old.items) behind.now) }
     ensures rewrites { OnOk result
         (Rewrites begun.now (borders_seen borders.old.items) (borders_seen borders.new.items)) }
@@ -102,7 +99,7 @@ fn write_begun<A: Allocator + Copy>(
             return Err(SideFault::TooLarge);
         };
         *room = left;
-        numbers = write_right(alloc, borders, begun[count], numbers.as_slice())?;
+        numbers = write_right(alloc, borders, begun[count], numbers)?;
     }
     Ok(numbers)
 }
@@ -122,7 +119,7 @@ pub(crate) fn write_sides<A: Allocator + Copy>(
     requires below { AreBelow (length borders.old.items) (begun.now ++ behind.now) }
     requires below_too { AreBelow (length borders.old.items) ended.now }
     requires apart { AreApartFrom behind.now begun.now }
-    requires sorted { AreSorted (bounds_of (borders_seen borders.old.items)) }
+    requires sorted { AreAscending (bounds_of (borders_seen borders.old.items)) }
     requires numbered { AreNumbered (borders_at (borders_seen borders.old.items) behind.now) }
     requires numbered_too { AreNumbered (borders_at (borders_seen borders.old.items) ended.now) }
     ensures rewrites { OnOk result

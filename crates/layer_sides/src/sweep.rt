@@ -4,8 +4,8 @@ ghost use Rattle.std.specs.List.Sorted.{IsStrictlySortedBy};
 ghost use Rattle.grid_geometry.specs.Common.{segment_cmp};
 ghost use Rattle.layer_sides.specs.Levels.{is_under_way};
 ghost use Rattle.layer_sides.specs.Sweep.{AreSwept};
-ghost use Rattle.layer_sides.specs.Under.{AreApart, AreSegments, AreSorted, AreVertices, BegunAt, Rewrites, Stands};
-ghost use Rattle.layer_sides.specs.Under.{StandsAtEach, awaits, bounds_of};
+ghost use Rattle.layer_sides.specs.Under.{AreApart, AreAscending, AreSegments, AreSorted, AreVertices, BegunAt};
+ghost use Rattle.layer_sides.specs.Under.{NoneConflict, Rewrites, Stands, StandsAtEach, awaits, bounds_of};
 ghost use Rattle.layer_sides.specs.Seen.{borders_seen, segments_seen, vertex_seen, vertices_seen};
 
 use crate::begun::in_order;
@@ -34,8 +34,8 @@ fn go_over<A: Allocator + Copy>(
     faces: &mut Faces<A>,
 ) -> Result<Vec<usize, A>, SideFault>
     requires segments { AreSegments (segments_seen borders.old.items) }
-    requires apart { AreApart (segments_seen borders.old.items) }
-    requires sorted { AreSorted (bounds_of (borders_seen borders.old.items)) }
+    requires apart { NoneConflict (segments_seen borders.old.items) }
+    requires sorted { AreAscending (bounds_of (borders_seen borders.old.items)) }
     requires awaits { Stands (borders_seen borders.old.items) (awaits vertex.now.at) list.now }
     requires begun { BegunAt (segments_seen borders.old.items) (length borders.old.items) (vertex_seen vertex.now) }
     ensures rewrites { OnOk result (Rewrites vertex.now.begun.items
@@ -60,8 +60,8 @@ fn go_over_all<A: Allocator + Copy>(
     faces: &mut Faces<A>,
 ) -> Result<(), SideFault>
     requires segments { AreSegments (segments_seen borders.old.items) }
-    requires apart { AreApart (segments_seen borders.old.items) }
-    requires sorted { AreSorted (bounds_of (borders_seen borders.old.items)) }
+    requires apart { NoneConflict (segments_seen borders.old.items) }
+    requires sorted { AreAscending (bounds_of (borders_seen borders.old.items)) }
     requires vertices { AreVertices (segments_seen borders.old.items) (vertices_seen vertices.now) }
     ensures segments { OnOk result (segments_seen borders.new.items ≡ segments_seen borders.old.items) }
     ensures bounds { OnOk result (bounds_of (borders_seen borders.new.items) ≡ bounds_of (borders_seen borders.old.items)) }
@@ -85,8 +85,8 @@ pub(crate) fn sweep<A: Allocator + Copy>(
     borders: &mut Vec<Border<A>, A>,
 ) -> Result<Vec<u32, A>, SideFault>
     requires ascending { IsStrictlySortedBy segment_cmp (segments_seen borders.old.items) }
-    requires apart { AreApart (segments_seen borders.old.items) }
-    requires sorted { AreSorted (bounds_of (borders_seen borders.old.items)) }
+    requires apart { AreApart (borders_seen borders.old.items) }
+    requires sorted { AreSorted (borders_seen borders.old.items) }
     ensures swept { OnOk result (AreSwept (borders_seen borders.new.items)) }
     ensures segments { OnOk result (segments_seen borders.new.items ≡ segments_seen borders.old.items) }
     ensures bounds { OnOk result (bounds_of (borders_seen borders.new.items) ≡ bounds_of (borders_seen borders.old.items)) }

@@ -2,7 +2,6 @@
 use crate::border::Border;
 use crate::sweep::sweep;
 use grid_geometry::{Pos, Seg, counts};
-use smallvec::SmallVec;
 use std::alloc::Global;
 use std::process::Abort;
 use std::test::Fail;
@@ -115,8 +114,8 @@ fn push_segments(found: &mut Vec<Seg>, polygon: &[Ring]) -> Result<(), Fail> {
 }
 
 /// The numbers of the polygons that the segment bounds.
-fn bounds_of(alloc: Global, polygons: &[&'static [Ring]], segment: Seg) -> Result<SmallVec<u32, 2>, Fail> {
-    let mut bounds = SmallVec::new(alloc);
+fn bounds_of(alloc: Global, polygons: &[&'static [Ring]], segment: Seg) -> Result<Vec<u32>, Fail> {
+    let mut bounds = Vec::new(alloc);
     for (number, polygon) in polygons.iter().enumerate() {
         if is_odd(polygon, segment) {
             bounds.push(number as u32)?;
@@ -140,7 +139,7 @@ fn borders_of(alloc: Global, polygons: &[&'static [Ring]]) -> Result<Vec<Border>
             borders.push(Border {
                 segment: *segment,
                 bounds,
-                right: SmallVec::new(alloc),
+                right: Vec::new(alloc),
             })?;
         }
     }
