@@ -1,5 +1,7 @@
 mod Examples
 pub mod InOrder
+pub mod Ascending
+pub mod Odds
 pub mod Crossing
 pub mod Levels
 pub mod Places
@@ -9,3 +11,6 @@ pub mod Orders
 pub mod Events
 pub mod Doubling
 pub mod Middles
+pub mod Levelled
+pub mod Aligned
+pub mod Numbering

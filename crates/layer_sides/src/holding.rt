@@ -10,7 +10,7 @@ ghost use Rattle.layer_sides.specs.Seen.{borders_seen};
 
 use crate::border::Border;
 use crate::fault::SideFault;
-use crate::numbers::flipped;
+use crate::flips::flipped;
 use grid_geometry::Pos;
 use std::alloc::{AllocError, Allocator};
 

@@ -7,7 +7,7 @@ mod ends;
 mod faces;
 mod fault;
 mod holding;
-mod numbers;
+mod flips;
 mod sweep;
 mod under;
 mod vertices;
