@@ -14,3 +14,5 @@ pub mod Middles
 pub mod Levelled
 pub mod Aligned
 pub mod Numbering
+pub mod Turned
+pub mod Gaps
