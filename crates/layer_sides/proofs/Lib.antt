@@ -16,3 +16,4 @@ pub mod Aligned
 pub mod Numbering
 pub mod Turned
 pub mod Gaps
+pub mod Sweeping

@@ -1,10 +1,11 @@
 -- How often a place stands in a list, and lists that differ in their order alone.
 use Rattle.kit_words.proofs.Common.{◌≡◌, ◌<◌, ◌+◌, ◌==◌, ◌&&◌, ◌||◌, ℕ, zero, suc, Bool, true, false, not, refl, sym, ap}
 use Rattle.kit_words.proofs.Common.{◌∙◌, subst, cond, List, [], ◌∷◌, ◌++◌, ◌⊎◌, inl, inr, arith, eqb-true, eq-eqb, nat_lt}
-use Rattle.kit_words.proofs.Common.{IsPermutation, IsPermutation-sym, sum_by-cons, sum_by-IsPermutation, append_assoc}
+use Rattle.kit_words.proofs.Common.{IsPermutation, sum_by-cons, sum_by-IsPermutation, filter, length, ◌≤◌, false≢true, ltb-true}
 use Rattle.std.specs.Prelude.{sum_by}
-use Rattle.std.proofs.lemmas.List.Sorted.{IsPermutation-refl, IsPermutation-cons, IsPermutation-trans, IsPermutation-middle}
+use Rattle.grid_geometry.specs.Common.{xor}
 use Rattle.ring_machine.proofs.Common.{In}
+use Rattle.layer_sides.proofs.Odds.{odd, odd-append}
 use Rattle.layer_sides.specs.Under.{times, ListsPlaces}
 
 -- ---- how often
@@ -90,26 +91,117 @@ one_less : (b : Bool) (m n : ℕ) → cond b (suc m) m ≡ cond b (suc n) n → 
 one_less true m n e = omega arith
 one_less false m n e = e
 
--- lists in which each place stands as often differ in their order alone
-pub permuted : (xs ys : List ℕ) → ((i : ℕ) → times i xs ≡ times i ys) → IsPermutation xs ys
-permuted [] [] h = IsPermutation-refl []
-permuted [] (y ∷ ys) h = absurd (differ (h y ∙ times_itself y ys))
+-- lists in which each place stands as often, tested place by place
+pub odd_same : (test : ℕ → Bool) (xs ys : List ℕ) → ((i : ℕ) → times i xs ≡ times i ys) → odd test xs ≡ odd test ys
+odd_same test [] [] h = refl
+odd_same test [] (y ∷ ys) h = absurd (differ (h y ∙ times_itself y ys))
   where
     differ : 0 ≡ suc (times y ys) → ⊥
     differ e = omega arith
-permuted (x ∷ xs) ys h =
-    subst (IsPermutation (x ∷ xs)) (sym a.is)
-    (IsPermutation-trans (x ∷ xs) (x ∷ (a.front ++ a.back)) (a.front ++ x ∷ a.back)
-    (IsPermutation-cons x xs (a.front ++ a.back)
-    (permuted xs (a.front ++ a.back)
-    (λ i. one_less (x == i) (times i xs) (times i (a.front ++ a.back)) (h i ∙ ap (times i) a.is ∙ times_around i x a.front a.back))))
-    (IsPermutation-sym (a.front ++ x ∷ a.back) (x ∷ (a.front ++ a.back)) (IsPermutation-middle a.front x a.back)))
+odd_same test (x ∷ xs) ys h =
+    ap (xor (test x)) (odd_same test xs (a.front ++ a.back)
+    (λ i. one_less (x == i) (times i xs) (times i (a.front ++ a.back)) (h i ∙ ap (times i) a.is ∙ times_around i x a.front a.back)))
+    ∙ ap (xor (test x)) (odd-append test a.front a.back)
+    ∙ crossed (test x) (odd test a.front) (odd test a.back)
+    ∙ sym (ap (odd test) a.is ∙ odd-append test a.front (x ∷ a.back))
   where
     some : 0 < times x ys
     some = let e : times x ys ≡ suc (times x xs) = sym (h x) ∙ times_itself x xs in omega (arith, e)
 
     a : Around x ys
     a = around x ys (times_in x ys some)
+
+    crossed : (b c d : Bool) → xor b (xor c d) ≡ xor c (xor b d)
+    crossed b c d = grind arith
+
+-- ---- all places of a list
+
+abbrev pub places_from : {X : Type 0} → ℕ → List X → List ℕ
+places_from k [] = []
+places_from k (x ∷ xs) = k ∷ places_from (suc k) xs
+
+other_place : (i k : ℕ) (ks : List ℕ) → (k ≡ i → ⊥) → times i (k ∷ ks) ≡ times i ks
+other_place i k ks h = by (k == i) refl
+  where
+    by : (b : Bool) → (k == i) ≡ b → cond b (suc (times i ks)) (times i ks) ≡ times i ks
+    by true e = absurd (h (eqb-true k i e))
+    by false e = refl
+
+none_before : {X : Type 0} (i k : ℕ) (xs : List X) → i < k → times i (places_from k xs) ≡ 0
+none_before i k [] l = refl
+none_before i k (x ∷ xs) l =
+    other_place i k (places_from (suc k) xs) (λ e. omega arith) ∙ none_before i (suc k) xs (omega arith)
+
+none_behind : {X : Type 0} (i k : ℕ) (xs : List X) → k + length xs ≤ i → times i (places_from k xs) ≡ 0
+none_behind i k [] l = refl
+none_behind i k (x ∷ xs) l =
+    other_place i k (places_from (suc k) xs) (λ e. omega arith) ∙ none_behind i (suc k) xs (omega arith)
+
+one_each : {X : Type 0} (i k : ℕ) (xs : List X) → k ≤ i → i < k + length xs → times i (places_from k xs) ≡ 1
+one_each i k [] l h = absurd (omega arith)
+one_each i k (x ∷ xs) l h = by (k == i) refl
+  where
+    by : (b : Bool) → (k == i) ≡ b → cond b (suc (times i (places_from (suc k) xs))) (times i (places_from (suc k) xs)) ≡ 1
+    by true e =
+        let f : k ≡ i = eqb-true k i e in
+        let g : times i (places_from (suc k) xs) ≡ 0 = none_before i (suc k) xs (omega arith) in
+        omega (arith, g)
+    by false e =
+        let f : k ≡ i → ⊥ = λ g. false≢true (sym e ∙ eq-eqb k i g) in
+        one_each i (suc k) xs (omega (arith, f)) (omega arith)
+
+pub all_places : {X : Type 0} (xs : List X) → ListsPlaces (length xs) (λ i. true) (places_from 0 xs)
+all_places xs i = by (nat_lt i (length xs)) refl
+  where
+    by : (b : Bool) → nat_lt i (length xs) ≡ b → times i (places_from 0 xs) ≡ cond (b && true) 1 0
+    by true e = let l : i < length xs = ltb-true i (length xs) e in one_each i 0 xs (omega arith) (omega arith)
+    by false e = let l : length xs ≤ i = ltb-false i (length xs) e in none_behind i 0 xs (omega arith)
+
+-- ---- those that pass
+
+times-filter : (test : ℕ → Bool) (i : ℕ) (xs : List ℕ) → times i (filter test xs) ≡ cond (test i) (times i xs) 0
+times-filter test i [] = by (test i)
+  where
+    by : (b : Bool) → 0 ≡ cond b 0 0
+    by true = refl
+    by false = refl
+times-filter test i (x ∷ xs) = by (x == i) refl (test x) refl (times-filter test i xs)
+  where
+    by : (a : Bool) → (x == i) ≡ a → (b : Bool) → test x ≡ b → times i (filter test xs) ≡ cond (test i) (times i xs) 0
+        → times i (cond b (x ∷ filter test xs) (filter test xs)) ≡ cond (test i) (cond a (suc (times i xs)) (times i xs)) 0
+    by true e true f k =
+        let t : test i ≡ true = ap test (sym (eqb-true x i e)) ∙ f in
+        ap (λ c. cond c (suc (times i (filter test xs))) (times i (filter test xs))) e
+        ∙ ap suc (k ∙ ap (λ c. cond c (times i xs) 0) t) ∙ sym (ap (λ c. cond c (suc (times i xs)) 0) t)
+    by true e false f k =
+        let t : test i ≡ false = ap test (sym (eqb-true x i e)) ∙ f in
+        k ∙ ap (λ c. cond c (times i xs) 0) t ∙ sym (ap (λ c. cond c (suc (times i xs)) 0) t)
+    by false e true f k = ap (λ c. cond c (suc (times i (filter test xs))) (times i (filter test xs))) e ∙ k
+    by false e false f k = k
+
+-- the places of a list that pass, in another order
+pub odd_listed : {X : Type 0} (xs : List X) (way test : ℕ → Bool) (places : List ℕ) → ListsPlaces (length xs) way places
+    → ((i : ℕ) → In i (places_from 0 xs) → way i ≡ false → test i ≡ false) → odd test (places_from 0 xs) ≡ odd test places
+odd_listed xs way test places h none =
+    sym (unfiltered (places_from 0 xs) none)
+    ∙ odd_same test (filter way (places_from 0 xs)) places
+    (λ i. times-filter way i (places_from 0 xs) ∙ ap (λ n. cond (way i) n 0) (all_places xs i)
+    ∙ both (nat_lt i (length xs)) (way i) ∙ sym (h i))
+  where
+    both : (a b : Bool) → cond b (cond (a && true) 1 0) 0 ≡ cond (a && b) 1 0
+    both true true = refl
+    both true false = refl
+    both false true = refl
+    both false false = refl
+
+    unfiltered : (ks : List ℕ) → ((i : ℕ) → In i ks → way i ≡ false → test i ≡ false) → odd test (filter way ks) ≡ odd test ks
+    unfiltered [] h = refl
+    unfiltered (k ∷ ks) h = by (way k) refl (unfiltered ks (λ i j. h i (inr j)))
+      where
+        by : (b : Bool) → way k ≡ b → odd test (filter way ks) ≡ odd test ks
+            → odd test (cond b (k ∷ filter way ks) (filter way ks)) ≡ xor (test k) (odd test ks)
+        by true e f = ap (xor (test k)) f
+        by false e f = f ∙ sym (ap (λ b. xor b (odd test ks)) (h k (inl refl) e))
 
 -- ---- a vertex: those that end there go, those that begin there come
 
