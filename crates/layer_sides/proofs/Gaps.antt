@@ -7,13 +7,9 @@ use Rattle.ring_machine.proofs.Common.{In, in_mapped}
 use Rattle.layer_sides.specs.Common.{doubled, level_lt}
 use Rattle.layer_sides.specs.Under.{AreRising, VertexOf, turned}
 use Rattle.layer_sides.proofs.Ascending.{rises_first, rises_rest}
+use Rattle.layer_sides.proofs.Aligned.{map_in}
 use Rattle.layer_sides.proofs.Levels.{before_before, before_up_to, not_back, not_itself}
 use Rattle.layer_sides.proofs.Doubling.{level_doubled}
-
-pub map_in : {A B : Type 0} (f : A → B) (a : A) (xs : List A) → In a xs → In (f a) (map f xs)
-map_in f a (x ∷ xs) (inl e) = inl (ap f e)
-map_in f a (x ∷ xs) (inr h) = inr (map_in f a xs h)
-map_in f a [] h = absurd h
 
 -- the order of turned positions is that of levels
 pub turned_level : (p q : Position) → position_cmp (turned p) (turned q) ≡ Less → level_lt p q ≡ true

@@ -17,3 +17,4 @@ pub mod Numbering
 pub mod Turned
 pub mod Gaps
 pub mod Sweeping
+pub mod Passage

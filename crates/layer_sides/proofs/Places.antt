@@ -2,6 +2,7 @@
 use Rattle.kit_words.proofs.Common.{◌≡◌, ◌<◌, ◌+◌, ◌==◌, ◌&&◌, ◌||◌, ℕ, zero, suc, Bool, true, false, not, refl, sym, ap}
 use Rattle.kit_words.proofs.Common.{◌∙◌, subst, cond, List, [], ◌∷◌, ◌++◌, ◌⊎◌, inl, inr, arith, eqb-true, eq-eqb, nat_lt}
 use Rattle.kit_words.proofs.Common.{IsPermutation, sum_by-cons, sum_by-IsPermutation, filter, length, ◌≤◌, false≢true, ltb-true}
+use Rattle.std.proofs.Common.{ltb-false}
 use Rattle.std.specs.Prelude.{sum_by}
 use Rattle.grid_geometry.specs.Common.{xor}
 use Rattle.ring_machine.proofs.Common.{In}
@@ -212,7 +213,7 @@ module _ (n : ℕ) (awaits ends begins way : ℕ → Bool) (front ended back beg
   (before : ListsPlaces n awaits (front ++ ended ++ back)) (come : ListsPlaces n begins begun)
   (end : (i : ℕ) → In i ended → ends i ≡ true) (go_front : (i : ℕ) → In i front → ends i ≡ false)
   (go_back : (i : ℕ) → In i back → ends i ≡ false)
-  (is_way : (i : ℕ) → way i ≡ ((awaits i && not (ends i)) || begins i))
+  (is_way : (i : ℕ) → i < n → way i ≡ ((awaits i && not (ends i)) || begins i))
   (apart : (i : ℕ) → begins i ≡ true → awaits i ≡ false) where
 
   differ : (i : ℕ) → ends i ≡ true → ends i ≡ false → ⊥
@@ -245,4 +246,8 @@ module _ (n : ℕ) (awaits ends begins way : ℕ → Bool) (front ended back beg
       (λ e. none_times i back (λ j. differ i e (go_back i j)))
       (λ e. none_times i ended (λ j. differ i (end i j) e))
       (apart i)
-      ∙ ap (λ b. cond (nat_lt i n && b) 1 0) (sym (is_way i))
+      ∙ by (nat_lt i n) refl
+    where
+      by : (l : Bool) → nat_lt i n ≡ l → cond (l && ((awaits i && not (ends i)) || begins i)) 1 0 ≡ cond (l && way i) 1 0
+      by true e = ap (λ b. cond b 1 0) (sym (is_way i (ltb-true i n e)))
+      by false e = refl

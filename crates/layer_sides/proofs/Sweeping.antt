@@ -11,9 +11,9 @@ use Rattle.layer_sides.specs.Common.{AreSwept, Bordering, bottom, counts_for, do
 use Rattle.layer_sides.specs.Common.{level_lt, middle, top}
 use Rattle.layer_sides.specs.Under.{AreInOrder, AreNumbered, AreOddOf, AreRising, AreSegments, AreVertices, Stands, StandsAtEach}
 use Rattle.layer_sides.specs.Under.{VertexOf, border_at, borders_at, is_odd_of, segment_at, segments_of, times, turned, twice}
-use Rattle.layer_sides.proofs.Aligned.{order_across, order_back, order_front}
+use Rattle.layer_sides.proofs.Aligned.{map_in, order_across, order_back}
 use Rattle.layer_sides.proofs.Doubling.{InFineOrder, bottom-doubled, top-doubled, under_way_between}
-use Rattle.layer_sides.proofs.Gaps.{Gap, gap, map_in}
+use Rattle.layer_sides.proofs.Gaps.{Gap, gap}
 use Rattle.layer_sides.proofs.Levels.{not_back}
 use Rattle.layer_sides.proofs.Middles.{bottom_before_middle, counts_before, counts_behind, counts_elsewhere, counts_itself}
 use Rattle.layer_sides.proofs.Middles.{middle_before_top, middle_under_way}

@@ -10,7 +10,7 @@ use Rattle.layer_sides.specs.Under.{AreInOrder, AreTurned, segment_at}
 use Rattle.layer_sides.proofs.InOrder.{is_right}
 use Rattle.layer_sides.proofs.Levels.{rises}
 use Rattle.layer_sides.proofs.Doubling.{InFineOrder, born_together_doubled}
-use Rattle.layer_sides.proofs.Aligned.{from_in}
+use Rattle.layer_sides.proofs.Aligned.{Begins, from_in}
 
 -- ---- three directions upward
 
@@ -80,21 +80,16 @@ turned_through v a b c ha hb hc h k =
 -- ---- segments from a vertex
 
 module _ (v : Position) where
-  -- it begins at the vertex
-  pub record Begins (s : Segment) : Type 0 where
-    pub segment : IsSegment s
-    pub at : bottom s ≡ v
-
-  above_vertex : (s : Segment) → Begins s → level_lt v (top s) ≡ true
+  above_vertex : (s : Segment) → Begins v s → level_lt v (top s) ≡ true
   above_vertex s h = subst (λ z. level_lt z (top s) ≡ true) h.at (rises s h.segment)
 
-  right_at : (s : Segment) (w : Position) → Begins s → IsTrue (is_right w s) → int_lt (orientation v (top s) w) (pos 0) ≡ true
+  right_at : (s : Segment) (w : Position) → Begins v s → IsTrue (is_right w s) → int_lt (orientation v (top s) w) (pos 0) ≡ true
   right_at s w h k = subst (λ z. int_lt (orientation z (top s) w) (pos 0) ≡ true) h.at k
 
-  at_right : (s : Segment) (w : Position) → Begins s → int_lt (orientation v (top s) w) (pos 0) ≡ true → IsTrue (is_right w s)
+  at_right : (s : Segment) (w : Position) → Begins v s → int_lt (orientation v (top s) w) (pos 0) ≡ true → IsTrue (is_right w s)
   at_right s w h k = subst (λ z. int_lt (orientation z (top s) w) (pos 0) ≡ true) (sym h.at) k
 
-  right_of_next : (s t u : Segment) → Begins s → Begins t → Begins u → IsTrue (is_right (top t) s) → IsTrue (is_right (top u) t)
+  right_of_next : (s t u : Segment) → Begins v s → Begins v t → Begins v u → IsTrue (is_right (top t) s) → IsTrue (is_right (top u) t)
       → IsTrue (is_right (top u) s)
   right_of_next s t u hs ht hu h k =
       at_right s (top u) hs
@@ -106,7 +101,7 @@ module _ (v : Position) where
   AreTurning (s ∷ []) = Unit {0}
   AreTurning (s ∷ t ∷ ss) = IsTrue (is_right (top t) s) × AreTurning (t ∷ ss)
 
-  right_of_first : (s : Segment) (ss : List Segment) → AreTurning (s ∷ ss) → ((t : Segment) → In t (s ∷ ss) → Begins t)
+  right_of_first : (s : Segment) (ss : List Segment) → AreTurning (s ∷ ss) → ((t : Segment) → In t (s ∷ ss) → Begins v t)
       → (t : Segment) → In t ss → IsTrue (is_right (top t) s)
   unfolding AreTurning
   right_of_first s [] h b t i = absurd i
@@ -120,7 +115,7 @@ module _ (v : Position) where
   turning_rest s [] h = tt
   turning_rest s (t ∷ ss) h = h.1
 
-  turning_in_order : (ss : List Segment) → AreTurning ss → ((s : Segment) → In s ss → Begins s) → AreInOrder ss
+  turning_in_order : (ss : List Segment) → AreTurning ss → ((s : Segment) → In s ss → Begins v s) → AreInOrder ss
   turning_in_order [] h b = tt
   turning_in_order (s ∷ ss) h b =
       (from_in (InFineOrder s) ss (λ t i.
@@ -143,5 +138,5 @@ module _ (v : Position) where
 
   -- those that begin at v, each turned to the right from the one before it, are in order
   pub turned_in_order : (ss : List Segment) (places : List ℕ) → AreTurned ss places
-      → ((s : Segment) → In s (map (segment_at ss) places) → Begins s) → AreInOrder (map (segment_at ss) places)
+      → ((s : Segment) → In s (map (segment_at ss) places) → Begins v s) → AreInOrder (map (segment_at ss) places)
   turned_in_order ss places h b = turning_in_order (map (segment_at ss) places) (turning ss places h) b
