@@ -70,9 +70,9 @@ is_on_between p a b h k e =
     let high : p.y ≤ℤ b.y = up_to p.x p.y b.x b.y k in
     let turns : (b.x -ℤ a.x) *ℤ (p.y -ℤ a.y) -ℤ (p.x -ℤ a.x) *ℤ (b.y -ℤ a.y) ≡ pos 0 = e in
     let box : is_between a.x b.x p.x ≡ true =
-        by_lt_z a.y b.y
-        (λ (l : a.y <ℤ b.y). moved_between a.x b.x p.x (in_span (b.x -ℤ a.x) (b.y -ℤ a.y) (p.x -ℤ a.x) (p.y -ℤ a.y) (omega (arith, ints)) (omega (arith, ints)) (omega (arith, ints)) (omega (arith, ints))))
-        (λ (l : b.y ≤ℤ a.y). back_across a.x b.x p.x (across a.x a.y p.x p.y h (omega (arith, ints))) (across p.x p.y b.x b.y k (omega (arith, ints)))) in
+    by_lt_z a.y b.y
+    (λ (l : a.y <ℤ b.y). moved_between a.x b.x p.x (in_span (b.x -ℤ a.x) (b.y -ℤ a.y) (p.x -ℤ a.x) (p.y -ℤ a.y) (omega (arith, ints)) (omega (arith, ints)) (omega (arith, ints)) (omega (arith, ints))))
+    (λ (l : b.y ≤ℤ a.y). back_across a.x b.x p.x (across a.x a.y p.x p.y h (omega (arith, ints))) (across p.x p.y b.x b.y k (omega (arith, ints)))) in
     and_from _ _ (zero_is _ e) (and_from _ _ box (upward a.y b.y p.y low high))
   where
     zero_is : (z : ℤ) → z ≡ pos 0 → int_eq z (pos 0) ≡ true
