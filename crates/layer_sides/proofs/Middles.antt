@@ -1,11 +1,11 @@
 -- The middle of a segment: which segments count for it, by their place in the order.
-use Rattle.kit_words.proofs.Common.{ℤ, pos, ◌≡◌, ◌+ℤ◌, ◌-ℤ◌, ◌*ℤ◌, arith, ap, ap₂, ◌∙◌, ints, sym, true, false, IsTrue, by_bool, ◌⊎◌, ⊎_elim}
-use Rattle.kit_words.proofs.Common.{Bool, ◌&&◌, ◌||◌, not, int_lt, int_eq, and_from, and_left, or_from, refl, false≢true}
+use Rattle.kit_words.proofs.Common.{ℤ, pos, ◌≡◌, ◌+ℤ◌, arith, ap, ap₂, ◌∙◌, ints, sym, true, false, IsTrue, by_bool, ⊎_elim}
+use Rattle.kit_words.proofs.Common.{◌&&◌, ◌||◌, not, int_lt, int_eq, and_from, and_left, or_from, refl, false≢true}
 use Rattle.std.proofs.lemmas.Bool.{and_right}
 use Rattle.grid_geometry.specs.Common.{Position, Segment, IsSegment, orientation, position_eq, is_end}
 use Rattle.grid_geometry.proofs.Algebra.{expand}
 use Rattle.layer_sides.specs.Common.{level_lt, bottom, top, is_under_way, doubled, middle, counts_for}
-use Rattle.layer_sides.proofs.InOrder.{InOrder, reaches, is_right, is_left}
+use Rattle.layer_sides.proofs.InOrder.{is_right, is_left}
 use Rattle.layer_sides.proofs.Levels.{by_ends, rises, not_back, counts_where_left, before_differs, after_differs}
 use Rattle.layer_sides.proofs.Touching.{is_end_risen}
 use Rattle.layer_sides.proofs.Events.{under_way_reaches, not_both_sides}

@@ -1,10 +1,10 @@
 -- Segments that do not conflict, by the ends that come first and last by level: they do not cross, and none ends within the other.
-use Rattle.kit_words.proofs.Common.{ℤ, pos, ◌≡◌, ◌+ℤ◌, ◌-ℤ◌, ◌*ℤ◌, neg_ℤ, ◌≤ℤ◌, ◌<ℤ◌, arith, ap, ap₂, ◌∙◌, ints, sym, true, false}
-use Rattle.kit_words.proofs.Common.{Bool, ◌&&◌, ◌||◌, not, int_lt, int_le, int_eq, by_lt_z, or_comm, or_parts, and_from, false≢true, refl}
+use Rattle.kit_words.proofs.Common.{ℤ, pos, ◌≡◌, ◌-ℤ◌, ◌*ℤ◌, neg_ℤ, ◌≤ℤ◌, ◌<ℤ◌, arith, ap, ap₂, ◌∙◌, ints, sym, true, false}
+use Rattle.kit_words.proofs.Common.{◌&&◌, ◌||◌, not, int_lt, int_le, int_eq, by_lt_z, or_comm, or_parts, and_from, false≢true, refl}
 use Rattle.grid_geometry.specs.Common.{Position, Segment, position_eq, is_end}
-use Rattle.grid_geometry.specs.Orientation.{orientation, is_on, is_between, is_in_box, are_split, are_opposite}
+use Rattle.grid_geometry.specs.Orientation.{orientation, is_on, is_between, are_split, are_opposite}
 use Rattle.grid_geometry.specs.Conflict.{cross, is_within, conflict}
-use Rattle.grid_geometry.proofs.Algebra.{expand, up_up, up_down, down_up, down_down, above_above, above_below, below_above, weak}
+use Rattle.grid_geometry.proofs.Algebra.{expand, up_up, down_up, above_above, below_above, weak}
 use Rattle.grid_geometry.proofs.Turns.{orientation-reverse}
 use Rattle.grid_geometry.proofs.Conflicts.{conflict-comm}
 use Rattle.layer_sides.specs.Common.{level_lt, bottom, top}
