@@ -1,8 +1,8 @@
 -- Where two segments cross: what the heights of their ends say of the areas between them. The origin is a position that both reach.
 use Rattle.kit_words.proofs.Common.{ℤ, pos, ◌≡◌, ◌+ℤ◌, ◌-ℤ◌, ◌*ℤ◌, neg_ℤ, ◌≤ℤ◌, ◌<ℤ◌, arith, ap, ◌∙◌, ints, by_lt_z, sym}
 use Rattle.kit_words.proofs.Common.{refl, int_lt, int_eq, ◌&&◌, ◌||◌, true, false, ap₂}
-use Rattle.grid_geometry.proofs.Algebra.{expand, comm, assoc, dist, dist_right, neg_left, neg_right, weak, zero_negs}
-use Rattle.grid_geometry.proofs.Algebra.{up_up, up_down, down_up, down_down, above_above, below_above, above_below}
+use Rattle.grid_geometry.proofs.Algebra.{expand, comm, assoc, dist_right, neg_left, neg_right, weak, zero_negs}
+use Rattle.grid_geometry.proofs.Algebra.{up_up, up_down, down_up, above_above, below_above, above_below}
 use Rattle.grid_geometry.proofs.Balances.{turn}
 
 -- ---- products

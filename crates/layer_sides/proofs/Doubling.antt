@@ -1,8 +1,8 @@
 -- The grid that is twice as fine: sides, levels, conflicts and the order of segments are the same there.
-use Rattle.kit_words.proofs.Common.{ℤ, pos, ◌≡◌, ◌+ℤ◌, ◌-ℤ◌, ◌*ℤ◌, arith, ap, ap₂, ◌∙◌, ints, sym, true, false, IsTrue, ◌⊎◌, ⊎_elim}
+use Rattle.kit_words.proofs.Common.{ℤ, pos, ◌≡◌, ◌+ℤ◌, arith, ap, ap₂, ◌∙◌, ints, sym, true, false, IsTrue, ⊎_elim}
 use Rattle.kit_words.proofs.Common.{Bool, ◌&&◌, ◌||◌, not, int_lt, int_le, int_eq, int_cmp, ordering_then, refl, if◌then◌else◌, inl, inr}
-use Rattle.grid_geometry.specs.Common.{Position, Segment, IsSegment, position_eq, position_cmp, is_end}
-use Rattle.grid_geometry.specs.Orientation.{orientation, is_on, is_between, is_in_box, are_split, are_opposite}
+use Rattle.grid_geometry.specs.Common.{Position, Segment, IsSegment, position_eq, is_end}
+use Rattle.grid_geometry.specs.Orientation.{orientation, is_on, is_between, are_split, are_opposite}
 use Rattle.grid_geometry.specs.Conflict.{cross, is_within, conflict}
 use Rattle.grid_geometry.proofs.Algebra.{expand}
 use Rattle.layer_sides.specs.Common.{level_lt, bottom, top, is_under_way, doubled}

@@ -1,6 +1,6 @@
 -- What the order of two segments says of a position that both reach, and where a segment is under way between two vertices.
-use Rattle.kit_words.proofs.Common.{ℤ, pos, ◌≡◌, ◌-ℤ◌, ◌*ℤ◌, arith, ap, ap₂, ◌∙◌, ints, sym, true, false, IsTrue, by_bool, inl, inr, subst}
-use Rattle.kit_words.proofs.Common.{Bool, ◌&&◌, ◌||◌, not, int_lt, int_eq, and_from, and_parts, and_left, or_cases, false≢true, refl, ◌⊎◌, ⊎_elim}
+use Rattle.kit_words.proofs.Common.{ℤ, pos, ◌≡◌, arith, ap, ap₂, ◌∙◌, ints, sym, true, false, IsTrue, by_bool}
+use Rattle.kit_words.proofs.Common.{◌&&◌, not, int_lt, int_eq, and_from, and_parts, and_left, or_cases, ⊎_elim}
 use Rattle.std.proofs.lemmas.Bool.{and_right}
 use Rattle.grid_geometry.specs.Common.{Position, Segment, orientation, position_eq, is_end}
 use Rattle.grid_geometry.proofs.Algebra.{expand}

@@ -3,7 +3,7 @@
 use Rattle.kit_words.proofs.Common.{ℤ, pos, int_cmp, ordering_then, Less, ◌≡◌, ◌+ℤ◌, ◌-ℤ◌, ◌*ℤ◌, ◌≤ℤ◌, ◌<ℤ◌, neg_ℤ, ◌+◌, arith, Bool, true, false, cond}
 use Rattle.kit_words.proofs.Common.{◌&&◌, ◌||◌, not, ap, ◌∙◌, refl, sym, ints, by_lt_z, int_lt, int_eq, if◌then◌else◌}
 use borrow.Author.Differences.{up, down}
-use Rattle.grid_geometry.specs.Common.{Position, Segment, IsSegment, orientation, is_counted, position_eq, position_cmp}
+use Rattle.grid_geometry.specs.Common.{Position, Segment, IsSegment, orientation, is_counted, position_eq}
 use Rattle.grid_geometry.proofs.Algebra.{down_up, down_down}
 use Rattle.grid_geometry.proofs.Balances.{turn}
 use Rattle.grid_geometry.proofs.HeldLaw.{side, moved_below, moved_turn}

@@ -1,11 +1,11 @@
 -- The middle of a segment: which segments count for it, by their place in the order.
-use Rattle.kit_words.proofs.Common.{ℤ, pos, ◌≡◌, ◌+ℤ◌, ◌-ℤ◌, ◌*ℤ◌, arith, ap, ap₂, ◌∙◌, ints, sym, true, false, IsTrue, by_bool, ◌⊎◌, ⊎_elim}
-use Rattle.kit_words.proofs.Common.{Bool, ◌&&◌, ◌||◌, not, int_lt, int_eq, and_from, and_left, or_from, refl, false≢true}
+use Rattle.kit_words.proofs.Common.{ℤ, pos, ◌≡◌, ◌+ℤ◌, arith, ap, ap₂, ◌∙◌, ints, sym, true, false, IsTrue, by_bool, ⊎_elim}
+use Rattle.kit_words.proofs.Common.{◌&&◌, ◌||◌, not, int_lt, int_eq, and_from, and_left, or_from, refl, false≢true}
 use Rattle.std.proofs.lemmas.Bool.{and_right}
 use Rattle.grid_geometry.specs.Common.{Position, Segment, IsSegment, orientation, position_eq, is_end}
 use Rattle.grid_geometry.proofs.Algebra.{expand}
 use Rattle.layer_sides.specs.Common.{level_lt, bottom, top, is_under_way, doubled, middle, counts_for}
-use Rattle.layer_sides.proofs.InOrder.{InOrder, reaches, is_right, is_left}
+use Rattle.layer_sides.proofs.InOrder.{is_right, is_left}
 use Rattle.layer_sides.proofs.Levels.{by_ends, rises, not_back, counts_where_left, before_differs, after_differs}
 use Rattle.layer_sides.proofs.Touching.{is_end_risen}
 use Rattle.layer_sides.proofs.Events.{under_way_reaches, not_both_sides}
@@ -106,9 +106,9 @@ pub counts_behind : (s u : Segment) → IsSegment s → InFineOrder s u → IsTr
 counts_behind s u hs o way =
     let m = middle s in
     let left : is_left m (twice u) ≡ true =
-        ⊎_elim (λ (e : is_right m (twice s) ≡ true). absurd (false≢true (sym (middle_not_right s) ∙ e))) (λ (e : is_left m (twice u) ≡ true). e)
-        (o m (under_way_reaches m (twice s) (middle_under_way s hs)) (under_way_reaches m (twice u) way)
-        (and_left (is_end m (twice s)) (is_end m (twice u)) (middle_no_end s hs))) in
+    ⊎_elim (λ (e : is_right m (twice s) ≡ true). absurd (false≢true (sym (middle_not_right s) ∙ e))) (λ (e : is_left m (twice u) ≡ true). e)
+    (o m (under_way_reaches m (twice s) (middle_under_way s hs)) (under_way_reaches m (twice u) way)
+    (and_left (is_end m (twice s)) (is_end m (twice u)) (middle_no_end s hs))) in
     counts_for_is m u ∙ and_from (is_under_way m (twice u)) (is_left m (twice u)) way left
 
 -- and one that lies before it does not
@@ -117,9 +117,9 @@ pub counts_before : (t s : Segment) → IsSegment s → InFineOrder t s → IsTr
 counts_before t s hs o way =
     let m = middle s in
     let right : is_right m (twice t) ≡ true =
-        ⊎_elim (λ (e : is_right m (twice t) ≡ true). e) (λ (e : is_left m (twice s) ≡ true). absurd (false≢true (sym (middle_not_left s) ∙ e)))
-        (o m (under_way_reaches m (twice t) way) (under_way_reaches m (twice s) (middle_under_way s hs))
-        (and_right (is_end m (twice t)) (is_end m (twice s)) (middle_no_end s hs))) in
+    ⊎_elim (λ (e : is_right m (twice t) ≡ true). e) (λ (e : is_left m (twice s) ≡ true). absurd (false≢true (sym (middle_not_left s) ∙ e)))
+    (o m (under_way_reaches m (twice t) way) (under_way_reaches m (twice s) (middle_under_way s hs))
+    (and_right (is_end m (twice t)) (is_end m (twice s)) (middle_no_end s hs))) in
     let not_left : is_left m (twice t) ≡ false =
-        by_bool (is_left m (twice t)) (λ (e : is_left m (twice t) ≡ true). absurd (not_both_sides m (twice t) right e)) (λ (e : is_left m (twice t) ≡ false). e) in
+    by_bool (is_left m (twice t)) (λ (e : is_left m (twice t) ≡ true). absurd (not_both_sides m (twice t) right e)) (λ (e : is_left m (twice t) ≡ false). e) in
     counts_for_is m t ∙ and_right (is_under_way m (twice t)) (is_left m (twice t)) not_left

@@ -1,12 +1,10 @@
 -- The order of segments that do not conflict: how it begins where one of them begins, and what it says of a position that both reach.
-use Rattle.kit_words.proofs.Common.{ℤ, pos, ◌≡◌, ◌≤ℤ◌, ◌<ℤ◌, arith, ap, ap₂, ◌∙◌, ints, sym, true, false, IsTrue, by_bool, inl, inr}
-use Rattle.kit_words.proofs.Common.{Bool, ◌&&◌, ◌||◌, not, int_lt, or_right, or_left, and_from, and_parts, not-true, false≢true, refl, ◌⊎◌, subst}
-use Rattle.std.specs.Prelude.{IsFalse}
+use Rattle.kit_words.proofs.Common.{ℤ, pos, ◌≡◌, ◌≤ℤ◌, ◌<ℤ◌, arith, ap, ◌∙◌, ints, sym, true, false, IsTrue, by_bool, inl, inr}
+use Rattle.kit_words.proofs.Common.{◌&&◌, int_lt, or_right, or_left, and_from, and_parts, not-true, false≢true, subst}
 use Rattle.grid_geometry.specs.Common.{Position, Segment, IsSegment, orientation, position_eq, is_end, conflict}
-use Rattle.grid_geometry.proofs.Turns.{orientation-start, orientation-reverse}
 use Rattle.layer_sides.specs.Common.{level_lt, bottom, top, is_under_way}
-use Rattle.layer_sides.proofs.InOrder.{InOrder, reaches, is_right, is_left}
-use Rattle.layer_sides.proofs.Levels.{rises, up_to_before, up_to_up_to, same_level, not_itself, not_back}
+use Rattle.layer_sides.proofs.InOrder.{InOrder, is_right, is_left}
+use Rattle.layer_sides.proofs.Levels.{rises, up_to_before, up_to_up_to, same_level}
 use Rattle.layer_sides.proofs.Placing.{Between, placed_right, placed_left, placed_together}
 use Rattle.layer_sides.proofs.Touching.{risen, conflict_both_risen, is_end_risen, not_cross, first_not_within, second_not_within}
 

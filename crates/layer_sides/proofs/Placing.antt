@@ -1,8 +1,7 @@
 -- Two edges that reach a position, at which neither lies as the order wants it: they cross, or one ends on the other.
-use Rattle.kit_words.proofs.Common.{ℤ, pos, ◌≡◌, ◌+ℤ◌, ◌-ℤ◌, ◌*ℤ◌, ◌≤ℤ◌, ◌<ℤ◌, arith, ap, ◌∙◌, ints, sym, true, false, int_lt}
+use Rattle.kit_words.proofs.Common.{ℤ, pos, ◌≡◌, ◌-ℤ◌, ◌*ℤ◌, ◌≤ℤ◌, ◌<ℤ◌, arith, ◌∙◌, ints, sym, true, false, int_lt}
 use Rattle.grid_geometry.specs.Common.{Position, orientation}
 use Rattle.grid_geometry.proofs.Algebra.{expand, comm}
-use Rattle.grid_geometry.proofs.Balances.{turn}
 use Rattle.grid_geometry.proofs.HeldLaw.{moved_turn}
 use Rattle.grid_geometry.proofs.Turns.{orientation-start}
 use Rattle.layer_sides.specs.Common.{level_lt}

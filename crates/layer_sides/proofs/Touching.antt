@@ -1,10 +1,10 @@
 -- Segments that do not conflict, by the ends that come first and last by level: they do not cross, and none ends within the other.
-use Rattle.kit_words.proofs.Common.{ℤ, pos, ◌≡◌, ◌+ℤ◌, ◌-ℤ◌, ◌*ℤ◌, neg_ℤ, ◌≤ℤ◌, ◌<ℤ◌, arith, ap, ap₂, ◌∙◌, ints, sym, true, false}
-use Rattle.kit_words.proofs.Common.{Bool, ◌&&◌, ◌||◌, not, int_lt, int_le, int_eq, by_lt_z, or_comm, or_parts, and_from, false≢true, refl}
+use Rattle.kit_words.proofs.Common.{ℤ, pos, ◌≡◌, ◌-ℤ◌, ◌*ℤ◌, neg_ℤ, ◌≤ℤ◌, ◌<ℤ◌, arith, ap, ap₂, ◌∙◌, ints, sym, true, false}
+use Rattle.kit_words.proofs.Common.{◌&&◌, ◌||◌, not, int_lt, int_le, int_eq, by_lt_z, or_comm, or_parts, and_from, false≢true, refl}
 use Rattle.grid_geometry.specs.Common.{Position, Segment, position_eq, is_end}
-use Rattle.grid_geometry.specs.Orientation.{orientation, is_on, is_between, is_in_box, are_split, are_opposite}
+use Rattle.grid_geometry.specs.Orientation.{orientation, is_on, is_between, are_split, are_opposite}
 use Rattle.grid_geometry.specs.Conflict.{cross, is_within, conflict}
-use Rattle.grid_geometry.proofs.Algebra.{expand, up_up, up_down, down_up, down_down, above_above, above_below, below_above, weak}
+use Rattle.grid_geometry.proofs.Algebra.{expand, up_up, down_up, above_above, below_above, weak}
 use Rattle.grid_geometry.proofs.Turns.{orientation-reverse}
 use Rattle.grid_geometry.proofs.Conflicts.{conflict-comm}
 use Rattle.layer_sides.specs.Common.{level_lt, bottom, top}
@@ -70,9 +70,9 @@ is_on_between p a b h k e =
     let high : p.y ≤ℤ b.y = up_to p.x p.y b.x b.y k in
     let turns : (b.x -ℤ a.x) *ℤ (p.y -ℤ a.y) -ℤ (p.x -ℤ a.x) *ℤ (b.y -ℤ a.y) ≡ pos 0 = e in
     let box : is_between a.x b.x p.x ≡ true =
-        by_lt_z a.y b.y
-        (λ (l : a.y <ℤ b.y). moved_between a.x b.x p.x (in_span (b.x -ℤ a.x) (b.y -ℤ a.y) (p.x -ℤ a.x) (p.y -ℤ a.y) (omega (arith, ints)) (omega (arith, ints)) (omega (arith, ints)) (omega (arith, ints))))
-        (λ (l : b.y ≤ℤ a.y). back_across a.x b.x p.x (across a.x a.y p.x p.y h (omega (arith, ints))) (across p.x p.y b.x b.y k (omega (arith, ints)))) in
+    by_lt_z a.y b.y
+    (λ (l : a.y <ℤ b.y). moved_between a.x b.x p.x (in_span (b.x -ℤ a.x) (b.y -ℤ a.y) (p.x -ℤ a.x) (p.y -ℤ a.y) (omega (arith, ints)) (omega (arith, ints)) (omega (arith, ints)) (omega (arith, ints))))
+    (λ (l : b.y ≤ℤ a.y). back_across a.x b.x p.x (across a.x a.y p.x p.y h (omega (arith, ints))) (across p.x p.y b.x b.y k (omega (arith, ints)))) in
     and_from _ _ (zero_is _ e) (and_from _ _ box (upward a.y b.y p.y low high))
   where
     zero_is : (z : ℤ) → z ≡ pos 0 → int_eq z (pos 0) ≡ true
