@@ -50,7 +50,9 @@ gap (v ∷ []) w h x y (inl e) (inl f) hx hy =
     absurd (unlike (subst (λ (z : VertexOf). level_lt w (doubled z.0) ≡ true) (sym f ∙ e) hy) hx)
 gap (v ∷ []) w h x y (inr i) j hx hy = absurd i
 gap (v ∷ []) w h x y (inl e) (inr j) hx hy = absurd j
-gap (v ∷ u ∷ vs) w h x y i j hx hy = by_bool (level_lt w (doubled u.0)) here there
+gap (v ∷ u ∷ vs) w h x y i j hx hy =
+    by_bool (level_lt w (doubled u.0)) here
+    (λ e. there (gap (u ∷ vs) w (rest_rises v (u ∷ vs) h) u y (inl refl) (later e j) e hy))
   where
     since_first : level_lt w (doubled u.0) ≡ true → In x (v ∷ u ∷ vs) → level_lt w (doubled v.0) ≡ false
     since_first e (inl f) = subst (λ (z : VertexOf). level_lt w (doubled z.0) ≡ false) (sym f) hx
@@ -79,8 +81,8 @@ gap (v ∷ u ∷ vs) w h x y i j hx hy = by_bool (level_lt w (doubled u.0)) here
     later e (inl f) =
         absurd (unlike (still_before w v.0 u.0 (subst (λ (z : VertexOf). level_lt w (doubled z.0) ≡ true) (sym f) hy) (first_before v (u ∷ vs) h u (inl refl))) e)
 
-    there : level_lt w (doubled u.0) ≡ false → Gap (v ∷ u ∷ vs) w
-    there e = record {
+    there : Gap (u ∷ vs) w → Gap (v ∷ u ∷ vs) w
+    there g = record {
       before = g.before;
       after = g.after;
       in_before = inr g.in_before;
@@ -90,9 +92,6 @@ gap (v ∷ u ∷ vs) w h x y i j hx hy = by_bool (level_lt w (doubled u.0)) here
       none = none;
     }
       where
-        g : Gap (u ∷ vs) w
-        g = gap (u ∷ vs) w (rest_rises v (u ∷ vs) h) u y (inl refl) (later e j) e hy
-
         none : (z : VertexOf) → In z (v ∷ u ∷ vs) → level_lt g.before.0 z.0 ≡ true → level_lt z.0 g.after.0 ≡ false
         none z (inr k) l = g.none z k l
         none z (inl f) l =

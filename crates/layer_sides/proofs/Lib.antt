@@ -18,3 +18,5 @@ pub mod Turned
 pub mod Gaps
 pub mod Sweeping
 pub mod Passage
+pub mod Once
+pub mod Seeing

@@ -1,5 +1,5 @@
 -- Odd numbers: of lists one after another, of pairs of two lists, and of elements that cancel in pairs.
-use Rattle.kit_words.proofs.Common.{◌≡◌, ℕ, ◌+◌, ◌%◌, ◌==◌, Bool, true, false, refl, sym, ap, ap₂, ◌∙◌, cond, not, List, []}
+use Rattle.kit_words.proofs.Common.{◌≡◌, ℕ, ◌+◌, ◌%◌, ◌==◌, Bool, true, false, refl, sym, ap, ap₂, ◌∙◌, subst, cond, not, List, []}
 use Rattle.kit_words.proofs.Common.{◌∷◌, ◌++◌, map, inl, inr, arith, list_any, flat_map, false≢true, ◌&&◌, ◌||◌}
 use Rattle.kit_words.proofs.Common.{count_by, nat_tests, sum_by-cons, by_bool, Ordering, Less, IsStrictlySortedBy}
 use Rattle.kit_words.proofs.Common.{IsTotalOrder, false_from_ne_true}
@@ -109,35 +109,33 @@ module _ {X : Type 0} (eq : X → X → Bool) (same_by : (x y : X) → eq x y �
   once [] = []
   once (x ∷ xs) = cond (list_any (eq x) (once xs)) (once xs) (x ∷ once xs)
 
+  among : (zs : List X) (x : X) → list_any (eq x) zs ≡ true → In x zs
+  among zs x t = let z = any_in (eq x) zs t in subst (λ w. In w zs) (sym (same_by x z.0 z.2)) z.1
+
   once-covers : (xs : List X) (x : X) → In x xs → list_any (eq x) (once xs) ≡ true
   once-covers [] x i = absurd i
-  once-covers (y ∷ ys) x i = by (list_any (eq y) (once ys)) refl i
+  once-covers (y ∷ ys) x i = by (list_any (eq y) (once ys)) refl i (λ j. once-covers ys x j)
     where
-      by : (b : Bool) → list_any (eq y) (once ys) ≡ b → In x (y ∷ ys) → list_any (eq x) (cond b (once ys) (y ∷ once ys)) ≡ true
-      by true e (inl f) = ap (λ z. list_any (eq z) (once ys)) (sym f) ∙ e
-      by true e (inr j) = once-covers ys x j
-      by false e (inl f) = ap (λ b. b || list_any (eq x) (once ys)) (ap (eq x) f ∙ eq-refl x)
-      by false e (inr j) = in_any (eq x) x (y ∷ once ys) (inr (among (once ys) (once-covers ys x j))) (eq-refl x)
-        where
-          among : (zs : List X) → list_any (eq x) zs ≡ true → In x zs
-          among zs t = let z = any_in (eq x) zs t in subst_in z.0 zs z.1 (same_by x z.0 z.2)
-            where
-              subst_in : (z : X) (zs : List X) → In z zs → x ≡ z → In x zs
-              subst_in z [] j e = absurd j
-              subst_in z (w ∷ zs) (inl f) e = inl (f ∙ sym e)
-              subst_in z (w ∷ zs) (inr j) e = inr (subst_in z zs j e)
+      by : (b : Bool) → list_any (eq y) (once ys) ≡ b → In x (y ∷ ys) → (In x ys → list_any (eq x) (once ys) ≡ true)
+          → list_any (eq x) (cond b (once ys) (y ∷ once ys)) ≡ true
+      by true e (inl f) rest = ap (λ z. list_any (eq z) (once ys)) (sym f) ∙ e
+      by true e (inr j) rest = rest j
+      by false e (inl f) rest = ap (λ b. b || list_any (eq x) (once ys)) (ap (eq x) f ∙ eq-refl x)
+      by false e (inr j) rest = in_any (eq x) x (y ∷ once ys) (inr (among (once ys) x (rest j))) (eq-refl x)
 
   once-apart : (xs : List X) (x : X) → odd (eq x) (once xs) ≡ list_any (eq x) (once xs)
   once-apart [] x = refl
-  once-apart (y ∷ ys) x = by (list_any (eq y) (once ys)) refl
+  once-apart (y ∷ ys) x = by (list_any (eq y) (once ys)) refl (once-apart ys x)
     where
-      here : list_any (eq y) (once ys) ≡ false → (b : Bool) → eq x y ≡ b → xor b (odd (eq x) (once ys)) ≡ (b || list_any (eq x) (once ys))
-      here e true f = ap not (once-apart ys x ∙ ap (λ z. list_any (eq z) (once ys)) (same_by x y f) ∙ e)
-      here e false f = once-apart ys x
+      here : list_any (eq y) (once ys) ≡ false → (b : Bool) → eq x y ≡ b → odd (eq x) (once ys) ≡ list_any (eq x) (once ys)
+          → xor b (odd (eq x) (once ys)) ≡ (b || list_any (eq x) (once ys))
+      here e true f rest = ap not (rest ∙ ap (λ z. list_any (eq z) (once ys)) (same_by x y f) ∙ e)
+      here e false f rest = rest
 
-      by : (b : Bool) → list_any (eq y) (once ys) ≡ b → odd (eq x) (cond b (once ys) (y ∷ once ys)) ≡ list_any (eq x) (cond b (once ys) (y ∷ once ys))
-      by true e = once-apart ys x
-      by false e = here e (eq x y) refl
+      by : (b : Bool) → list_any (eq y) (once ys) ≡ b → odd (eq x) (once ys) ≡ list_any (eq x) (once ys)
+          → odd (eq x) (cond b (once ys) (y ∷ once ys)) ≡ list_any (eq x) (cond b (once ys) (y ∷ once ys))
+      by true e rest = rest
+      by false e rest = here e (eq x y) refl rest
 
   -- of a list, counted by its elements, each once
   odd_once : (f : X → Bool) (xs : List X) → odd f xs ≡ odd (λ y. odd (eq y) xs && f y) (once xs)

@@ -182,7 +182,7 @@ module _ (bs : List Bordering) (v : VertexOf) (places begun : List ℕ) (b e : �
       listed_after (length (segments_of bs)) (λ i. awaits v.0 (seg i)) (λ i. position_eq (top (seg i)) v.0)
       (λ i. position_eq (bottom (seg i)) v.0) (λ i. is_under_way v.0 (seg i)) front ended back begun
       (subst (ListsPlaces (length (segments_of bs)) (λ i. awaits v.0 (seg i))) parts st.exact)
-      (λ i. come i ∙ ap (λ k. cond (nat_lt i k && position_eq (bottom (seg i)) v.0) 1 0) (sym long))
+      (λ i. come i ∙ ap (λ k. cond {A = ℕ} (nat_lt i k && position_eq (bottom (seg i)) v.0) 1 0) (sym long))
       ends go_front go_back
       (λ i l. way_after v.0 (seg i) (risen i l))
       (λ i h. begins_apart v.0 (seg i) h)

@@ -42,11 +42,11 @@ times_in i [] h = absurd (none h)
   where
     none : 0 < 0 → ⊥
     none k = omega arith
-times_in i (x ∷ xs) h = by (x == i) refl h
+times_in i (x ∷ xs) h = by (x == i) refl (times_in i xs) h
   where
-    by : (b : Bool) → (x == i) ≡ b → 0 < cond b (suc (times i xs)) (times i xs) → In i (x ∷ xs)
-    by true e k = inl (eqb-true x i e)
-    by false e k = inr (times_in i xs k)
+    by : (b : Bool) → (x == i) ≡ b → (0 < times i xs → In i xs) → 0 < cond b (suc (times i xs)) (times i xs) → In i (x ∷ xs)
+    by true e rest k = inl (eqb-true x i e)
+    by false e rest k = inr (rest k)
 
 pub times_itself : (x : ℕ) (xs : List ℕ) → times x (x ∷ xs) ≡ suc (times x xs)
 times_itself x xs = ap (λ b. cond b (suc (times x xs)) (times x xs)) (eq-eqb x x refl)
@@ -140,16 +140,16 @@ none_behind i k (x ∷ xs) l =
 
 one_each : {X : Type 0} (i k : ℕ) (xs : List X) → k ≤ i → i < k + length xs → times i (places_from k xs) ≡ 1
 one_each i k [] l h = absurd (omega arith)
-one_each i k (x ∷ xs) l h = by (k == i) refl
+one_each i k (x ∷ xs) l h = by (k == i) refl (one_each i (suc k) xs)
   where
-    by : (b : Bool) → (k == i) ≡ b → cond b (suc (times i (places_from (suc k) xs))) (times i (places_from (suc k) xs)) ≡ 1
-    by true e =
+    by : (b : Bool) → (k == i) ≡ b → (suc k ≤ i → i < suc k + length xs → times i (places_from (suc k) xs) ≡ 1) → cond b (suc (times i (places_from (suc k) xs))) (times i (places_from (suc k) xs)) ≡ 1
+    by true e rest =
         let f : k ≡ i = eqb-true k i e in
         let g : times i (places_from (suc k) xs) ≡ 0 = none_before i (suc k) xs (omega arith) in
         omega (arith, g)
-    by false e =
+    by false e rest =
         let f : k ≡ i → ⊥ = λ g. false≢true (sym e ∙ eq-eqb k i g) in
-        one_each i (suc k) xs (omega (arith, f)) (omega arith)
+        rest (omega (arith, f)) (omega arith)
 
 pub all_places : {X : Type 0} (xs : List X) → ListsPlaces (length xs) (λ i. true) (places_from 0 xs)
 all_places xs i = by (nat_lt i (length xs)) refl
@@ -163,7 +163,7 @@ all_places xs i = by (nat_lt i (length xs)) refl
 times-filter : (test : ℕ → Bool) (i : ℕ) (xs : List ℕ) → times i (filter test xs) ≡ cond (test i) (times i xs) 0
 times-filter test i [] = by (test i)
   where
-    by : (b : Bool) → 0 ≡ cond b 0 0
+    by : (b : Bool) → ◌≡◌ {A = ℕ} 0 (cond b 0 0)
     by true = refl
     by false = refl
 times-filter test i (x ∷ xs) = by (x == i) refl (test x) refl (times-filter test i xs)
@@ -189,7 +189,7 @@ odd_listed xs way test places h none =
     (λ i. times-filter way i (places_from 0 xs) ∙ ap (λ n. cond (way i) n 0) (all_places xs i)
     ∙ both (nat_lt i (length xs)) (way i) ∙ sym (h i))
   where
-    both : (a b : Bool) → cond b (cond (a && true) 1 0) 0 ≡ cond (a && b) 1 0
+    both : (a b : Bool) → ◌≡◌ {A = ℕ} (cond b (cond (a && true) 1 0) 0) (cond (a && b) 1 0)
     both true true = refl
     both true false = refl
     both false true = refl
@@ -248,6 +248,6 @@ module _ (n : ℕ) (awaits ends begins way : ℕ → Bool) (front ended back beg
       (apart i)
       ∙ by (nat_lt i n) refl
     where
-      by : (l : Bool) → nat_lt i n ≡ l → cond (l && ((awaits i && not (ends i)) || begins i)) 1 0 ≡ cond (l && way i) 1 0
-      by true e = ap (λ b. cond b 1 0) (sym (is_way i (ltb-true i n e)))
+      by : (l : Bool) → nat_lt i n ≡ l → ◌≡◌ {A = ℕ} (cond (l && ((awaits i && not (ends i)) || begins i)) 1 0) (cond (l && way i) 1 0)
+      by true e = ap (λ b. cond {A = ℕ} b 1 0) (sym (is_way i (ltb-true i n e)))
       by false e = refl

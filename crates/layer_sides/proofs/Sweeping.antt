@@ -147,7 +147,7 @@ module _ (bs : List Bordering) (vs : List VertexOf) (segments : AreSegments (seg
       under = sym (kept i bound) ∙ middle_under_way (seg i) is_seg
 
       once : times i places ≡ 1
-      once = st.exact i ∙ ap₂ (λ b c. cond (b && c) 1 0) (lt-ltb i (length (segments_of bs)) (subst (λ n. i < n) (sym long) bound)) under
+      once = st.exact i ∙ ap₂ (λ b c. cond {A = ℕ} (b && c) 1 0) (lt-ltb i (length (segments_of bs)) (subst (λ n. i < n) (sym long) bound)) under
 
       some : 0 < times i places
       some = omega (arith, once)
@@ -217,11 +217,11 @@ module _ (bs : List Bordering) (vs : List VertexOf) (segments : AreSegments (seg
   odd_back n (j ∷ js) h = ap₂ xor (h j (inl refl)) (odd_back n js (λ k l. h k (inr l)))
 
   pub right_odd : (n : ℕ) → has_number n (border_at bs i).right ≡ is_odd_at bs n (middle (seg i))
-  unfolding m, test
+  unfolding m test
   right_odd n =
       numbered.0.odd n
       ∙ sym (by_place n m [] bs
-      ∙ odd_listed bs (λ j. is_under_way g.before.0 (seg j)) (test n) places (λ j. st.exact j ∙ ap (λ k. cond (nat_lt j k && is_under_way g.before.0 (seg j)) 1 0) long)
+      ∙ odd_listed bs (λ j. is_under_way g.before.0 (seg j)) (test n) places (λ j. st.exact j ∙ ap (λ k. cond {A = ℕ} (nat_lt j k && is_under_way g.before.0 (seg j)) 1 0) long)
       (λ j h f. let l = place_below j 0 bs h in
       let k : j < length bs = omega (arith, l) in
       as_seg n j k false (counts_elsewhere m (seg j) (kept j k ∙ f)) ∙ and_none (has_number n (border_at bs j).bounds))

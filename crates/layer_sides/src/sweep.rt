@@ -14,7 +14,7 @@ use crate::faces::Faces;
 use crate::fault::SideFault;
 use crate::holding::write_sides;
 use crate::under::{ended_at, with_begun};
-use crate::vertices::{Vertex, vertices_of};
+use crate::vertices::{Vertex, disordered, vertices_of};
 use std::alloc::Allocator;
 
 /// The most borders: so many sides have numbers of 32 bits.
@@ -94,6 +94,9 @@ pub(crate) fn sweep<A: Allocator + Copy>(
 {
     if borders.len() > MOST_BORDERS {
         return Err(SideFault::TooLarge);
+    }
+    if let Some(at) = disordered(borders.as_slice()) {
+        return Err(SideFault::Unswept(at));
     }
     let vertices = vertices_of(alloc, borders.as_slice())?;
     let sides = 2 * borders.len() + 1;

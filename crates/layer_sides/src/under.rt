@@ -1,7 +1,6 @@
 // The list of the borders under way, from left to right: the place of a vertex in it.
 ghost use Rattle.std.specs.Prelude.{◌≡◌, ◌<◌, ◌≤◌, ◌++◌, ◌∷◌, [], ℕ, List, length, take, drop, IsTrue, IfOk, IfSome};
 ghost use Rattle.std.specs.List.{All};
-ghost use Rattle.grid_geometry.specs.Common.{IsSegment};
 ghost use Rattle.layer_sides.specs.Levels.{top};
 ghost use Rattle.layer_sides.specs.Order as order;
 ghost use Rattle.layer_sides.specs.Under as spec;
@@ -16,8 +15,7 @@ use std::alloc::{AllocError, Allocator};
 /// The segment of the border at this place.
 pub(crate) fn segment_at<A: Allocator + Copy>(borders: &[Border<A>], place: usize) -> Seg
     requires { place < length borders.now }
-    ensures value { result ≡ spec.segment_at (segments_seen borders.now) place }
-    ensures ordered { IsSegment result }
+    ensures { result ≡ spec.segment_at (segments_seen borders.now) place }
 {
     borders[place].segment
 }

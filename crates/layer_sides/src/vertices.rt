@@ -1,5 +1,5 @@
 // The vertices of borders, in the order in which the sweep comes to them.
-ghost use Rattle.std.specs.Prelude.{◌≡◌, [], map, length, Contains, IfOk, OnOk};
+ghost use Rattle.std.specs.Prelude.{◌≡◌, [], map, length, Contains, IfOk, IsNone, OnOk};
 ghost use Rattle.std.specs.List.{All, flat_map};
 ghost use Rattle.grid_geometry.specs.Common.{position_cmp};
 ghost use Rattle.layer_sides.specs.Under as spec;
@@ -35,13 +35,24 @@ fn turned_back(p: Pos) -> Pos
     Pos::new(-p.y(), p.x()).unwrap_or(p)
 }
 
+/// The lesser end of a border whose ends are not in order; none in those of a layer.
+pub(crate) fn disordered<A: Allocator + Copy>(borders: &[Border<A>]) -> Option<Pos>
+    ensures { IsNone result → AreSegments (segments_seen borders.now) }
+{
+    for border in borders {
+        if !(border.segment.lo < border.segment.hi) {
+            return Some(border.segment.lo);
+        }
+    }
+    None
+}
+
 /// The ends of the borders, turned.
 fn turned_ends<A: Allocator + Copy>(
     alloc: A,
     borders: &[Border<A>],
 ) -> Result<Vec<Pos, A>, AllocError>
-    ensures ends { IfOk result (λ found. found.items ≡ flat_map spec.turned_ends (segments_seen borders.now)) }
-    ensures segments { OnOk result (AreSegments (segments_seen borders.now)) }
+    ensures { IfOk result (λ found. found.items ≡ flat_map spec.turned_ends (segments_seen borders.now)) }
 {
     let mut found = Vec::new(alloc);
     for border in borders {
@@ -118,8 +129,7 @@ pub(crate) fn vertices_of<A: Allocator + Copy>(
     alloc: A,
     borders: &[Border<A>],
 ) -> Result<Vec<Vertex<A>, A>, SideFault>
-    ensures vertices { IfOk result (λ found. AreVertices (segments_seen borders.now) (vertices_seen found.items)) }
-    ensures segments { OnOk result (AreSegments (segments_seen borders.now)) }
+    ensures { IfOk result (λ found. AreVertices (segments_seen borders.now) (vertices_seen found.items)) }
 {
     let mut levels = turned_ends(alloc, borders)?;
     sort_once(&mut levels);

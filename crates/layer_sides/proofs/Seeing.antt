@@ -1,0 +1,18 @@
+-- What the code holds, seen as borders: at a place, and with one border changed.
+use Rattle.kit_words.proofs.Common.{◌≡◌, ℕ, ◌<◌, sym, ap, ◌∙◌, refl, List, map, length, get_or, set, get_or-map, map-set, Vec}
+use Rattle.kit_words.proofs.Common.{length-map, get_or_default}
+use Rattle.layer_sides.specs.Borders.{Bordering}
+use Rattle.layer_sides.specs.declared.border.Border.{Border}
+use Rattle.layer_sides.specs.Seen.{border_seen, borders_seen, segments_seen}
+use Rattle.layer_sides.specs.Under.{border_at, segment_at, segments_of, with_right}
+
+pub border_at_seen : {A : Type 0} (xs : List (Border A)) (i : ℕ) (x : Border A) → i < length xs → border_at (borders_seen xs) i ≡ border_seen (get_or xs i x)
+border_at_seen xs i x l = get_or-map border_seen xs i x _ l
+
+pub segment_of_border : (bs : List Bordering) (i : ℕ) → i < length bs → segment_at (segments_of bs) i ≡ (border_at bs i).segment
+segment_of_border bs i l = get_or-map (λ (b : Bordering). b.segment) bs i _ _ l
+
+pub segment_seen : {A : Type 0} (xs : List (Border A)) (i : ℕ) (x : Border A) → i < length xs
+    → (get_or xs i x).segment ≡ segment_at (segments_seen xs) i
+segment_seen xs i x l =
+    sym (segment_of_border (borders_seen xs) i (rw length-map l) ∙ ap (λ (b : Bordering). b.segment) (border_at_seen xs i x l))
