@@ -20,3 +20,5 @@ pub mod Sweeping
 pub mod Passage
 pub mod Once
 pub mod Seeing
+pub mod Flipping
+pub mod Writing

@@ -16,3 +16,11 @@ pub segment_seen : {A : Type 0} (xs : List (Border A)) (i : ℕ) (x : Border A) 
     → (get_or xs i x).segment ≡ segment_at (segments_seen xs) i
 segment_seen xs i x l =
     sym (segment_of_border (borders_seen xs) i (rw length-map l) ∙ ap (λ (b : Bordering). b.segment) (border_at_seen xs i x l))
+
+-- a border with other numbers for its right side
+pub right_set : {A : Type 0} (xs : List (Border A)) (i : ℕ) (x : Border A) (numbers : Vec ℕ A) → i < length xs → x ≡ get_or xs i x
+    → borders_seen (set xs i (record { segment = x.segment; bounds = x.bounds; right = numbers }))
+    ≡ set (borders_seen xs) i (with_right (border_at (borders_seen xs) i) numbers.items)
+right_set xs i x numbers l e =
+    map-set border_seen xs i (record { segment = x.segment; bounds = x.bounds; right = numbers })
+    ∙ ap (λ (b : Bordering). set (borders_seen xs) i (with_right b numbers.items)) (ap border_seen e ∙ sym (border_at_seen xs i x l))
