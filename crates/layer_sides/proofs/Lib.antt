@@ -22,3 +22,5 @@ pub mod Once
 pub mod Seeing
 pub mod Flipping
 pub mod Writing
+pub mod Noting
+pub mod Going
