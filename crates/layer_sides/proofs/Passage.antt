@@ -42,17 +42,11 @@ listed_once n test places h i j = by (nat_lt i n && test i) (h i) (in_times i pl
 
 module _ (bs : List Bordering) (v : VertexOf) (places begun : List ℕ) (b e : ℕ)
   (segments : AreSegments (segments_of bs)) (apart : NoneConflict (segments_of bs))
-  (st : Stands bs (awaits v.0) places) (at : BegunAt (segments_of bs) (length bs) v)
+  (st : Stands bs (awaits v.0) places) (at : BegunAt (segments_of bs) (length (segments_of bs)) v)
   (cut : CutsAt (segments_of bs) places v.0 b e) (perm : IsPermutation v.1 begun) where
 
   abbrev seg : ℕ → Segment
   seg i = segment_at (segments_of bs) i
-
-  n : ℕ
-  n = length (segments_of bs)
-
-  long : length (segments_of bs) ≡ length bs
-  long = length-map bs (λ (b : Bordering). b.segment)
 
   abbrev front : List ℕ
   front = take b places
@@ -84,37 +78,37 @@ module _ (bs : List Bordering) (v : VertexOf) (places begun : List ℕ) (b e : �
   waits : (i : ℕ) → In i places → IsListed (length (segments_of bs)) (λ i. awaits v.0 (seg i)) i
   waits i h = listed (length (segments_of bs)) (λ i. awaits v.0 (seg i)) places st.exact i h
 
-  come : ListsPlaces (length bs) (λ i. position_eq (bottom (seg i)) v.0) begun
+  come : ListsPlaces (length (segments_of bs)) (λ i. position_eq (bottom (seg i)) v.0) begun
   come i = times-permuted i v.1 begun perm ∙ at i
 
-  comes : (i : ℕ) → In i begun → IsListed (length bs) (λ i. position_eq (bottom (seg i)) v.0) i
-  comes i h = listed (length bs) (λ i. position_eq (bottom (seg i)) v.0) begun come i h
+  comes : (i : ℕ) → In i begun → IsListed (length (segments_of bs)) (λ i. position_eq (bottom (seg i)) v.0) i
+  comes i h = listed (length (segments_of bs)) (λ i. position_eq (bottom (seg i)) v.0) begun come i h
 
   is_seg : (i : ℕ) → i < length (segments_of bs) → IsSegment (seg i)
   is_seg i l = segments (seg i) (segment_there (segments_of bs) i l)
 
   begins : (i : ℕ) → In i begun → Begins v.0 (seg i)
   begins i h = record {
-    segment = is_seg i (subst (λ k. i < k) (sym long) (comes i h).below);
+    segment = is_seg i (comes i h).below;
     at = position_eq-exact (bottom (seg i)) v.0 (comes i h).passes;
   }
 
   -- ---- what is asked of the numbers
 
-  pub below_all : AreBelow (length bs) (begun ++ back)
+  pub below_all : AreBelow (length (segments_of bs)) (begun ++ back)
   below_all =
-      All-from_recursion (λ i. i < length bs) (begun ++ back)
-      (from_in (λ i. i < length bs) (begun ++ back)
-      (λ i h. ⊎_elim (λ (j : In i begun). (comes i j).below) (λ (j : In i back). subst (λ k. i < k) long (waits i (of_back i j)).below) (in-append i begun back h)))
+      All-from_recursion (λ i. i < length (segments_of bs)) (begun ++ back)
+      (from_in (λ i. i < length (segments_of bs)) (begun ++ back)
+      (λ i h. ⊎_elim (λ (j : In i begun). (comes i j).below) (λ (j : In i back). (waits i (of_back i j)).below) (in-append i begun back h)))
 
   -- the places of the list from one on
   from_rest : (k i : ℕ) → In i (drop k places) → In i places
   from_rest k i h = subst (In i) (take-append-drop k places) (in_right i (take k places) (drop k places) h)
 
-  pub below_rest : (k : ℕ) → AreBelow (length bs) (drop k places)
+  pub below_rest : (k : ℕ) → AreBelow (length (segments_of bs)) (drop k places)
   below_rest k =
-      All-from_recursion (λ i. i < length bs) (drop k places)
-      (from_in (λ i. i < length bs) (drop k places) (λ i h. subst (λ m. i < m) long (waits i (from_rest k i h)).below))
+      All-from_recursion (λ i. i < length (segments_of bs)) (drop k places)
+      (from_in (λ i. i < length (segments_of bs)) (drop k places) (λ i h. (waits i (from_rest k i h)).below))
 
   -- what begins at the vertex is not in the list
   not_there : (i : ℕ) → In i begun → In i places → ⊥
@@ -126,7 +120,7 @@ module _ (bs : List Bordering) (v : VertexOf) (places begun : List ℕ) (b e : �
   pub apart_from : AreApartFrom back begun
   apart_from i c =
       let h = contains_in begun i c in
-      (listed_once (length bs) (λ i. position_eq (bottom (seg i)) v.0) begun come i h,
+      (listed_once (length (segments_of bs)) (λ i. position_eq (bottom (seg i)) v.0) begun come i h,
       none_times i back (λ j. not_there i h (of_back i j)))
 
   pub numbered_rest : (k : ℕ) → AreNumbered (borders_at bs (drop k places))
@@ -182,7 +176,7 @@ module _ (bs : List Bordering) (v : VertexOf) (places begun : List ℕ) (b e : �
       listed_after (length (segments_of bs)) (λ i. awaits v.0 (seg i)) (λ i. position_eq (top (seg i)) v.0)
       (λ i. position_eq (bottom (seg i)) v.0) (λ i. is_under_way v.0 (seg i)) front ended back begun
       (subst (ListsPlaces (length (segments_of bs)) (λ i. awaits v.0 (seg i))) parts st.exact)
-      (λ i. come i ∙ ap (λ k. cond {A = ℕ} (nat_lt i k && position_eq (bottom (seg i)) v.0) 1 0) (sym long))
+      come
       ends go_front go_back
       (λ i l. way_after v.0 (seg i) (risen i l))
       (λ i h. begins_apart v.0 (seg i) h)
@@ -191,7 +185,7 @@ module _ (bs : List Bordering) (v : VertexOf) (places begun : List ℕ) (b e : �
   order_behind turned =
       order_after seg v.0 front ended back begun
       (λ i j h k. let l = (waits i (in_parts i h)).below in
-      let m : j < length (segments_of bs) = subst (λ k. j < k) (sym long) (comes j k).below in
+      let m : j < length (segments_of bs) = (comes j k).below in
       (none_conflict i j l m, none_conflict j i m l))
       (λ i h. is_seg i (waits i (in_parts i h)).below)
       begins (subst (λ ks. AreInOrder (map seg ks)) parts st.ordered)

@@ -24,3 +24,6 @@ pub right_set : {A : Type 0} (xs : List (Border A)) (i : ℕ) (x : Border A) (nu
 right_set xs i x numbers l e =
     map-set border_seen xs i (record { segment = x.segment; bounds = x.bounds; right = numbers })
     ∙ ap (λ (b : Bordering). set (borders_seen xs) i (with_right b numbers.items)) (ap border_seen e ∙ sym (border_at_seen xs i x l))
+
+pub length_seen : {A : Type 0} (xs : List (Border A)) → length (segments_seen xs) ≡ length xs
+length_seen xs = length-map (borders_seen xs) (λ (b : Bordering). b.segment) ∙ length-map xs border_seen

@@ -37,7 +37,7 @@ fn go_over<A: Allocator + Copy>(
     requires apart { NoneConflict (segments_seen borders.old.items) }
     requires sorted { AreAscending (bounds_of (borders_seen borders.old.items)) }
     requires awaits { Stands (borders_seen borders.old.items) (awaits vertex.now.at) list.now }
-    requires begun { BegunAt (segments_seen borders.old.items) (length borders.old.items) (vertex_seen vertex.now) }
+    requires begun { BegunAt (segments_seen borders.old.items) (length (segments_seen borders.old.items)) (vertex_seen vertex.now) }
     ensures rewrites { OnOk result (Rewrites vertex.now.begun.items
         (borders_seen borders.old.items) (borders_seen borders.new.items)) }
     ensures stands { IfOk result (λ next. Stands (borders_seen borders.new.items) (is_under_way vertex.now.at) next.items) }

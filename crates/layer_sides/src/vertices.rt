@@ -116,7 +116,7 @@ fn note_all<A: Allocator + Copy>(
     requires bare { All (λ v. v.1 ≡ []) (vertices_seen vertices.old.items) }
     ensures same { OnOk result (map (λ v. v.0) (vertices_seen vertices.new.items)
         ≡ map (λ v. v.0) (vertices_seen vertices.old.items)) }
-    ensures begun { OnOk result (All (BegunAt (segments_seen borders.now) (length borders.now)) (vertices_seen vertices.new.items)) }
+    ensures begun { OnOk result (All (BegunAt (segments_seen borders.now) (length (segments_seen borders.now))) (vertices_seen vertices.new.items)) }
 {
     for (place, border) in borders.iter().enumerate() {
         note(levels, vertices, place, bottom_of(border.segment))?;
