@@ -24,3 +24,4 @@ pub mod Flipping
 pub mod Writing
 pub mod Noting
 pub mod Going
+pub mod Cutting

@@ -9,8 +9,6 @@ use Rattle.std.proofs.lemmas.Map.Keys.{Less-from_sorted}
 use Rattle.grid_geometry.specs.Common.{Position, Segment, position_cmp, position_eq, IsSegment}
 use Rattle.ring_machine.proofs.Common.{In, contains_in, in_contains, position_eq-refl}
 use Rattle.layer_sides.specs.Common.{bottom, level_lt, top}
-use Rattle.layer_sides.specs.declared.vertices.Vertex.{Vertex}
-use Rattle.layer_sides.specs.Seen.{vertex_seen, vertices_seen}
 use Rattle.layer_sides.specs.Under.{AreRising, AreSegments, AreVertices, Ascends, BegunAt, Notes, VertexOf, segment_at, times, turned}
 use Rattle.layer_sides.specs.Under.{turned_ends}
 use Rattle.layer_sides.proofs.Gaps.{turned_level}
@@ -35,22 +33,6 @@ pub end_among : (ss : List Segment) (s : Segment) → In s ss → In (turned (bo
 end_among [] s h = absurd h
 end_among (t ∷ ss) s (inl e) = (inl (ap (λ z. turned (bottom z)) e), inr (inl (ap (λ z. turned (top z)) e)))
 end_among (t ∷ ss) s (inr h) = let k = end_among ss s h in (inr (inr k.0), inr (inr k.1))
-
--- ---- what is noted
-
-pub noted : {A : Type 0} (xs : List (Vertex A)) (k : ℕ) (x : Vertex A) (place : ℕ) (at : Position) (pushed : Vec ℕ A)
-    → k < length xs → x ≡ get_or xs k x → x.at ≡ at → pushed.items ≡ x.begun.items ++ place ∷ []
-    → Notes place at (vertices_seen xs) (vertices_seen (set xs k (record { at = x.at; begun = pushed })))
-noted xs k x place at pushed l e h f = record {
-  k = k;
-  bound = rw length-map l;
-  there = ap (λ (v : VertexOf). v.0) here ∙ h;
-  noted = map-set vertex_seen xs k (record { at = x.at; begun = pushed })
-      ∙ ap₂ (λ p ns. set (vertices_seen xs) k (p, ns)) h (f ∙ ap (λ (v : VertexOf). v.1 ++ place ∷ []) (sym here));
-}
-  where
-    here : get_or (vertices_seen xs) k (at, []) ≡ vertex_seen x
-    here = get_or-map vertex_seen xs k x _ l ∙ ap vertex_seen (sym e)
 
 -- ---- of rising vertices
 

@@ -1,10 +1,12 @@
 -- What the code holds, seen as borders: at a place, and with one border changed.
 use Rattle.kit_words.proofs.Common.{◌≡◌, ℕ, ◌<◌, sym, ap, ◌∙◌, refl, List, map, length, get_or, set, get_or-map, map-set, Vec}
-use Rattle.kit_words.proofs.Common.{length-map, get_or_default}
+use Rattle.kit_words.proofs.Common.{length-map, get_or_default, ap₂, [], ◌∷◌, ◌++◌}
+use Rattle.grid_geometry.specs.Common.{Position}
 use Rattle.layer_sides.specs.Borders.{Bordering}
 use Rattle.layer_sides.specs.declared.border.Border.{Border}
-use Rattle.layer_sides.specs.Seen.{border_seen, borders_seen, segments_seen}
-use Rattle.layer_sides.specs.Under.{border_at, segment_at, segments_of, with_right}
+use Rattle.layer_sides.specs.declared.vertices.Vertex.{Vertex}
+use Rattle.layer_sides.specs.Seen.{border_seen, borders_seen, segments_seen, vertex_seen, vertices_seen}
+use Rattle.layer_sides.specs.Under.{Notes, VertexOf, border_at, segment_at, segments_of, with_right}
 
 pub border_at_seen : {A : Type 0} (xs : List (Border A)) (i : ℕ) (x : Border A) → i < length xs → border_at (borders_seen xs) i ≡ border_seen (get_or xs i x)
 border_at_seen xs i x l = get_or-map border_seen xs i x _ l
@@ -27,3 +29,20 @@ right_set xs i x numbers l e =
 
 pub length_seen : {A : Type 0} (xs : List (Border A)) → length (segments_seen xs) ≡ length xs
 length_seen xs = length-map (borders_seen xs) (λ (b : Bordering). b.segment) ∙ length-map xs border_seen
+
+-- ---- what is noted
+
+pub noted : {A : Type 0} (xs : List (Vertex A)) (k : ℕ) (x : Vertex A) (place : ℕ) (at : Position) (pushed : Vec ℕ A)
+    → k < length xs → x ≡ get_or xs k x → x.at ≡ at → pushed.items ≡ x.begun.items ++ place ∷ []
+    → Notes place at (vertices_seen xs) (vertices_seen (set xs k (record { at = x.at; begun = pushed })))
+noted xs k x place at pushed l e h f = record {
+  k = k;
+  bound = rw length-map l;
+  there = ap (λ (v : VertexOf). v.0) here ∙ h;
+  noted = map-set vertex_seen xs k (record { at = x.at; begun = pushed })
+      ∙ ap₂ (λ p ns. set (vertices_seen xs) k (p, ns)) h (f ∙ ap (λ (v : VertexOf). v.1 ++ place ∷ []) (sym here));
+}
+  where
+    here : get_or (vertices_seen xs) k (at, []) ≡ vertex_seen x
+    here = get_or-map vertex_seen xs k x _ l ∙ ap vertex_seen (sym e)
+
