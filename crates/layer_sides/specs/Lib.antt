@@ -1,6 +1,7 @@
 pub mod Levels
 pub mod Sides
 pub mod Borders
+pub mod Order
 pub mod Sweep
 pub mod Seen
 pub mod Standing

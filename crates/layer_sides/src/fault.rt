@@ -1,6 +1,6 @@
 // Why there are no sides.
 use grid_geometry::Pos;
-use std::alloc::AllocError;
+use std::alloc::{AllocError, AllocFailed};
 
 /// Why there are no sides of the borders of a layer.
 #[derive(Clone, Copy, Debug, PartialEq, Eq)]
@@ -20,6 +20,17 @@ impl From<AllocError> for SideFault {
     ghost from_gives = { λ _ e. e ≡ OutOfMemory };
 
     fn from(_e: AllocError) -> SideFault {
+        SideFault::OutOfMemory
+    }
+}
+
+impl<T: Drop> From<AllocFailed<T>> for SideFault {
+    ghost use Rattle.std.specs.Prelude.{◌≡◌};
+    ghost use Rattle.layer_sides.specs.declared.fault.SideFault.TheVariants.{OutOfMemory};
+
+    ghost from_gives = { λ _ e. e ≡ OutOfMemory };
+
+    fn from(_e: AllocFailed<T>) -> SideFault {
         SideFault::OutOfMemory
     }
 }
