@@ -17,8 +17,6 @@ mod vertices;
 
 #[cfg(test)]
 mod tests;
-#[cfg(test)]
-mod trials;
 
 pub use border::Border;
 pub use fault::SideFault;
