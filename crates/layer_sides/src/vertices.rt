@@ -8,7 +8,7 @@ ghost use Rattle.layer_sides.specs.Seen.{segments_seen, vertices_seen};
 
 use crate::border::Border;
 use crate::fault::SideFault;
-use crate::ends::{bottom_of, top_of};
+use crate::ends::{bottom_of, is_ordered, top_of};
 use grid_geometry::Pos;
 use std::alloc::{AllocError, Allocator, Global};
 
@@ -40,7 +40,7 @@ pub(crate) fn disordered<A: Allocator + Copy>(borders: &[Border<A>]) -> Option<P
     ensures { IsNone result → AreSegments (segments_seen borders.now) }
 {
     for border in borders {
-        if !(border.segment.lo < border.segment.hi) {
+        if !is_ordered(border.segment) {
             return Some(border.segment.lo);
         }
     }
