@@ -15,9 +15,6 @@ mod sweep;
 mod under;
 mod vertices;
 
-#[cfg(test)]
-mod tests;
-
 pub use border::Border;
 pub use fault::SideFault;
 pub use sides::{Sides, sides_of};
