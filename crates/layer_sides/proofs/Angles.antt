@@ -1,14 +1,14 @@
 -- Places put in another order, and the turns from each to the next.
 use Rattle.kit_words.proofs.Common.{◌≡◌, ℕ, ◌+◌, ◌-◌, ◌<◌, ◌≤◌, true, sym, ap, ap₂, ◌∙◌, subst, arith, List, [], ◌∷◌, ◌++◌}
 use Rattle.kit_words.proofs.Common.{take, drop, length, get_or, insert, take_more, take_all, IsPermutation, get_or_default, get_or-drop}
-use Rattle.kit_words.proofs.Common.{length-drop, IsTrue, All, All-take, All-permutation}
-use Rattle.std.proofs.lemmas.List.Sorted.{IsPermutation-cons, IsPermutation-insert, IsPermutation-refl, IsPermutation-to_front}
+use Rattle.kit_words.proofs.Common.{get_or-take, length-drop, length-take-le, IsTrue, All, All-take, All-permutation}
+use Rattle.std.proofs.lemmas.List.Sorted.{IsPermutation-cons, IsPermutation-insert, IsPermutation-to_front}
 use Rattle.std.proofs.lemmas.List.Sorted.{IsPermutation-trans, all_adjacent_more}
 use Rattle.std.specs.List.{AllAdjacentBelow}
 use Rattle.grid_geometry.specs.Common.{Segment}
 use Rattle.layer_sides.specs.Common.{top}
 use Rattle.layer_sides.specs.Order.{is_right}
-use Rattle.layer_sides.specs.Under.{AreBelow, AreTurned, segment_at}
+use Rattle.layer_sides.specs.Under.{AreBelow, segment_at}
 
 -- ---- one place more, at any place among those so far
 
@@ -34,9 +34,6 @@ module _ (ss : List Segment) where
   abbrev Turns : ℕ → ℕ → Type 0
   Turns i j = IsTrue (is_right (top (segment_at ss j)) (segment_at ss i))
 
-  pub turned_first : (begun : List ℕ) → AllAdjacentBelow (λ i j. IsTrue (is_right (top (segment_at ss j)) (segment_at ss i))) begun 1
-  turned_first begun k d l = absurd (omega (arith, l))
-
   pub turned_more : (begun : List ℕ) (i last place : ℕ) → i + 1 < length begun → last ≡ get_or begun i 0 → place ≡ get_or begun (i + 1) 0
       → is_right (top (segment_at ss place)) (segment_at ss last) ≡ true
       → AllAdjacentBelow (λ i j. IsTrue (is_right (top (segment_at ss j)) (segment_at ss i))) begun (i + 1)
@@ -56,20 +53,13 @@ module _ (ss : List Segment) where
           (get_or_default begun i d 0 within ∙ sym e) (get_or_default begun (i + 1) d 0 l ∙ sym f)
           ∙ r
 
-  pub turned_all : (begun : List ℕ) (n : ℕ) → length begun ≤ n
-      → AllAdjacentBelow (λ i j. IsTrue (is_right (top (segment_at ss j)) (segment_at ss i))) begun n → AreTurned ss begun
-  turned_all begun n l h k d m = h k d (omega (arith, m, l))
+-- ---- what stands behind the first
 
--- what stands behind the first
-pub behind_at : (xs : List ℕ) (i x : ℕ) → i < length (drop 1 xs) → x ≡ get_or (drop 1 xs) i x → x ≡ get_or xs (i + 1) 0
-behind_at xs i x l e =
-    e ∙ get_or_default (drop 1 xs) i x 0 l ∙ get_or-drop 1 xs i 0 ∙ ap (λ k. get_or xs k 0) one_more
+pub rest_length : (xs : List ℕ) → length (take (length xs - 1) (drop 1 xs)) ≡ length xs - 1
+rest_length xs = length-take-le (length xs - 1) (drop 1 xs) (let n = length-drop 1 xs in omega (arith, n))
+
+pub rest_at : (xs : List ℕ) (i : ℕ) → i + 1 < length xs → get_or (take (length xs - 1) (drop 1 xs)) i 0 ≡ get_or xs (i + 1) 0
+rest_at xs i l = get_or-take (length xs - 1) (drop 1 xs) i 0 (omega (arith, l)) ∙ get_or-drop 1 xs i 0 ∙ ap (λ k. get_or xs k 0) one_more
   where
     one_more : 1 + i ≡ i + 1
     one_more = omega arith
-
-pub behind_within : (xs : List ℕ) (i : ℕ) → i < length (drop 1 xs) → i + 1 < length xs
-behind_within xs i l = let n = length-drop 1 xs in omega (arith, l, n)
-
-pub behind_beyond : (xs : List ℕ) (i : ℕ) → length (drop 1 xs) ≤ i → length xs ≤ i + 1
-behind_beyond xs i l = let n = length-drop 1 xs in omega (arith, l, n)

@@ -1,5 +1,5 @@
 -- Ends of what the code holds: those of ordered borders, and those of all so far.
-use Rattle.kit_words.proofs.Common.{◌≡◌, ℕ, ◌+◌, ◌<◌, ◌≤◌, Bool, true, false, not, refl, sym, ap, ◌∙◌, subst, List, []}
+use Rattle.kit_words.proofs.Common.{◌≡◌, ℕ, ◌+◌, ◌<◌, ◌≤◌, Bool, true, false, not, refl, sym, ap, ap₂, ◌∙◌, subst, List, []}
 use Rattle.kit_words.proofs.Common.{◌∷◌, ◌++◌, take, length, get_or, get_or_default, take_all, All, All-more, flat_map, Some}
 use Rattle.kit_words.proofs.Common.{Some-then, int_cmp, is_lt, is_some_and, partial_ordering_then, Ordering, Less, Equal, Greater}
 use Rattle.kit_words.proofs.Common.{false≢true, true≢false}
@@ -35,12 +35,13 @@ module _ {A : Type 0} (xs : List (Border A)) (i : ℕ) (x : Border A) (within : 
   pub segment_there : x.segment ≡ segment_at (segments_seen xs) i
   segment_there = ap (λ (b : Border A). b.segment) there ∙ segment_seen xs i x within
 
-  pub ordered_more : (b : Bool)
-      → b ≡ is_some_and is_lt (partial_ordering_then (Some (int_cmp x.segment.lo.x x.segment.hi.x)) (Some (int_cmp x.segment.lo.y x.segment.hi.y)))
+  pub ordered_more : (lo hi : Position) → lo ≡ x.segment.lo → hi ≡ x.segment.hi → (b : Bool)
+      → b ≡ is_some_and is_lt (partial_ordering_then (Some (int_cmp lo.x hi.x)) (Some (int_cmp lo.y hi.y)))
       → not b ≡ false → All IsSegment (take i (segments_seen xs)) → All IsSegment (take (i + 1) (segments_seen xs))
-  ordered_more b e n h =
+  ordered_more lo hi f g b e n h =
       All-more IsSegment (segments_seen xs) i x.segment seen_within h
-      (subst IsSegment (segment_there ∙ get_or_default (segments_seen xs) i _ x.segment seen_within) (tested_less x.segment.lo x.segment.hi b e n))
+      (subst IsSegment (segment_there ∙ get_or_default (segments_seen xs) i _ x.segment seen_within)
+      (ap₂ position_cmp (sym f) (sym g) ∙ tested_less lo hi b e n))
 
   pub ends_seen : (found : List Position) → found ≡ flat_map turned_ends (take i (segments_seen xs))
       → (found ++ turned (bottom x.segment) ∷ []) ++ turned (top x.segment) ∷ [] ≡ flat_map turned_ends (take (i + 1) (segments_seen xs))

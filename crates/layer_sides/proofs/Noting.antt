@@ -68,13 +68,6 @@ module _ (ss : List Segment) (place : ℕ) where
   other_vertex : (v : VertexOf) → begins_at v.0 place ≡ false → BegunAt ss place v → BegunAt ss (place + 1) v
   other_vertex v h b i = b i ∙ by (i == place) refl
     where
-      by : (c : Bool) → (i == place) ≡ c → ◌≡◌ {A = ℕ} (cond (nat_lt i place && begins_at v.0 i) 1 0) (cond (nat_lt i (place + 1) && begins_at v.0 i) 1 0)
-      by true e =
-          let same : i ≡ place = eqb-true i place e in
-          let none : begins_at v.0 i ≡ false = ap (begins_at v.0) same ∙ h in
-          ap (λ c. cond {A = ℕ} (nat_lt i place && c) 1 0) none ∙ and_none (nat_lt i place) ∙ sym (ap (λ c. cond {A = ℕ} (nat_lt i (place + 1) && c) 1 0) none ∙ and_none (nat_lt i (place + 1)))
-      by false e = ap (λ c. cond {A = ℕ} (c && begins_at v.0 i) 1 0) (below_next i place e)
-
       and_none : (c : Bool) → ◌≡◌ {A = ℕ} (cond (c && false) 1 0) 0
       and_none true = refl
       and_none false = refl
@@ -82,19 +75,18 @@ module _ (ss : List Segment) (place : ℕ) where
       below_next : (i place : ℕ) → (i == place) ≡ false → nat_lt i place ≡ nat_lt i (place + 1)
       below_next i place e = grind (arith, nat_tests)
 
+      by : (c : Bool) → (i == place) ≡ c → ◌≡◌ {A = ℕ} (cond (nat_lt i place && begins_at v.0 i) 1 0) (cond (nat_lt i (place + 1) && begins_at v.0 i) 1 0)
+      by true e =
+          let same : i ≡ place = eqb-true i place e in
+          let none : begins_at v.0 i ≡ false = ap (begins_at v.0) same ∙ h in
+          ap (λ c. cond {A = ℕ} (nat_lt i place && c) 1 0) none ∙ and_none (nat_lt i place) ∙ sym (ap (λ c. cond {A = ℕ} (nat_lt i (place + 1) && c) 1 0) none ∙ and_none (nat_lt i (place + 1)))
+      by false e = ap (λ c. cond {A = ℕ} (c && begins_at v.0 i) 1 0) (below_next i place e)
+
   -- where it begins, one more
   this_vertex : (p : Position) (ns : List ℕ) → bottom (segment_at ss place) ≡ p → BegunAt ss place (p, ns) → BegunAt ss (place + 1) (p, ns ++ place ∷ [])
   this_vertex p ns h b i =
       times-append i ns (place ∷ []) ∙ ap (λ m. m + times i (place ∷ [])) (b i) ∙ by (place == i) refl
     where
-      by : (c : Bool) → (place == i) ≡ c
-          → ◌≡◌ {A = ℕ} (cond (nat_lt i place && begins_at p i) 1 0 + cond c 1 0) (cond (nat_lt i (place + 1) && begins_at p i) 1 0)
-      by true e =
-          let same : place ≡ i = eqb-true place i e in
-          let begins : begins_at p i ≡ true = ap (begins_at p) (sym same) ∙ ap (λ q. position_eq q p) h ∙ position_eq-refl p in
-          at (nat_lt i place) (le-ltb i place (omega arith)) (nat_lt i (place + 1)) (lt-ltb i (place + 1) (omega arith)) (begins_at p i) begins
-      by false e = more (nat_lt i place) (nat_lt i (place + 1)) (begins_at p i) (below_next i place e)
-
       at : (a : Bool) → a ≡ false → (b : Bool) → b ≡ true → (c : Bool) → c ≡ true
           → ◌≡◌ {A = ℕ} (cond (a && c) 1 0 + 1) (cond (b && c) 1 0)
       at true h b k c l = absurd (false≢true (sym h))
@@ -102,14 +94,22 @@ module _ (ss : List Segment) (place : ℕ) where
       at false h true k false l = absurd (false≢true l)
       at false h true k true l = omega arith
 
-      more : (a b c : Bool) → a ≡ b → ◌≡◌ {A = ℕ} (cond (a && c) 1 0 + 0) (cond (b && c) 1 0)
-      more a b c h = subst (λ z. ◌≡◌ {A = ℕ} (cond (a && c) 1 0 + 0) (cond (z && c) 1 0)) h (plus (cond (a && c) 1 0))
-
       plus : (n : ℕ) → n + 0 ≡ n
       plus n = omega arith
 
+      more : (a b c : Bool) → a ≡ b → ◌≡◌ {A = ℕ} (cond (a && c) 1 0 + 0) (cond (b && c) 1 0)
+      more a b c h = subst (λ z. ◌≡◌ {A = ℕ} (cond (a && c) 1 0 + 0) (cond (z && c) 1 0)) h (plus (cond (a && c) 1 0))
+
       below_next : (i place : ℕ) → (place == i) ≡ false → nat_lt i place ≡ nat_lt i (place + 1)
       below_next i place e = grind (arith, nat_tests)
+
+      by : (c : Bool) → (place == i) ≡ c
+          → ◌≡◌ {A = ℕ} (cond (nat_lt i place && begins_at p i) 1 0 + cond c 1 0) (cond (nat_lt i (place + 1) && begins_at p i) 1 0)
+      by true e =
+          let same : place ≡ i = eqb-true place i e in
+          let begins : begins_at p i ≡ true = ap (begins_at p) (sym same) ∙ ap (λ q. position_eq q p) h ∙ position_eq-refl p in
+          at (nat_lt i place) (le-ltb i place (omega arith)) (nat_lt i (place + 1)) (lt-ltb i (place + 1) (omega arith)) (begins_at p i) begins
+      by false e = more (nat_lt i place) (nat_lt i (place + 1)) (begins_at p i) (below_next i place e)
 
   pub noted_all : (old new : List VertexOf) → AreRising old → Notes place (bottom (segment_at ss place)) old new
       → All (BegunAt ss place) old → All (BegunAt ss (place + 1)) new
@@ -152,7 +152,9 @@ module _ (ss : List Segment) (place : ℕ) where
 
 -- at no vertex anything begins before all places
 pub none_begun : (ss : List Segment) (vs : List VertexOf) → All (λ v. v.1 ≡ []) vs → All (BegunAt ss 0) vs
-none_begun ss vs h k d l i = ap (times i) (h k d l)
+none_begun ss vs h k d l i =
+    ap (times i) (h k d l)
+    ∙ sym (ap (λ b. cond {A = ℕ} (b && position_eq (bottom (segment_at ss i)) (get_or vs k d).0) 1 0) (le-ltb i 0 (omega arith)))
 
 -- ---- all of them
 
