@@ -1,8 +1,8 @@
 -- Ends of what the code holds: those of ordered borders, and those of all so far.
-use Rattle.kit_words.proofs.Common.{◌≡◌, ℕ, ◌+◌, ◌<◌, ◌≤◌, Bool, true, false, not, refl, sym, ap, ap₂, ◌∙◌, subst, List, []}
+use Rattle.kit_words.proofs.Common.{◌≡◌, ℕ, ◌+◌, ◌<◌, ◌≤◌, Bool, true, false, refl, sym, ap, ap₂, ◌∙◌, subst, List, []}
 use Rattle.kit_words.proofs.Common.{◌∷◌, ◌++◌, take, length, get_or, get_or_default, take_all, All, All-more, flat_map, Some}
 use Rattle.kit_words.proofs.Common.{Some-then, int_cmp, is_lt, is_some_and, partial_ordering_then, Ordering, Less, Equal, Greater}
-use Rattle.kit_words.proofs.Common.{false≢true, true≢false}
+use Rattle.kit_words.proofs.Common.{true≢false}
 use Rattle.grid_geometry.specs.Common.{IsSegment, Position, Segment, position_cmp}
 use Rattle.layer_sides.specs.Common.{bottom, top}
 use Rattle.layer_sides.specs.declared.border.Border.{Border}
@@ -14,14 +14,14 @@ use Rattle.layer_sides.proofs.Seeing.{length_seen, segment_seen}
 -- what the code's test answers
 pub tested_less : (p q : Position) (b : Bool)
     → b ≡ is_some_and is_lt (partial_ordering_then (Some (int_cmp p.x q.x)) (Some (int_cmp p.y q.y)))
-    → not b ≡ false → position_cmp p q ≡ Less
+    → b ≡ true → position_cmp p q ≡ Less
 tested_less p q b e n = by (position_cmp p q) refl
   where
     told : b ≡ is_lt (position_cmp p q)
     told = e ∙ ap (is_some_and is_lt) (Some-then (int_cmp p.x q.x) (int_cmp p.y q.y))
 
     not_more : is_lt (position_cmp p q) ≡ false → ⊥
-    not_more f = true≢false (ap not (sym (told ∙ f)) ∙ n)
+    not_more f = true≢false (sym n ∙ told ∙ f)
 
     by : (o : Ordering) → position_cmp p q ≡ o → position_cmp p q ≡ Less
     by Less f = f
@@ -37,7 +37,7 @@ module _ {A : Type 0} (xs : List (Border A)) (i : ℕ) (x : Border A) (within : 
 
   pub ordered_more : (lo hi : Position) → lo ≡ x.segment.lo → hi ≡ x.segment.hi → (b : Bool)
       → b ≡ is_some_and is_lt (partial_ordering_then (Some (int_cmp lo.x hi.x)) (Some (int_cmp lo.y hi.y)))
-      → not b ≡ false → All IsSegment (take i (segments_seen xs)) → All IsSegment (take (i + 1) (segments_seen xs))
+      → b ≡ true → All IsSegment (take i (segments_seen xs)) → All IsSegment (take (i + 1) (segments_seen xs))
   ordered_more lo hi f g b e n h =
       All-more IsSegment (segments_seen xs) i x.segment seen_within h
       (subst IsSegment (segment_there ∙ get_or_default (segments_seen xs) i _ x.segment seen_within)

@@ -1,4 +1,4 @@
-use Rattle.kit_words.proofs.Common.{◌≡◌, ◌<◌, ◌+◌, ◌-◌, true, sym, ap, ap₂, ◌∙◌, arith, get_or, take, drop, length, not-false}
+use Rattle.kit_words.proofs.Common.{◌≡◌, ◌<◌, ◌+◌, ◌-◌, true, sym, ap, ap₂, ◌∙◌, arith, get_or, take, drop, length}
 use Rattle.layer_sides.specs.Levels.{top}
 use Rattle.layer_sides.specs.Order.{is_right}
 use Rattle.layer_sides.specs.Seen.{segments_seen}
@@ -12,7 +12,7 @@ loop-place-preserved g c =
     let within : i + 1 < length xs = omega (arith, c.loop-place-test.true, rest_length xs) in
     let right =
         sym (c.is_right.ensures ∙ ap₂ is_right (c.top_of.ensures ∙ ap top c.segment_at.ensures) c.segment_at-in-loop-place.ensures)
-        ∙ not-false c.is_right.result c.if-not-is_right.false in
+        ∙ c.if-not-is_right.false in
     (
       rest_at xs i within,
       turned_more (segments_seen c.args.borders.now) xs i c.loop-place.last (get_or (take (length xs - 1) (drop 1 xs)) i 0) within
