@@ -1,7 +1,7 @@
 -- Places put in another order, and the turns from each to the next.
 use Rattle.kit_words.proofs.Common.{◌≡◌, ℕ, ◌+◌, ◌-◌, ◌<◌, ◌≤◌, true, sym, ap, ap₂, ◌∙◌, subst, arith, List, [], ◌∷◌, ◌++◌}
 use Rattle.kit_words.proofs.Common.{take, drop, length, get_or, insert, take_more, take_all, IsPermutation, get_or_default, get_or-drop}
-use Rattle.kit_words.proofs.Common.{get_or-take, length-drop, length-take-le, IsTrue, All, All-take, All-permutation}
+use Rattle.kit_words.proofs.Common.{get_or-take, length-drop, length-take-le, IsTrue, All-take, All-permutation}
 use Rattle.std.proofs.lemmas.List.Sorted.{IsPermutation-cons, IsPermutation-insert, IsPermutation-to_front}
 use Rattle.std.proofs.lemmas.List.Sorted.{IsPermutation-trans, all_adjacent_more}
 use Rattle.std.specs.List.{AllAdjacentBelow}
@@ -21,9 +21,6 @@ permuted_more xs found i at x l e h =
 
 pub permuted_all : {X : Type 0} (xs found : List X) (i : ℕ) → length xs ≤ i → IsPermutation (take i xs) found → IsPermutation xs found
 permuted_all xs found i l h = subst (λ ys. IsPermutation ys found) (take_all i xs l) h
-
-pub below_at : (n : ℕ) (xs : List ℕ) (i x : ℕ) → AreBelow n xs → i < length xs → x ≡ get_or xs i x → x < n
-below_at n xs i x h l e = subst (λ z. z < n) (sym e) (h i x l)
 
 pub below_permuted : (n : ℕ) (xs found : List ℕ) (i : ℕ) → AreBelow n xs → IsPermutation (take i xs) found → AreBelow n found
 below_permuted n xs found i h p = All-permutation (λ k. k < n) (take i xs) found p (All-take (λ k. k < n) i xs h)

@@ -3,7 +3,7 @@ use Rattle.kit_words.proofs.Common.{◌≡◌, ℕ, ◌+◌, ◌<◌, ◌≤◌,
 use Rattle.kit_words.proofs.Common.{◌∷◌, ◌++◌, take, length, get_or, get_or_default, take_all, All, All-more, flat_map, Some}
 use Rattle.kit_words.proofs.Common.{Some-then, int_cmp, is_lt, is_some_and, partial_ordering_then, Ordering, Less, Equal, Greater}
 use Rattle.kit_words.proofs.Common.{true≢false}
-use Rattle.grid_geometry.specs.Common.{IsSegment, Position, Segment, position_cmp}
+use Rattle.grid_geometry.specs.Common.{IsSegment, Position, position_cmp}
 use Rattle.layer_sides.specs.Common.{bottom, top}
 use Rattle.layer_sides.specs.declared.border.Border.{Border}
 use Rattle.layer_sides.specs.Seen.{segments_seen}

@@ -1,4 +1,4 @@
-use Rattle.kit_words.proofs.Common.{◌≡◌, ◌<◌, ◌+◌, ◌-◌, true, sym, ap, ap₂, ◌∙◌, arith, get_or, take, drop, length}
+use Rattle.kit_words.proofs.Common.{◌<◌, ◌+◌, ◌-◌, true, sym, ap, ap₂, ◌∙◌, arith, get_or, take, drop, length}
 use Rattle.layer_sides.specs.Levels.{top}
 use Rattle.layer_sides.specs.Order.{is_right}
 use Rattle.layer_sides.specs.Seen.{segments_seen}
@@ -11,10 +11,9 @@ loop-place-preserved g c =
     let i = c.loop-place.place-index in
     let within : i + 1 < length xs = omega (arith, c.loop-place-test.true, rest_length xs) in
     let right =
-        sym (c.is_right.ensures ∙ ap₂ is_right (c.top_of.ensures ∙ ap top c.segment_at.ensures) c.segment_at-in-loop-place.ensures)
-        ∙ c.if-not-is_right.false in
-    (
+    sym (c.is_right.ensures ∙ ap₂ is_right (c.top_of.ensures ∙ ap top c.segment_at.ensures) c.segment_at-in-loop-place.ensures)
+    ∙ c.if-not-is_right.false in (
       rest_at xs i within,
       turned_more (segments_seen c.args.borders.now) xs i c.loop-place.last (get_or (take (length xs - 1) (drop 1 xs)) i 0) within
-      c.loop-place.invariant.0 (rest_at xs i within) right c.loop-place.invariant.1,
+          c.loop-place.invariant.0 (rest_at xs i within) right c.loop-place.invariant.1,
     )

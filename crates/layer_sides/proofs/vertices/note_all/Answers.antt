@@ -23,5 +23,5 @@ pub returns-clause-begun : goal.returns-clause-begun
 returns-clause-begun g c =
     let xs = c.args.borders.now in
     let all : c.loop-place.place ≡ length (segments_seen xs) =
-        omega (arith, c.loop-place-test.false, c.loop-place.auto.place-end, length_seen xs) in
+    omega (arith, c.loop-place-test.false, c.loop-place.auto.place-end, length_seen xs) in
     subst (λ n. All (BegunAt (segments_seen xs) n) (vertices_seen c.loop-place.vertices.items)) all c.loop-place.invariant.1
