@@ -54,6 +54,9 @@ module _ (vs : List VertexOf) (rising : AreRising vs) where
       → level_lt (get_or vs k d).0 p ≡ true → level_lt p (get_or vs (k + 1) d).0 ≡ false
   none_between k d l p v h = by_bool (nat_lt k w.place) later earlier
     where
+      unlike : {b : Bool} → b ≡ true → b ≡ false → ⊥
+      unlike p q = false≢true (sym q ∙ p)
+
       w : PlaceOf p
       w = place_of p v
 
@@ -81,9 +84,6 @@ module _ (vs : List VertexOf) (rising : AreRising vs) where
               (λ f. let o : k ≤ w.place = ltb-false w.place k f in
               let same : w.place ≡ k = omega (arith, m) in
               subst (λ q. level_lt (get_or vs k d).0 q ≡ false) (ap (λ m. (get_or vs m d).0) (sym same) ∙ w.at d) (not_itself (get_or vs k d).0))
-
-      unlike : {b : Bool} → b ≡ true → b ≡ false → ⊥
-      unlike p q = false≢true (sym q ∙ p)
 
   -- none is before the first
   pub first_of_all : (d : VertexOf) (p : Position) → VertexAt vs p → level_lt p (get_or vs 0 d).0 ≡ false
@@ -113,7 +113,7 @@ awaited bs vs zero d places v l h =
       numbered = tt;
     })
   where
-    none : (i : ℕ) → 0 ≡ cond (nat_lt i (length (segments_of bs)) && awaits (get_or vs 0 d).0 (segment_at (segments_of bs) i)) 1 0
+    none : (i : ℕ) → ◌≡◌ {A = ℕ} 0 (cond (nat_lt i (length (segments_of bs)) && awaits (get_or vs 0 d).0 (segment_at (segments_of bs) i)) 1 0)
     none i = by (nat_lt i (length (segments_of bs))) refl
       where
         by : (b : Bool) → nat_lt i (length (segments_of bs)) ≡ b
@@ -170,7 +170,7 @@ stands_kept bs cs w v places l b r h = record {
         begun : level_lt w.0 (bottom (segment_at (segments_of bs) i)) ≡ false
         begun = first_false (level_lt w.0 (bottom (segment_at (segments_of bs) i))) _ way
           where
-            first_false : (a c : Bool) → not a && c ≡ true → a ≡ false
+            first_false : (a c : Bool) → (not a && c) ≡ true → a ≡ false
             first_false true c k = absurd (false≢true k)
             first_false false c k = refl
 
@@ -210,18 +210,15 @@ module _ (bs cs : List Bordering) (vs : List VertexOf) (k : ℕ) (d : VertexOf) 
           let s = h w at in
           (s.0, stands_kept bs cs w (get_or vs k d) s.0 (before at.0 at.1 at.2) (vertices.begun (get_or vs k d) (k, within, get_or_default vs k (get_or vs k d) d within)) rewrites s.1)
         where
+          below_taken : (j : ℕ) → j < length (take k vs) → j < k
+          below_taken j l = let e : length (take k vs) ≡ k = length-take-le k vs (omega (arith, within)) in omega (arith, e, l)
+
           before : (j : ℕ) → j < length (take k vs) → get_or (take k vs) j w ≡ w → level_lt w.0 (get_or vs k d).0 ≡ true
           before j l e =
               let m : j < k = below_taken j l in
               subst (λ (z : VertexOf). level_lt z.0 (get_or vs k d).0 ≡ true)
               (get_or_default vs j d w (omega (arith, m, within)) ∙ sym (get_or-take k vs j w m) ∙ e)
               (in_turn vs vertices.rising j k d m within)
-
-          below_taken : (j : ℕ) → j < length (take k vs) → j < k
-          below_taken j l = let e = length-take-le k vs (weak_of within) in omega (arith, e, l)
-
-          weak_of : k < length vs → k ≤ length vs
-          weak_of l = omega arith
 
       now : In w (get_or vs k d ∷ []) → (ps : List ℕ) × Stands cs (is_under_way w.0) ps
       now (inl e) = (places, subst (λ (z : VertexOf). Stands cs (is_under_way z.0) places) e stands)

@@ -52,7 +52,7 @@ pub way_on : (v : Position) (s : Segment) → level_lt (bottom s) (top s) ≡ tr
     → is_under_way v s ≡ true
 way_on v s h a e = way_after v s h ∙ ap₂ (λ b c. (b && not c) || position_eq (bottom s) v) a e
 
-both_true : (a b : Bool) → a && b ≡ true → (a ≡ true) × (b ≡ true)
+both_true : (a b : Bool) → (a && b) ≡ true → (a ≡ true) × (b ≡ true)
 both_true true true h = (refl, refl)
 both_true true false h = absurd (false≢true h)
 both_true false b h = absurd (false≢true h)

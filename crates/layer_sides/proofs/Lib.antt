@@ -25,5 +25,5 @@ pub mod Writing
 pub mod Noting
 pub mod Going
 pub mod Cutting
-pub mod Ending
-pub mod Angles
+pub mod Asked
+pub mod Written

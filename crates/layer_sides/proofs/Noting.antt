@@ -1,9 +1,9 @@
 -- The vertices of segments by level, and what begins at each.
-use Rattle.kit_words.proofs.Common.{◌≡◌, ℕ, ◌+◌, ◌<◌, ◌≤◌, ◌==◌, ◌&&◌, Bool, true, false, not, refl, sym, ap, ap₂, ◌∙◌}
-use Rattle.kit_words.proofs.Common.{subst, arith, List, [], ◌∷◌, ◌++◌, map, take, length, get_or, set, inl, inr, Contains, All}
+use Rattle.kit_words.proofs.Common.{◌≡◌, ℕ, zero, suc, ◌+◌, ◌<◌, ◌≤◌, ◌==◌, ◌&&◌, Bool, true, false, not, refl, sym, ap, ap₂, ◌∙◌}
+use Rattle.kit_words.proofs.Common.{subst, arith, List, [], ◌∷◌, ◌++◌, map, take, length, get_or, set, inl, inr, Contains, All, Vec}
 use Rattle.kit_words.proofs.Common.{flat_map, flat_map-append, take_more, append_assoc, get_or-map, length-map, map-set, cond, nat_lt}
 use Rattle.kit_words.proofs.Common.{ltb-true, lt-ltb, get_or_default, get_or-set_same, get_or-set_other, length-set, eqb-true, eq-eqb}
-use Rattle.kit_words.proofs.Common.{false≢true, by_bool, IsStrictlySortedBy, set-get_or, nat_tests}
+use Rattle.kit_words.proofs.Common.{false≢true, by_bool, Less, IsStrictlySortedBy, set-get_or, nat_tests}
 use Rattle.std.proofs.Common.{le-ltb, ltb-false}
 use Rattle.std.proofs.lemmas.Map.Keys.{Less-from_sorted}
 use Rattle.grid_geometry.specs.Common.{Position, Segment, position_cmp, position_eq, IsSegment}
@@ -87,12 +87,12 @@ module _ (ss : List Segment) (place : ℕ) where
   this_vertex p ns h b i =
       times-append i ns (place ∷ []) ∙ ap (λ m. m + times i (place ∷ [])) (b i) ∙ by (place == i) refl
     where
-      at : (a : Bool) → a ≡ false → (b : Bool) → b ≡ true → (c : Bool) → c ≡ true
+      one : (a : Bool) → a ≡ false → (b : Bool) → b ≡ true → (c : Bool) → c ≡ true
           → ◌≡◌ {A = ℕ} (cond (a && c) 1 0 + 1) (cond (b && c) 1 0)
-      at true h b k c l = absurd (false≢true (sym h))
-      at false h false k c l = absurd (false≢true k)
-      at false h true k false l = absurd (false≢true l)
-      at false h true k true l = omega arith
+      one true h b k c l = absurd (false≢true (sym h))
+      one false h false k c l = absurd (false≢true k)
+      one false h true k false l = absurd (false≢true l)
+      one false h true k true l = omega arith
 
       plus : (n : ℕ) → n + 0 ≡ n
       plus n = omega arith
@@ -108,7 +108,7 @@ module _ (ss : List Segment) (place : ℕ) where
       by true e =
           let same : place ≡ i = eqb-true place i e in
           let begins : begins_at p i ≡ true = ap (begins_at p) (sym same) ∙ ap (λ q. position_eq q p) h ∙ position_eq-refl p in
-          at (nat_lt i place) (le-ltb i place (omega arith)) (nat_lt i (place + 1)) (lt-ltb i (place + 1) (omega arith)) (begins_at p i) begins
+          one (nat_lt i place) (le-ltb i place (omega arith)) (nat_lt i (place + 1)) (lt-ltb i (place + 1) (omega arith)) (begins_at p i) begins
       by false e = more (nat_lt i place) (nat_lt i (place + 1)) (begins_at p i) (below_next i place e)
 
   pub noted_all : (old new : List VertexOf) → AreRising old → Notes place (bottom (segment_at ss place)) old new

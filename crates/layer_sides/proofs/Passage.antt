@@ -40,9 +40,13 @@ listed_once n test places h i j = by (nat_lt i n && test i) (h i) (in_times i pl
     by true k l = k
     by false k l = absurd (omega arith)
 
+pub below_listed : (n : ℕ) (test : ℕ → Bool) (places : List ℕ) → ListsPlaces n test places → AreBelow n places
+below_listed n test places h =
+    All-from_recursion (λ i. i < n) places (from_in (λ i. i < n) places (λ i j. (listed n test places h i j).below))
+
 module _ (bs : List Bordering) (v : VertexOf) (places begun : List ℕ) (b e : ℕ)
   (segments : AreSegments (segments_of bs)) (apart : NoneConflict (segments_of bs))
-  (st : Stands bs (awaits v.0) places) (at : BegunAt (segments_of bs) (length (segments_of bs)) v)
+  (st : Stands bs (awaits v.0) places) (has : BegunAt (segments_of bs) (length (segments_of bs)) v)
   (cut : CutsAt (segments_of bs) places v.0 b e) (perm : IsPermutation v.1 begun) where
 
   abbrev seg : ℕ → Segment
@@ -79,7 +83,7 @@ module _ (bs : List Bordering) (v : VertexOf) (places begun : List ℕ) (b e : �
   waits i h = listed (length (segments_of bs)) (λ i. awaits v.0 (seg i)) places st.exact i h
 
   come : ListsPlaces (length (segments_of bs)) (λ i. position_eq (bottom (seg i)) v.0) begun
-  come i = times-permuted i v.1 begun perm ∙ at i
+  come i = times-permuted i v.1 begun perm ∙ has i
 
   comes : (i : ℕ) → In i begun → IsListed (length (segments_of bs)) (λ i. position_eq (bottom (seg i)) v.0) i
   comes i h = listed (length (segments_of bs)) (λ i. position_eq (bottom (seg i)) v.0) begun come i h

@@ -1,12 +1,13 @@
 -- What the code holds, seen as borders: at a place, and with one border changed.
 use Rattle.kit_words.proofs.Common.{◌≡◌, ℕ, ◌<◌, sym, ap, ◌∙◌, refl, List, map, length, get_or, set, get_or-map, map-set, Vec}
-use Rattle.kit_words.proofs.Common.{length-map, get_or_default, ap₂, [], ◌∷◌, ◌++◌}
+use Rattle.kit_words.proofs.Common.{length-map, get_or_default, ap₂, [], ◌∷◌, ◌++◌, subst, IsStrictlySortedBy}
+use Rattle.std.specs.Ordering.{nat_cmp}
 use Rattle.grid_geometry.specs.Common.{Position}
 use Rattle.layer_sides.specs.Borders.{Bordering}
 use Rattle.layer_sides.specs.declared.border.Border.{Border}
 use Rattle.layer_sides.specs.declared.vertices.Vertex.{Vertex}
 use Rattle.layer_sides.specs.Seen.{border_seen, borders_seen, segments_seen, vertex_seen, vertices_seen}
-use Rattle.layer_sides.specs.Under.{Notes, VertexOf, border_at, segment_at, segments_of, with_right}
+use Rattle.layer_sides.specs.Under.{AreAscending, Notes, VertexOf, border_at, bounds_of, segment_at, segments_of, with_right}
 
 pub border_at_seen : {A : Type 0} (xs : List (Border A)) (i : ℕ) (x : Border A) → i < length xs → border_at (borders_seen xs) i ≡ border_seen (get_or xs i x)
 border_at_seen xs i x l = get_or-map border_seen xs i x _ l
@@ -46,3 +47,20 @@ noted xs k x place at pushed l e h f = record {
     here : get_or (vertices_seen xs) k (at, []) ≡ vertex_seen x
     here = get_or-map vertex_seen xs k x _ l ∙ ap vertex_seen (sym e)
 
+
+-- the numbers of a border's polygons ascend, where those of all do
+pub bounds_sorted : {A : Type 0} (xs : List (Border A)) (i : ℕ) (x : Border A) → i < length xs → x ≡ get_or xs i x
+    → AreAscending (bounds_of (borders_seen xs)) → IsStrictlySortedBy nat_cmp x.bounds.items
+bounds_sorted xs i x l e h =
+    subst (IsStrictlySortedBy nat_cmp)
+    (get_or-map (λ (b : Bordering). b.bounds) (borders_seen xs) i (border_seen x) [] (rw length-map l)
+    ∙ ap (λ (b : Bordering). b.bounds) (get_or-map border_seen xs i x (border_seen x) l ∙ ap border_seen (sym e)))
+    (h i [] (rw (length-map, length-map) l))
+
+-- the segment of an element
+pub segment_item : {A : Type 0} (xs : List (Border A)) (i : ℕ) (x : Border A) → i < length xs → x ≡ get_or xs i x
+    → x.segment ≡ segment_at (segments_seen xs) i
+segment_item xs i x l e = ap (λ (b : Border _). b.segment) e ∙ segment_seen xs i x l
+
+pub same_length : {A : Type 0} (xs ys : List (Border A)) → segments_seen ys ≡ segments_seen xs → length ys ≡ length xs
+same_length xs ys e = sym (length_seen ys) ∙ ap length e ∙ length_seen xs

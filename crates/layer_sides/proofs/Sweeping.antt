@@ -79,7 +79,7 @@ module _ (bs : List Bordering) (vs : List VertexOf) (segments : AreSegments (seg
   abbrev seg : ℕ → Segment
   seg j = segment_at (segments_of bs) j
 
-  m : Position
+  abbrev m : Position
   m = middle (seg i)
 
   there : (j : ℕ) → j < length bs → Contains (segments_of bs) (seg j)
@@ -95,7 +95,6 @@ module _ (bs : List Bordering) (vs : List VertexOf) (segments : AreSegments (seg
   end = vertex_at vs (top (seg i)) (vertices.tops (seg i) (there i bound))
 
   g : Gap vs m
-  unfolding m
   g =
       gap vs m vertices.rising begin.vertex end.vertex begin.among end.among
       (subst (λ z. level_lt m (doubled z) ≡ false) (sym begin.at)
@@ -131,14 +130,14 @@ module _ (bs : List Bordering) (vs : List VertexOf) (segments : AreSegments (seg
       use_times : 0 < times j places
       use_times = in_times j places h
 
+      none : {n : ℕ} → 0 ≡ n → 0 < n → ⊥
+      none k l = omega arith
+
       by : (a : Bool) → nat_lt j (length (segments_of bs)) ≡ a → (b : Bool) → is_under_way g.before.0 (seg j) ≡ b
           → cond (a && b) 1 0 ≡ times j places → (j < length bs) × (is_under_way g.before.0 (seg j) ≡ true)
       by true e true f k = (subst (λ n. j < n) long (ltb-true j (length (segments_of bs)) e), f)
       by true e false f k = absurd (none k use_times)
       by false e b f k = absurd (none k use_times)
-
-      none : {n : ℕ} → 0 ≡ n → 0 < n → ⊥
-      none k l = omega arith
 
   a : Around i places
   a = around i places (times_in i places some)
@@ -175,15 +174,12 @@ module _ (bs : List Bordering) (vs : List VertexOf) (segments : AreSegments (seg
   under_middle j h = let k = in_list j h in kept j k.0 ∙ k.1
 
   counted_front : (j : ℕ) → In j a.front → counts_for m (seg j) ≡ false
-  unfolding m
   counted_front j h = counts_before (seg j) (seg i) is_seg (before_it j h) (under_middle j (in_front j h))
 
   counted_back : (j : ℕ) → In j a.back → counts_for m (seg j) ≡ true
-  unfolding m
   counted_back j h = counts_behind (seg i) (seg j) is_seg (behind_it j h) (under_middle j (in_back j h))
 
   counted_it : counts_for m (seg i) ≡ false
-  unfolding m
   counted_it = counts_itself (seg i)
 
   numbered : AreNumbered (borders_at bs (i ∷ a.back))
@@ -195,11 +191,10 @@ module _ (bs : List Bordering) (vs : List VertexOf) (segments : AreSegments (seg
   right_sorted = numbered.0.sorted
 
   -- whether the border at a place bounds polygon n and counts for the middle
-  test : ℕ → ℕ → Bool
+  abbrev test : ℕ → ℕ → Bool
   test n j = has_number n (border_at bs j).bounds && counts_for m (border_at bs j).segment
 
   as_seg : (n j : ℕ) → j < length bs → (b : Bool) → counts_for m (seg j) ≡ b → test n j ≡ (has_number n (border_at bs j).bounds && b)
-  unfolding test
   as_seg n j l b h =
       ap (λ c. has_number n (border_at bs j).bounds && c) (subst (λ s. counts_for m s ≡ b) (at_segment bs j l) h)
 
@@ -217,7 +212,6 @@ module _ (bs : List Bordering) (vs : List VertexOf) (segments : AreSegments (seg
   odd_back n (j ∷ js) h = ap₂ xor (h j (inl refl)) (odd_back n js (λ k l. h k (inr l)))
 
   pub right_odd : (n : ℕ) → has_number n (border_at bs i).right ≡ is_odd_at bs n (middle (seg i))
-  unfolding m test
   right_odd n =
       numbered.0.odd n
       ∙ sym (by_place n m [] bs

@@ -39,7 +39,7 @@ module _ (first : List Bordering) (begun behind : List ℕ) (apart : AreApartFro
   begun_is = sym (take-append-drop k begun) ∙ ap (λ ks. take k begun ++ ks) (drop_more begun k 0 within)
 
   among : In i begun
-  among = in_at begun k i within (get_or_default begun k i 0 within)
+  among = subst (λ z. In z begun) (get_or_default begun k i 0 within) (in_at begun k i within)
 
   at_new : border_at after i ≡ with_right (border_at bs i) numbers
   at_new = get_or-set_same bs i (with_right (border_at bs i) numbers) _ below

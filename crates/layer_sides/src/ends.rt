@@ -1,15 +1,27 @@
 // The ends of a segment by level, and the sides of it on which a vertex lies.
-ghost use Rattle.std.specs.Prelude.{◌≡◌};
+ghost use Rattle.std.specs.Prelude.{◌≡◌, IsTrue};
+ghost use Rattle.grid_geometry.specs.Common.{IsSegment};
 ghost use Rattle.layer_sides.specs.Levels.{bottom, level_lt, top};
 ghost use Rattle.layer_sides.specs.Order as order;
 
 use grid_geometry::{Pos, Seg, orient};
+use std::cmp::Ordering;
 
 /// Whether the sweep comes to p before it comes to q.
 fn comes_before(p: Pos, q: Pos) -> bool
     ensures { result ≡ level_lt p q }
 {
     p.y() < q.y() || (p.y() == q.y() && q.x() < p.x())
+}
+
+/// Whether the first end of a segment is the lesser one.
+pub(crate) fn is_ordered(s: Seg) -> bool
+    ensures { IsTrue result → IsSegment s }
+{
+    match s.lo.cmp(&s.hi) {
+        Ordering::Less => true,
+        _ => false,
+    }
 }
 
 /// The end of a segment to which the sweep comes first.
