@@ -25,3 +25,4 @@ pub mod Writing
 pub mod Noting
 pub mod Going
 pub mod Cutting
+pub mod HoldingSides
