@@ -20,4 +20,4 @@ loop-count-preserved g c =
     c.loop-count.numbers.items _ c.requires.apart (omega (arith, c.loop-count-test.true))
     (begun_below c.args.borders.now.items c.loop-count.borders.items c.args.begun.now c.args.behind.now (c.loop-count.count - 1) c.requires.below
     c.loop-count.invariant.1 (omega (arith, c.loop-count.invariant.0, c.loop-count-test.true)))
-    c.loop-count.invariant c.in_ok-write_right.ensures.set c.in_ok-write_right.ensures.either c.in_ok-write_right.ensures.ascending
+    c.loop-count.invariant c.in_ok-numbers-2.ensures.set c.in_ok-numbers-2.ensures.either c.in_ok-numbers-2.ensures.ascending
