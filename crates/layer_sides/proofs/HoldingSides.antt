@@ -1,6 +1,6 @@
 -- Which polygons hold the sides of the borders at a vertex, as the code writes them.
 use Rattle.kit_words.proofs.Common.{◌≡◌, ℕ, suc, ◌+◌, ◌-◌, ◌<◌, ◌≤◌, refl, sym, ap, ap₂, ◌∙◌, subst, arith, List, []}
-use Rattle.kit_words.proofs.Common.{◌∷◌, ◌++◌, map, drop, drop_all, length, get_or, set, get_or-map, length-map, nil_from_length}
+use Rattle.kit_words.proofs.Common.{◌∷◌, ◌++◌, map, drop, length, get_or, set, get_or-map, length-map, nil_from_length}
 use Rattle.kit_words.proofs.Common.{IsStrictlySortedBy, Result, Ok, Err, IfOk, zero}
 use Rattle.std.specs.Ordering.{nat_cmp}
 use Rattle.grid_geometry.specs.Common.{xor}
@@ -131,18 +131,6 @@ Written old new begun behind count numbers =
     × AreNumbered (borders_at new (drop count begun ++ behind))
     × AreOddOf (borders_at new (drop count begun ++ behind)) numbers
 
-pub written_none : (bs : List Bordering) (begun behind : List ℕ) (count : ℕ) (numbers : List ℕ) → count ≡ length begun
-    → AreNumbered (borders_at bs behind) → AreOddOf (borders_at bs behind) numbers → Written bs bs begun behind count numbers
-written_none bs begun behind count numbers e numbered odd = (
-  omega (arith, e),
-  record { segments = refl; bounds = refl; others = λ i h. refl },
-  subst (λ ks. AreNumbered (borders_at bs (ks ++ behind))) (sym none) numbered,
-  subst (λ ks. AreOddOf (borders_at bs (ks ++ behind)) numbers) (sym none) odd,
-)
-  where
-    none : drop count begun ≡ []
-    none = drop_all count begun (omega (arith, e))
-
 written_one : (old bs new : List Bordering) (begun behind : List ℕ) (k : ℕ) (numbers found : List ℕ) → AreApartFrom behind begun
     → k < length begun → get_or begun k 0 < length bs → Written old bs begun behind (k + 1) numbers
     → new ≡ set bs (get_or begun k 0) (with_right (border_at bs (get_or begun k 0)) numbers)
@@ -169,10 +157,6 @@ written_more old ys new begun behind count numbers found apart some place h e ei
     written_one old (borders_seen ys) new begun behind (count - 1) numbers found apart (omega (arith, h.0, some))
     (subst (λ n. get_or begun (count - 1) 0 < n) (sym (length-map ys border_seen)) place)
     (subst (λ m. Written old (borders_seen ys) begun behind m numbers) next h) e either sorted
-
-pub written_all : (old new : List Bordering) (begun behind : List ℕ) (count : ℕ) (numbers : List ℕ) → count ≤ 0
-    → Written old new begun behind count numbers → Written old new begun behind 0 numbers
-written_all old new begun behind count numbers l h = subst (λ m. Written old new begun behind m numbers) (omega (arith, l)) h
 
 -- ---- what is on both sides
 

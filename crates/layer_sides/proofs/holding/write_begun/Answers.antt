@@ -1,7 +1,7 @@
 use Rattle.kit_words.proofs.Common.{◌≡◌, ◌<◌, ◌-◌, sym, ap, subst, arith, length, get_or}
 use Rattle.layer_sides.specs.Seen.{borders_seen}
 use Rattle.layer_sides.specs.Under.{AreBelow, AreOddOf, borders_at}
-use Rattle.layer_sides.proofs.HoldingSides.{below_back, begun_below, written_more, written_none}
+use Rattle.layer_sides.proofs.HoldingSides.{below_back, begun_below, written_more}
 use Rattle.layer_sides.proofs.holding.write_begun.Goals as goal
 
 pub left_of_first-requires-clause-below : goal.left_of_first-requires-clause-below
