@@ -34,3 +34,4 @@ pub mod Going
 pub mod Cutting
 pub mod Asked
 pub mod Written
+pub mod HoldingSides
