@@ -1,0 +1,14 @@
+use Rattle.kit_words.proofs.Common.{subst}
+use Rattle.layer_sides.specs.Seen.{borders_seen}
+use Rattle.layer_sides.proofs.Asked.{all_ascend, none_conflict}
+use Rattle.layer_sides.proofs.Sweeping.{swept}
+use Rattle.layer_sides.proofs.sweep.sweep.Goals as goal
+
+pub go_over_all-requires-clause-apart : goal.go_over_all-requires-clause-apart
+go_over_all-requires-clause-apart g c = none_conflict (borders_seen c.args.borders.now.items) c.requires.apart
+
+pub go_over_all-requires-clause-sorted : goal.go_over_all-requires-clause-sorted
+go_over_all-requires-clause-sorted g c = all_ascend (borders_seen c.args.borders.now.items) c.requires.sorted
+
+pub returns-clause-swept : goal.returns-clause-swept
+returns-clause-swept g c = ?
