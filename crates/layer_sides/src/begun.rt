@@ -5,8 +5,8 @@ ghost use Rattle.layer_sides.specs.Under.{AreBelow, AreTurned};
 ghost use Rattle.layer_sides.specs.Seen.{segments_seen};
 
 use crate::border::Border;
-use crate::fault::SideFault;
 use crate::ends::{is_right, top_of};
+use crate::fault::SideFault;
 use crate::under::{place_of, segment_at};
 use grid_geometry::Pos;
 use std::alloc::{AllocError, Allocator};
@@ -39,7 +39,10 @@ fn are_in_order<A: Allocator + Copy>(borders: &[Border<A>], begun: &[usize]) -> 
     };
     let mut last = *first;
     for place in rest {
-        if !is_right(top_of(segment_at(borders, *place)), segment_at(borders, last)) {
+        if !is_right(
+            top_of(segment_at(borders, *place)),
+            segment_at(borders, last),
+        ) {
             return false;
         }
         last = *place;
