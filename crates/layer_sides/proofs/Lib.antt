@@ -25,4 +25,5 @@ pub mod Writing
 pub mod Noting
 pub mod Going
 pub mod Cutting
+pub mod Asked
 pub mod HoldingSides

@@ -61,3 +61,6 @@ bounds_sorted xs i x l e h =
 pub segment_item : {A : Type 0} (xs : List (Border A)) (i : ℕ) (x : Border A) → i < length xs → x ≡ get_or xs i x
     → x.segment ≡ segment_at (segments_seen xs) i
 segment_item xs i x l e = ap (λ (b : Border _). b.segment) e ∙ segment_seen xs i x l
+
+pub same_length : {A : Type 0} (xs ys : List (Border A)) → segments_seen ys ≡ segments_seen xs → length ys ≡ length xs
+same_length xs ys e = sym (length_seen ys) ∙ ap length e ∙ length_seen xs
