@@ -1,6 +1,6 @@
 -- Which polygons hold the sides of the borders at a vertex, as the code writes them.
 use Rattle.kit_words.proofs.Common.{◌≡◌, ℕ, suc, ◌+◌, ◌-◌, ◌<◌, ◌≤◌, refl, sym, ap, ap₂, ◌∙◌, subst, arith, List, []}
-use Rattle.kit_words.proofs.Common.{◌∷◌, ◌++◌, map, drop, length, get_or, set, get_or-map, length-map, nil_from_length}
+use Rattle.kit_words.proofs.Common.{◌∷◌, ◌++◌, drop, length, get_or, set, get_or-map, length-map, nil_from_length}
 use Rattle.kit_words.proofs.Common.{IsStrictlySortedBy, Result, Ok, Err, IfOk, zero}
 use Rattle.std.specs.Ordering.{nat_cmp}
 use Rattle.grid_geometry.specs.Common.{xor}
