@@ -1,5 +1,7 @@
-use Rattle.kit_words.proofs.Common.{subst}
-use Rattle.layer_sides.specs.Seen.{borders_seen}
+use Rattle.kit_words.proofs.Common.{◌∙◌, sym, subst}
+use Rattle.layer_sides.specs.Common.{is_under_way}
+use Rattle.layer_sides.specs.Seen.{borders_seen, segments_seen, vertices_seen}
+use Rattle.layer_sides.specs.Under.{AreSegments, AreVertices}
 use Rattle.layer_sides.proofs.Asked.{all_ascend, none_conflict}
 use Rattle.layer_sides.proofs.Sweeping.{swept}
 use Rattle.layer_sides.proofs.sweep.sweep.Goals as goal
