@@ -1,8 +1,8 @@
 -- Numbers that are in one of two ascending lists.
-use Rattle.kit_words.proofs.Common.{◌≡◌, ℕ, ◌<◌, ◌≤◌, ◌+◌, ◌==◌, ◌&&◌, Bool, true, false, not, refl, sym, ap, ap₂, ◌∙◌, subst, cond}
-use Rattle.kit_words.proofs.Common.{List, [], ◌∷◌, ◌++◌, take, length, get_or, inl, inr, ◌⊎◌, ⊎_elim, arith, Contains, filter}
+use Rattle.kit_words.proofs.Common.{◌≡◌, ℕ, ◌<◌, ◌≤◌, ◌+◌, ◌==◌, Bool, true, false, not, refl, sym, ap, ◌∙◌, subst, cond}
+use Rattle.kit_words.proofs.Common.{List, [], ◌∷◌, ◌++◌, take, length, get_or, ⊎_elim, arith, Contains, filter}
 use Rattle.kit_words.proofs.Common.{append-nil, filter_more, searched, eqb-true, eq-eqb, false≢true, get_or_default, is_ok, Ok, Err}
-use Rattle.kit_words.proofs.Common.{Result, MatchResult, list_any, by_bool, IsStrictlySortedBy, nat_lt, ltb-true}
+use Rattle.kit_words.proofs.Common.{Result, MatchResult, by_bool, IsStrictlySortedBy, nat_lt, ltb-true}
 use Rattle.std.proofs.Common.{ltb-false}
 use Rattle.std.specs.List.Sorted.{IsBinarySearchResult}
 use Rattle.std.specs.Ordering.{nat_cmp}

@@ -1,6 +1,6 @@
 -- Which polygons hold the sides of the borders at a vertex, as the code writes them.
 use Rattle.kit_words.proofs.Common.{◌≡◌, ℕ, suc, ◌+◌, ◌-◌, ◌<◌, ◌≤◌, refl, sym, ap, ap₂, ◌∙◌, subst, arith, List, []}
-use Rattle.kit_words.proofs.Common.{◌∷◌, ◌++◌, map, drop, length, get_or, set, get_or-map, length-map, nil_from_length}
+use Rattle.kit_words.proofs.Common.{◌∷◌, ◌++◌, drop, length, get_or, set, get_or-map, length-map, nil_from_length}
 use Rattle.kit_words.proofs.Common.{IsStrictlySortedBy, Result, Ok, Err, IfOk, zero}
 use Rattle.std.specs.Ordering.{nat_cmp}
 use Rattle.grid_geometry.specs.Common.{xor}
@@ -11,7 +11,7 @@ use Rattle.layer_sides.specs.Seen.{border_seen, borders_seen}
 use Rattle.layer_sides.specs.Under.{AreApartFrom, AreAscending, AreBelow, AreNumbered, AreOddOf, Rewrites, border_at, borders_at}
 use Rattle.layer_sides.specs.Under.{bounds_of, is_odd_of, no_border, with_right}
 use Rattle.layer_sides.proofs.Ascending.{rises_none}
-use Rattle.layer_sides.proofs.Seeing.{border_at_seen, length_seen}
+use Rattle.layer_sides.proofs.Seeing.{border_at_seen, same_length}
 use Rattle.layer_sides.proofs.Writing.{numbered_more, odd_more, rewrites_more}
 
 -- ---- of what was found, if it was
@@ -111,15 +111,10 @@ below_front n [] ls i h l = absurd (omega arith)
 below_front n (k ∷ ks) ls zero h l = h 0 0 (omega arith)
 below_front n (k ∷ ks) ls (suc i) h l = below_front n ks ls i (λ j d m. h (suc j) d (omega arith)) (omega arith)
 
--- as many borders as before
-pub same_count : {A : Type 0} (places : List ℕ) (xs ys : List (Border A)) → Rewrites places (borders_seen xs) (borders_seen ys)
-    → length ys ≡ length xs
-same_count places xs ys h = sym (length_seen ys) ∙ ap length h.segments ∙ length_seen xs
-
 pub begun_below : {A : Type 0} (xs ys : List (Border A)) (begun behind : List ℕ) (k : ℕ) → AreBelow (length xs) (begun ++ behind)
     → Rewrites begun (borders_seen xs) (borders_seen ys) → k < length begun → get_or begun k 0 < length ys
 begun_below xs ys begun behind k h rewrites l =
-    subst (λ n. get_or begun k 0 < n) (sym (same_count begun xs ys rewrites)) (below_front (length xs) begun behind k h l)
+    subst (λ n. get_or begun k 0 < n) (sym (same_length xs ys rewrites.segments)) (below_front (length xs) begun behind k h l)
 
 -- ---- those that begin, from the last to the first
 

@@ -64,3 +64,10 @@ segment_item xs i x l e = ap (λ (b : Border _). b.segment) e ∙ segment_seen x
 
 pub same_length : {A : Type 0} (xs ys : List (Border A)) → segments_seen ys ≡ segments_seen xs → length ys ≡ length xs
 same_length xs ys e = sym (length_seen ys) ∙ ap length e ∙ length_seen xs
+
+-- what is noted where the code has found the vertex
+pub noted_there : {A : Type 0} (xs : List (Vertex A)) (k : ℕ) (seen x : Vertex A) (place : ℕ) (at : Position) (pushed : Vec ℕ A)
+    → k < length xs → seen ≡ get_or xs k seen → x ≡ get_or xs k x → seen.at ≡ at → pushed.items ≡ x.begun.items ++ place ∷ []
+    → Notes place at (vertices_seen xs) (vertices_seen (set xs k (record { at = x.at; begun = pushed })))
+noted_there xs k seen x place at pushed l d e h f =
+    noted xs k x place at pushed l e (ap (λ (v : Vertex _). v.at) (e ∙ get_or_default xs k x seen l ∙ sym d) ∙ h) f

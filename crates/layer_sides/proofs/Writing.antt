@@ -1,15 +1,14 @@
 -- A border that is written, with those behind it in the list.
-use Rattle.kit_words.proofs.Common.{◌≡◌, ℕ, suc, ◌+◌, ◌<◌, ◌==◌, Bool, true, false, refl, sym, ap, ap₂, ◌∙◌, subst, arith, List, []}
-use Rattle.kit_words.proofs.Common.{◌∷◌, ◌++◌, map, take, drop, length, get_or, set, inl, inr, Contains, take-append-drop, drop_more}
-use Rattle.kit_words.proofs.Common.{map-set, set-get_or, get_or-map, get_or_default, get_or-set_same, get_or-set_other, length-map, IsStrictlySortedBy}
-use Rattle.kit_words.proofs.Common.{cond, eq-eqb, All}
+use Rattle.kit_words.proofs.Common.{◌≡◌, ℕ, ◌+◌, ◌<◌, refl, sym, ap, ap₂, ◌∙◌, subst, arith, List}
+use Rattle.kit_words.proofs.Common.{◌∷◌, ◌++◌, map, take, drop, length, get_or, set, inl, inr, take-append-drop, drop_more}
+use Rattle.kit_words.proofs.Common.{map-set, set-get_or, get_or-map, get_or_default, get_or-set_same, get_or-set_other, IsStrictlySortedBy}
 use Rattle.std.specs.Ordering.{nat_cmp}
 use Rattle.grid_geometry.specs.Common.{xor}
 use Rattle.ring_machine.proofs.Common.{In, in-append, in_contains, in_at}
 use Rattle.layer_sides.specs.Borders.{Bordering}
 use Rattle.layer_sides.specs.Sweep.{has_number}
-use Rattle.layer_sides.specs.Under.{AreApartFrom, AreNumbered, AreOddOf, Rewrites, border_at, borders_at, bounds_of, is_odd_of}
-use Rattle.layer_sides.specs.Under.{segments_of, times, with_right}
+use Rattle.layer_sides.specs.Under.{AreApartFrom, AreNumbered, AreOddOf, Rewrites, border_at, borders_at}
+use Rattle.layer_sides.specs.Under.{times, with_right}
 use Rattle.layer_sides.proofs.Numbering.{same_borders}
 use Rattle.layer_sides.proofs.Places.{in_times, times-append, times_itself}
 
@@ -24,11 +23,10 @@ set_same f bs i numbers l e =
     ∙ set-get_or (map f bs) i (f (border_at bs i))
 
 module _ (first : List Bordering) (begun behind : List ℕ) (apart : AreApartFrom behind begun) (bs : List Bordering) (k : ℕ)
-  (within : k < length begun) (known : Rewrites begun first bs) (numbers : List ℕ)
-  (below : get_or begun k 0 < length bs)
-  (numbered : AreNumbered (borders_at bs (drop (k + 1) begun ++ behind)))
-  (odd : AreOddOf (borders_at bs (drop (k + 1) begun ++ behind)) numbers) where
-
+    (within : k < length begun) (known : Rewrites begun first bs) (numbers : List ℕ)
+    (below : get_or begun k 0 < length bs)
+    (numbered : AreNumbered (borders_at bs (drop (k + 1) begun ++ behind)))
+    (odd : AreOddOf (borders_at bs (drop (k + 1) begun ++ behind)) numbers) where
   abbrev i : ℕ
   i = get_or begun k 0
 

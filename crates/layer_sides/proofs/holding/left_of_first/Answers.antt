@@ -1,4 +1,4 @@
-use Rattle.kit_words.proofs.Common.{◌≡◌, ◌<◌, ◌≤◌, arith, length, get_or}
+use Rattle.kit_words.proofs.Common.{◌≤◌, arith, length}
 use Rattle.layer_sides.specs.Seen.{borders_seen}
 use Rattle.layer_sides.proofs.HoldingSides.{bounds_sorted, first_below, if_ok_from, left_odd, none_odd, right_sorted}
 use Rattle.layer_sides.proofs.holding.left_of_first.Goals as goal

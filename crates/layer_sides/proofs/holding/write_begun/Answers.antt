@@ -1,6 +1,6 @@
-use Rattle.kit_words.proofs.Common.{◌≡◌, ◌<◌, ◌-◌, sym, ap, subst, arith, length, get_or}
+use Rattle.kit_words.proofs.Common.{◌-◌, sym, ap, subst, arith, length}
 use Rattle.layer_sides.specs.Seen.{borders_seen}
-use Rattle.layer_sides.specs.Under.{AreBelow, AreOddOf, borders_at}
+use Rattle.layer_sides.specs.Under.{AreBelow}
 use Rattle.layer_sides.proofs.HoldingSides.{below_back, begun_below, written_more}
 use Rattle.layer_sides.proofs.holding.write_begun.Goals as goal
 

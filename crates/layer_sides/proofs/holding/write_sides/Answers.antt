@@ -1,4 +1,4 @@
-use Rattle.kit_words.proofs.Common.{◌≡◌, ◌∙◌, sym, subst, Decides-eqb, slice_eq-Decides}
+use Rattle.kit_words.proofs.Common.{◌∙◌, sym, subst, Decides-eqb, slice_eq-Decides}
 use Rattle.layer_sides.specs.Seen.{borders_seen}
 use Rattle.layer_sides.specs.Under.{AreOddOf, borders_at}
 use Rattle.layer_sides.proofs.HoldingSides.{same_odd}
