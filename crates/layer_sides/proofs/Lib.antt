@@ -33,5 +33,4 @@ pub mod Noting
 pub mod Going
 pub mod Cutting
 pub mod Asked
-pub mod Written
 pub mod HoldingSides
