@@ -57,10 +57,11 @@ order_across (x ∷ ss) ts h s t (inr i) j = order_across ss ts h.1 s t i j
 
 pub order_joined : (ss ts : List Segment) → AreInOrder ss → AreInOrder ts → AreBeside ss ts → AreInOrder (ss ++ ts)
 order_joined [] ts h k b = k
-order_joined (s ∷ ss) ts h k b =
-    (from_in (InFineOrder s) (ss ++ ts)
-    (λ t i. ⊎_elim (λ (j : In t ss). in_recursion (InFineOrder s) ss t h.0 j) (λ (j : In t ts). b s t (inl refl) j) (in-append t ss ts i)),
-    order_joined ss ts h.1 k (λ a t i j. b a t (inr i) j))
+order_joined (s ∷ ss) ts h k b = (
+  from_in (InFineOrder s) (ss ++ ts)
+      (λ t i. ⊎_elim (λ (j : In t ss). in_recursion (InFineOrder s) ss t h.0 j) (λ (j : In t ts). b s t (inl refl) j) (in-append t ss ts i)),
+  order_joined ss ts h.1 k (λ a t i j. b a t (inr i) j),
+)
 
 -- ---- on which side of them a vertex lies
 
@@ -113,15 +114,14 @@ module _ (seg : ℕ → Segment) where
       subst (λ z. InFineOrder z t) a.2 (subst (λ z. InFineOrder (seg a.0) z) b.2 (h a.0 b.0 a.1 b.1))
 
   module _ (v : Position) (front ended back begun : List ℕ)
-    (apart : (i j : ℕ) → In i (front ++ ended ++ back) → In j begun
-    → (conflict (seg i) (seg j) ≡ false) × (conflict (seg j) (seg i) ≡ false))
-    (segments : (i : ℕ) → In i (front ++ ended ++ back) → IsSegment (seg i))
-    (begins : (i : ℕ) → In i begun → Begins v (seg i))
-    (before : AreInOrder (map seg (front ++ ended ++ back))) (turned : AreInOrder (map seg begun))
-    (under_front : (i : ℕ) → In i front → IsTrue (is_under_way v (seg i)))
-    (under_back : (i : ℕ) → In i back → IsTrue (is_under_way v (seg i)))
-    (right : (i : ℕ) → In i front → IsTrue (is_right v (seg i))) (left : (i : ℕ) → In i back → IsTrue (is_left v (seg i))) where
-
+      (apart : (i j : ℕ) → In i (front ++ ended ++ back) → In j begun
+      → (conflict (seg i) (seg j) ≡ false) × (conflict (seg j) (seg i) ≡ false))
+      (segments : (i : ℕ) → In i (front ++ ended ++ back) → IsSegment (seg i))
+      (begins : (i : ℕ) → In i begun → Begins v (seg i))
+      (before : AreInOrder (map seg (front ++ ended ++ back))) (turned : AreInOrder (map seg begun))
+      (under_front : (i : ℕ) → In i front → IsTrue (is_under_way v (seg i)))
+      (under_back : (i : ℕ) → In i back → IsTrue (is_under_way v (seg i)))
+      (right : (i : ℕ) → In i front → IsTrue (is_right v (seg i))) (left : (i : ℕ) → In i back → IsTrue (is_left v (seg i))) where
     from_front : (i : ℕ) → In i front → In i (front ++ ended ++ back)
     from_front i j = in_left i (front ++ ended) back (in_left i front ended j)
 

@@ -1,6 +1,6 @@
 -- What is asked of borders, said of their segments and of their numbers.
 use Rattle.kit_words.proofs.Common.{◌≡◌, ℕ, ◌<◌, sym, ◌∙◌, subst, List, length, get_or, map, Contains, get_or-map, get_or_default}
-use Rattle.kit_words.proofs.Common.{length-map, IsStrictlySortedBy}
+use Rattle.kit_words.proofs.Common.{length-map, IsStrictlySortedBy, Option, Some, None, IsNone, refl}
 use Rattle.std.specs.Prelude.{IsFalse}
 use Rattle.std.specs.Ordering.{nat_cmp}
 use Rattle.grid_geometry.specs.Common.{Segment, conflict}
@@ -26,3 +26,8 @@ pub all_ascend : (bs : List Bordering) → AreSorted bs → AreAscending (bounds
 all_ascend bs h k d l =
     let i = below (λ b. b.bounds) bs k l in
     subst (IsStrictlySortedBy nat_cmp) (sym (get_or-map (λ (b : Bordering). b.bounds) bs k _ d i)) (h (border_at bs k) (border_there bs k i))
+
+-- what is none of the values that there could be is none
+pub none_of : {X : Type 0} (o : Option X) → ((x : X) → o ≡ Some x → ⊥) → IsNone o
+none_of None h = refl
+none_of (Some x) h = absurd (h x refl)

@@ -186,9 +186,8 @@ stands_kept bs cs w v places l b r h = record {
 -- ---- one vertex more
 
 module _ (bs cs : List Bordering) (vs : List VertexOf) (k : ℕ) (d : VertexOf) (places : List ℕ)
-  (vertices : AreVertices (segments_of bs) vs) (within : k < length vs)
-  (rewrites : Rewrites (get_or vs k d).1 bs cs) (stands : Stands cs (is_under_way (get_or vs k d).0) places) where
-
+    (vertices : AreVertices (segments_of bs) vs) (within : k < length vs)
+    (rewrites : Rewrites (get_or vs k d).1 bs cs) (stands : Stands cs (is_under_way (get_or vs k d).0) places) where
   pub stands_after_more : StandsAfter cs vs (k + 1) places
   stands_after_more = record {
     first = λ e. absurd (omega arith);

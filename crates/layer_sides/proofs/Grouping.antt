@@ -267,8 +267,8 @@ pub grouping-next : (odd rest own more : List Standing) (borders borders' : List
 grouping-next odd rest own more borders borders' x b n rising h l e m alike other front back is new =
     let some = some_first rest n x l e other in (
       grouping-step odd rest own more borders borders' x b rising h (ap₂ (λ y z. y ++ z) front back ∙ take-append-drop n rest)
-      (subst (In x) (sym front) (run_first rest n x some l e))
-      (λ y i. in_run rest n x.segment m alike y (subst (In y) front i))
-      (λ z zs f g. run_other rest n x.segment other z zs (sym back ∙ f) g) is new,
+          (subst (In x) (sym front) (run_first rest n x some l e))
+          (λ y i. in_run rest n x.segment m alike y (subst (In y) front i))
+          (λ z zs f g. run_other rest n x.segment other z zs (sym back ∙ f) g) is new,
       omega (arith, ap length back, length-drop n rest, some, l, m),
     )

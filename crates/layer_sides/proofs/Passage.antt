@@ -45,10 +45,9 @@ below_listed n test places h =
     All-from_recursion (λ i. i < n) places (from_in (λ i. i < n) places (λ i j. (listed n test places h i j).below))
 
 module _ (bs : List Bordering) (v : VertexOf) (places begun : List ℕ) (b e : ℕ)
-  (segments : AreSegments (segments_of bs)) (apart : NoneConflict (segments_of bs))
-  (st : Stands bs (awaits v.0) places) (has : BegunAt (segments_of bs) (length (segments_of bs)) v)
-  (cut : CutsAt (segments_of bs) places v.0 b e) (perm : IsPermutation v.1 begun) where
-
+    (segments : AreSegments (segments_of bs)) (apart : NoneConflict (segments_of bs))
+    (st : Stands bs (awaits v.0) places) (has : BegunAt (segments_of bs) (length (segments_of bs)) v)
+    (cut : CutsAt (segments_of bs) places v.0 b e) (perm : IsPermutation v.1 begun) where
   abbrev seg : ℕ → Segment
   seg i = segment_at (segments_of bs) i
 
@@ -123,9 +122,10 @@ module _ (bs : List Bordering) (v : VertexOf) (places begun : List ℕ) (b e : �
 
   pub apart_from : AreApartFrom back begun
   apart_from i c =
-      let h = contains_in begun i c in
-      (listed_once (length (segments_of bs)) (λ i. position_eq (bottom (seg i)) v.0) begun come i h,
-      none_times i back (λ j. not_there i h (of_back i j)))
+      let h = contains_in begun i c in (
+        listed_once (length (segments_of bs)) (λ i. position_eq (bottom (seg i)) v.0) begun come i h,
+        none_times i back (λ j. not_there i h (of_back i j)),
+      )
 
   pub numbered_rest : (k : ℕ) → AreNumbered (borders_at bs (drop k places))
   numbered_rest k =
@@ -202,9 +202,8 @@ module _ (bs : List Bordering) (v : VertexOf) (places begun : List ℕ) (b e : �
   -- ---- with the numbers
 
   module _ (cs : List Bordering) (turned : AreTurned (segments_of bs) begun) (rewrites : Rewrites begun bs cs)
-    (numbered : AreNumbered (borders_at cs (begun ++ back)))
-    (same : (n : ℕ) → is_odd_of n (borders_at cs (begun ++ back)) ≡ is_odd_of n (borders_at bs (drop b places))) where
-
+      (numbered : AreNumbered (borders_at cs (begun ++ back)))
+      (same : (n : ℕ) → is_odd_of n (borders_at cs (begun ++ back)) ≡ is_odd_of n (borders_at bs (drop b places))) where
     -- the numbers of those before are as they were
     front_same : borders_at cs front ≡ borders_at bs front
     front_same = same_borders bs cs front (λ i h. rewrites.others i (none_times i begun (λ j. not_there i j (of_front i h))))

@@ -210,12 +210,11 @@ times_three : (i : ℕ) (xs ys zs : List ℕ) → times i (xs ++ ys ++ zs) ≡ (
 times_three i xs ys zs = times-append i (xs ++ ys) zs ∙ ap (λ n. n + times i zs) (times-append i xs ys)
 
 module _ (n : ℕ) (awaits ends begins way : ℕ → Bool) (front ended back begun : List ℕ)
-  (before : ListsPlaces n awaits (front ++ ended ++ back)) (come : ListsPlaces n begins begun)
-  (end : (i : ℕ) → In i ended → ends i ≡ true) (go_front : (i : ℕ) → In i front → ends i ≡ false)
-  (go_back : (i : ℕ) → In i back → ends i ≡ false)
-  (is_way : (i : ℕ) → i < n → way i ≡ ((awaits i && not (ends i)) || begins i))
-  (apart : (i : ℕ) → begins i ≡ true → awaits i ≡ false) where
-
+    (before : ListsPlaces n awaits (front ++ ended ++ back)) (come : ListsPlaces n begins begun)
+    (end : (i : ℕ) → In i ended → ends i ≡ true) (go_front : (i : ℕ) → In i front → ends i ≡ false)
+    (go_back : (i : ℕ) → In i back → ends i ≡ false)
+    (is_way : (i : ℕ) → i < n → way i ≡ ((awaits i && not (ends i)) || begins i))
+    (apart : (i : ℕ) → begins i ≡ true → awaits i ≡ false) where
   differ : (i : ℕ) → ends i ≡ true → ends i ≡ false → ⊥
   differ i e f = grind arith
 

@@ -47,7 +47,6 @@ noted xs k x place at pushed l e h f = record {
     here : get_or (vertices_seen xs) k (at, []) ≡ vertex_seen x
     here = get_or-map vertex_seen xs k x _ l ∙ ap vertex_seen (sym e)
 
-
 -- the numbers of a border's polygons ascend, where those of all do
 pub bounds_sorted : {A : Type 0} (xs : List (Border A)) (i : ℕ) (x : Border A) → i < length xs → x ≡ get_or xs i x
     → AreAscending (bounds_of (borders_seen xs)) → IsStrictlySortedBy nat_cmp x.bounds.items

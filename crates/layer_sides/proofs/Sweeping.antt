@@ -74,8 +74,7 @@ vertex_at vs p h =
     record { vertex = k.0; among = k.1; at = turned_same k.0.0 p k.2 }
 
 module _ (bs : List Bordering) (vs : List VertexOf) (segments : AreSegments (segments_of bs))
-  (vertices : AreVertices (segments_of bs) vs) (stands : StandsAtEach bs is_under_way vs) (i : ℕ) (bound : i < length bs) where
-
+    (vertices : AreVertices (segments_of bs) vs) (stands : StandsAtEach bs is_under_way vs) (i : ℕ) (bound : i < length bs) where
   abbrev seg : ℕ → Segment
   seg j = segment_at (segments_of bs) j
 

@@ -117,11 +117,12 @@ module _ (v : Position) where
 
   turning_in_order : (ss : List Segment) → AreTurning ss → ((s : Segment) → In s ss → Begins v s) → AreInOrder ss
   turning_in_order [] h b = tt
-  turning_in_order (s ∷ ss) h b =
-      (from_in (InFineOrder s) ss (λ t i.
-      born_together_doubled s t (b s (inl refl)).segment (b t (inr i)).segment ((b s (inl refl)).at ∙ sym (b t (inr i)).at)
-      (right_of_first s ss h b t i)),
-      turning_in_order ss (turning_rest s ss h) (λ t i. b t (inr i)))
+  turning_in_order (s ∷ ss) h b = (
+    from_in (InFineOrder s) ss (λ t i.
+        born_together_doubled s t (b s (inl refl)).segment (b t (inr i)).segment ((b s (inl refl)).at ∙ sym (b t (inr i)).at)
+        (right_of_first s ss h b t i)),
+    turning_in_order ss (turning_rest s ss h) (λ t i. b t (inr i)),
+  )
 
   turning : (ss : List Segment) (places : List ℕ) → AreTurned ss places → AreTurning (map (segment_at ss) places)
   unfolding AreTurning

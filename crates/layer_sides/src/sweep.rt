@@ -45,8 +45,21 @@ fn go_over<A: Allocator + Copy>(
     let Some((from, to)) = ended_at(borders.as_slice(), list, vertex.at) else {
         return Err(SideFault::Unswept(vertex.at));
     };
-    let begun = in_order(alloc, borders.as_slice(), vertex.begun.as_slice(), vertex.at)?;
-    write_sides(alloc, borders, &list[from..], begun.as_slice(), &list[to..], vertex.at, room)?;
+    let begun = in_order(
+        alloc,
+        borders.as_slice(),
+        vertex.begun.as_slice(),
+        vertex.at,
+    )?;
+    write_sides(
+        alloc,
+        borders,
+        &list[from..],
+        begun.as_slice(),
+        &list[to..],
+        vertex.at,
+        room,
+    )?;
     let next = with_begun(alloc, list, from, to, begun.as_slice())?;
     faces.join_along(next.as_slice(), from, from + begun.len());
     Ok(next)

@@ -22,11 +22,7 @@ pub(crate) fn segment_at<A: Allocator + Copy>(borders: &[Border<A>], place: usiz
 
 /// How many of the first borders of the list have v strictly on their right, where those behind
 /// them have not.
-pub(crate) fn place_of<A: Allocator + Copy>(
-    borders: &[Border<A>],
-    list: &[usize],
-    v: Pos,
-) -> usize
+pub(crate) fn place_of<A: Allocator + Copy>(borders: &[Border<A>], list: &[usize], v: Pos) -> usize
     requires { AreBelow (length borders.now) list.now }
     ensures { result ≤ length list.now }
 {

@@ -7,8 +7,8 @@ ghost use Rattle.layer_sides.specs.Under.{AreSegments, AreVertices, Ascends, Beg
 ghost use Rattle.layer_sides.specs.Seen.{segments_seen, vertices_seen};
 
 use crate::border::Border;
-use crate::fault::SideFault;
 use crate::ends::{bottom_of, is_ordered, top_of};
+use crate::fault::SideFault;
 use grid_geometry::Pos;
 use std::alloc::{AllocError, Allocator, Global};
 
@@ -71,10 +71,7 @@ fn sort_once<A: Allocator + Copy>(positions: &mut Vec<Pos, A>)
 }
 
 /// The vertices at these turned positions; at none of them a border begins.
-fn bare<A: Allocator + Copy>(
-    alloc: A,
-    levels: &[Pos],
-) -> Result<Vec<Vertex<A>, A>, AllocError>
+fn bare<A: Allocator + Copy>(alloc: A, levels: &[Pos]) -> Result<Vec<Vertex<A>, A>, AllocError>
     ensures levels { IfOk result (λ found. map (λ v. spec.turned v.0) (vertices_seen found.items) ≡ levels.now) }
     ensures bare { IfOk result (λ found. All (λ v. v.1 ≡ []) (vertices_seen found.items)) }
 {

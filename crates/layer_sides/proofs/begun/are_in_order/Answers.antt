@@ -11,10 +11,11 @@ loop-place-preserved g c =
     let places = c.args.begun.now in
     let k = c.loop-place.place-index in
     let l : k + 1 < length places = omega (arith, c.loop-place-test.true, rest_length places, c.in-len1-up.len_at_least) in
-    let passed : c.is_right.result ≡ true = grind (arith, c.if-not-is_right.false) in
-    (rest_at places k l,
-    turned_more (segments_seen c.args.borders.now) places k c.loop-place.last (get_or (take (length places - 1) (drop 1 places)) k 0) l
-    c.loop-place.invariant.0 (rest_at places k l)
-    (ap₂ (λ s t. order.is_right (top s) t) (sym c.segment_at.ensures) (sym c.segment_at-in-loop-place.ensures)
-    ∙ ap (λ p. order.is_right p c.segment_at-in-loop-place.result) (sym c.top_of.ensures) ∙ sym c.is_right.ensures ∙ passed)
-    c.loop-place.invariant.1)
+    let passed : c.is_right.result ≡ true = grind (arith, c.if-not-is_right.false) in (
+      rest_at places k l,
+      turned_more (segments_seen c.args.borders.now) places k c.loop-place.last (get_or (take (length places - 1) (drop 1 places)) k 0) l
+          c.loop-place.invariant.0 (rest_at places k l)
+          (ap₂ (λ s t. order.is_right (top s) t) (sym c.segment_at.ensures) (sym c.segment_at-in-loop-place.ensures)
+          ∙ ap (λ p. order.is_right p c.segment_at-in-loop-place.result) (sym c.top_of.ensures) ∙ sym c.is_right.ensures ∙ passed)
+          c.loop-place.invariant.1,
+    )

@@ -43,11 +43,12 @@ loop-vertex-preserved g c =
     let after = borders_seen c.go_over.new.borders.items in
     let r : Rewrites (get_or vs k v).1 bs after = subst (λ (z : VertexOf). Rewrites z.1 bs after) (sym there) c.in_ok-list.ensures.rewrites in
     let s : Stands after (is_under_way (get_or vs k v).0) c.in_ok-list.list.items =
-    subst (λ (z : VertexOf). Stands after (is_under_way z.0) c.in_ok-list.list.items) (sym there) c.in_ok-list.ensures.stands in
-    (c.in_ok-list.ensures.rewrites.segments ∙ c.loop-vertex.invariant.0,
-    c.in_ok-list.ensures.rewrites.bounds ∙ c.loop-vertex.invariant.1,
-    each_more bs after vs k v c.in_ok-list.list.items w m r s c.loop-vertex.invariant.2,
-    stands_after_more bs after vs k v c.in_ok-list.list.items w m r s)
+    subst (λ (z : VertexOf). Stands after (is_under_way z.0) c.in_ok-list.list.items) (sym there) c.in_ok-list.ensures.stands in (
+      c.in_ok-list.ensures.rewrites.segments ∙ c.loop-vertex.invariant.0,
+      c.in_ok-list.ensures.rewrites.bounds ∙ c.loop-vertex.invariant.1,
+      each_more bs after vs k v c.in_ok-list.list.items w m r s c.loop-vertex.invariant.2,
+      stands_after_more bs after vs k v c.in_ok-list.list.items w m r s,
+    )
 
 pub returns-clause-stands : goal.returns-clause-stands
 returns-clause-stands g c =

@@ -2,7 +2,7 @@ use Rattle.kit_words.proofs.Common.{◌∙◌, sym, subst}
 use Rattle.layer_sides.specs.Common.{is_under_way}
 use Rattle.layer_sides.specs.Seen.{borders_seen, segments_seen, vertices_seen}
 use Rattle.layer_sides.specs.Under.{AreSegments, AreVertices, StandsAtEach}
-use Rattle.layer_sides.proofs.Asked.{all_ascend, none_conflict}
+use Rattle.layer_sides.proofs.Asked.{all_ascend, none_conflict, none_of}
 use Rattle.layer_sides.proofs.Sweeping.{swept}
 use Rattle.layer_sides.proofs.sweep.sweep.Goals as goal
 
@@ -15,7 +15,7 @@ go_over_all-requires-clause-sorted g c = all_ascend (borders_seen c.args.borders
 pub returns-clause-swept : goal.returns-clause-swept
 returns-clause-swept g c =
     let segments : AreSegments (segments_seen c.args.borders.now.items) =
-    subst (λ xs. AreSegments (segments_seen xs)) c.as_slice.ensures.value (c.disordered.ensures ?) in
+    subst (λ xs. AreSegments (segments_seen xs)) c.as_slice.ensures.value (c.disordered.ensures (none_of c.disordered.result c.in_default.not-Some)) in
     let vertices : AreVertices (segments_seen c.args.borders.now.items) (vertices_seen c.in_ok-vertices.vertices.items) =
     subst (λ xs. AreVertices (segments_seen xs) (vertices_seen c.in_ok-vertices.vertices.items)) c.as_slice-2.ensures.value c.in_ok-vertices.ensures in
     let same = c.in_ok-go_over_all.ensures.segments in
