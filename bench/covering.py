@@ -227,16 +227,15 @@ def features_within(geometry):
             yield from features_within(item)
 
 
-def layers_of(text, names):
-    """The layers of a map that are looked at: of these names, or all where there are none."""
+def layers_of(text):
+    """The layers of a map, in the order of its text."""
     number = itertools.count()
     for name, geometry in read(text).layers:
         polygons = []
         for feature in features_within(geometry):
             at = next(number)
             polygons += [(at, p, rings) for p, rings in enumerate(feature.polygons)]
-        if not names or json.loads(name) in names:
-            yield Layer(name, polygons)
+        yield Layer(name, polygons)
 
 
 def width_of(found):
@@ -244,32 +243,60 @@ def width_of(found):
     return -(-PARTS * found.area // found.length)
 
 
-def is_within(found, width, area):
-    is_narrow = width is None or PARTS * found.area <= width * found.length
-    return is_narrow and (area is None or found.area <= area)
+class Asked:
+    """What is asked of a report: the names of layers, or none for all; the bounds, if any; how many lines of one kind."""
+
+    def __init__(self, names=(), width=None, area=None, most=USUAL):
+        self.names, self.width, self.area, self.most = names, width, area, most
+
+    def words(self):
+        """The same as arguments of the program."""
+        words = [word for name in self.names for word in ("--layer", name)]
+        for name, value in ("width", self.width), ("area", self.area):
+            words += [f"--{name}", str(value)] * (value is not None)
+        return words + ["--most", str(self.most)] * (self.most != USUAL)
+
+    def has(self, found):
+        """Whether a face is within the bounds."""
+        is_narrow = self.width is None or PARTS * found.area <= self.width * found.length
+        return is_narrow and (self.area is None or found.area <= self.area)
 
 
-def report(text, names=(), width=None, area=None, most=USUAL):
-    """The lines of the report, and whether an overlap, a gap or an uneven polygon is told."""
-    layers = list(layers_of(text, names))
-    found = [it for layer in layers for it in layer.found() if it]
-    lines, counts = [], []
-    for kind in KINDS:
-        told = [it for it in found if it.kind == kind and is_within(it, width, area)]
-        for it in told[:most]:
-            features, name = (" ".join(map(str, numbers)) for numbers in (it.features, it.name))
-            lines.append(f"{kind} {features} / {it.area} {width_of(it)} / {name}")
-        counts.append(len(told))
-    uneven = [it for layer in layers for it in layer.uneven()]
-    lines += ["uneven " + " ".join(map(str, it)) for it in uneven[:most]]
-    counts.append(len(uneven))
+class Cover:
+    """A map that opens, with what is found in its layers."""
+
+    def __init__(self, text):
+        self.layers = [(json.loads(layer.name), layer, [it for it in layer.found() if it]) for layer in layers_of(text)]
+
+    def report(self, asked):
+        """The lines of the report, and the status; no lines where a layer has not that name."""
+        if not {name for name, _, _ in self.layers}.issuperset(asked.names):
+            return [], 2
+        looked = [(layer, found) for name, layer, found in self.layers if not asked.names or name in asked.names]
+        found = [it for _, found in looked for it in found]
+        lines, counts = [], {}
+        for kind in KINDS:
+            told = [it for it in found if it.kind == kind and asked.has(it)]
+            lines += [f"{kind} {spaced(it.features)} / {it.area} {width_of(it)} / {spaced(it.name)}" for it in told[:asked.most]]
+            counts[kind] = len(told)
+        uneven = [it for layer, _ in looked for it in layer.uneven()]
+        lines += [f"uneven {spaced(it)}" for it in uneven[:asked.most]]
+        counts["uneven"] = len(uneven)
+        lines += wide_lines(found)
+        lines += ["sum {} over {} covered {} gaps {} within {} ".format(*layer.sums()) + layer.name for layer, _ in looked]
+        lines.append("counts " + " ".join(f"{kind} {count}" for kind, count in counts.items()))
+        return lines, 1 if any(count for kind, count in counts.items() if kind != "lake") else 0
+
+
+def spaced(numbers):
+    return " ".join(map(str, numbers))
+
+
+def wide_lines(found):
+    """How many faces of each kind there are of each width, in powers of two."""
     wide = collections.Counter((1 << (width_of(it) - 1).bit_length(), it.kind) for it in found)
     for bound in sorted({bound for bound, _ in wide}):
-        lines.append(f"wide {bound} " + " ".join(f"{kind} {wide[bound, kind]}" for kind in KINDS))
-    for layer in layers:
-        lines.append("sum {} over {} covered {} gaps {} within {} ".format(*layer.sums()) + layer.name)
-    lines.append("counts " + " ".join(f"{kind} {count}" for kind, count in zip((*KINDS, "uneven"), counts)))
-    return lines, any(count for kind, count in zip((*KINDS, "uneven"), counts) if kind != "lake")
+        yield f"wide {bound} " + " ".join(f"{kind} {wide[bound, kind]}" for kind in KINDS)
 
 
 def main():
@@ -280,10 +307,10 @@ def main():
     words.add_argument("--area", type=int, help="the greatest area of one, twice as large")
     words.add_argument("--most", type=int, default=USUAL, help="how many lines of one kind (%(default)s)")
     given = words.parse_args()
-    text = given.map.read_text(encoding="utf-8")
-    lines, is_told = report(text, given.layer, given.width, given.area, given.most)
+    cover = Cover(given.map.read_text(encoding="utf-8"))
+    lines, status = cover.report(Asked(given.layer, given.width, given.area, given.most))
     print("\n".join(lines))
-    return 1 if is_told else 0
+    return status
 
 
 if __name__ == "__main__":

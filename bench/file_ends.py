@@ -18,7 +18,7 @@ import xml.dom.minidom
 import xml.parsers.expat
 
 TOP = pathlib.Path(__file__).resolve().parent.parent
-EDIT, SHOW, MEND, EXPORT = "edit", "show", "mend", "export"
+EDIT, SHOW, MEND, EXPORT, COVER = "edit", "show", "mend", "export", "cover"
 NOBODY = 65534
 LIMIT = 60
 
