@@ -1,0 +1,85 @@
+//! The polygons of a layer.
+ghost use Rattle.std.specs.Prelude.{◌≡◌, ◌≤◌, ◌+◌, ◌++◌, ◌<◌, ◌^◌, drop, into_iter_items, is_some, length, map, replicate, take, IfOk, OnOk};
+ghost use Rattle.topo_outline.specs.Common.{leaf_of, leaves_in, view_item};
+ghost use Rattle.ring_parts.specs.Common.{polygons_seen};
+ghost use Rattle.cover_report.specs.Layers.{owners_from, polygons_in};
+ghost use Rattle.topo_reader.specs.Uses.{feature_positions};
+
+use grid_geometry::Pos;
+use std::alloc::{AllocError, Allocator};
+use std::vec::IntoIter;
+use topo_outline::Item;
+
+/// The polygons of a feature.
+pub(crate) type Feature<A> = Vec<Vec<Vec<Pos, A>, A>, A>;
+
+/// Polygons, and of each the number of its feature.
+#[derive(Drop)]
+pub(crate) struct Owned<A: Allocator + Copy> {
+    pub(crate) polygons: Vec<Vec<Vec<Pos, A>, A>, A>,
+    pub(crate) owners: Vec<usize, A>,
+}
+
+/// Whether an item is a feature with rings or none.
+fn is_leaf<A: Allocator + Copy>(item: &Item<'_, A>) -> bool
+    ensures { result ≡ is_some (leaf_of (view_item item.now)) }
+{
+    matches!(item, Item::Leaf(_))
+}
+
+/// How many features with rings or none stand in items.
+pub(crate) fn leaf_count<A: Allocator + Copy>(items: &[Item<'_, A>]) -> usize
+    ensures value { result ≡ length (leaves_in (map view_item items.now)) }
+    ensures bound { result ≤ length items.now }
+{
+    let mut count = 0;
+    for item in items {
+        if is_leaf(item) {
+            count += 1;
+        }
+    }
+    count
+}
+
+/// Appends the polygons of a feature with this number.
+fn push_feature<A: Allocator + Copy>(
+    owned: &mut Owned<A>,
+    number: usize,
+    feature: Feature<A>,
+) -> Result<(), AllocError>
+    ensures owners { OnOk result (owned.new.owners.items
+        ≡ owned.old.owners.items ++ replicate (length feature.items) number) }
+    ensures polygons { OnOk result
+        (owned.new.polygons.items ≡ owned.old.polygons.items ++ feature.items) }
+{
+    let mut feature = feature;
+    let len = owned.owners.len() + feature.len();
+    owned.owners.resize(len, number)?;
+    owned.polygons.append(&mut feature)
+}
+
+/// The polygons of the next features, so many, which are numbered from a number on.
+pub(crate) fn next_polygons<A: Allocator + Copy>(
+    alloc: A,
+    rest: &mut IntoIter<Feature<A>, A>,
+    first: usize,
+    count: usize,
+) -> Result<Owned<A>, AllocError>
+    requires { first + count < 2 ^ 64 }
+    ensures polygons { IfOk result (λ owned. polygons_seen owned.polygons.items
+        ≡ polygons_in (map feature_positions (take count (into_iter_items rest.old)))) }
+    ensures owners { IfOk result (λ owned. owned.owners.items
+        ≡ owners_from first (map feature_positions (take count (into_iter_items rest.old)))) }
+    ensures rest { OnOk result (into_iter_items rest.new ≡ drop count (into_iter_items rest.old)) }
+{
+    let mut owned = Owned {
+        polygons: Vec::new(alloc),
+        owners: Vec::new(alloc),
+    };
+    for number in first..first + count {
+        if let Some(feature) = rest.next() {
+            push_feature(&mut owned, number, feature)?;
+        }
+    }
+    Ok(owned)
+}

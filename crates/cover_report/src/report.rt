@@ -1,0 +1,99 @@
+//! The report of the overlaps and gaps of a map.
+ghost use Rattle.std.specs.Prelude.{◌≡◌, ◌++◌, length, map, IfErr, IfOk, OnOk};
+ghost use Rattle.layer_faces.specs.Seen.{view_face};
+ghost use Rattle.cover_report.specs.Asked.{view_asked};
+ghost use Rattle.cover_report.specs.Counted.{counts_of, told};
+ghost use Rattle.cover_report.specs.Faults.{IsRefused};
+ghost use Rattle.cover_report.specs.Layers.{view_looked};
+ghost use Rattle.cover_report.specs.Report.{report_text, told_lines};
+ghost use Rattle.cover_report.specs.Told.{IsTold};
+
+use crate::asked::Asked;
+use crate::fault::CoverFault;
+use crate::lines::{push_all_sums, push_counts, push_first, push_widths};
+use crate::looked::{Looked, are_there, looked};
+use crate::opening::proper_map;
+use crate::told::{Counts, all_faces, all_uneven, told_faces};
+use layer_faces::{Face, Kind};
+use std::alloc::{AllocError, Allocator, Global};
+use std::hash::RandomState;
+
+/// Appends the lines of a kind of faces, and answers how many there are.
+fn push_kind<A: Allocator + Copy>(
+    alloc: A,
+    text: &mut Vec<u8, A>,
+    asked: &Asked<'_>,
+    kind: Kind,
+    faces: &[&Face<A>],
+) -> Result<usize, AllocError>
+    ensures lines { OnOk result (text.new.items ≡ text.old.items
+        ++ told_lines (view_asked asked.now) kind (map (λ f. view_face f.now) faces.now)) }
+    ensures count { IfOk result (λ count. count
+        ≡ length (told (view_asked asked.now) kind (map (λ f. view_face f.now) faces.now))) }
+{
+    let told = told_faces(alloc, asked, kind, faces)?;
+    push_first(text, told.as_slice(), asked.most)?;
+    Ok(told.len())
+}
+
+/// Appends the report of the layers that were looked at, and answers how much is told of each kind.
+fn push_report<A: Allocator + Copy>(
+    alloc: A,
+    text: &mut Vec<u8, A>,
+    asked: &Asked<'_>,
+    looks: &[Looked<'_, A>],
+) -> Result<Counts, AllocError>
+    ensures lines { OnOk result (text.new.items ≡ text.old.items
+        ++ report_text (view_asked asked.now) (map view_looked looks.now)) }
+    ensures counts { IfOk result (λ counts. counts
+        ≡ counts_of (view_asked asked.now) (map view_looked looks.now)) }
+{
+    let faces = all_faces(alloc, looks)?;
+    let overlaps = push_kind(alloc, text, asked, Kind::Overlap, faces.as_slice())?;
+    let twices = push_kind(alloc, text, asked, Kind::Twice, faces.as_slice())?;
+    let gaps = push_kind(alloc, text, asked, Kind::Gap, faces.as_slice())?;
+    let lakes = push_kind(alloc, text, asked, Kind::Lake, faces.as_slice())?;
+    let uneven = all_uneven(alloc, looks)?;
+    push_first(text, uneven.as_slice(), asked.most)?;
+    push_widths(text, faces.as_slice())?;
+    push_all_sums(text, looks)?;
+    let counts = Counts {
+        overlaps,
+        twices,
+        gaps,
+        lakes,
+        uneven: uneven.len(),
+    };
+    push_counts(text, counts)?;
+    Ok(counts)
+}
+
+/// Looks at a map that opens, and appends the report of its overlaps and gaps to a text. Answers how much is told of each
+/// kind, whatever the most lines are.
+///
+/// Fails where the map does not open, with `NoLayer` where a name that is asked for is none of a layer, with `TooLarge`
+/// where a layer has more sides than can be looked at, and on allocation failure; then the text may have a part of a report.
+pub fn report_map<'a, A: Allocator + Copy>(
+    alloc: A,
+    heap: Global,
+    seed: RandomState,
+    bytes: &'a [u8],
+    asked: &Asked<'_>,
+    text: &mut Vec<u8, A>,
+) -> Result<Counts, CoverFault<'a>>
+    ensures told { IfOk result (λ counts. IsTold (view_asked asked.now) bytes.now counts
+        text.old.items text.new.items) }
+    ensures refused { IfErr result (IsRefused (view_asked asked.now) bytes.now) }
+{
+    let raw = match proper_map(alloc, heap, seed, bytes) {
+        Ok(raw) => raw,
+        Err(fault) => return Err(CoverFault::Open(fault)),
+    };
+    let layers = raw.layers.values();
+    if !are_there(heap, layers.as_slice(), asked.layers)? {
+        return Err(CoverFault::NoLayer);
+    }
+    let looks = or_return!(looked(alloc, heap, asked.layers, layers.as_slice(), raw.polygons));
+    let counts = push_report(alloc, text, asked, looks.as_slice())?;
+    Ok(counts)
+}
