@@ -182,6 +182,8 @@ NOT_UTF8 = [
     (MEND, [b"wards.json", b"--places", b"\xff"]),
     (SHOW, [b"\xff.json", b"--out", b"saved"]),
     (SHOW, [b"squares.json", b"--out", b"\xff"]),
+    (COVER, [b"\xff.json"]),
+    (COVER, [b"squares.json", b"--layer", b"\xff"]),
     (EXPORT, [b"\xff.json", b"--out", b"saved"]),
     (EXPORT, [b"squares.json", b"--out", b"saved", b"--layer", b"\xff"]),
 ]
