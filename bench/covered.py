@@ -230,7 +230,7 @@ def named_maps(programs, paths):
     """A line for each map with a name; the faults and the reports."""
     faults, reports = [], []
     for path in paths:
-        text = path.read_text(encoding="utf-8")
+        text = programs.mended(path.read_text(encoding="utf-8"))
         for form, made in FORMS.items():
             start = time.perf_counter()
             fault, counts = looked(programs, random.Random(form), made(text))
