@@ -1,14 +1,38 @@
 //! What is told of the layers that were looked at.
 ghost use Rattle.std.specs.Prelude.{◌≡◌, ◌++◌, filter, map, IfOk, OnOk};
-ghost use Rattle.layer_faces.specs.Seen.{view_face};
-ghost use Rattle.cover_report.specs.Layers.{view_looked};
-ghost use Rattle.cover_report.specs.Counted.{faces_of, is_at_most, is_clear, is_kind, is_told, told, uneven_of};
 ghost use Rattle.cover_report.specs.Asked.{view_asked};
+ghost use Rattle.cover_report.specs.Counted.{is_area_at_most, is_clear, is_kind, is_told, is_width_at_most};
+ghost use Rattle.cover_report.specs.Seen.{view_told};
 
 use crate::asked::Asked;
-use crate::looked::Looked;
-use layer_faces::{Face, Kind, Uneven};
+use grid_geometry::Pos;
+use layer_faces::Kind;
 use std::alloc::{AllocError, Allocator};
+
+/// A face that may be told.
+#[derive(Clone, Copy, Debug)]
+pub(crate) struct Told<'l> {
+    pub(crate) kind: Kind,
+    /// The features that hold it, or that are beside it, ascending.
+    pub(crate) features: &'l [usize],
+    /// Twice its area.
+    pub(crate) area: i128,
+    /// Its width in units, rounded up.
+    pub(crate) width: u128,
+    /// The ends of the first segment of its border, which has the face on its left.
+    pub(crate) from: Pos,
+    pub(crate) to: Pos,
+}
+
+/// A polygon whose area by its rings is not that by the even-odd rule, both twice as large.
+#[derive(Clone, Copy, Debug)]
+pub(crate) struct UnevenPolygon {
+    pub(crate) feature: usize,
+    /// Its number among the polygons of the feature.
+    pub(crate) polygon: usize,
+    pub(crate) by_rings: i128,
+    pub(crate) even_odd: i128,
+}
 
 /// How much is told of each kind, whatever the most lines are.
 #[derive(Clone, Copy, Debug, PartialEq, Eq)]
@@ -21,7 +45,7 @@ pub struct Counts {
 }
 
 impl Counts {
-    /// Whether a layer is a coverage as far as it was looked at: nothing but lakes is told.
+    /// Whether nothing but lakes is told.
     pub fn is_clear(&self) -> bool
         ensures { result ≡ is_clear self.now }
     {
@@ -34,73 +58,43 @@ pub(crate) fn is_kind(one: Kind, other: Kind) -> bool
     ensures { result ≡ is_kind one other }
 {
     match (one, other) {
-        (Kind::Land, Kind::Land)
-        | (Kind::Overlap, Kind::Overlap)
+        (Kind::Overlap, Kind::Overlap)
         | (Kind::Twice, Kind::Twice)
         | (Kind::Gap, Kind::Gap)
-        | (Kind::Lake, Kind::Lake) => true,
+        | (Kind::Lake, Kind::Lake)
+        | (Kind::Land, Kind::Land)
+        | (Kind::Outside, Kind::Outside) => true,
         _ => false,
     }
 }
 
-/// Whether a number is within a bound, if there is one.
-fn is_at_most(number: u128, bound: Option<u128>) -> bool
-    ensures { result ≡ is_at_most number bound }
+/// Whether a width is within a bound, if there is one.
+fn is_width_at_most(width: u128, bound: Option<u128>) -> bool
+    ensures { result ≡ is_width_at_most width bound }
 {
     match bound {
-        Some(most) => number <= most,
+        Some(most) => width <= most,
+        None => true,
+    }
+}
+
+/// Whether an area is within a bound, if there is one.
+fn is_area_at_most(area: i128, bound: Option<u128>) -> bool
+    ensures { result ≡ is_area_at_most area bound }
+{
+    match bound {
+        Some(most) => area <= 0 || area.unsigned_abs() <= most,
         None => true,
     }
 }
 
 /// Whether a face is one of a kind, and within the bounds.
-fn is_told<A: Allocator + Copy>(asked: &Asked<'_>, kind: Kind, face: &Face<A>) -> bool
-    ensures { result ≡ is_told (view_asked asked.now) kind (view_face face.now) }
+fn is_told(asked: &Asked<'_>, kind: Kind, face: Told<'_>) -> bool
+    ensures { result ≡ is_told (view_asked asked.now) kind (view_told face) }
 {
-    is_kind(face.kind, kind) && is_at_most(face.width, asked.width) && is_at_most(face.area, asked.area)
-}
-
-/// Appends the faces of a layer.
-fn push_faces<'l, A: Allocator + Copy>(
-    found: &mut Vec<&'l Face<A>, A>,
-    faces: &'l [Face<A>],
-) -> Result<(), AllocError>
-    ensures { OnOk result (map (λ f. view_face f.now) found.new.items
-        ≡ map (λ f. view_face f.now) found.old.items ++ map view_face faces.now) }
-{
-    for face in faces {
-        found.push(face)?;
-    }
-    Ok(())
-}
-
-/// The faces of all layers that were looked at.
-pub(crate) fn all_faces<'l, A: Allocator + Copy>(
-    alloc: A,
-    looks: &'l [Looked<'_, A>],
-) -> Result<Vec<&'l Face<A>, A>, AllocError>
-    ensures { IfOk result (λ found. map (λ f. view_face f.now) found.items
-        ≡ faces_of (map view_looked looks.now)) }
-{
-    let mut found = Vec::new(alloc);
-    for looked in looks {
-        push_faces(&mut found, looked.look.faces.as_slice())?;
-    }
-    Ok(found)
-}
-
-/// The polygons of all layers that were looked at whose areas differ.
-pub(crate) fn all_uneven<A: Allocator + Copy>(
-    alloc: A,
-    looks: &[Looked<'_, A>],
-) -> Result<Vec<Uneven, A>, AllocError>
-    ensures { IfOk result (λ found. found.items ≡ uneven_of (map view_looked looks.now)) }
-{
-    let mut found = Vec::new(alloc);
-    for looked in looks {
-        found.extend_from_slice(looked.look.uneven.as_slice())?;
-    }
-    Ok(found)
+    is_kind(face.kind, kind)
+        && is_width_at_most(face.width, asked.width)
+        && is_area_at_most(face.area, asked.area)
 }
 
 /// The faces of a kind that are told.
@@ -108,14 +102,14 @@ pub(crate) fn told_faces<'l, A: Allocator + Copy>(
     alloc: A,
     asked: &Asked<'_>,
     kind: Kind,
-    faces: &[&'l Face<A>],
-) -> Result<Vec<&'l Face<A>, A>, AllocError>
-    ensures { IfOk result (λ found. map (λ f. view_face f.now) found.items
-        ≡ told (view_asked asked.now) kind (map (λ f. view_face f.now) faces.now)) }
+    faces: &[Told<'l>],
+) -> Result<Vec<Told<'l>, A>, AllocError>
+    ensures { IfOk result (λ found. map view_told found.items
+        ≡ filter (is_told (view_asked asked.now) kind) (map view_told faces.now)) }
 {
     let mut found = Vec::new(alloc);
     for face in faces {
-        if is_told(asked, kind, face) {
+        if is_told(asked, kind, *face) {
             found.push(*face)?;
         }
     }
