@@ -1,0 +1,38 @@
+// The polygons whose area by their rings is not that by the even-odd rule.
+use crate::rings::polygon_area;
+use grid_geometry::Pos;
+use std::alloc::{AllocError, Allocator};
+
+/// A polygon whose area by its rings is not that by the even-odd rule, as where a hole is not inside the
+/// outer ring.
+#[derive(Clone, Copy, Debug, PartialEq, Eq)]
+pub struct Uneven {
+    /// The number of the polygon in the layer, from 0.
+    pub polygon: usize,
+    /// Twice its area by its rings: that of the outer one less those of the holes.
+    pub by_rings: i128,
+    /// Twice the area of what it holds by the even-odd rule.
+    pub even_odd: i128,
+}
+
+/// The polygons whose areas by their rings are not these, in order.
+pub(crate) fn uneven_in<A: Allocator + Copy>(
+    alloc: A,
+    polygons: &[Vec<Vec<Pos, A>, A>],
+    areas: &[i128],
+) -> Result<Vec<Uneven, A>, AllocError>
+{
+    let mut found = Vec::new(alloc);
+    for (polygon, rings) in polygons.iter().enumerate() {
+        let by_rings = polygon_area(rings.as_slice());
+        let even_odd = areas[polygon];
+        if by_rings != even_odd {
+            found.push(Uneven {
+                polygon,
+                by_rings,
+                even_odd,
+            })?;
+        }
+    }
+    Ok(found)
+}
