@@ -2,8 +2,8 @@
 use Rattle.std.specs.Prelude.{◌≡◌, false, true, ℕ, List, Unit}
 use Rattle.arc_store.specs.declared.fault.BuildFault.{BuildFault}
 use Rattle.arc_store.specs.declared.fault.BuildFault.TheVariants as build
-use Rattle.layer_faces.specs.declared.FaceFault.{FaceFault}
-use Rattle.layer_faces.specs.declared.FaceFault.TheVariants as face
+use Rattle.layer_faces.specs.declared.fault.FaceFault.{FaceFault}
+use Rattle.layer_faces.specs.declared.fault.FaceFault.TheVariants as face
 use Rattle.ring_machine.specs.Common.{Document, Proper}
 use Rattle.topo_outline.specs.declared.fault.OpenFault.{OpenFault}
 use Rattle.topo_outline.specs.declared.fault.OpenFault.TheVariants as open_fault
@@ -11,7 +11,7 @@ use Rattle.topo_reader.specs.Common.{IsFault, Opened, Opens, Reads, document_of}
 use Rattle.cover_report.specs.Asked.{Wants}
 use Rattle.cover_report.specs.Layers.{are_there}
 use Rattle.cover_report.specs.declared.fault.CoverFault.{CoverFault}
-use Rattle.cover_report.specs.declared.fault.CoverFault.TheVariants.{Open, NoLayer, TooLarge, Unswept}
+use Rattle.cover_report.specs.declared.fault.CoverFault.TheVariants.{Open, NoLayer, TooLarge, Unswept, Unlike}
 
 -- the fault of a map that is not built
 abbrev pub unbuilt : BuildFault → OpenFault
@@ -23,6 +23,7 @@ abbrev pub of_face : FaceFault → CoverFault
 of_face face.OutOfMemory = Open open_fault.OutOfMemory
 of_face face.TooLarge = TooLarge
 of_face (face.Unswept at) = Unswept at
+of_face (face.Unlike s) = Unlike s
 
 -- a layer could not be looked at, or an allocation failed
 abbrev pub IsLookFault : CoverFault → Type 0
@@ -30,6 +31,7 @@ IsLookFault (Open fault) = fault ≡ open_fault.OutOfMemory
 IsLookFault NoLayer = ⊥
 IsLookFault TooLarge = Unit {0}
 IsLookFault (Unswept at) = Unit {0}
+IsLookFault (Unlike s) = Unit {0}
 
 -- the map opens
 pub record OpensProper (bytes : List ℕ) (map : Opened) : Type 0 where
@@ -54,3 +56,4 @@ IsRefused wants bytes (Open fault) = IsFault bytes fault
 IsRefused wants bytes NoLayer = LacksLayer wants bytes
 IsRefused wants bytes TooLarge = HasLayers wants bytes
 IsRefused wants bytes (Unswept at) = HasLayers wants bytes
+IsRefused wants bytes (Unlike s) = HasLayers wants bytes

@@ -1,5 +1,8 @@
 pub mod Asked
+pub mod Faces
+pub mod Uneven
 pub mod Layers
+pub mod Owned
 pub mod Faults
 pub mod Counted
 pub mod Report

@@ -1,8 +1,9 @@
 //! Why there is no report.
 ghost use Rattle.std.specs.Prelude.{◌≡◌};
 ghost use Rattle.topo_outline.specs.declared.fault.OpenFault.TheVariants.{OutOfMemory};
+ghost use Rattle.cover_report.specs.Faults.{of_face};
 
-use grid_geometry::Pos;
+use grid_geometry::{Pos, Seg};
 use layer_faces::FaceFault;
 use std::alloc::AllocError;
 use std::fmt;
@@ -19,6 +20,8 @@ pub enum CoverFault<'a> {
     TooLarge,
     /// A check of the sweep over a layer failed at this vertex. It was never seen.
     Unswept(Pos),
+    /// A check of its faces failed at this segment. It was never seen.
+    Unlike(Seg),
 }
 
 impl<'a> From<AllocError> for CoverFault<'a> {
@@ -39,6 +42,7 @@ pub(crate) fn of_face<'a>(fault: FaceFault) -> CoverFault<'a>
         FaceFault::OutOfMemory => CoverFault::Open(OpenFault::OutOfMemory),
         FaceFault::TooLarge => CoverFault::TooLarge,
         FaceFault::Unswept(at) => CoverFault::Unswept(at),
+        FaceFault::Unlike(segment) => CoverFault::Unlike(segment),
     }
 }
 
@@ -50,6 +54,7 @@ impl<'a> fmt::Display for CoverFault<'a> {
             CoverFault::NoLayer => f.write_str("no layer"),
             CoverFault::TooLarge => f.write_str("open: too large sides"),
             CoverFault::Unswept(at) => write!(f, "unswept {at}"),
+            CoverFault::Unlike(segment) => write!(f, "unlike {segment}"),
         }
     }
 }

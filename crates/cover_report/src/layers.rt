@@ -1,8 +1,9 @@
 //! The polygons of a layer.
 ghost use Rattle.std.specs.Prelude.{◌≡◌, ◌≤◌, ◌+◌, ◌++◌, ◌<◌, ◌^◌, drop, into_iter_items, is_some, length, map, replicate, take, IfOk, OnOk};
+ghost use Rattle.std.specs.List.{range_with_len};
 ghost use Rattle.topo_outline.specs.Common.{leaf_of, leaves_in, view_item};
 ghost use Rattle.ring_parts.specs.Common.{polygons_seen};
-ghost use Rattle.cover_report.specs.Layers.{owners_from, polygons_in};
+ghost use Rattle.cover_report.specs.Layers.{numbers_in, owners_from, polygons_in};
 ghost use Rattle.topo_reader.specs.Uses.{feature_positions};
 
 use grid_geometry::Pos;
@@ -18,6 +19,8 @@ pub(crate) type Feature<A> = Vec<Vec<Vec<Pos, A>, A>, A>;
 pub(crate) struct Owned<A: Allocator + Copy> {
     pub(crate) polygons: Vec<Vec<Vec<Pos, A>, A>, A>,
     pub(crate) owners: Vec<usize, A>,
+    /// Of each its number among the polygons of its feature.
+    pub(crate) numbers: Vec<usize, A>,
 }
 
 /// Whether an item is a feature with rings or none.
@@ -41,6 +44,34 @@ pub(crate) fn leaf_count<A: Allocator + Copy>(items: &[Item<'_, A>]) -> usize
     count
 }
 
+/// Appends the numbers from 0 on, so many.
+fn push_numbers<A: Allocator + Copy>(
+    numbers: &mut Vec<usize, A>,
+    count: usize,
+) -> Result<(), AllocError>
+    ensures { OnOk result
+        (numbers.new.items ≡ numbers.old.items ++ range_with_len 0 count) }
+{
+    for number in 0..count {
+        numbers.push(number)?;
+    }
+    Ok(())
+}
+
+/// Appends a number so often.
+fn push_owner<A: Allocator + Copy>(
+    owners: &mut Vec<usize, A>,
+    count: usize,
+    number: usize,
+) -> Result<(), AllocError>
+    ensures { OnOk result (owners.new.items ≡ owners.old.items ++ replicate count number) }
+{
+    for _ in 0..count {
+        owners.push(number)?;
+    }
+    Ok(())
+}
+
 /// Appends the polygons of a feature with this number.
 fn push_feature<A: Allocator + Copy>(
     owned: &mut Owned<A>,
@@ -49,12 +80,14 @@ fn push_feature<A: Allocator + Copy>(
 ) -> Result<(), AllocError>
     ensures owners { OnOk result (owned.new.owners.items
         ≡ owned.old.owners.items ++ replicate (length feature.items) number) }
+    ensures numbers { OnOk result (owned.new.numbers.items
+        ≡ owned.old.numbers.items ++ range_with_len 0 (length feature.items)) }
     ensures polygons { OnOk result
         (owned.new.polygons.items ≡ owned.old.polygons.items ++ feature.items) }
 {
     let mut feature = feature;
-    let len = owned.owners.len() + feature.len();
-    owned.owners.resize(len, number)?;
+    push_owner(&mut owned.owners, feature.len(), number)?;
+    push_numbers(&mut owned.numbers, feature.len())?;
     owned.polygons.append(&mut feature)
 }
 
@@ -70,11 +103,14 @@ pub(crate) fn next_polygons<A: Allocator + Copy>(
         ≡ polygons_in (map feature_positions (take count (into_iter_items rest.old)))) }
     ensures owners { IfOk result (λ owned. owned.owners.items
         ≡ owners_from first (map feature_positions (take count (into_iter_items rest.old)))) }
+    ensures numbers { IfOk result (λ owned. owned.numbers.items
+        ≡ numbers_in (map feature_positions (take count (into_iter_items rest.old)))) }
     ensures rest { OnOk result (into_iter_items rest.new ≡ drop count (into_iter_items rest.old)) }
 {
     let mut owned = Owned {
         polygons: Vec::new(alloc),
         owners: Vec::new(alloc),
+        numbers: Vec::new(alloc),
     };
     for number in first..first + count {
         if let Some(feature) = rest.next() {

@@ -30,13 +30,16 @@ macro_rules! append {
 }
 
 mod asked;
+mod faces;
 mod fault;
 mod layers;
 mod lines;
 mod looked;
+mod numbers;
 mod opening;
 mod report;
 mod told;
+mod uneven;
 
 pub use asked::Asked;
 pub use fault::CoverFault;

@@ -1,17 +1,17 @@
 //! The lines of a report.
-ghost use Rattle.std.specs.Prelude.{◌≡◌, ◌++◌, ◌<◌, ◌^◌, ℕ, List, codes, decimal, flat_map, map, OnOk};
-ghost use Rattle.grid_geometry.specs.Common.{position_text};
-ghost use Rattle.layer_faces.specs.Seen.{view_face};
+ghost use Rattle.std.specs.Prelude.{◌≡◌, ◌++◌, ◌<◌, ◌^◌, ℕ, List, flat_map, map, OnOk};
+ghost use Rattle.cover_report.specs.Faces.{view_told};
 ghost use Rattle.cover_report.specs.Counted.{count_wide, is_wide};
 ghost use Rattle.cover_report.specs.Layers.{view_looked};
 ghost use Rattle.cover_report.specs.Report.{counts_line, face_line, features_text, kind_word, lines, some_wide};
 ghost use Rattle.cover_report.specs.Report.{sum_line, uneven_line, wide_from, wide_line, wide_lines, wide_text};
 
+use crate::faces::ToldFace;
 use crate::looked::Looked;
+use crate::numbers::{push_number, push_position};
 use crate::told::{Counts, is_kind};
-use grid_geometry::Pos;
-use layer_faces::{Face, Kind, Uneven};
-use place_text::push_number;
+use crate::uneven::UnevenPolygon;
+use layer_faces::Kind;
 use std::alloc::{AllocError, Allocator};
 
 /// What a report has a line of.
@@ -21,13 +21,6 @@ pub(crate) trait ReportLine {
     /// Appends its line.
     fn push_line<A: Allocator>(&self, text: &mut Vec<u8, A>) -> Result<(), AllocError>
         ensures { OnOk result (text.new.items ≡ text.old.items ++ line self.now) };
-}
-
-/// Appends both numbers, with a space between them.
-fn push_position<A: Allocator>(text: &mut Vec<u8, A>, position: Pos) -> Result<(), AllocError>
-    ensures { OnOk result (text.new.items ≡ text.old.items ++ position_text position) }
-{
-    append!(text; push_number(position.x()) b" " push_number(position.y()))
 }
 
 /// Appends each number, with a space behind it.
@@ -46,16 +39,17 @@ fn word_of(kind: Kind) -> &'static [u8]
     ensures { result.now ≡ kind_word kind }
 {
     match kind {
-        Kind::Land => b"land ",
         Kind::Overlap => b"overlap ",
         Kind::Twice => b"twice ",
         Kind::Gap => b"gap ",
         Kind::Lake => b"lake ",
+        Kind::Land => b"land ",
+        Kind::Outside => b"outside ",
     }
 }
 
-impl<'l, B: Allocator + Copy> ReportLine for &'l Face<B> {
-    ghost line = { λ face. face_line (view_face face.now) };
+impl<'l, B: Allocator + Copy> ReportLine for &'l ToldFace<B> {
+    ghost line = { λ face. face_line (view_told face.now) };
 
     fn push_line<A: Allocator>(&self, text: &mut Vec<u8, A>) -> Result<(), AllocError> {
         text.extend_from_slice(word_of(self.kind))?;
@@ -66,13 +60,13 @@ impl<'l, B: Allocator + Copy> ReportLine for &'l Face<B> {
 }
 
 // A polygon whose area by its rings is not that by the even-odd rule.
-impl ReportLine for Uneven {
+impl ReportLine for UnevenPolygon {
     ghost line = { uneven_line };
 
     fn push_line<A: Allocator>(&self, text: &mut Vec<u8, A>) -> Result<(), AllocError> {
         let it = *self;
         append!(text; b"uneven " push_number(it.feature) b" " push_number(it.polygon) b" "
-            push_number(it.by_rings) b" " push_number(it.by_sides) b"\n")
+            push_number(it.by_rings) b" " push_number(it.even_odd) b"\n")
     }
 }
 
@@ -92,15 +86,15 @@ pub(crate) fn push_first<A: Allocator, L: ReportLine>(
 }
 
 /// Whether a face is of a kind, and of a width over the one bound and at most the other.
-fn is_wide<A: Allocator + Copy>(face: &Face<A>, kind: Kind, over: u128, most: u128) -> bool
-    ensures { result ≡ is_wide kind over most (view_face face.now) }
+fn is_wide<A: Allocator + Copy>(face: &ToldFace<A>, kind: Kind, over: u128, most: u128) -> bool
+    ensures { result ≡ is_wide kind over most (view_told face.now) }
 {
     is_kind(face.kind, kind) && over < face.width && face.width <= most
 }
 
 /// How many faces are of a kind, and of a width over the one bound and at most the other.
-fn count_wide<A: Allocator + Copy>(faces: &[&Face<A>], kind: Kind, over: u128, most: u128) -> usize
-    ensures { result ≡ count_wide kind over most (map (λ f. view_face f.now) faces.now) }
+fn count_wide<A: Allocator + Copy>(faces: &[&ToldFace<A>], kind: Kind, over: u128, most: u128) -> usize
+    ensures { result ≡ count_wide kind over most (map (λ f. view_told f.now) faces.now) }
 {
     let mut count = 0;
     for face in faces {
@@ -134,12 +128,12 @@ fn push_some<A: Allocator>(
 /// Appends how many faces of each kind have a width over the one bound and at most the other, where there is one.
 fn push_width<A: Allocator, B: Allocator + Copy>(
     text: &mut Vec<u8, A>,
-    faces: &[&Face<B>],
+    faces: &[&ToldFace<B>],
     over: u128,
     most: u128,
 ) -> Result<(), AllocError>
     ensures { OnOk result (text.new.items
-        ≡ text.old.items ++ wide_line over most (map (λ f. view_face f.now) faces.now)) }
+        ≡ text.old.items ++ wide_line over most (map (λ f. view_told f.now) faces.now)) }
 {
     let overlaps = count_wide(faces, Kind::Overlap, over, most);
     let twices = count_wide(faces, Kind::Twice, over, most);
@@ -151,10 +145,10 @@ fn push_width<A: Allocator, B: Allocator + Copy>(
 /// Appends how many faces have each width, in powers of two.
 pub(crate) fn push_widths<A: Allocator, B: Allocator + Copy>(
     text: &mut Vec<u8, A>,
-    faces: &[&Face<B>],
+    faces: &[&ToldFace<B>],
 ) -> Result<(), AllocError>
     ensures { OnOk result (text.new.items
-        ≡ text.old.items ++ wide_lines (map (λ f. view_face f.now) faces.now)) }
+        ≡ text.old.items ++ wide_lines (map (λ f. view_told f.now) faces.now)) }
 {
     push_width(text, faces, 0, 1)?;
     for shift in 0..126u32 {
@@ -171,8 +165,8 @@ fn push_sums<A: Allocator, B: Allocator + Copy>(
 ) -> Result<(), AllocError>
     ensures { OnOk result (text.new.items ≡ text.old.items ++ sum_line (view_looked looked.now)) }
 {
-    let sums = looked.look.sums;
-    append!(text; b"sum " push_number(sums.all) b" over " push_number(sums.over)
+    let sums = looked.sums;
+    append!(text; b"sum " push_number(sums.polygons) b" over " push_number(sums.over)
         b" covered " push_number(sums.covered) b" gaps " push_number(sums.gaps)
         b" within " push_number(sums.within) b" ")?;
     text.extend_from_slice(looked.name)?;

@@ -2,17 +2,23 @@
 ghost use Rattle.std.specs.Prelude.{◌≡◌, ◌≤◌, ◌+◌, ◌++◌, ◌∷◌, [], List, drop, into_iter_items, length, map, take, IfOk, IfErr, OnOk, Err};
 ghost use Rattle.std.specs.List.{list_any};
 ghost use Rattle.geo_features.specs.Names.{is_one_of};
-ghost use Rattle.layer_faces.specs.Seen.{IsLook, view_look};
+ghost use Rattle.layer_faces.specs.Common.{faces_seen, segments_seen};
+ghost use Rattle.layer_sides.specs.Common.{IsProperLayer};
 ghost use Rattle.ring_parts.specs.Common.{polygons_seen};
 ghost use Rattle.topo_outline.specs.Common.{leaves, leaves_in, view_item, view_layer};
 ghost use Rattle.topo_reader.specs.Uses.{feature_positions};
 ghost use Rattle.cover_report.specs.Layers.{AreLooks, IsLookAt, are_there, asked_layers, is_asked, layer_of, view_looked};
+ghost use Rattle.cover_report.specs.Faces.{all_told, view_told};
 ghost use Rattle.cover_report.specs.Faults.{IsLookFault};
+ghost use Rattle.cover_report.specs.Owned.{owned_layer};
+ghost use Rattle.cover_report.specs.Uneven.{uneven_told};
 
+use crate::faces::{ToldFace, told_of_all};
 use crate::fault::{CoverFault, of_face};
 use crate::layers::{Feature, Owned, leaf_count, next_polygons};
+use crate::uneven::{UnevenPolygon, uneven_told};
 use geo_features::is_one_of;
-use layer_faces::{Look, look};
+use layer_faces::{Look, Sums, look};
 use std::alloc::{AllocError, Allocator, Global};
 use std::vec::IntoIter;
 use topo_outline::RawLayer;
@@ -22,7 +28,10 @@ use topo_outline::RawLayer;
 pub(crate) struct Looked<'a, A: Allocator + Copy> {
     /// The layer's name with its quotes, as it stands.
     pub(crate) name: &'a [u8],
-    pub(crate) look: Look<A>,
+    /// What may be told of its faces.
+    pub(crate) faces: Vec<ToldFace<A>, A>,
+    pub(crate) uneven: Vec<UnevenPolygon, A>,
+    pub(crate) sums: Sums,
 }
 
 /// Whether a layer is looked at: its name is asked for, or none is.
@@ -69,20 +78,44 @@ pub(crate) fn are_there<A: Allocator + Copy>(
     Ok(true)
 }
 
+/// What is told of a layer with this name, in which this was found.
+fn told_at<'a, A: Allocator + Copy>(
+    alloc: A,
+    name: &'a [u8],
+    owned: &Owned<A>,
+    look: Look<A>,
+) -> Result<Looked<'a, A>, AllocError>
+    ensures named { IfOk result (λ looked. looked.name.now ≡ name.now) }
+    ensures faces { IfOk result (λ looked. map view_told looked.faces.items ≡ all_told
+        (faces_seen (segments_seen look.borders.items) look.faces.items)) }
+    ensures uneven { IfOk result (λ looked. looked.uneven.items
+        ≡ map (uneven_told owned.now.owners.items owned.now.numbers.items) look.uneven.items) }
+    ensures sums { IfOk result (λ looked. looked.sums ≡ look.sums) }
+{
+    let owners = owned.owners.as_slice();
+    let uneven = uneven_told(alloc, owners, owned.numbers.as_slice(), look.uneven.as_slice())?;
+    let faces = told_of_all(alloc, look.borders.as_slice(), look.faces)?;
+    Ok(Looked {
+        name,
+        faces,
+        uneven,
+        sums: look.sums,
+    })
+}
+
 /// Looks at polygons of a layer with this name.
 fn look_at<'a, A: Allocator + Copy>(
     alloc: A,
     name: &'a [u8],
     owned: &Owned<A>,
 ) -> Result<Looked<'a, A>, CoverFault<'a>>
-    requires { length owned.now.owners.items ≡ length owned.now.polygons.items }
-    ensures named { IfOk result (λ looked. looked.name ≡ name.entry) }
-    ensures found { IfOk result (λ looked. IsLook (polygons_seen owned.now.polygons.items)
-        owned.now.owners.items (view_look looked.look)) }
+    requires owned { length owned.now.owners.items ≡ length owned.now.polygons.items }
+    requires proper { IsProperLayer (polygons_seen owned.now.polygons.items) }
+    ensures found { IfOk result (λ looked. IsLookAt (owned_layer name.now owned.now) (view_looked looked)) }
     ensures fault { IfErr result IsLookFault }
 {
     match look(alloc, owned.polygons.as_slice(), owned.owners.as_slice()) {
-        Ok(look) => Ok(Looked { name, look }),
+        Ok(look) => Ok(told_at(alloc, name, owned, look)?),
         Err(fault) => Err(of_face(fault)),
     }
 }

@@ -1,6 +1,6 @@
 //! The report of the overlaps and gaps of a map.
 ghost use Rattle.std.specs.Prelude.{◌≡◌, ◌++◌, length, map, IfErr, IfOk, OnOk};
-ghost use Rattle.layer_faces.specs.Seen.{view_face};
+ghost use Rattle.cover_report.specs.Faces.{view_told};
 ghost use Rattle.cover_report.specs.Asked.{view_asked};
 ghost use Rattle.cover_report.specs.Counted.{counts_of, told};
 ghost use Rattle.cover_report.specs.Faults.{IsRefused};
@@ -9,12 +9,13 @@ ghost use Rattle.cover_report.specs.Report.{report_text, told_lines};
 ghost use Rattle.cover_report.specs.Told.{IsTold};
 
 use crate::asked::Asked;
+use crate::faces::ToldFace;
 use crate::fault::CoverFault;
 use crate::lines::{push_all_sums, push_counts, push_first, push_widths};
 use crate::looked::{Looked, are_there, looked};
 use crate::opening::proper_map;
 use crate::told::{Counts, all_faces, all_uneven, told_faces};
-use layer_faces::{Face, Kind};
+use layer_faces::Kind;
 use std::alloc::{AllocError, Allocator, Global};
 use std::hash::RandomState;
 
@@ -24,12 +25,12 @@ fn push_kind<A: Allocator + Copy>(
     text: &mut Vec<u8, A>,
     asked: &Asked<'_>,
     kind: Kind,
-    faces: &[&Face<A>],
+    faces: &[&ToldFace<A>],
 ) -> Result<usize, AllocError>
     ensures lines { OnOk result (text.new.items ≡ text.old.items
-        ++ told_lines (view_asked asked.now) kind (map (λ f. view_face f.now) faces.now)) }
+        ++ told_lines (view_asked asked.now) kind (map (λ f. view_told f.now) faces.now)) }
     ensures count { IfOk result (λ count. count
-        ≡ length (told (view_asked asked.now) kind (map (λ f. view_face f.now) faces.now))) }
+        ≡ length (told (view_asked asked.now) kind (map (λ f. view_told f.now) faces.now))) }
 {
     let told = told_faces(alloc, asked, kind, faces)?;
     push_first(text, told.as_slice(), asked.most)?;

@@ -1,38 +1,16 @@
 //! What is told of the layers that were looked at.
 ghost use Rattle.std.specs.Prelude.{◌≡◌, ◌++◌, filter, map, IfOk, OnOk};
 ghost use Rattle.cover_report.specs.Asked.{view_asked};
-ghost use Rattle.cover_report.specs.Counted.{is_area_at_most, is_clear, is_kind, is_told, is_width_at_most};
-ghost use Rattle.cover_report.specs.Seen.{view_told};
+ghost use Rattle.cover_report.specs.Counted.{faces_of, is_area_at_most, is_clear, is_kind, is_told, is_width_at_most, told, uneven_of};
+ghost use Rattle.cover_report.specs.Faces.{view_told};
+ghost use Rattle.cover_report.specs.Layers.{view_looked};
 
 use crate::asked::Asked;
-use grid_geometry::Pos;
+use crate::faces::ToldFace;
+use crate::looked::Looked;
+use crate::uneven::UnevenPolygon;
 use layer_faces::Kind;
 use std::alloc::{AllocError, Allocator};
-
-/// A face that may be told.
-#[derive(Clone, Copy, Debug)]
-pub(crate) struct Told<'l> {
-    pub(crate) kind: Kind,
-    /// The features that hold it, or that are beside it, ascending.
-    pub(crate) features: &'l [usize],
-    /// Twice its area.
-    pub(crate) area: i128,
-    /// Its width in units, rounded up.
-    pub(crate) width: u128,
-    /// The ends of the first segment of its border, which has the face on its left.
-    pub(crate) from: Pos,
-    pub(crate) to: Pos,
-}
-
-/// A polygon whose area by its rings is not that by the even-odd rule, both twice as large.
-#[derive(Clone, Copy, Debug)]
-pub(crate) struct UnevenPolygon {
-    pub(crate) feature: usize,
-    /// Its number among the polygons of the feature.
-    pub(crate) polygon: usize,
-    pub(crate) by_rings: i128,
-    pub(crate) even_odd: i128,
-}
 
 /// How much is told of each kind, whatever the most lines are.
 #[derive(Clone, Copy, Debug, PartialEq, Eq)]
@@ -89,12 +67,55 @@ fn is_area_at_most(area: i128, bound: Option<u128>) -> bool
 }
 
 /// Whether a face is one of a kind, and within the bounds.
-fn is_told(asked: &Asked<'_>, kind: Kind, face: Told<'_>) -> bool
-    ensures { result ≡ is_told (view_asked asked.now) kind (view_told face) }
+fn is_told<A: Allocator + Copy>(asked: &Asked<'_>, kind: Kind, face: &ToldFace<A>) -> bool
+    ensures { result ≡ is_told (view_asked asked.now) kind (view_told face.now) }
 {
     is_kind(face.kind, kind)
         && is_width_at_most(face.width, asked.width)
         && is_area_at_most(face.area, asked.area)
+}
+
+/// Appends the faces of a layer.
+fn push_faces<'l, A: Allocator + Copy>(
+    found: &mut Vec<&'l ToldFace<A>, A>,
+    faces: &'l [ToldFace<A>],
+) -> Result<(), AllocError>
+    ensures { OnOk result (map (λ f. view_told f.now) found.new.items
+        ≡ map (λ f. view_told f.now) found.old.items ++ map view_told faces.now) }
+{
+    for face in faces {
+        found.push(face)?;
+    }
+    Ok(())
+}
+
+/// The faces of all layers that were looked at.
+pub(crate) fn all_faces<'l, A: Allocator + Copy>(
+    alloc: A,
+    looks: &'l [Looked<'_, A>],
+) -> Result<Vec<&'l ToldFace<A>, A>, AllocError>
+    ensures { IfOk result (λ found. map (λ f. view_told f.now) found.items
+        ≡ faces_of (map view_looked looks.now)) }
+{
+    let mut found = Vec::new(alloc);
+    for looked in looks {
+        push_faces(&mut found, looked.faces.as_slice())?;
+    }
+    Ok(found)
+}
+
+/// The polygons of all layers that were looked at whose areas differ.
+pub(crate) fn all_uneven<A: Allocator + Copy>(
+    alloc: A,
+    looks: &[Looked<'_, A>],
+) -> Result<Vec<UnevenPolygon, A>, AllocError>
+    ensures { IfOk result (λ found. found.items ≡ uneven_of (map view_looked looks.now)) }
+{
+    let mut found = Vec::new(alloc);
+    for looked in looks {
+        found.extend_from_slice(looked.uneven.as_slice())?;
+    }
+    Ok(found)
 }
 
 /// The faces of a kind that are told.
@@ -102,14 +123,14 @@ pub(crate) fn told_faces<'l, A: Allocator + Copy>(
     alloc: A,
     asked: &Asked<'_>,
     kind: Kind,
-    faces: &[Told<'l>],
-) -> Result<Vec<Told<'l>, A>, AllocError>
-    ensures { IfOk result (λ found. map view_told found.items
-        ≡ filter (is_told (view_asked asked.now) kind) (map view_told faces.now)) }
+    faces: &[&'l ToldFace<A>],
+) -> Result<Vec<&'l ToldFace<A>, A>, AllocError>
+    ensures { IfOk result (λ found. map (λ f. view_told f.now) found.items
+        ≡ told (view_asked asked.now) kind (map (λ f. view_told f.now) faces.now)) }
 {
     let mut found = Vec::new(alloc);
     for face in faces {
-        if is_told(asked, kind, *face) {
+        if is_told(asked, kind, face) {
             found.push(*face)?;
         }
     }
