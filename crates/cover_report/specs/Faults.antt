@@ -9,7 +9,7 @@ use Rattle.topo_outline.specs.declared.fault.OpenFault.{OpenFault}
 use Rattle.topo_outline.specs.declared.fault.OpenFault.TheVariants as open_fault
 use Rattle.topo_reader.specs.Common.{IsFault, Opened, Opens, Reads, document_of}
 use Rattle.cover_report.specs.Asked.{Wants}
-use Rattle.cover_report.specs.Layers.{are_there}
+use Rattle.cover_report.specs.Names.{are_there}
 use Rattle.cover_report.specs.declared.fault.CoverFault.{CoverFault}
 use Rattle.cover_report.specs.declared.fault.CoverFault.TheVariants.{Open, NoLayer, TooLarge, Unswept, Unlike}
 

@@ -1,14 +1,14 @@
 -- The layers that are looked at, each with its polygons.
 use Rattle.std.specs.Prelude.{◌≡◌, ℕ, suc, ◌+◌, Bool, true, List, [], ◌∷◌, ◌++◌, length, replicate, take, drop, flat_map, if◌then◌else◌, Unit}
-use Rattle.std.specs.List.{list_all, list_any, range_with_len}
+use Rattle.std.specs.List.{range_with_len}
 use Rattle.grid_geometry.specs.Common.{Position}
 use Rattle.ring_machine.specs.Common.{Text}
 use Rattle.topo_outline.specs.Common.{LayerText, leaves_in}
-use Rattle.geo_features.specs.Names.{is_one_of}
 use Rattle.layer_sides.specs.Common.{AreBorders, Bordering, Polygon}
 use Rattle.layer_faces.specs.Common.{AddUp, AreFaces, AreSums, FaceOf, uneven_from}
 use Rattle.layer_faces.specs.declared.sums.Sums.{Sums}
 use Rattle.cover_report.specs.Faces.{FaceTold, all_told, view_told}
+use Rattle.cover_report.specs.Names.{is_asked}
 use Rattle.cover_report.specs.Uneven.{uneven_told}
 use Rattle.cover_report.specs.declared.looked.Looked.{Looked}
 use Rattle.cover_report.specs.declared.uneven.UnevenPolygon.{UnevenPolygon}
@@ -43,11 +43,6 @@ layer_of name n features = record {
   numbers = numbers_in features;
 }
 
--- a layer's name is one of those that are asked for, or none is asked for
-abbrev pub is_asked : List Text → Text → Bool
-is_asked [] token = true
-is_asked names token = is_one_of names token
-
 -- the layers that are asked for, in their order; the features of a topology are numbered from n on
 unfoldable pub asked_layers : List Text → ℕ → List (List Polygon) → List LayerText → List LayerOf
 asked_layers names n features [] = []
@@ -56,10 +51,6 @@ asked_layers names n features (l ∷ ls) =
     then (layer_of l.name n (take (length (leaves_in l.pieces)) features)
     ∷ asked_layers names (n + length (leaves_in l.pieces)) (drop (length (leaves_in l.pieces)) features) ls)
     else asked_layers names (n + length (leaves_in l.pieces)) (drop (length (leaves_in l.pieces)) features) ls
-
--- each name that is asked for is one of a layer
-abbrev pub are_there : List Text → List LayerText → Bool
-are_there names layers = list_all (λ name. list_any (λ l. is_one_of (name ∷ []) l.name) layers) names
 
 -- ---- what was found in them
 
@@ -91,6 +82,10 @@ pub record IsLookAt (l : LayerOf) (k : LookedAt) : Type 0 where
       ≡ map (uneven_told l.owners l.numbers) (uneven_from (map (λ b. b.segment) borders) 0 l.polygons)
   pub sums : AreSums l.polygons (map (λ b. b.segment) borders) faces k.sums
   pub add_up : AddUp k.sums
+
+-- what was found in the layer was put behind what was found before
+abbrev pub AddsLook : LayerOf → List LookedAt → List LookedAt → Type 0
+AddsLook l before after = (k : LookedAt) × IsLookAt l k × (after ≡ before ++ k ∷ [])
 
 -- this was found in the layers, one after another
 abbrev pub AreLooks : List LayerOf → List LookedAt → Type 0

@@ -1,4 +1,5 @@
 pub mod Asked
+pub mod Names
 pub mod Faces
 pub mod Uneven
 pub mod Layers

@@ -4,7 +4,8 @@ use Rattle.topo_reader.specs.Common.{Opened}
 use Rattle.cover_report.specs.Asked.{Wants}
 use Rattle.cover_report.specs.Counted.{counts_of}
 use Rattle.cover_report.specs.Faults.{OpensProper}
-use Rattle.cover_report.specs.Layers.{AreLooks, LookedAt, are_there, asked_layers}
+use Rattle.cover_report.specs.Layers.{AreLooks, LookedAt, asked_layers}
+use Rattle.cover_report.specs.Names.{are_there}
 use Rattle.cover_report.specs.Report.{report_text}
 use Rattle.cover_report.specs.declared.told.Counts.{Counts}
 

@@ -5,7 +5,7 @@ ghost use Rattle.cover_report.specs.Faults.{of_face};
 
 use grid_geometry::{Pos, Seg};
 use layer_faces::FaceFault;
-use std::alloc::AllocError;
+use std::alloc::{AllocError, AllocFailed};
 use std::fmt;
 use topo_outline::OpenFault;
 
@@ -30,6 +30,16 @@ impl<'a> From<AllocError> for CoverFault<'a> {
     ghost from_gives = { λ _ e. e ≡ Open OutOfMemory };
 
     fn from(_e: AllocError) -> CoverFault<'a> {
+        CoverFault::Open(OpenFault::OutOfMemory)
+    }
+}
+
+impl<'a, T: Drop> From<AllocFailed<T>> for CoverFault<'a> {
+    ghost use Rattle.cover_report.specs.declared.fault.CoverFault.TheVariants.{Open};
+
+    ghost from_gives = { λ _ e. e ≡ Open OutOfMemory };
+
+    fn from(_e: AllocFailed<T>) -> CoverFault<'a> {
         CoverFault::Open(OpenFault::OutOfMemory)
     }
 }

@@ -105,6 +105,7 @@ pub(crate) fn next_polygons<A: Allocator + Copy>(
         ≡ owners_from first (map feature_positions (take count (into_iter_items rest.old)))) }
     ensures numbers { IfOk result (λ owned. owned.numbers.items
         ≡ numbers_in (map feature_positions (take count (into_iter_items rest.old)))) }
+    ensures alike { IfOk result (λ owned. length owned.owners.items ≡ length owned.polygons.items) }
     ensures rest { OnOk result (into_iter_items rest.new ≡ drop count (into_iter_items rest.old)) }
 {
     let mut owned = Owned {

@@ -35,6 +35,7 @@ mod fault;
 mod layers;
 mod lines;
 mod looked;
+mod names;
 mod numbers;
 mod opening;
 mod report;

@@ -8,7 +8,7 @@ ghost use Rattle.cover_report.specs.Report.{sum_line, uneven_line, wide_from, wi
 
 use crate::faces::ToldFace;
 use crate::looked::Looked;
-use crate::numbers::{push_number, push_position};
+use crate::numbers::{push_bytes, push_number, push_position};
 use crate::told::{Counts, is_kind};
 use crate::uneven::UnevenPolygon;
 use layer_faces::Kind;
@@ -52,9 +52,7 @@ impl<'l, B: Allocator + Copy> ReportLine for &'l ToldFace<B> {
     ghost line = { λ face. face_line (view_told face.now) };
 
     fn push_line<A: Allocator>(&self, text: &mut Vec<u8, A>) -> Result<(), AllocError> {
-        text.extend_from_slice(word_of(self.kind))?;
-        push_features(text, self.features.as_slice())?;
-        append!(text; b"/ " push_number(self.area) b" " push_number(self.width) b" / "
+        append!(text; push_bytes(word_of(self.kind)) push_features(self.features.as_slice()) b"/ " push_number(self.area) b" " push_number(self.width) b" / "
             push_position(self.from) b" " push_position(self.to) b"\n")
     }
 }
@@ -168,9 +166,7 @@ fn push_sums<A: Allocator, B: Allocator + Copy>(
     let sums = looked.sums;
     append!(text; b"sum " push_number(sums.polygons) b" over " push_number(sums.over)
         b" covered " push_number(sums.covered) b" gaps " push_number(sums.gaps)
-        b" within " push_number(sums.within) b" ")?;
-    text.extend_from_slice(looked.name)?;
-    text.extend_from_slice(b"\n")
+        b" within " push_number(sums.within) b" " push_bytes(looked.name) b"\n")
 }
 
 /// Appends what the areas of each layer add up to.

@@ -1,13 +1,11 @@
 //! The layers that are looked at.
-ghost use Rattle.std.specs.Prelude.{◌≡◌, ◌≤◌, ◌+◌, ◌++◌, ◌∷◌, [], List, drop, into_iter_items, length, map, take, IfOk, IfErr, OnOk, Err};
-ghost use Rattle.std.specs.List.{list_any};
-ghost use Rattle.geo_features.specs.Names.{is_one_of};
+ghost use Rattle.std.specs.Prelude.{◌≡◌, ◌≤◌, ◌<◌, ◌^◌, ◌+◌, ◌∷◌, [], true, false, drop, into_iter_items, length, map, take, IfOk, IfErr, OnOk};
 ghost use Rattle.layer_faces.specs.Common.{faces_seen, segments_seen};
 ghost use Rattle.layer_sides.specs.Common.{IsProperLayer};
 ghost use Rattle.ring_parts.specs.Common.{polygons_seen};
 ghost use Rattle.topo_outline.specs.Common.{leaves, leaves_in, view_item, view_layer};
 ghost use Rattle.topo_reader.specs.Uses.{feature_positions};
-ghost use Rattle.cover_report.specs.Layers.{AreLooks, IsLookAt, are_there, asked_layers, is_asked, layer_of, view_looked};
+ghost use Rattle.cover_report.specs.Layers.{AddsLook, AreLooks, IsLookAt, asked_layers, layer_of, polygons_in, view_looked};
 ghost use Rattle.cover_report.specs.Faces.{all_told, view_told};
 ghost use Rattle.cover_report.specs.Faults.{IsLookFault};
 ghost use Rattle.cover_report.specs.Owned.{owned_layer};
@@ -16,8 +14,8 @@ ghost use Rattle.cover_report.specs.Uneven.{uneven_told};
 use crate::faces::{ToldFace, told_of_all};
 use crate::fault::{CoverFault, of_face};
 use crate::layers::{Feature, Owned, leaf_count, next_polygons};
+use crate::names::is_asked;
 use crate::uneven::{UnevenPolygon, uneven_told};
-use geo_features::is_one_of;
 use layer_faces::{Look, Sums, look};
 use std::alloc::{AllocError, Allocator, Global};
 use std::vec::IntoIter;
@@ -32,50 +30,6 @@ pub(crate) struct Looked<'a, A: Allocator + Copy> {
     pub(crate) faces: Vec<ToldFace<A>, A>,
     pub(crate) uneven: Vec<UnevenPolygon, A>,
     pub(crate) sums: Sums,
-}
-
-/// Whether a layer is looked at: its name is asked for, or none is.
-fn is_asked(heap: Global, names: &[&str], token: &[u8]) -> Result<bool, AllocError>
-    ensures { IfOk result (λ is. is ≡ is_asked (map (λ name. name.now) names.now) token.now) }
-{
-    match names {
-        [] => Ok(true),
-        _ => is_one_of(heap, names, token),
-    }
-}
-
-/// Whether a layer has this name.
-fn has_name<A: Allocator + Copy>(
-    heap: Global,
-    layers: &[RawLayer<'_, A>],
-    name: &str,
-) -> Result<bool, AllocError>
-    ensures { IfOk result (λ is. is ≡ list_any (λ l. is_one_of (name.now ∷ []) l.name)
-        (map view_layer layers.now)) }
-{
-    for layer in layers {
-        if is_one_of(heap, &[name], layer.name)? {
-            return Ok(true);
-        }
-    }
-    Ok(false)
-}
-
-/// Whether each of these names is one of a layer.
-pub(crate) fn are_there<A: Allocator + Copy>(
-    heap: Global,
-    layers: &[RawLayer<'_, A>],
-    names: &[&str],
-) -> Result<bool, AllocError>
-    ensures { IfOk result (λ are. are
-        ≡ are_there (map (λ name. name.now) names.now) (map view_layer layers.now)) }
-{
-    for name in names {
-        if !has_name(heap, layers, name)? {
-            return Ok(false);
-        }
-    }
-    Ok(true)
 }
 
 /// What is told of a layer with this name, in which this was found.
@@ -137,7 +91,21 @@ impl<'a, A: Allocator + Copy> Looks<'a, A> {
         alloc: A,
         is_asked: bool,
         layer: &RawLayer<'a, A>,
-    ) -> Result<(), CoverFault<'a>> {
+    ) -> Result<(), CoverFault<'a>>
+        requires few { self.old.first + length (leaves_in (map view_item layer.now.items.items)) < 2 ^ 64 }
+        requires proper { IsProperLayer
+            (polygons_in (map feature_positions (into_iter_items self.old.rest))) }
+        ensures first { OnOk result (self.new.first
+            ≡ self.old.first + length (leaves_in (map view_item layer.now.items.items))) }
+        ensures rest { OnOk result (into_iter_items self.new.rest
+            ≡ drop (length (leaves_in (map view_item layer.now.items.items))) (into_iter_items self.old.rest)) }
+        ensures passed { is_asked ≡ false → OnOk result (self.new.looks.items ≡ self.old.looks.items) }
+        ensures looked { is_asked ≡ true → OnOk result (AddsLook (layer_of layer.now.name.now self.old.first
+            (take (length (leaves_in (map view_item layer.now.items.items)))
+            (map feature_positions (into_iter_items self.old.rest))))
+            (map view_looked self.old.looks.items) (map view_looked self.new.looks.items)) }
+        ensures fault { IfErr result IsLookFault }
+    {
         let count = leaf_count(layer.items.as_slice());
         let owned = next_polygons(alloc, &mut self.rest, self.first, count)?;
         self.first += count;
@@ -157,7 +125,8 @@ pub(crate) fn looked<'a, A: Allocator + Copy>(
     layers: &[RawLayer<'a, A>],
     features: Vec<Feature<A>, A>,
 ) -> Result<Vec<Looked<'a, A>, A>, CoverFault<'a>>
-    requires { length (leaves (map view_layer layers.now)) ≤ 200000 }
+    requires few { length (leaves (map view_layer layers.now)) ≤ 200000 }
+    requires proper { IsProperLayer (polygons_in (map feature_positions features.items)) }
     ensures found { IfOk result (λ looks. AreLooks (asked_layers (map (λ name. name.now) names.now) 0
         (map feature_positions features.items) (map view_layer layers.now)) (map view_looked looks.items)) }
     ensures fault { IfErr result IsLookFault }

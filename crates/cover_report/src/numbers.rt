@@ -6,6 +6,13 @@ use grid_geometry::Pos;
 use itoa::{Buffer, Integer};
 use std::alloc::{AllocError, Allocator};
 
+/// Appends a text.
+pub(crate) fn push_bytes<A: Allocator>(text: &mut Vec<u8, A>, bytes: &[u8]) -> Result<(), AllocError>
+    ensures { OnOk result (text.new.items ≡ text.old.items ++ bytes.now) }
+{
+    text.extend_from_slice(bytes)
+}
+
 /// Appends a number in decimal.
 pub(crate) fn push_number<A: Allocator, I: Integer>(
     text: &mut Vec<u8, A>,
