@@ -1,6 +1,6 @@
 -- The order of the list of segments under way, as the sweep keeps it between each two of them.
-use Rattle.kit_words.proofs.Common.{◌≡◌, pos, Bool, not, ◌&&◌, ◌⊎◌, IsTrue, IsFalse}
-use Rattle.std.specs.Prelude.{int_lt}
+use Rattle.kit_words.proofs.Common.{◌≡◌, pos, Bool, not, ◌&&◌, ◌⊎◌, IsTrue}
+use Rattle.std.specs.Prelude.{int_lt, IsFalse}
 use Rattle.grid_geometry.specs.Common.{Position, Segment, orientation, is_end}
 use Rattle.layer_sides.specs.Common.{bottom, top, level_lt}
 

@@ -26,7 +26,7 @@ pub record IsProperLayer (polygons : List Polygon) : Type 0 where
 -- the borders of the polygons, ascending and each once, each with the polygons that it bounds
 pub record AreBorders (polygons : List Polygon) (borders : List Bordering) : Type 0 where
   pub ascending : IsStrictlySortedBy segment_cmp (map (λ b. b.segment) borders)
-  pub borders : (s : Segment) → Contains (map (λ b. b.segment) borders) s ↔ IsTrue (is_border polygons s)
+  pub segments : (s : Segment) → Contains (map (λ b. b.segment) borders) s ↔ IsTrue (is_border polygons s)
   pub bounding : (b : Bordering) → Contains borders b → b.bounds ≡ bounded polygons b.segment
 
 -- each border has the polygons that hold its right side

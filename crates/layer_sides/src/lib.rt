@@ -3,8 +3,6 @@
 
 mod border;
 mod fault;
-mod sides;
 
 pub use border::Border;
 pub use fault::SideFault;
-pub use sides::{Sides, sides_of};
