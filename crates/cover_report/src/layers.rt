@@ -91,6 +91,27 @@ fn push_feature<A: Allocator + Copy>(
     owned.polygons.append(&mut feature)
 }
 
+/// Appends the polygons of the next feature, if there is one, which has this number.
+fn push_next<A: Allocator + Copy>(
+    owned: &mut Owned<A>,
+    rest: &mut IntoIter<Feature<A>, A>,
+    number: usize,
+) -> Result<(), AllocError>
+    ensures polygons { OnOk result (polygons_seen owned.new.polygons.items
+        ≡ polygons_seen owned.old.polygons.items
+        ++ polygons_in (map feature_positions (take 1 (into_iter_items rest.old)))) }
+    ensures owners { OnOk result (owned.new.owners.items ≡ owned.old.owners.items
+        ++ owners_from number (map feature_positions (take 1 (into_iter_items rest.old)))) }
+    ensures numbers { OnOk result (owned.new.numbers.items ≡ owned.old.numbers.items
+        ++ numbers_in (map feature_positions (take 1 (into_iter_items rest.old)))) }
+    ensures rest { into_iter_items rest.new ≡ drop 1 (into_iter_items rest.old) }
+{
+    match rest.next() {
+        Some(feature) => push_feature(owned, number, feature),
+        None => Ok(()),
+    }
+}
+
 /// The polygons of the next features, so many, which are numbered from a number on.
 pub(crate) fn next_polygons<A: Allocator + Copy>(
     alloc: A,
@@ -105,7 +126,6 @@ pub(crate) fn next_polygons<A: Allocator + Copy>(
         ≡ owners_from first (map feature_positions (take count (into_iter_items rest.old)))) }
     ensures numbers { IfOk result (λ owned. owned.numbers.items
         ≡ numbers_in (map feature_positions (take count (into_iter_items rest.old)))) }
-    ensures alike { IfOk result (λ owned. length owned.owners.items ≡ length owned.polygons.items) }
     ensures rest { OnOk result (into_iter_items rest.new ≡ drop count (into_iter_items rest.old)) }
 {
     let mut owned = Owned {
@@ -114,9 +134,7 @@ pub(crate) fn next_polygons<A: Allocator + Copy>(
         numbers: Vec::new(alloc),
     };
     for number in first..first + count {
-        if let Some(feature) = rest.next() {
-            push_feature(&mut owned, number, feature)?;
-        }
+        push_next(&mut owned, rest, number)?;
     }
     Ok(owned)
 }
