@@ -48,10 +48,10 @@ told_numbers borders [] sides = beside_numbers borders sides
 told_numbers borders (n ∷ ns) sides = n ∷ ns
 
 -- all these sides are held by the holders of the face, and what is told of it is so
-pub record IsKeptFace (borders : List Bordering) (owners sides : List ℕ) (f : FaceOf) : Type 0 where
-  pub sides : f.sides ≡ map (side_at (map (λ b. b.segment) borders)) sides
-  pub held : All (λ a. held_at borders a ≡ f.holders) sides
-  pub told : IsOnce (features_of owners (told_numbers borders f.holders sides)) f.features
+pub record IsKeptFace (borders : List Bordering) (owners numbers : List ℕ) (f : FaceOf) : Type 0 where
+  pub sides : f.sides ≡ map (side_at (map (λ b. b.segment) borders)) numbers
+  pub held : All (λ a. held_at borders a ≡ f.holders) numbers
+  pub told : IsOnce (features_of owners (told_numbers borders f.holders numbers)) f.features
   pub area : f.area ≡ total side_term f.sides
   pub border : f.border ≡ border_length f.sides
   pub kind : IsKind f.holders f.features f.kind

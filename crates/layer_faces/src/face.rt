@@ -1,4 +1,6 @@
 // A face of a layer.
+ghost use Rattle.std.specs.Prelude.{◌≤◌, unsigned_abs};
+
 use crate::kind::Kind;
 use smallvec::SmallVec;
 use std::alloc::{Allocator, Global};
@@ -20,4 +22,22 @@ pub struct Face<A: Allocator + Copy = Global> {
     pub border: u128,
     /// What kind of face it is.
     pub kind: Kind,
+    ghost small: { unsigned_abs twice_area ≤ 16000000000000000000000000000000 },
+    ghost short: { border ≤ 147573952589676412928000000 },
+}
+
+impl<A: Allocator + Copy> Face<A> {
+    ghost use Rattle.std.specs.Prelude.{◌≡◌};
+    ghost use Rattle.layer_faces.specs.Lengths.{width_of};
+
+    /// Its width in units, rounded up: twice its area by the length of its border. Of a long sliver that is its mean
+    /// width.
+    pub fn width(&self) -> u128
+        ensures { result ≡ width_of self.now.twice_area self.now.border }
+    {
+        if self.twice_area <= 0 || self.border == 0 {
+            return 0;
+        }
+        (self.twice_area.unsigned_abs() * 65_536 + (self.border - 1)) / self.border
+    }
 }

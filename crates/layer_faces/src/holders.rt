@@ -1,5 +1,5 @@
 // The polygons that hold the sides of borders.
-ghost use Rattle.std.specs.Prelude.{◌≡◌, ◌++◌, ◌+◌, ◌*◌, ◌<◌, ◌↔◌, [], nat_lt, length, All, IfOk, OnOk, IsTrue};
+ghost use Rattle.std.specs.Prelude.{◌≡◌, ◌++◌, ◌+◌, ◌*◌, ◌<◌, ◌≤◌, ◌↔◌, [], nat_lt, length, All, IfOk, OnOk, IsTrue};
 ghost use Rattle.std.specs.List.{prefix_len};
 ghost use Rattle.layer_sides.specs.Seen.{borders_seen};
 ghost use Rattle.layer_faces.specs.Kept.{apart, held_at};

@@ -39,7 +39,7 @@ pub struct Look<A: Allocator + Copy = Global> {
 /// polygons is tested. Fails with `TooLarge` where the layer has more than 4,000,000 positions or
 /// polygons, with `Unswept` and `Unlike` where the search failed, which no proper layer is known to do,
 /// and on allocation failure.
-pub fn look<A: Allocator + Copy>(
+pub fn look_at<A: Allocator + Copy>(
     alloc: A,
     polygons: &[Vec<Vec<Pos, A>, A>],
     owners: &[usize],
@@ -67,7 +67,7 @@ pub fn look<A: Allocator + Copy>(
     let faces = faces_of(alloc, borders.as_slice(), owners, faces.as_slice())?;
     let areas = areas_by_faces(alloc, polygons.len(), faces.as_slice())?;
     let uneven = uneven_in(alloc, polygons, areas.as_slice())?;
-    let sums = sums_of(faces.as_slice(), areas.as_slice());
+    let sums = sums_of(faces.as_slice());
     Ok(Look {
         borders,
         faces,
