@@ -14,11 +14,11 @@ Above n (m ∷ ms) = n < m
 
 pub above_from : (k n : ℕ) (test : Polygon → Bool) (ps : List Polygon) → k < n → Above k (numbers_from n test ps)
 above_from k n test [] l = tt
-above_from k n test (p ∷ ps) l = by (test p)
+above_from k n test (p ∷ ps) l = by (test p) (above_from k (suc n) test ps (omega arith))
   where
-    by : (b : Bool) → Above k (cond b (n ∷ numbers_from (suc n) test ps) (numbers_from (suc n) test ps))
-    by true = l
-    by false = above_from k (suc n) test ps (omega arith)
+    by : (b : Bool) → Above k (numbers_from (suc n) test ps) → Above k (cond b (n ∷ numbers_from (suc n) test ps) (numbers_from (suc n) test ps))
+    by true h = l
+    by false h = h
 
 not_less : (n : ℕ) → ltb n n ≡ false
 not_less n = search (rules, tests)
@@ -69,12 +69,13 @@ taken n g (m ∷ ms) = cond (eqb m n) (g ms) (n ∷ g (m ∷ ms))
 pub merged : (n : ℕ) (g : List ℕ → List ℕ) (ms : List ℕ)
     → merge_one n g ms ≡ take (prefix_len (λ m. ltb m n) ms) ms ++ taken n g (drop (prefix_len (λ m. ltb m n) ms) ms)
 merged n g [] = refl
-merged n g (m ∷ ms) = by (ltb m n)
+merged n g (m ∷ ms) = by (ltb m n) (merged n g ms)
   where
-    rest : merge_one n g ms ≡ take (prefix_len (λ m. ltb m n) ms) ms ++ taken n g (drop (prefix_len (λ m. ltb m n) ms) ms)
-    rest = merged n g ms
+    abbrev k : ℕ
+    k = prefix_len (λ m. ltb m n) ms
 
-    by : (b : Bool) → cond b (m ∷ merge_one n g ms) (cond (eqb m n) (g ms) (n ∷ g (m ∷ ms)))
-        ≡ take (cond b (1 + prefix_len (λ m. ltb m n) ms) 0) (m ∷ ms) ++ taken n g (drop (cond b (1 + prefix_len (λ m. ltb m n) ms) 0) (m ∷ ms))
-    by true = rw (one-add) (ap (λ zs. m ∷ zs) rest)
-    by false = refl
+    by : (b : Bool) → merge_one n g ms ≡ take k ms ++ taken n g (drop k ms)
+        → cond b (m ∷ merge_one n g ms) (cond (eqb m n) (g ms) (n ∷ g (m ∷ ms)))
+        ≡ take (cond b (1 + k) 0) (m ∷ ms) ++ taken n g (drop (cond b (1 + k) 0) (m ∷ ms))
+    by true rest = rw (one-add) (ap (λ zs. m ∷ zs) rest)
+    by false rest = refl

@@ -1,5 +1,5 @@
 -- Sides by their numbers, and polygons by theirs.
-use Rattle.kit_words.proofs.Common.{◌≡◌, ℕ, zero, suc, ◌+◌, ◌-◌, ◌*◌, ◌/◌, ◌%◌, ◌<◌, ◌≤◌, Bool, true, false, refl, sym, ap, ap₂, ◌∙◌, arith, cond, eqb}
+use Rattle.kit_words.proofs.Common.{◌≡◌, ℕ, zero, suc, ◌+◌, ◌-◌, ◌*◌, ◌/◌, ◌%◌, ◌<◌, ◌≤◌, Bool, true, false, refl, sym, ap, ap₂, ◌∙◌, arith, cond, eqb, subst}
 use Rattle.kit_words.proofs.Common.{List, [], ◌∷◌, map, length, get_or, All, Contains, eqb-true, eqb-false, get_or-map}
 use Rattle.std.proofs.Common.{rules, tests, ◌≢◌}
 use Rattle.std.specs.List.{count_by, range_with_len}
@@ -72,72 +72,73 @@ held_is polygons borders are held a l =
     let within : a / 2 < length borders = omega arith in
     let b = get_or borders (a / 2) no_border in
     let there = Contains-get_or borders (a / 2) no_border within in
-    by_hand polygons b _ (get_or-map (λ (b : Bordering). b.segment) borders (a / 2) no_border) (are.bounding b there) (held b there) (eqb (a % 2) 0)
+    by_hand polygons b _ (get_or-map (λ (b : Bordering). b.segment) borders (a / 2) no_border within nowhere) (are.bounding b there) (held b there) (eqb (a % 2) 0)
 
 -- ---- numbers of polygons
 
 pub numbers_within : (n : ℕ) (test : Polygon → Bool) (ps : List Polygon) → All (λ m. m < n + length ps) (numbers_from n test ps)
 numbers_within n test [] = All-nil (λ m. m < n + 0)
-numbers_within n test (p ∷ ps) = by (test p)
+numbers_within n test (p ∷ ps) =
+    by (test p) (All-weaker (λ m. m < suc n + length ps) (λ m. m < n + suc (length ps)) (λ m l. omega arith) (numbers_from (suc n) test ps) (numbers_within (suc n) test ps))
   where
-    rest : All (λ m. m < n + suc (length ps)) (numbers_from (suc n) test ps)
-    rest = All-weaker (λ m. m < suc n + length ps) (λ m. m < n + suc (length ps)) (λ m l. omega arith) (numbers_from (suc n) test ps) (numbers_within (suc n) test ps)
-
-    by : (b : Bool) → All (λ m. m < n + suc (length ps)) (cond b (n ∷ numbers_from (suc n) test ps) (numbers_from (suc n) test ps))
-    by true = All-cons (λ m. m < n + suc (length ps)) n (numbers_from (suc n) test ps) (omega arith) rest
-    by false = rest
+    by : (b : Bool) → All (λ m. m < n + suc (length ps)) (numbers_from (suc n) test ps)
+        → All (λ m. m < n + suc (length ps)) (cond b (n ∷ numbers_from (suc n) test ps) (numbers_from (suc n) test ps))
+    by true rest = All-cons (λ m. m < n + suc (length ps)) n (numbers_from (suc n) test ps) (omega arith) rest
+    by false rest = rest
 
 pub numbers_few : (n : ℕ) (test : Polygon → Bool) (ps : List Polygon) → length (numbers_from n test ps) ≤ length ps
 numbers_few n test [] = omega arith
-numbers_few n test (p ∷ ps) = by (test p)
+numbers_few n test (p ∷ ps) = by (test p) (numbers_few (suc n) test ps)
   where
-    by : (b : Bool) → length (cond b (n ∷ numbers_from (suc n) test ps) (numbers_from (suc n) test ps)) ≤ suc (length ps)
-    by true = let e = numbers_few (suc n) test ps in omega arith
-    by false = let e = numbers_few (suc n) test ps in omega arith
+    by : (b : Bool) → length (numbers_from (suc n) test ps) ≤ length ps
+        → length (cond b (n ∷ numbers_from (suc n) test ps) (numbers_from (suc n) test ps)) ≤ suc (length ps)
+    by true h = omega arith
+    by false h = omega arith
+
+other_number : (n k : ℕ) → k < n → eqb n k ≡ false
+other_number n k l = search (rules, tests)
+
+other_after : (n k : ℕ) → n < k → eqb n k ≡ false
+other_after n k l = search (rules, tests)
+
+same_number : (n : ℕ) → eqb n n ≡ true
+same_number n = search (rules, tests)
+
+-- the numbers of a polygon and of those after it, as often as they are k
+counted : (k n : ℕ) (b : Bool) (ns : List ℕ) (c r : ℕ) → count_by (λ m. eqb m k) ns ≡ r → cond b (cond (eqb n k) 1 0) 0 + r ≡ c
+    → count_by (λ m. eqb m k) (cond b (n ∷ ns) ns) ≡ c
+counted k n true ns c r h e = sum_by-cons (λ m. cond (eqb m k) 1 0) n ns ∙ rw h e
+counted k n false ns c r h e = h ∙ omega arith
 
 none_counted : (k n : ℕ) (test : Polygon → Bool) (ps : List Polygon) → k < n → count_by (λ m. eqb m k) (numbers_from n test ps) ≡ 0
 none_counted k n test [] l = refl
-none_counted k n test (p ∷ ps) l = by (test p)
+none_counted k n test (p ∷ ps) l =
+    counted k n (test p) (numbers_from (suc n) test ps) 0 0 (none_counted k (suc n) test ps (omega arith)) (by (test p))
   where
-    rest : count_by (λ m. eqb m k) (numbers_from (suc n) test ps) ≡ 0
-    rest = none_counted k (suc n) test ps (omega arith)
-
-    other : eqb n k ≡ false
-    other = search (rules, tests)
-
-    by : (b : Bool) → count_by (λ m. eqb m k) (cond b (n ∷ numbers_from (suc n) test ps) (numbers_from (suc n) test ps)) ≡ 0
-    by true = sum_by-cons (λ m. cond (eqb m k) 1 0) n (numbers_from (suc n) test ps) ∙ rw (other, rest) refl
-    by false = rest
+    by : (b : Bool) → cond b (cond (eqb n k) 1 0) 0 + 0 ≡ 0
+    by true = rw (other_number n k l) refl
+    by false = refl
 
 -- the number of a polygon is counted once where it passes, and else not at all
-pub counted_once : (n i : ℕ) (test : Polygon → Bool) (ps : List Polygon) (d : Polygon) → i < length ps
-    → count_by (λ m. eqb m (n + i)) (numbers_from n test ps) ≡ cond (test (get_or ps i d)) 1 0
-counted_once n i test [] d l = absurd (omega arith)
-counted_once n zero test (p ∷ ps) d l = by (test p)
+pub counted_once : (n i k : ℕ) (test : Polygon → Bool) (ps : List Polygon) (d : Polygon) → k ≡ n + i → i < length ps
+    → count_by (λ m. eqb m k) (numbers_from n test ps) ≡ cond (test (get_or ps i d)) 1 0
+counted_once n i k test [] d e l = absurd (omega arith)
+counted_once n zero k test (p ∷ ps) d e l =
+    counted k n (test p) (numbers_from (suc n) test ps) (cond (test p) 1 0) 0 (none_counted k (suc n) test ps (omega arith)) (by (test p))
   where
-    here : n + 0 ≡ n
+    here : n ≡ k
     here = omega arith
 
-    rest : count_by (λ m. eqb m n) (numbers_from (suc n) test ps) ≡ 0
-    rest = none_counted n (suc n) test ps (omega arith)
-
-    same : eqb n n ≡ true
-    same = search (rules, tests)
-
-    by : (b : Bool) → count_by (λ m. eqb m (n + 0)) (cond b (n ∷ numbers_from (suc n) test ps) (numbers_from (suc n) test ps)) ≡ cond b 1 0
-    by true = rw here (sum_by-cons (λ m. cond (eqb m n) 1 0) n (numbers_from (suc n) test ps) ∙ rw (same, rest) refl)
-    by false = rw here rest
-counted_once n (suc i) test (p ∷ ps) d l = by (test p)
+    by : (b : Bool) → cond b (cond (eqb n k) 1 0) 0 + 0 ≡ cond b 1 0
+    by true = subst (λ j. cond (eqb n j) 1 0 + 0 ≡ 1) here (rw (same_number n) refl)
+    by false = refl
+counted_once n (suc i) k test (p ∷ ps) d e l =
+    counted k n (test p) (numbers_from (suc n) test ps) (cond (test (get_or ps i d)) 1 0) (cond (test (get_or ps i d)) 1 0)
+    (counted_once (suc n) i k test ps d (omega arith) (omega arith)) (by (test p))
   where
-    here : n + suc i ≡ suc n + i
-    here = omega arith
+    above : n < k
+    above = omega arith
 
-    rest : count_by (λ m. eqb m (suc n + i)) (numbers_from (suc n) test ps) ≡ cond (test (get_or ps i d)) 1 0
-    rest = counted_once (suc n) i test ps d (omega arith)
-
-    other : eqb n (suc n + i) ≡ false
-    other = search (rules, tests)
-
-    by : (b : Bool) → count_by (λ m. eqb m (n + suc i)) (cond b (n ∷ numbers_from (suc n) test ps) (numbers_from (suc n) test ps)) ≡ cond (test (get_or ps i d)) 1 0
-    by true = rw here (sum_by-cons (λ m. cond (eqb m (suc n + i)) 1 0) n (numbers_from (suc n) test ps) ∙ rw other rest)
-    by false = rw here rest
+    by : (b : Bool) → cond b (cond (eqb n k) 1 0) 0 + cond (test (get_or ps i d)) 1 0 ≡ cond (test (get_or ps i d)) 1 0
+    by true = rw (other_after n k above) (omega arith)
+    by false = omega arith

@@ -8,6 +8,9 @@ use Rattle.std.specs.List.Sorted.{IsPermutation}
 use Rattle.std.proofs.lemmas.List.Sorted.{IsPermutation-keeps}
 use Rattle.layer_faces.specs.Areas.{total}
 
+ahead : (a b c d : ℤ) → b ≡ c +ℤ d → a +ℤ b ≡ a +ℤ c +ℤ d
+ahead a b c d e = omega (arith, ints)
+
 written : {X : Type 0} (l : List X) (i j : ℕ) (d : X) → i < length l → j < length l → get_or (set l i (get_or l j d)) j d ≡ get_or l j d
 written l i j d p q = elim (cases_eq i j) [
   | inl e ↦ subst (λ k. get_or (set l i (get_or l j d)) k d ≡ get_or l j d) e (get_or-set_same l i (get_or l j d) d p)
@@ -26,7 +29,9 @@ module _ {X : Type 0} (f : X → ℤ) where
   pub total_more : (xs : List X) (i : ℕ) (d : X) → i < length xs → total f (take (i + 1) xs) ≡ total f (take i xs) +ℤ f (get_or xs i d)
   total_more [] i d l = absurd (omega arith)
   total_more (x ∷ xs) zero d l = omega (arith, ints)
-  total_more (x ∷ xs) (suc i) d l = let more = total_more xs i d (omega arith) in rw (add-one) (omega (arith, ints))
+  total_more (x ∷ xs) (suc i) d l = let more = total_more xs i d (omega arith) in
+      let e : suc i + 1 ≡ suc (i + 1) = omega arith in
+      ap (λ k. total f (take k (x ∷ xs))) e ∙ ahead (f x) _ _ (f (get_or xs i d)) more
 
   -- a write at i
   pub total_set : (xs : List X) (i : ℕ) (y d : X) → i < length xs → total f (set xs i y) +ℤ f (get_or xs i d) ≡ total f xs +ℤ f y
@@ -78,9 +83,12 @@ total_both f g [] = refl
 total_both f g (x ∷ xs) = let e = total_both f g xs in omega (arith, ints)
 
 -- a factor
+apart_times : (k y z : ℤ) → k *ℤ (y +ℤ z) ≡ k *ℤ y +ℤ k *ℤ z
+apart_times k y z = omega (arith, ints)
+
 pub total_times : {X : Type 0} (k : ℤ) (f : X → ℤ) (xs : List X) → total (λ x. k *ℤ f x) xs ≡ k *ℤ total f xs
 total_times k f [] = omega (arith, ints)
-total_times k f (x ∷ xs) = let e = total_times k f xs in omega (arith, ints)
+total_times k f (x ∷ xs) = ap (λ z. k *ℤ f x +ℤ z) (total_times k f xs) ∙ sym (apart_times k (f x) (total f xs))
 
 -- no further from 0 than the terms are together
 pub total_within : {X : Type 0} (f : X → ℤ) (g : X → ℕ) → ((x : X) → unsigned_abs (f x) ≤ g x) → (xs : List X) → unsigned_abs (total f xs) ≤ sum_by g xs

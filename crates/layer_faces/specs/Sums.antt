@@ -1,5 +1,5 @@
 -- What the areas of a layer's polygons add up to.
-use Rattle.std.specs.Prelude.{◌≡◌, ℤ, pos, ◌+ℤ◌, ◌*ℤ◌, ◌-◌, neg_ℤ, Bool, true, false, List, [], ◌∷◌, length, if◌then◌else◌}
+use Rattle.std.specs.Prelude.{◌≡◌, ℕ, ℤ, pos, ◌+ℤ◌, ◌*ℤ◌, ◌-◌, neg_ℤ, Bool, true, false, List, [], ◌∷◌, length, if◌then◌else◌}
 use Rattle.grid_geometry.specs.Common.{Segment}
 use Rattle.layer_sides.specs.Common.{Polygon, Side, holders, holds}
 use Rattle.layer_faces.specs.declared.kind.Kind.{Kind}
@@ -8,9 +8,14 @@ use Rattle.layer_faces.specs.declared.sums.Sums.{Sums}
 use Rattle.layer_faces.specs.Areas.{all_sides, area_at, side_term, total}
 use Rattle.layer_faces.specs.Faces.{FaceOf}
 
+-- there is one or more
+abbrev pub is_any : List ℕ → Bool
+is_any [] = false
+is_any (n ∷ ns) = true
+
 -- some polygon holds the side
 abbrev pub is_held : List Polygon → Side → Bool
-is_held polygons a = elim (holders polygons a) [ [] ↦ false | (n ∷ ns) ↦ true ]
+is_held polygons a = is_any (holders polygons a)
 
 -- it is a face that no polygon holds, and not the outside
 abbrev pub is_gap : Kind → Bool

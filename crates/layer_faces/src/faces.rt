@@ -1,12 +1,11 @@
 // The faces of a layer, by the labels of their sides.
-ghost use Rattle.std.specs.Prelude.{◌≡◌, ℕ, ◌*◌, ◌+◌, ◌<◌, ◌≤◌, length, map, slice_index, All, IfOk, IfSome};
+ghost use Rattle.std.specs.Prelude.{◌≡◌, ℕ, ◌*◌, ◌+◌, ◌<◌, ◌≤◌, length, map, All, IfOk, IfSome};
 ghost use Rattle.std.specs.List.{flat_map, range_with_len};
 ghost use Rattle.std.specs.List.Sorted.{IsPermutation, IsNonDecreasingBy};
 ghost use Rattle.layer_sides.specs.Seen.{borders_seen};
 ghost use Rattle.layer_faces.specs.Faces.{IsKind};
-ghost use Rattle.layer_faces.specs.Kept.{IsKeptFace, held_at};
+ghost use Rattle.layer_faces.specs.Kept.{IsFound, held_at};
 ghost use Rattle.layer_faces.specs.Order.{side_of};
-ghost use Rattle.layer_faces.specs.Seen.{face_seen, segments_seen};
 
 use crate::face::Face;
 use crate::fault::FaceFault;
@@ -44,10 +43,8 @@ fn face_of<A: Allocator + Copy>(
     requires within { All (λ a. a < 2 * length borders.now) sides.items }
     requires owned { (a : ℕ) → a < 2 * length borders.now
         → All (λ n. n < length owners.now) (held_at (borders_seen borders.now) a) }
-    ensures face { IfOk result (λ f. IsKeptFace (borders_seen borders.now) owners.now sides.items
-        (face_seen (segments_seen borders.now) f)) }
+    ensures found { IfOk result (λ f. IsFound (borders_seen borders.now) owners.now f) }
     ensures sides { IfOk result (λ f. f.sides.items ≡ sides.items) }
-    ensures named { IfOk result (λ f. slice_index sides.items 0 ≡ f.first) }
 {
     let first = sides[0];
     let holders = common_holders(alloc, borders, sides.as_slice())?;
@@ -81,10 +78,8 @@ fn faces_in<A: Allocator + Copy>(
     requires within { All (λ a. a < 2 * length borders.now) (map side_of order.now) }
     requires owned { (a : ℕ) → a < 2 * length borders.now
         → All (λ n. n < length owners.now) (held_at (borders_seen borders.now) a) }
-    ensures each { IfOk result (λ faces. All (λ f. IsKeptFace (borders_seen borders.now) owners.now
-        f.sides.items (face_seen (segments_seen borders.now) f)) faces.items) }
-    ensures named { IfOk result
-        (λ faces. All (λ f. slice_index f.sides.items 0 ≡ f.first) faces.items) }
+    ensures found { IfOk result
+        (λ faces. All (IsFound (borders_seen borders.now) owners.now) faces.items) }
     ensures all { IfOk result
         (λ faces. flat_map (λ f. f.sides.items) faces.items ≡ map side_of order.now) }
 {
@@ -111,10 +106,8 @@ pub(crate) fn faces_of<A: Allocator + Copy>(
     requires labels { length labels.now ≡ 2 * length borders.now + 1 }
     requires owned { (a : ℕ) → a < 2 * length borders.now
         → All (λ n. n < length owners.now) (held_at (borders_seen borders.now) a) }
-    ensures each { IfOk result (λ faces. All (λ f. IsKeptFace (borders_seen borders.now) owners.now
-        f.sides.items (face_seen (segments_seen borders.now) f)) faces.items) }
-    ensures named { IfOk result
-        (λ faces. All (λ f. slice_index f.sides.items 0 ≡ f.first) faces.items) }
+    ensures found { IfOk result
+        (λ faces. All (IsFound (borders_seen borders.now) owners.now) faces.items) }
     ensures all { IfOk result (λ faces. IsPermutation (range_with_len 0 (2 * length borders.now))
         (flat_map (λ f. f.sides.items) faces.items)) }
     ensures in_order { IfOk result (λ faces. IsNonDecreasingBy (λ f. f.first) faces.items) }
