@@ -16,7 +16,7 @@ use crate::fault::{CoverFault, of_face};
 use crate::layers::{Feature, Owned, leaf_count, next_polygons};
 use crate::names::is_asked;
 use crate::uneven::{UnevenPolygon, uneven_told};
-use layer_faces::{Look, Sums, look};
+use layer_faces::{Look, Sums, look_at as faces_at};
 use std::alloc::{AllocError, Allocator, Global};
 use std::vec::IntoIter;
 use topo_outline::RawLayer;
@@ -68,7 +68,7 @@ fn look_at<'a, A: Allocator + Copy>(
     ensures found { IfOk result (λ looked. IsLookAt (owned_layer name.now owned.now) (view_looked looked)) }
     ensures fault { IfErr result IsLookFault }
 {
-    match look(alloc, owned.polygons.as_slice(), owned.owners.as_slice()) {
+    match faces_at(alloc, owned.polygons.as_slice(), owned.owners.as_slice()) {
         Ok(look) => Ok(told_at(alloc, name, owned, look)?),
         Err(fault) => Err(of_face(fault)),
     }

@@ -1,6 +1,8 @@
 -- The numbers in one of two lists alone, where these are the numbers of polygons that pass tests.
-use Rattle.kit_words.proofs.Common.{◌≡◌, ℕ, suc, ◌<◌, Bool, true, false, not, refl, ap, ◌∙◌, absurd, arith, cond, eqb, ltb, List, [], ◌∷◌}
-use Rattle.std.proofs.lemmas.Bool.{ltb_self, eqb_self}
+use Rattle.kit_words.proofs.Common.{◌≡◌, ℕ, suc, ◌<◌, Bool, true, false, refl, ap, ◌∙◌, arith, cond, eqb, ltb, List, [], ◌∷◌, ◌++◌, take, drop}
+use Rattle.std.proofs.Common.{rules, tests}
+use Rattle.std.specs.List.{prefix_len}
+use Rattle.kit_words.proofs.Common.{one-add}
 use Rattle.grid_geometry.specs.Common.{xor}
 use Rattle.layer_sides.specs.Common.{Polygon, numbers_from}
 use Rattle.layer_faces.specs.Kept.{apart, merge_one}
@@ -12,11 +14,17 @@ Above n (m ∷ ms) = n < m
 
 pub above_from : (k n : ℕ) (test : Polygon → Bool) (ps : List Polygon) → k < n → Above k (numbers_from n test ps)
 above_from k n test [] l = tt
-above_from k n test (p ∷ ps) l = by (test p)
+above_from k n test (p ∷ ps) l = by (test p) (above_from k (suc n) test ps (omega arith))
   where
-    by : (b : Bool) → Above k (cond b (n ∷ numbers_from (suc n) test ps) (numbers_from (suc n) test ps))
-    by true = l
-    by false = above_from k (suc n) test ps (omega arith)
+    by : (b : Bool) → Above k (numbers_from (suc n) test ps) → Above k (cond b (n ∷ numbers_from (suc n) test ps) (numbers_from (suc n) test ps))
+    by true h = l
+    by false h = h
+
+not_less : (n : ℕ) → ltb n n ≡ false
+not_less n = search (rules, tests)
+
+same : (n : ℕ) → eqb n n ≡ true
+same n = search (rules, tests)
 
 not_below : (m n : ℕ) → n < m → ltb m n ≡ false
 not_below m n l = search (rules, tests)
@@ -28,7 +36,7 @@ below : (m n : ℕ) → n < m → ltb n m ≡ true
 below m n l = search (rules, tests)
 
 in_both : (n : ℕ) (g : List ℕ → List ℕ) (U : List ℕ) → merge_one n g (n ∷ U) ≡ g U
-in_both n g U = rw (ltb_self, eqb_self) refl
+in_both n g U = rw (not_less n, same n) refl
 
 in_first : (n : ℕ) (g : List ℕ → List ℕ) (U : List ℕ) → Above n U → merge_one n g U ≡ n ∷ g U
 in_first n g [] a = refl
@@ -53,13 +61,21 @@ apart_numbers n t u (p ∷ ps) =
 
 -- ---- a step of the code: the numbers below n go first
 
-pub merged_below : (n : ℕ) (g : List ℕ → List ℕ) (ms : List ℕ)
-    → merge_one n g ms
-    ≡ take (prefix_len (λ m. ltb m n) ms) ms ++ merge_one n g (drop (prefix_len (λ m. ltb m n) ms) ms)
-merged_below n g [] = refl
-merged_below n g (m ∷ ms) = by (ltb m n) refl
+-- what follows on them, of the others from the first that is not below n
+abbrev pub taken : ℕ → (List ℕ → List ℕ) → List ℕ → List ℕ
+taken n g [] = n ∷ g []
+taken n g (m ∷ ms) = cond (eqb m n) (g ms) (n ∷ g (m ∷ ms))
+
+pub merged : (n : ℕ) (g : List ℕ → List ℕ) (ms : List ℕ)
+    → merge_one n g ms ≡ take (prefix_len (λ m. ltb m n) ms) ms ++ taken n g (drop (prefix_len (λ m. ltb m n) ms) ms)
+merged n g [] = refl
+merged n g (m ∷ ms) = by (ltb m n) (merged n g ms)
   where
-    by : (b : Bool) → ltb m n ≡ b → merge_one n g (m ∷ ms)
-        ≡ take (prefix_len (λ m. ltb m n) (m ∷ ms)) (m ∷ ms) ++ merge_one n g (drop (prefix_len (λ m. ltb m n) (m ∷ ms)) (m ∷ ms))
-    by true t = ?
-    by false t = ?
+    abbrev k : ℕ
+    k = prefix_len (λ m. ltb m n) ms
+
+    by : (b : Bool) → merge_one n g ms ≡ take k ms ++ taken n g (drop k ms)
+        → cond b (m ∷ merge_one n g ms) (cond (eqb m n) (g ms) (n ∷ g (m ∷ ms)))
+        ≡ take (cond b (1 + k) 0) (m ∷ ms) ++ taken n g (drop (cond b (1 + k) 0) (m ∷ ms))
+    by true rest = rw (one-add) (ap (λ zs. m ∷ zs) rest)
+    by false rest = refl

@@ -7,4 +7,6 @@ pub mod Uneven
 pub mod Seen
 pub mod Kept
 pub mod Order
+pub mod Faults
+pub mod Weighed
 pub mod Common

@@ -2,7 +2,6 @@
 ghost use Rattle.std.specs.Prelude.{◌≤◌, unsigned_abs};
 
 use crate::kind::Kind;
-use smallvec::SmallVec;
 use std::alloc::{Allocator, Global};
 
 /// A face of a layer.
@@ -13,7 +12,7 @@ pub struct Face<A: Allocator + Copy = Global> {
     /// The first of them.
     pub first: u32,
     /// The numbers of the polygons that hold it, ascending.
-    pub holders: SmallVec<u32, 2, A>,
+    pub holders: Vec<u32, A>,
     /// The features that hold it, ascending; of a face that none holds, the features beside it.
     pub features: Vec<usize, A>,
     /// Twice its area.

@@ -1,11 +1,11 @@
 // The faces of a layer, by the labels of their sides.
-ghost use Rattle.std.specs.Prelude.{◌≡◌, ℕ, ◌*◌, ◌+◌, ◌<◌, ◌≤◌, length, map, All, IfOk};
+ghost use Rattle.std.specs.Prelude.{◌≡◌, ℕ, ◌*◌, ◌+◌, ◌<◌, ◌≤◌, length, map, All, IfOk, IfSome};
 ghost use Rattle.std.specs.List.{flat_map, range_with_len};
 ghost use Rattle.std.specs.List.Sorted.{IsPermutation, IsNonDecreasingBy};
 ghost use Rattle.layer_sides.specs.Seen.{borders_seen};
-ghost use Rattle.layer_faces.specs.Kept.{IsKeptFace, held_at};
+ghost use Rattle.layer_faces.specs.Faces.{IsKind};
+ghost use Rattle.layer_faces.specs.Kept.{IsFound, held_at};
 ghost use Rattle.layer_faces.specs.Order.{side_of};
-ghost use Rattle.layer_faces.specs.Seen.{face_seen, segments_seen};
 
 use crate::face::Face;
 use crate::fault::FaceFault;
@@ -43,8 +43,7 @@ fn face_of<A: Allocator + Copy>(
     requires within { All (λ a. a < 2 * length borders.now) sides.items }
     requires owned { (a : ℕ) → a < 2 * length borders.now
         → All (λ n. n < length owners.now) (held_at (borders_seen borders.now) a) }
-    ensures face { IfOk result (λ f. IsKeptFace (borders_seen borders.now) owners.now sides.items
-        (face_seen (segments_seen borders.now) f)) }
+    ensures found { IfOk result (λ f. IsFound (borders_seen borders.now) owners.now f) }
     ensures sides { IfOk result (λ f. f.sides.items ≡ sides.items) }
 {
     let first = sides[0];
@@ -74,6 +73,15 @@ fn faces_in<A: Allocator + Copy>(
     order: &[Labelled],
     outside: u32,
 ) -> Result<Vec<Face<A>, A>, FaceFault>
+    requires few { length borders.now ≤ 4000000 }
+    requires few_sides { length order.now ≤ 8000000 }
+    requires within { All (λ a. a < 2 * length borders.now) (map side_of order.now) }
+    requires owned { (a : ℕ) → a < 2 * length borders.now
+        → All (λ n. n < length owners.now) (held_at (borders_seen borders.now) a) }
+    ensures found { IfOk result
+        (λ faces. All (IsFound (borders_seen borders.now) owners.now) faces.items) }
+    ensures all { IfOk result
+        (λ faces. flat_map (λ f. f.sides.items) faces.items ≡ map side_of order.now) }
 {
     let mut faces = Vec::new(alloc);
     let mut rest = order;
@@ -94,6 +102,15 @@ pub(crate) fn faces_of<A: Allocator + Copy>(
     owners: &[usize],
     labels: &[u32],
 ) -> Result<Vec<Face<A>, A>, FaceFault>
+    requires few { length borders.now ≤ 4000000 }
+    requires labels { length labels.now ≡ 2 * length borders.now + 1 }
+    requires owned { (a : ℕ) → a < 2 * length borders.now
+        → All (λ n. n < length owners.now) (held_at (borders_seen borders.now) a) }
+    ensures found { IfOk result
+        (λ faces. All (IsFound (borders_seen borders.now) owners.now) faces.items) }
+    ensures all { IfOk result (λ faces. IsPermutation (range_with_len 0 (2 * length borders.now))
+        (flat_map (λ f. f.sides.items) faces.items)) }
+    ensures in_order { IfOk result (λ faces. IsNonDecreasingBy (λ f. f.first) faces.items) }
 {
     let Some((outside, of_sides)) = labels.split_last() else {
         return Ok(Vec::new(alloc));

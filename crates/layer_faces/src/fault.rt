@@ -41,6 +41,11 @@ impl<T: Drop> From<AllocFailed<T>> for FaceFault {
 }
 
 impl From<SideFault> for FaceFault {
+    ghost use Rattle.std.specs.Prelude.{◌≡◌};
+    ghost use Rattle.layer_faces.specs.Faults.{without_sides};
+
+    ghost from_gives = { λ fault e. e ≡ without_sides fault };
+
     fn from(fault: SideFault) -> FaceFault {
         match fault {
             SideFault::OutOfMemory => FaceFault::OutOfMemory,

@@ -1,16 +1,12 @@
 // The polygons that hold the sides of borders.
-ghost use Rattle.std.specs.Prelude.{◌≡◌, ◌++◌, ◌+◌, ◌*◌, ◌<◌, ◌↔◌, [], nat_lt, length, All, IfOk, OnOk, IsTrue};
+ghost use Rattle.std.specs.Prelude.{◌≡◌, ◌++◌, ◌+◌, ◌*◌, ◌<◌, ◌≤◌, ◌↔◌, [], nat_lt, length, All, IfOk, OnOk, IsTrue};
 ghost use Rattle.std.specs.List.{prefix_len};
 ghost use Rattle.layer_sides.specs.Seen.{borders_seen};
 ghost use Rattle.layer_faces.specs.Kept.{apart, held_at};
 
 use crate::fault::FaceFault;
 use layer_sides::Border;
-use smallvec::SmallVec;
 use std::alloc::{AllocError, Allocator};
-
-/// The numbers of polygons, ascending.
-pub(crate) type Numbers<A> = SmallVec<u32, 2, A>;
 
 /// How many of the numbers, from the first on, are below n.
 fn count_below(numbers: &[u32], n: u32) -> usize
@@ -32,10 +28,10 @@ fn apart<A: Allocator + Copy>(
     alloc: A,
     some: &[u32],
     others: &[u32],
-) -> Result<Numbers<A>, AllocError>
+) -> Result<Vec<u32, A>, AllocError>
     ensures { IfOk result (λ found. found.items ≡ apart some.now others.now) }
 {
-    let mut found = SmallVec::new(alloc);
+    let mut found = Vec::new(alloc);
     let mut rest = others;
     for n in some {
         let (below, above) = rest.split_at(count_below(rest, *n));
@@ -57,7 +53,7 @@ pub(crate) fn holders_at<A: Allocator + Copy>(
     alloc: A,
     borders: &[Border<A>],
     side: u32,
-) -> Result<Numbers<A>, AllocError>
+) -> Result<Vec<u32, A>, AllocError>
     requires { side < 2 * length borders.now }
     ensures { IfOk result (λ found. found.items ≡ held_at (borders_seen borders.now) side) }
 {
@@ -65,7 +61,7 @@ pub(crate) fn holders_at<A: Allocator + Copy>(
     if side % 2 == 0 {
         apart(alloc, border.bounds.as_slice(), border.right.as_slice())
     } else {
-        SmallVec::from_slice(alloc, border.right.as_slice())
+        Vec::from_slice(alloc, border.right.as_slice())
     }
 }
 
@@ -88,13 +84,13 @@ pub(crate) fn common_holders<A: Allocator + Copy>(
     alloc: A,
     borders: &[Border<A>],
     sides: &[u32],
-) -> Result<Numbers<A>, FaceFault>
+) -> Result<Vec<u32, A>, FaceFault>
     requires { All (λ a. a < 2 * length borders.now) sides.now }
     ensures { IfOk result
         (λ found. All (λ a. held_at (borders_seen borders.now) a ≡ found.items) sides.now) }
 {
     let Some(first) = sides.first() else {
-        return Ok(SmallVec::new(alloc));
+        return Ok(Vec::new(alloc));
     };
     let holders = holders_at(alloc, borders, *first)?;
     for side in sides {

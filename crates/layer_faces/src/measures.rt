@@ -1,5 +1,5 @@
 // Areas and lengths of the borders of a face.
-ghost use Rattle.std.specs.Prelude.{◌≡◌, ◌*◌, ◌^◌, ◌<◌, ◌≤◌, unsigned_abs, length, map, All};
+ghost use Rattle.std.specs.Prelude.{◌≡◌, ◌*◌, ◌^◌, ◌<◌, ◌≤◌, ◌-ℤ◌, unsigned_abs, length, map, All};
 ghost use Rattle.layer_sides.specs.Levels as levels;
 ghost use Rattle.layer_faces.specs.Areas as areas;
 ghost use Rattle.layer_faces.specs.Lengths as lengths;

@@ -14,7 +14,7 @@ pub(crate) struct Labelled {
 }
 
 /// Each side with its label, of which there is one for each side.
-fn labelled<A: Allocator + Copy>(
+fn with_labels<A: Allocator + Copy>(
     alloc: A,
     labels: &[u32],
 ) -> Result<Vec<Labelled, A>, AllocError>
@@ -41,7 +41,7 @@ pub(crate) fn by_label<A: Allocator + Copy>(
     ensures { IfOk result (λ order.
         IsPermutation (range_with_len 0 (length labels.now)) (map side_of order.items)) }
 {
-    let mut order = labelled(alloc, labels)?;
+    let mut order = with_labels(alloc, labels)?;
     order.sort_unstable();
     Ok(order)
 }

@@ -1,4 +1,8 @@
 // What the areas of a layer's polygons add up to.
+ghost use Rattle.std.specs.Prelude.{◌≡◌, pos, ◌*ℤ◌, ◌*◌, ◌-◌, ◌≤◌, unsigned_abs, length, All};
+ghost use Rattle.layer_faces.specs.Areas.{total};
+ghost use Rattle.layer_faces.specs.Weighed.{AreFaceSums, reach};
+
 use crate::face::Face;
 use crate::kind::Kind;
 use std::alloc::Allocator;
@@ -19,18 +23,34 @@ pub struct Sums {
     pub within: i128,
 }
 
-/// The sum of these areas.
-fn sum_of(areas: &[i128]) -> i128
+/// Twice the area of a face, as often as it is held too often.
+fn over_in<A: Allocator + Copy>(face: &Face<A>) -> i128
+    requires few { length face.now.holders.items ≤ 4000000 }
+    ensures value { result ≡ pos (length face.now.holders.items - 1) *ℤ face.now.twice_area }
+    ensures bound { unsigned_abs result ≤ 4000000 * unsigned_abs face.now.twice_area }
 {
-    let mut sum = 0;
-    for area in areas {
-        sum += *area;
-    }
-    sum
+    face.holders.len().saturating_sub(1) as i128 * face.twice_area
 }
 
-/// What the areas of polygons add up to, of which these are the faces and the areas of each.
-pub(crate) fn sums_of<A: Allocator + Copy>(faces: &[Face<A>], areas: &[i128]) -> Sums
+/// What is held too often, as often as it is.
+fn over_of<A: Allocator + Copy>(faces: &[Face<A>]) -> i128
+    requires few { All (λ f. length f.holders.items ≤ 4000000) faces.now }
+    requires small { reach faces.now ≤ 16000000000000000000000000000000 }
+    ensures value { result ≡ total (λ f. pos (length f.holders.items - 1) *ℤ f.twice_area) faces.now }
+    ensures bound { unsigned_abs result ≤ 64000000000000000000000000000000000000 }
+{
+    let mut over = 0;
+    for face in faces {
+        over += over_in(face);
+    }
+    over
+}
+
+/// What the areas of polygons add up to, of which these are the faces.
+pub(crate) fn sums_of<A: Allocator + Copy>(faces: &[Face<A>]) -> Sums
+    requires few { All (λ f. length f.holders.items ≤ 4000000) faces.now }
+    requires small { reach faces.now ≤ 16000000000000000000000000000000 }
+    ensures { AreFaceSums faces.now result }
 {
     let mut covered = 0;
     let mut gaps = 0;
@@ -42,10 +62,10 @@ pub(crate) fn sums_of<A: Allocator + Copy>(faces: &[Face<A>], areas: &[i128]) ->
             Kind::Land | Kind::Twice | Kind::Overlap => covered += face.twice_area,
         }
     }
-    let polygons = sum_of(areas);
+    let over = over_of(faces);
     Sums {
-        polygons,
-        over: polygons - covered,
+        polygons: covered + over,
+        over,
         covered,
         gaps,
         within,

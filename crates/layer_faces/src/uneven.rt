@@ -1,4 +1,8 @@
 // The polygons whose area by their rings is not that by the even-odd rule.
+ghost use Rattle.std.specs.Prelude.{◌≡◌, ◌≤◌, length, sum_by, IfOk};
+ghost use Rattle.ring_parts.specs.Seen.{polygons_seen};
+ghost use Rattle.layer_faces.specs.Weighed.{told_beside_all};
+
 use crate::rings::polygon_area;
 use grid_geometry::Pos;
 use std::alloc::{AllocError, Allocator};
@@ -21,6 +25,10 @@ pub(crate) fn uneven_in<A: Allocator + Copy>(
     polygons: &[Vec<Vec<Pos, A>, A>],
     areas: &[i128],
 ) -> Result<Vec<Uneven, A>, AllocError>
+    requires same { length areas.now ≡ length polygons.now }
+    requires few { sum_by (sum_by length) (polygons_seen polygons.now) ≤ 4000000 }
+    ensures { IfOk result
+        (λ found. found.items ≡ told_beside_all 0 (polygons_seen polygons.now) areas.now) }
 {
     let mut found = Vec::new(alloc);
     for (polygon, rings) in polygons.iter().enumerate() {

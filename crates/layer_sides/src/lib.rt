@@ -3,6 +3,8 @@
 
 mod border;
 mod fault;
+mod sides;
 
 pub use border::Border;
 pub use fault::SideFault;
+pub use sides::{Sides, sides_of};

@@ -1,5 +1,6 @@
 // A look at a layer: its faces, and what the areas of its polygons add up to.
-ghost use Rattle.std.specs.Prelude.{◌≡◌, length, IfOk};
+ghost use Rattle.std.specs.Prelude.{◌≡◌, length, slice_index, All, IfOk};
+ghost use Rattle.std.specs.List.Sorted.{IsNonDecreasingBy};
 ghost use Rattle.ring_parts.specs.Seen.{polygons_seen};
 ghost use Rattle.layer_sides.specs.Borders.{AreBorders, IsProperLayer};
 ghost use Rattle.layer_sides.specs.Seen.{borders_seen};
@@ -39,7 +40,7 @@ pub struct Look<A: Allocator + Copy = Global> {
 /// polygons is tested. Fails with `TooLarge` where the layer has more than 4,000,000 positions or
 /// polygons, with `Unswept` and `Unlike` where the search failed, which no proper layer is known to do,
 /// and on allocation failure.
-pub fn look<A: Allocator + Copy>(
+pub fn look_at<A: Allocator + Copy>(
     alloc: A,
     polygons: &[Vec<Vec<Pos, A>, A>],
     owners: &[usize],
@@ -50,6 +51,9 @@ pub fn look<A: Allocator + Copy>(
         AreBorders (polygons_seen polygons.now) (borders_seen look.borders.items)) }
     ensures faces { IfOk result (λ look. AreFaces (polygons_seen polygons.now) owners.now
         (segments_seen look.borders.items) (faces_seen (segments_seen look.borders.items) look.faces.items)) }
+    ensures in_order { IfOk result (λ look. IsNonDecreasingBy (λ f. f.first) look.faces.items) }
+    ensures named { IfOk result
+        (λ look. All (λ f. slice_index f.sides.items 0 ≡ f.first) look.faces.items) }
     ensures uneven { IfOk result (λ look. look.uneven.items
         ≡ uneven_from (segments_seen look.borders.items) 0 (polygons_seen polygons.now)) }
     ensures sums { IfOk result (λ look. AreSums (polygons_seen polygons.now)
@@ -67,7 +71,7 @@ pub fn look<A: Allocator + Copy>(
     let faces = faces_of(alloc, borders.as_slice(), owners, faces.as_slice())?;
     let areas = areas_by_faces(alloc, polygons.len(), faces.as_slice())?;
     let uneven = uneven_in(alloc, polygons, areas.as_slice())?;
-    let sums = sums_of(faces.as_slice(), areas.as_slice());
+    let sums = sums_of(faces.as_slice());
     Ok(Look {
         borders,
         faces,
