@@ -16,7 +16,7 @@ use crate::fault::{CoverFault, of_face};
 use crate::layers::{Feature, Owned, leaf_count, next_polygons};
 use crate::names::is_asked;
 use crate::uneven::{UnevenPolygon, uneven_told};
-use layer_faces::{Look, Sums, look_at as faces_at};
+use layer_faces::{Look, Sums, look_at};
 use std::alloc::{AllocError, Allocator, Global};
 use std::vec::IntoIter;
 use topo_outline::RawLayer;
@@ -58,7 +58,7 @@ fn told_at<'a, A: Allocator + Copy>(
 }
 
 /// Looks at polygons of a layer with this name.
-fn look_at<'a, A: Allocator + Copy>(
+fn look_in<'a, A: Allocator + Copy>(
     alloc: A,
     name: &'a [u8],
     owned: &Owned<A>,
@@ -68,7 +68,7 @@ fn look_at<'a, A: Allocator + Copy>(
     ensures found { IfOk result (λ looked. IsLookAt (owned_layer name.now owned.now) (view_looked looked)) }
     ensures fault { IfErr result IsLookFault }
 {
-    match faces_at(alloc, owned.polygons.as_slice(), owned.owners.as_slice()) {
+    match look_at(alloc, owned.polygons.as_slice(), owned.owners.as_slice()) {
         Ok(look) => Ok(told_at(alloc, name, owned, look)?),
         Err(fault) => Err(of_face(fault)),
     }
@@ -110,7 +110,7 @@ impl<'a, A: Allocator + Copy> Looks<'a, A> {
         let owned = next_polygons(alloc, &mut self.rest, self.first, count)?;
         self.first += count;
         if is_asked {
-            let looked = or_return!(look_at(alloc, layer.name, &owned));
+            let looked = or_return!(look_in(alloc, layer.name, &owned));
             self.looks.push(looked)?;
         }
         Ok(())
