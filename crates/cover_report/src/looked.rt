@@ -118,7 +118,7 @@ impl<'a, A: Allocator + Copy> Looks<'a, A> {
 }
 
 /// Looks at the layers that are asked for, in their order.
-pub(crate) fn looked<'a, A: Allocator + Copy>(
+pub(crate) fn looks_of<'a, A: Allocator + Copy>(
     alloc: A,
     heap: Global,
     names: &[&str],

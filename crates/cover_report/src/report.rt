@@ -12,7 +12,7 @@ use crate::asked::Asked;
 use crate::faces::ToldFace;
 use crate::fault::CoverFault;
 use crate::lines::{push_all_sums, push_counts, push_first, push_widths};
-use crate::looked::{Looked, looked};
+use crate::looked::{Looked, looks_of};
 use crate::names::are_there;
 use crate::opening::proper_map;
 use crate::told::{Counts, all_faces, all_uneven, told_faces};
@@ -95,7 +95,7 @@ pub fn report_map<'a, A: Allocator + Copy>(
     if !are_there(heap, layers.as_slice(), asked.layers)? {
         return Err(CoverFault::NoLayer);
     }
-    let looks = or_return!(looked(alloc, heap, asked.layers, layers.as_slice(), raw.polygons));
+    let looks = or_return!(looks_of(alloc, heap, asked.layers, layers.as_slice(), raw.polygons));
     let counts = push_report(alloc, text, asked, looks.as_slice())?;
     Ok(counts)
 }

@@ -3,7 +3,7 @@ use Rattle.layer_sides.specs.Common.{IsProperLayer}
 use Rattle.topo_outline.specs.Common.{leaves, view_layer}
 use Rattle.topo_reader.specs.Common.{feature_positions}
 use Rattle.cover_report.specs.Layers.{AreLooks, LookedAt, asked_layers, polygons_in, view_looked}
-use Rattle.cover_report.proofs.looked.looked.Given as goal
+use Rattle.cover_report.proofs.looked.looks_of.Given as goal
 
 -- whatever is found in the layers that are left, with that it is found in all
 abbrev pub invariant-loop-layer : goal.invariant-loop-layer
