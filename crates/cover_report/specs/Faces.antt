@@ -38,7 +38,7 @@ is_found Outside = false
 -- the ends of the first of these sides, which has the side on its left: they name the face
 abbrev pub first_ends : List Side → Edge
 first_ends [] = (position (pos 0) (pos 0), position (pos 0) (pos 0))
-first_ends (a ∷ as) = side_ends a
+first_ends (a ∷ others) = side_ends a
 
 abbrev pub face_told : FaceOf → FaceTold
 face_told f = record {

@@ -4,7 +4,8 @@ use Rattle.arc_store.specs.declared.fault.BuildFault.{BuildFault}
 use Rattle.arc_store.specs.declared.fault.BuildFault.TheVariants as build
 use Rattle.layer_faces.specs.declared.fault.FaceFault.{FaceFault}
 use Rattle.layer_faces.specs.declared.fault.FaceFault.TheVariants as face
-use Rattle.ring_machine.specs.Common.{Document, Proper}
+use Rattle.ring_machine.specs.Common.{Document, Proper, Text}
+use Rattle.topo_outline.specs.Common.{LayerText}
 use Rattle.topo_outline.specs.declared.fault.OpenFault.{OpenFault}
 use Rattle.topo_outline.specs.declared.fault.OpenFault.TheVariants as open_fault
 use Rattle.topo_reader.specs.Common.{IsFault, Opened, Opens, Reads, document_of}
@@ -32,6 +33,14 @@ IsLookFault NoLayer = ⊥
 IsLookFault TooLarge = Unit {0}
 IsLookFault (Unswept at) = Unit {0}
 IsLookFault (Unlike s) = Unit {0}
+
+-- a name that is asked for is none of a layer, or the layers could not be looked at
+abbrev pub IsUnlooked : List Text → List LayerText → CoverFault → Type 0
+IsUnlooked names layers (Open fault) = fault ≡ open_fault.OutOfMemory
+IsUnlooked names layers NoLayer = are_there names layers ≡ false
+IsUnlooked names layers TooLarge = are_there names layers ≡ true
+IsUnlooked names layers (Unswept at) = are_there names layers ≡ true
+IsUnlooked names layers (Unlike s) = are_there names layers ≡ true
 
 -- the map opens
 pub record OpensProper (bytes : List ℕ) (map : Opened) : Type 0 where

@@ -46,14 +46,20 @@ fn told_at<'a, A: Allocator + Copy>(
         ≡ map (uneven_told owned.now.owners.items owned.now.numbers.items) look.uneven.items) }
     ensures sums { IfOk result (λ looked. looked.sums ≡ look.sums) }
 {
-    let owners = owned.owners.as_slice();
-    let uneven = uneven_told(alloc, owners, owned.numbers.as_slice(), look.uneven.as_slice())?;
-    let faces = told_of_all(alloc, look.borders.as_slice(), look.faces)?;
+    let Look {
+        borders,
+        faces,
+        uneven,
+        sums,
+    } = look;
+    let (owners, numbers) = (owned.owners.as_slice(), owned.numbers.as_slice());
+    let uneven = uneven_told(alloc, owners, numbers, uneven.as_slice())?;
+    let faces = told_of_all(alloc, borders.as_slice(), faces)?;
     Ok(Looked {
         name,
         faces,
         uneven,
-        sums: look.sums,
+        sums,
     })
 }
 

@@ -1,10 +1,13 @@
 //! The report of the overlaps and gaps of a map.
-ghost use Rattle.std.specs.Prelude.{◌≡◌, ◌++◌, length, map, IfErr, IfOk, OnOk};
+ghost use Rattle.std.specs.Prelude.{◌≡◌, ◌++◌, true, length, map, IfErr, IfOk, OnOk};
 ghost use Rattle.cover_report.specs.Faces.{view_told};
 ghost use Rattle.cover_report.specs.Asked.{view_asked};
 ghost use Rattle.cover_report.specs.Counted.{counts_of, told};
-ghost use Rattle.cover_report.specs.Faults.{IsRefused};
-ghost use Rattle.cover_report.specs.Layers.{view_looked};
+ghost use Rattle.topo_reader.specs.Common.{document_of, IsOfRings, view_raw};
+ghost use Rattle.ring_machine.specs.Common.{Proper};
+ghost use Rattle.cover_report.specs.Faults.{IsRefused, IsUnlooked};
+ghost use Rattle.cover_report.specs.Layers.{AreLooks, asked_layers, view_looked};
+ghost use Rattle.cover_report.specs.Names.{are_there};
 ghost use Rattle.cover_report.specs.Report.{report_text, told_lines};
 ghost use Rattle.cover_report.specs.Told.{IsTold};
 
@@ -19,6 +22,7 @@ use crate::told::{Counts, all_faces, all_uneven, told_faces};
 use layer_faces::Kind;
 use std::alloc::{AllocError, Allocator, Global};
 use std::hash::RandomState;
+use topo_reader::RawDoc;
 
 /// Appends the lines of a kind of faces, and answers how many there are.
 fn push_kind<A: Allocator + Copy>(
@@ -70,6 +74,31 @@ fn push_report<A: Allocator + Copy>(
     Ok(counts)
 }
 
+/// What is found in the layers of a map with these names, or in all where there is no name.
+fn looks_at<'a, A: Allocator + Copy>(
+    alloc: A,
+    heap: Global,
+    names: &[&str],
+    raw: RawDoc<'a, A>,
+) -> Result<Vec<Looked<'a, A>, A>, CoverFault<'a>>
+    requires rings { IsOfRings (view_raw raw) }
+    requires proper { Proper (document_of (view_raw raw)) }
+    ensures there { OnOk result
+        (are_there (map (λ name. name.now) names.now) (view_raw raw.entry).layers ≡ true) }
+    ensures found { IfOk result (λ looks. AreLooks (asked_layers (map (λ name. name.now) names.now) 0
+        (view_raw raw.entry).polygons (view_raw raw.entry).layers) (map view_looked looks.items)) }
+    ensures fault { IfErr result (IsUnlooked (map (λ name. name.now) names.now) (view_raw raw.entry).layers) }
+{
+    let RawDoc {
+        layers, polygons, ..
+    } = raw;
+    let layers = layers.values();
+    if !are_there(heap, layers.as_slice(), names)? {
+        return Err(CoverFault::NoLayer);
+    }
+    looks_of(alloc, heap, names, layers.as_slice(), polygons)
+}
+
 /// Looks at a map that opens, and appends the report of its overlaps and gaps to a text. Answers how much is told of each
 /// kind, whatever the most lines are.
 ///
@@ -91,11 +120,7 @@ pub fn report_map<'a, A: Allocator + Copy>(
         Ok(raw) => raw,
         Err(fault) => return Err(CoverFault::Open(fault)),
     };
-    let layers = raw.layers.values();
-    if !are_there(heap, layers.as_slice(), asked.layers)? {
-        return Err(CoverFault::NoLayer);
-    }
-    let looks = or_return!(looks_of(alloc, heap, asked.layers, layers.as_slice(), raw.polygons));
+    let looks = or_return!(looks_at(alloc, heap, asked.layers, raw));
     let counts = push_report(alloc, text, asked, looks.as_slice())?;
     Ok(counts)
 }
