@@ -1,5 +1,5 @@
 -- Why there is no report.
-use Rattle.std.specs.Prelude.{◌≡◌, false, true, ℕ, List, Unit}
+use Rattle.std.specs.Prelude.{◌≡◌, false, true, ℕ, List}
 use Rattle.arc_store.specs.declared.fault.BuildFault.{BuildFault}
 use Rattle.arc_store.specs.declared.fault.BuildFault.TheVariants as build
 use Rattle.layer_faces.specs.declared.fault.FaceFault.{FaceFault}

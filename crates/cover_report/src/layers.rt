@@ -1,5 +1,6 @@
 //! The polygons of a layer.
-ghost use Rattle.std.specs.Prelude.{◌≡◌, ◌≤◌, ◌+◌, ◌++◌, ◌<◌, ◌^◌, drop, into_iter_items, is_some, length, map, replicate, take, IfOk, OnOk};
+ghost use Rattle.std.specs.Prelude.{◌≡◌, ◌≤◌, ◌+◌, ◌++◌, ◌<◌, ◌^◌, drop, is_some, length, map, replicate, take, IfOk, OnOk};
+ghost use Rattle.std.specs.Vec.Iter.{into_iter_items};
 ghost use Rattle.std.specs.List.{range_with_len};
 ghost use Rattle.topo_outline.specs.Common.{leaf_of, leaves_in, view_item};
 ghost use Rattle.ring_parts.specs.Common.{polygons_seen};

@@ -1,5 +1,6 @@
 //! The layers that are looked at.
-ghost use Rattle.std.specs.Prelude.{◌≡◌, ◌≤◌, ◌<◌, ◌^◌, ◌+◌, ◌∷◌, [], true, false, drop, into_iter_items, length, map, take, IfOk, IfErr, OnOk};
+ghost use Rattle.std.specs.Prelude.{◌≡◌, ◌≤◌, ◌<◌, ◌^◌, ◌+◌, ◌∷◌, [], true, false, drop, length, map, take, IfOk, IfErr, OnOk};
+ghost use Rattle.std.specs.Vec.Iter.{into_iter_items};
 ghost use Rattle.layer_faces.specs.Common.{faces_seen, segments_seen};
 ghost use Rattle.layer_sides.specs.Common.{IsProperLayer};
 ghost use Rattle.ring_parts.specs.Common.{polygons_seen};
