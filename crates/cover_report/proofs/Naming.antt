@@ -1,9 +1,9 @@
 -- Names one after another, as a loop meets them.
-use Rattle.kit_words.proofs.Common.{◌≡◌, ◌+◌, ◌<◌, ◌≤◌, ℕ, List, [], ◌∷◌, ◌||◌, ◌&&◌, true, false, length, get_or, drop, map, refl}
+use Rattle.kit_words.proofs.Common.{◌≡◌, ◌+◌, ◌<◌, ◌≤◌, ℕ, List, [], ◌∷◌, ◌||◌, ◌&&◌, true, false, length, get_or, drop, map, refl, ap, Option, None}
 use Rattle.kit_words.proofs.Common.{list_any, list_all, bytes_eq, drop-cons, drop_all, add-one, Bor}
 use Rattle.topo_outline.specs.Common.{LayerText, view_layer}
 use Rattle.topo_outline.specs.declared.document.RawLayer.{RawLayer}
-use Rattle.cover_report.specs.Names.{are_there, has_name, is_one_of}
+use Rattle.cover_report.specs.Names.{are_there, has_name, is_one_of, is_text_of}
 
 pub any_step : (t : List ℕ) (names : List (Bor (List ℕ))) (i : ℕ) (d : Bor (List ℕ)) → i < length names
     → list_any (λ name. bytes_eq t name) (map (λ name. name.now) (drop i names))
@@ -31,3 +31,7 @@ there_step names layers i d lt = rw (drop-cons names i d lt, add-one i) refl
 pub there_end : (names : List (Bor (List ℕ))) (layers : List LayerText) (i : ℕ) → length names ≤ i
     → are_there (map (λ name. name.now) (drop i names)) layers ≡ true
 there_end names layers i le = rw (drop_all i names le) refl
+
+-- what is no string is none of these
+pub no_text : (names : List (List ℕ)) (o : Option (List ℕ)) → o ≡ None → is_text_of names o ≡ false
+no_text names o e = ap (is_text_of names) e
