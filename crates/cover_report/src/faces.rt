@@ -1,5 +1,5 @@
 //! What may be told of the faces of a layer.
-ghost use Rattle.std.specs.Prelude.{◌≡◌, pos, map, if◌then◌else◌, IfOk};
+ghost use Rattle.std.specs.Prelude.{◌≡◌, ◌++◌, ◌∷◌, [], pos, map, if◌then◌else◌, IfOk, OnOk};
 ghost use Rattle.grid_geometry.specs.Common.{position};
 ghost use Rattle.layer_sides.specs.Common.{Left, Right, level_lt};
 ghost use Rattle.layer_faces.specs.Common.{face_seen, faces_seen, segments_seen, side_at, side_ends};
@@ -99,6 +99,21 @@ fn told_of<A: Allocator + Copy>(borders: &[Border<A>], face: Face<A>) -> ToldFac
     }
 }
 
+/// Appends what is told of a face, if it may be told.
+fn push_told<A: Allocator + Copy>(
+    found: &mut Vec<ToldFace<A>, A>,
+    borders: &[Border<A>],
+    face: Face<A>,
+) -> Result<(), AllocError>
+    ensures { OnOk result (map view_told found.new.items ≡ map view_told found.old.items
+        ++ all_told (face_seen (segments_seen borders.now) face ∷ [])) }
+{
+    if is_found(face.kind) {
+        found.push(told_of(borders, face))?;
+    }
+    Ok(())
+}
+
 /// What may be told of the faces of these borders.
 pub(crate) fn told_of_all<A: Allocator + Copy>(
     alloc: A,
@@ -110,9 +125,7 @@ pub(crate) fn told_of_all<A: Allocator + Copy>(
 {
     let mut found = Vec::new(alloc);
     for face in faces {
-        if is_found(face.kind) {
-            found.push(told_of(borders, face))?;
-        }
+        push_told(&mut found, borders, face)?;
     }
     Ok(found)
 }

@@ -1,5 +1,5 @@
 //! What is told of the layers that were looked at.
-ghost use Rattle.std.specs.Prelude.{◌≡◌, ◌++◌, filter, map, IfOk, OnOk};
+ghost use Rattle.std.specs.Prelude.{◌≡◌, ◌++◌, ◌∷◌, [], map, if◌then◌else◌, IfOk, OnOk};
 ghost use Rattle.cover_report.specs.Asked.{view_asked};
 ghost use Rattle.cover_report.specs.Counted.{faces_of, is_area_at_most, is_clear, is_kind, is_told, is_width_at_most, told, uneven_of};
 ghost use Rattle.cover_report.specs.Faces.{view_told};
@@ -118,6 +118,22 @@ pub(crate) fn all_uneven<A: Allocator + Copy>(
     Ok(found)
 }
 
+/// Appends a face, if it is told.
+fn push_if<'l, A: Allocator + Copy>(
+    found: &mut Vec<&'l ToldFace<A>, A>,
+    is_told: bool,
+    face: &'l ToldFace<A>,
+) -> Result<(), AllocError>
+    ensures { OnOk result (map (λ f. view_told f.now) found.new.items
+        ≡ map (λ f. view_told f.now) found.old.items
+        ++ (if is_told then (view_told face.now ∷ []) else [])) }
+{
+    if is_told {
+        found.push(face)?;
+    }
+    Ok(())
+}
+
 /// The faces of a kind that are told.
 pub(crate) fn told_faces<'l, A: Allocator + Copy>(
     alloc: A,
@@ -130,9 +146,7 @@ pub(crate) fn told_faces<'l, A: Allocator + Copy>(
 {
     let mut found = Vec::new(alloc);
     for face in faces {
-        if is_told(asked, kind, face) {
-            found.push(*face)?;
-        }
+        push_if(&mut found, is_told(asked, kind, face), face)?;
     }
     Ok(found)
 }
