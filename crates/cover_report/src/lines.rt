@@ -103,6 +103,23 @@ fn count_wide<A: Allocator + Copy>(faces: &[&ToldFace<A>], kind: Kind, over: u12
     count
 }
 
+/// Appends how many faces of each kind are at most so wide.
+fn push_wide<A: Allocator>(
+    text: &mut Vec<u8, A>,
+    most: u128,
+    overlaps: usize,
+    twices: usize,
+    gaps: usize,
+    lakes: usize,
+) -> Result<(), AllocError>
+    ensures { OnOk result (text.new.items
+        ≡ text.old.items ++ wide_text most overlaps twices gaps lakes) }
+{
+    append!(text; b"wide " push_number(most) b" overlap " push_number(overlaps)
+        b" twice " push_number(twices) b" gap " push_number(gaps)
+        b" lake " push_number(lakes) b"\n")
+}
+
 /// Appends how many faces of each kind are at most so wide, where there is one.
 fn push_some<A: Allocator>(
     text: &mut Vec<u8, A>,
@@ -118,9 +135,7 @@ fn push_some<A: Allocator>(
     if overlaps == 0 && twices == 0 && gaps == 0 && lakes == 0 {
         return Ok(());
     }
-    append!(text; b"wide " push_number(most) b" overlap " push_number(overlaps)
-        b" twice " push_number(twices) b" gap " push_number(gaps)
-        b" lake " push_number(lakes) b"\n")
+    push_wide(text, most, overlaps, twices, gaps, lakes)
 }
 
 /// Appends how many faces of each kind have a width over the one bound and at most the other, where there is one.
