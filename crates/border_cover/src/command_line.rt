@@ -13,15 +13,19 @@ use std::alloc::{AllocError, Global};
 
 /// The most lines of one kind, without `--most` and with it.
 const USUAL_LINES: usize = 1000;
+
 const MOST_LINES: usize = 4_000_000;
 
 /// The greatest bounds that can be asked for.
 const GREATEST_WIDTH: u128 = 1_000_000_000_000;
+
 const GREATEST_AREA: u128 = 8_000_000_000_000_000_000_000_000;
 
 // What says how values have to be.
 const MOST: &str = "--most takes a whole number from 0 to 4000000";
+
 const WIDTH: &str = "--width takes a whole number from 0 to 1000000000000";
+
 const AREA: &str = "--area takes a whole number from 0 to 8000000000000000000000000";
 
 /// The argument that stands in its place.

@@ -40,8 +40,7 @@ pub(crate) const MAP: &str = "The TopoJSON map, which has to open in border_edit
 pub(crate) const LAYER: &str =
     "Look at the layer with this name; it may stand several times, and without it all layers are";
 
-pub(crate) const WIDTH: &str =
-    "Tell what is at most W units wide, W from 0 to 1000000000000";
+pub(crate) const WIDTH: &str = "Tell what is at most W units wide, W from 0 to 1000000000000";
 
 pub(crate) const AREA: &str =
     "Tell what has at most N as twice its area, N from 0 to 8000000000000000000000000";

@@ -59,7 +59,14 @@ fn reported<'a>(
     ensures refused { IfErr result (IsRefused (wants_of arguments.now) bytes.now) }
 {
     let names = arguments.names(heap)?;
-    report_map(heap, heap, seed, bytes, &arguments.asked(names.as_slice()), report)
+    report_map(
+        heap,
+        heap,
+        seed,
+        bytes,
+        &arguments.asked(names.as_slice()),
+        report,
+    )
 }
 
 /// Reads MAP, and prints its report.

@@ -91,7 +91,12 @@ fn is_wide<A: Allocator + Copy>(face: &ToldFace<A>, kind: Kind, over: u128, most
 }
 
 /// How many faces are of a kind, and of a width over the one bound and at most the other.
-fn count_wide<A: Allocator + Copy>(faces: &[&ToldFace<A>], kind: Kind, over: u128, most: u128) -> usize
+fn count_wide<A: Allocator + Copy>(
+    faces: &[&ToldFace<A>],
+    kind: Kind,
+    over: u128,
+    most: u128,
+) -> usize
     ensures { result ≡ count_wide kind over most (map (λ f. view_told f.now) faces.now) }
 {
     let mut count = 0;

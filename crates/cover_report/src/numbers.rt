@@ -7,7 +7,10 @@ use itoa::{Buffer, Integer};
 use std::alloc::{AllocError, Allocator};
 
 /// Appends a text.
-pub(crate) fn push_bytes<A: Allocator>(text: &mut Vec<u8, A>, bytes: &[u8]) -> Result<(), AllocError>
+pub(crate) fn push_bytes<A: Allocator>(
+    text: &mut Vec<u8, A>,
+    bytes: &[u8],
+) -> Result<(), AllocError>
     ensures { OnOk result (text.new.items ≡ text.old.items ++ bytes.now) }
 {
     text.extend_from_slice(bytes)

@@ -90,7 +90,9 @@ fn looks_at<'a, A: Allocator + Copy>(
     ensures fault { IfErr result (IsUnlooked (map (λ name. name.now) names.now) (view_raw raw.entry).layers) }
 {
     let RawDoc {
-        layers, polygons, ..
+        layers,
+        polygons,
+        ..
     } = raw;
     let layers = layers.values();
     if !are_there(heap, layers.as_slice(), names)? {

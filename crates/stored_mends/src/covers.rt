@@ -5,11 +5,7 @@ use std::alloc::AllocError;
 use std::hash::RandomState;
 
 /// Compares the status and the lines of a report.
-fn compare_told(
-    stored: &mut Stored<'_>,
-    counts: Counts,
-    report: &[u8],
-) -> Result<(), AllocError> {
+fn compare_told(stored: &mut Stored<'_>, counts: Counts, report: &[u8]) -> Result<(), AllocError> {
     stored.compare_number("status", if counts.is_clear() { 0 } else { 1 })?;
     stored.compare_lines("report", report)
 }
@@ -30,7 +26,14 @@ pub(crate) fn compare_cover(stored: &mut Stored<'_>, seed: RandomState) -> Resul
         most: stored.case.number("most", 1000),
     };
     let mut report = Vec::new(alloc);
-    match report_map(alloc, alloc, seed, map.as_str().as_bytes(), &asked, &mut report) {
+    match report_map(
+        alloc,
+        alloc,
+        seed,
+        map.as_str().as_bytes(),
+        &asked,
+        &mut report,
+    ) {
         Ok(counts) => compare_told(stored, counts, report.as_slice()),
         Err(fault) => {
             let text = format!(in alloc; "{fault}")?;
