@@ -1,0 +1,23 @@
+-- Cutting a list of sides into faces.
+use Rattle.kit_words.proofs.Common.{◌≡◌, ℕ, zero, suc, ◌+◌, refl, sym, ap, ap₂, ◌∙◌, subst, arith, List, [], ◌∷◌, ◌++◌, map, take, drop, append_assoc, append-nil, map-append, take-append-drop, length, get_or, All}
+use Rattle.std.specs.List.{flat_map, range_with_len}
+use Rattle.std.proofs.lemmas.List.Concat.{flat_map-append}
+use Rattle.std.proofs.lemmas.List.FromFn.{map-range_with_len_more}
+use Rattle.std.proofs.lemmas.List.{map-id}
+use Rattle.std.proofs.lemmas.List.Elements.{All-drop, All-take, All-map}
+
+-- one more face, of the sides that come next
+pub cut_more : {X L : Type 0} (F : X → List ℕ) (side : L → ℕ) (faces more_faces : List X) (f : X) (rest run more : List L) (sides all : List ℕ)
+    → more_faces ≡ faces ++ f ∷ [] → F f ≡ sides → sides ≡ map side run → run ++ more ≡ rest
+    → flat_map F faces ++ map side rest ≡ all → flat_map F more_faces ++ map side more ≡ all
+cut_more F side faces more_faces f rest run more sides all pushed is made split h =
+    ap (λ fs. flat_map F fs ++ map side more) pushed
+    ∙ ap (λ xs. xs ++ map side more) (flat_map-append F faces (f ∷ []) ∙ ap (λ xs. flat_map F faces ++ xs) (append-nil (F f) ∙ is ∙ made))
+    ∙ append_assoc (flat_map F faces) (map side run) (map side more)
+    ∙ ap (λ xs. flat_map F faces ++ xs) (sym (map-append side run more) ∙ ap (map side) split)
+    ∙ h
+
+-- the numbers from 0 on, one more
+pub numbers_more : (n : ℕ) → range_with_len 0 (n + 1) ≡ range_with_len 0 n ++ n ∷ []
+numbers_more n =
+    sym (map-id (range_with_len 0 (n + 1))) ∙ map-range_with_len_more (λ k. k) 0 n n (omega arith) ∙ ap (λ ks. ks ++ n ∷ []) (map-id (range_with_len 0 n))
