@@ -9,6 +9,8 @@ use Rattle.std.proofs.lemmas.List.Folds.{flat_map-map}
 use Rattle.std.proofs.lemmas.List.Sorted.{IsPermutation-map, length_permutation}
 use Rattle.grid_geometry.specs.Common.{Segment}
 use Rattle.layer_sides.specs.Common.{AreBorders, AreHeld, Bordering, Polygon, holders, holds}
+use Rattle.layer_sides.specs.Seen.{border_seen, borders_seen}
+use Rattle.layer_sides.specs.declared.border.Border.{Border}
 use Rattle.layer_faces.specs.declared.face.Face.{Face}
 use Rattle.layer_faces.specs.declared.sums.Sums.{Sums}
 use Rattle.layer_faces.specs.Common.{AddUp, AreFaces, AreSums, FaceOf, IsFace, IsOnce, all_sides, area_at, beside, features_of, told_by}
@@ -147,3 +149,14 @@ module _ (layer : List Polygon) (borders : List Bordering) (owners : List ℕ) (
           (sums.covered ∙ sym (total-map (λ f. cond (is_land f.kind) f.area (pos 0)) (face_seen segments) faces))
           (sums.gaps ∙ sym (total-map (λ f. cond (is_gap f.kind) f.area (pos 0)) (face_seen segments) faces))
           (sums.within ∙ ap neg_ℤ (sym (total-map (λ f. cond (is_outside f.kind) f.area (pos 0)) (face_seen segments) faces)))
+
+-- the numbers of the sides of borders, by how many they are as they are seen
+pub numbers_of_borders : {A B : Type 0} (borders : List (Border A)) (faces : List (Face B))
+    → IsPermutation (range_with_len 0 (2 * length borders)) (flat_map (λ f. f.sides.items) faces)
+    → IsPermutation (range_with_len 0 (2 * length (borders_seen borders))) (flat_map (λ f. f.sides.items) faces)
+numbers_of_borders borders faces all =
+    subst (λ n. IsPermutation (range_with_len 0 (2 * n)) (flat_map (λ f. f.sides.items) faces)) (sym (length-map border_seen borders)) all
+
+pub all_named : {A : Type 0} (borders : List Bordering) (owners : List ℕ) (faces : List (Face A)) → All (IsFound borders owners) faces
+    → All (λ f. get_or f.sides.items 0 0 ≡ f.first) faces
+all_named borders owners faces found = λ k d l. let is = found k d l in is.named

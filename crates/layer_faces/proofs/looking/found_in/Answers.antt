@@ -1,0 +1,53 @@
+use Rattle.kit_words.proofs.Common.{◌≡◌, ℕ, ◌*◌, ◌<◌, ◌≤◌, sym, ap, ◌∙◌, subst, arith, map, length, length-map, All, IsPermutation}
+use Rattle.std.specs.List.{flat_map, range_with_len}
+use Rattle.ring_parts.specs.Seen.{polygons_seen, rings_seen}
+use Rattle.layer_sides.specs.Seen.{border_seen, borders_seen}
+use Rattle.layer_faces.specs.Kept.{held_at}
+use Rattle.layer_faces.specs.Weighed.{AreFaceSums, reach, told_beside_all}
+use Rattle.layer_faces.proofs.Lifted.{faces_are, held_within, all_within, all_few, all_small, all_named, numbers_of_borders, uneven_is, sums_hold, sums_add_up}
+use Rattle.layer_faces.proofs.looking.found_in.Goals as goal
+
+pub faces_of-faces-requires : goal.faces_of-faces-requires
+faces_of-faces-requires g c =
+    let borders = borders_seen c.args.borders.now in
+    let layer = polygons_seen c.args.polygons.now in
+    let long = length-map border_seen c.args.borders.now in
+    record {
+      few = c.requires.few_borders;
+      labels = c.requires.labels;
+      owned = λ a l. subst (λ k. All (λ n. n < k) (held_at borders a)) (length-map (λ polygon. rings_seen polygon.items) c.args.polygons.now ∙ sym c.requires.owned)
+          (held_within layer borders c.args.owners.now c.requires.borders c.requires.held a (omega (arith, l, long)));
+    }
+
+pub areas_by_faces-areas-requires : goal.areas_by_faces-areas-requires
+areas_by_faces-areas-requires g c =
+    let borders = borders_seen c.args.borders.now in
+    let layer = polygons_seen c.args.polygons.now in
+    let faces = c.in_ok-faces.faces.items in
+    let found = c.in_ok-faces.ensures.found in
+    let all = numbers_of_borders c.args.borders.now faces c.in_ok-faces.ensures.all in
+    let count = length-map (λ polygon. rings_seen polygon.items) c.args.polygons.now in
+    let long = length-map border_seen c.args.borders.now in
+    let few : length layer ≤ 4000000 = omega (arith, count, c.requires.few_polygons) in
+    let few_borders : length borders ≤ 4000000 = omega (arith, long, c.requires.few_borders) in
+    record {
+      within = subst (λ fs. All (λ f. All (λ n. n < c.len.result) f.holders.items) fs) (sym c.as_slice.ensures.value)
+          (subst (λ k. All (λ f. All (λ n. n < k) f.holders.items) faces) (count ∙ sym c.len.ensures)
+          (all_within layer borders c.args.owners.now c.requires.borders c.requires.held faces found all));
+      few = subst (λ fs. All (λ f. length f.holders.items ≤ 4000000) fs) (sym c.as_slice.ensures.value)
+          (all_few layer borders c.args.owners.now c.requires.borders c.requires.held faces found all few);
+      small = subst (λ fs. reach fs ≤ 16000000000000000000000000000000) (sym c.as_slice.ensures.value)
+          (all_small layer borders c.args.owners.now c.requires.borders c.requires.held faces found all few_borders);
+    }
+
+pub uneven_in-uneven-requires : goal.uneven_in-uneven-requires
+uneven_in-uneven-requires g c = record {
+  same = ap length c.as_slice-2.ensures.value ∙ c.in_ok-areas.ensures.count ∙ c.len.ensures;
+  few = c.requires.few;
+}
+
+pub sums_of-sums-requires : goal.sums_of-sums-requires
+sums_of-sums-requires g c = ?
+
+pub returns : goal.returns
+returns g c = ?
