@@ -1,5 +1,5 @@
 -- Adding areas to those of polygons by their numbers.
-use Rattle.kit_words.proofs.Common.{◌≡◌, ℕ, zero, suc, ◌+◌, ◌*◌, ◌<◌, ◌≤◌, ◌^◌, ℤ, pos, ◌+ℤ◌, ◌*ℤ◌, unsigned_abs, refl, sym, ap, ap₂, ◌∙◌, subst, arith, ints, cond, eqb}
+use Rattle.kit_words.proofs.Common.{◌≡◌, ℕ, zero, suc, ◌+◌, ◌*◌, ◌<◌, ◌≤◌, ◌^◌, ℤ, pos, ◌+ℤ◌, ◌*ℤ◌, unsigned_abs, refl, sym, ap, ap₂, ◌∙◌, subst, arith, ints, cond, eqb, Bool, true, false}
 use Rattle.kit_words.proofs.Common.{List, [], ◌∷◌, length, get_or, set, take, inl, inr, cases_eq, eq-eqb, ne_eqb, get_or-set_same, get_or-set_other, unsigned_abs-mul}
 use Rattle.std.proofs.lemmas.List.{length-take}
 use Rattle.std.specs.List.{count_by, sum_by}
@@ -16,35 +16,41 @@ once_more n z = let e : n + 1 ≡ suc n = omega arith in rw e (suc_ℤ-*ℤ (pos
 gathered : (a b c d : ℤ) → a ≡ b +ℤ c → a +ℤ d ≡ b +ℤ (c +ℤ d)
 gathered a b c d e = omega (arith, ints)
 
-pub add_each : (old areas : List ℤ) (numbers : List ℕ) (i n : ℕ) (area z : ℤ) → i < length numbers → n ≡ get_or numbers i n
-    → n < length areas → z ≡ get_or areas n (pos 0)
+counted_here : (n k m : ℕ) → n ≡ m → n ≡ k → cond (eqb m k) (suc zero) zero ≡ suc zero
+counted_here n k m e same = let t : eqb m k ≡ true = eq-eqb m k (sym e ∙ same) in rw t refl
+
+counted_not : (n k m : ℕ) → n ≡ m → (n ≡ k → ⊥) → cond (eqb m k) (suc zero) zero ≡ zero
+counted_not n k m e other = let t : eqb m k ≡ false = ne_eqb m k (λ f. other (e ∙ f)) in rw t refl
+
+pub add_each : (old areas : List ℤ) (numbers : List ℕ) (i n : ℕ) (area v : ℤ) → i < length numbers → n ≡ get_or numbers i n
+    → n < length areas → v ≡ get_or areas n (pos 0) +ℤ area
     → ((k : ℕ) → get_or areas k (pos 0) ≡ get_or old k (pos 0) +ℤ pos (count_by (λ m. eqb m k) (take i numbers)) *ℤ area)
-    → (k : ℕ) → get_or (set areas n (z +ℤ area)) k (pos 0) ≡ get_or old k (pos 0) +ℤ pos (count_by (λ m. eqb m k) (take (i + 1) numbers)) *ℤ area
-add_each old areas numbers i n area z l e within is h k = elim (cases_eq n k) [
+    → (k : ℕ) → get_or (set areas n v) k (pos 0) ≡ get_or old k (pos 0) +ℤ pos (count_by (λ m. eqb m k) (take (i + 1) numbers)) *ℤ area
+add_each old areas numbers i n area v l e within is h k = elim (cases_eq n k) [
   | inl same ↦
-      let one : cond (eqb (get_or numbers i n) k) 1 0 ≡ 1 = subst (λ m. cond (eqb m k) 1 0 ≡ 1) e (rw (eq-eqb n k same) refl) in
+      let one : cond (eqb (get_or numbers i n) k) 1 0 ≡ 1 = counted_here n k (get_or numbers i n) e same in
       let more : count_by (λ m. eqb m k) (take (i + 1) numbers) ≡ count_by (λ m. eqb m k) (take i numbers) + 1 =
         sum_by_more (λ m. cond (eqb m k) 1 0) numbers i n l ∙ ap (λ c. count_by (λ m. eqb m k) (take i numbers) + c) one in
-      subst (λ j. get_or (set areas n (z +ℤ area)) j (pos 0) ≡ z +ℤ area) same (get_or-set_same areas n (z +ℤ area) (pos 0) within)
-      ∙ ap (λ y. y +ℤ area) (is ∙ ap (λ j. get_or areas j (pos 0)) same)
+      subst (λ j. get_or (set areas n v) j (pos 0) ≡ v) same (get_or-set_same areas n v (pos 0) within)
+      ∙ is ∙ ap (λ y. y +ℤ area) (ap (λ j. get_or areas j (pos 0)) same)
       ∙ gathered (get_or areas k (pos 0)) (get_or old k (pos 0)) (pos (count_by (λ m. eqb m k) (take i numbers)) *ℤ area) area (h k)
       ∙ ap (λ y. get_or old k (pos 0) +ℤ y) (sym (once_more (count_by (λ m. eqb m k) (take i numbers)) area))
       ∙ ap (λ c. get_or old k (pos 0) +ℤ pos c *ℤ area) (sym more)
   | inr other ↦
-      let none : cond (eqb (get_or numbers i n) k) 1 0 ≡ 0 = subst (λ m. cond (eqb m k) 1 0 ≡ 0) e (rw (ne_eqb n k other) refl) in
+      let none : cond (eqb (get_or numbers i n) k) 1 0 ≡ 0 = counted_not n k (get_or numbers i n) e other in
       let more : count_by (λ m. eqb m k) (take (i + 1) numbers) ≡ count_by (λ m. eqb m k) (take i numbers) =
         sum_by_more (λ m. cond (eqb m k) 1 0) numbers i n l ∙ ap (λ c. count_by (λ m. eqb m k) (take i numbers) + c) none ∙ omega arith in
-      get_or-set_other areas n k (z +ℤ area) (pos 0) (λ f. other (sym f))
+      get_or-set_other areas n k v (pos 0) (λ f. other (sym f))
       ∙ h k ∙ ap (λ c. get_or old k (pos 0) +ℤ pos c *ℤ area) (sym more)
 ]
 
-moved : (t u a z s : ℤ) → t +ℤ u ≡ s +ℤ (z +ℤ a) → z ≡ u → t ≡ s +ℤ a
-moved t u a z s e f = omega (arith, ints)
+moved : (t u a v s : ℤ) → t +ℤ u ≡ s +ℤ v → v ≡ u +ℤ a → t ≡ s +ℤ a
+moved t u a v s e f = omega (arith, ints)
 
-pub add_sum : (areas : List ℤ) (i n : ℕ) (area z s : ℤ) → n < length areas → z ≡ get_or areas n (pos 0)
-    → total (λ y. y) areas ≡ s +ℤ pos i *ℤ area → total (λ y. y) (set areas n (z +ℤ area)) ≡ s +ℤ pos (i + 1) *ℤ area
-add_sum areas i n area z s within is h =
-    moved _ _ area z _ (total_set (λ y. y) areas n (z +ℤ area) (pos 0) within) is
+pub add_sum : (areas : List ℤ) (i n : ℕ) (area v s : ℤ) → n < length areas → v ≡ get_or areas n (pos 0) +ℤ area
+    → total (λ y. y) areas ≡ s +ℤ pos i *ℤ area → total (λ y. y) (set areas n v) ≡ s +ℤ pos (i + 1) *ℤ area
+add_sum areas i n area v s within is h =
+    moved _ _ area v _ (total_set (λ y. y) areas n v (pos 0) within) is
     ∙ gathered (total (λ y. y) areas) s (pos i *ℤ area) area h
     ∙ ap (λ y. s +ℤ y) (sym (once_more i area))
 
@@ -71,3 +77,10 @@ adding_near n i len y z w few less e room =
     let last = near w z in
     let grows = mul-le-mul_right {m = n + 1} {n = len} (unsigned_abs z) (omega arith) in
     omega (arith, here, last, grows, room)
+
+pub now_near : (n i len : ℕ) (y z w : ℤ) → n ≤ i → i < len → w ≡ y +ℤ pos n *ℤ z → unsigned_abs y + len * unsigned_abs z < 2 ^ 127
+    → unsigned_abs w < 2 ^ 127
+now_near n i len y z w few less e room =
+    let here = times_near n y z w e in
+    let grows = mul-le-mul_right {m = n} {n = len} (unsigned_abs z) (omega arith) in
+    omega (arith, here, grows, room)

@@ -104,7 +104,7 @@ module _ (layer : List Polygon) (borders : List Bordering) (owners : List ℕ) (
     pub faces_are : AreFaces layer owners segments seen
     faces_are = record {
       all = subst (λ sides. IsPermutation sides (flat_map (λ f. f.sides) seen))
-          (ap (λ n. map (side_at segments) (range_with_len 0 (2 * n))) (sym (length-map (λ (b : Bordering). b.segment) borders)) ∙ sides_numbered segments)
+          (ap (λ n. map (side_at segments) (range_with_len 0 (2 * n))) (sym (length-map borders (λ (b : Bordering). b.segment))) ∙ sides_numbered segments)
           (subst (IsPermutation (map (side_at segments) (range_with_len 0 (2 * length borders))))
           (map_flat (side_at segments) (λ f. f.sides.items) faces ∙ sym (flat_map-map (λ f. f.sides) (face_seen segments) faces))
           (IsPermutation-map (side_at segments) (range_with_len 0 (2 * length borders)) (flat_map (λ f. f.sides.items) faces) all));
@@ -116,16 +116,16 @@ module _ (layer : List Polygon) (borders : List Bordering) (owners : List ℕ) (
         (sum : total (λ z. z) areas ≡ area_of_holders faces)
         (sums : AreFaceSums faces s) where
       even : areas ≡ map (λ p. area_at (holds p) segments) layer
-      even = same_by_index areas (map (λ p. area_at (holds p) segments) layer) (count ∙ sym (length-map (λ p. area_at (holds p) segments) layer)) at
+      even = same_by_index areas (map (λ p. area_at (holds p) segments) layer) (count ∙ sym (length-map layer (λ p. area_at (holds p) segments))) at
         where
           at : (i : ℕ) → i < length (map (λ p. area_at (holds p) segments) layer)
               → get_or areas i (pos 0) ≡ get_or (map (λ p. area_at (holds p) segments) layer) i (pos 0)
           at i l =
-              let l' : i < length layer = omega (arith, l, length-map (λ p. area_at (holds p) segments) layer) in
+              let l' : i < length layer = omega (arith, l, length-map layer (λ p. area_at (holds p) segments)) in
               each i
               ∙ sym (total-map (λ f. pos (count_by (λ m. eqb m i) f.holders) *ℤ f.area) (face_seen segments) faces)
               ∙ holder_has layer owners segments seen faces_are i [] l'
-              ∙ sym (get_or-map (λ p. area_at (holds p) segments) layer i [] l' (pos 0))
+              ∙ sym (get_or-map (λ p. area_at (holds p) segments) layer i [] (pos 0) l')
 
       pub uneven_is : told_beside_all 0 layer areas ≡ uneven_from segments 0 layer
       uneven_is = ap (told_beside_all 0 layer) even ∙ told_even segments 0 layer
@@ -155,7 +155,7 @@ pub numbers_of_borders : {A B : Type 0} (borders : List (Border A)) (faces : Lis
     → IsPermutation (range_with_len 0 (2 * length borders)) (flat_map (λ f. f.sides.items) faces)
     → IsPermutation (range_with_len 0 (2 * length (borders_seen borders))) (flat_map (λ f. f.sides.items) faces)
 numbers_of_borders borders faces all =
-    subst (λ n. IsPermutation (range_with_len 0 (2 * n)) (flat_map (λ f. f.sides.items) faces)) (sym (length-map border_seen borders)) all
+    subst (λ n. IsPermutation (range_with_len 0 (2 * n)) (flat_map (λ f. f.sides.items) faces)) (sym (length-map borders border_seen)) all
 
 pub all_named : {A : Type 0} (borders : List Bordering) (owners : List ℕ) (faces : List (Face A)) → All (IsFound borders owners) faces
     → All (λ f. get_or f.sides.items 0 0 ≡ f.first) faces

@@ -14,15 +14,24 @@ use Rattle.layer_faces.specs.Kept.{apart, border_at, held_at, no_border}
 use Rattle.layer_faces.specs.Seen.{nowhere, segments_seen, side_at}
 use Rattle.layer_faces.proofs.Totals.{total_push}
 
+long : {A : Type 0} (borders : List (Border A)) → length (borders_seen borders) ≡ length borders
+long borders = length-map borders border_seen
+
 pub segment_read : {A : Type 0} (borders : List (Border A)) (i : ℕ) (b : Border A) → i < length borders → b ≡ get_or borders i b
     → get_or (segments_seen borders) i nowhere ≡ b.segment
 segment_read borders i b l e =
-    get_or-map (λ (x : Bordering). x.segment) (borders_seen borders) i (border_seen b) (omega (arith, l, length-map border_seen borders)) nowhere
-    ∙ ap (λ (x : Bordering). x.segment) (get_or-map border_seen borders i b l (border_seen b) ∙ ap border_seen (sym e))
+    get_or-map (λ (x : Bordering). x.segment) (borders_seen borders) i (border_seen b) nowhere (omega (arith, l, long borders))
+    ∙ ap (λ (x : Bordering). x.segment) (get_or-map border_seen borders i b (border_seen b) l ∙ ap border_seen (sym e))
+
+pub segment_at : {A : Type 0} (borders : List (Border A)) (i : ℕ) (b : Border A) → i < length borders
+    → get_or (segments_seen borders) i nowhere ≡ (get_or borders i b).segment
+segment_at borders i b l =
+    get_or-map (λ (x : Bordering). x.segment) (borders_seen borders) i (border_seen b) nowhere (omega (arith, l, long borders))
+    ∙ ap (λ (x : Bordering). x.segment) (get_or-map border_seen borders i b (border_seen b) l)
 
 pub border_read : {A : Type 0} (borders : List (Border A)) (a : ℕ) (b : Border A) → a / 2 < length borders → b ≡ get_or borders (a / 2) b
     → border_at (borders_seen borders) a ≡ border_seen b
-border_read borders a b l e = get_or-map border_seen borders (a / 2) b l no_border ∙ ap border_seen (sym e)
+border_read borders a b l e = get_or-map border_seen borders (a / 2) b no_border l ∙ ap border_seen (sym e)
 
 -- ---- the ends of a side
 

@@ -11,11 +11,11 @@ pub faces_of-faces-requires : goal.faces_of-faces-requires
 faces_of-faces-requires g c =
     let borders = borders_seen c.args.borders.now in
     let layer = polygons_seen c.args.polygons.now in
-    let long = length-map border_seen c.args.borders.now in
+    let long = length-map c.args.borders.now border_seen in
     record {
       few = c.requires.few_borders;
       labels = c.requires.labels;
-      owned = λ a l. subst (λ k. All (λ n. n < k) (held_at borders a)) (length-map (λ polygon. rings_seen polygon.items) c.args.polygons.now ∙ sym c.requires.owned)
+      owned = λ a l. subst (λ k. All (λ n. n < k) (held_at borders a)) (length-map c.args.polygons.now (λ polygon. rings_seen polygon.items) ∙ sym c.requires.owned)
           (held_within layer borders c.args.owners.now c.requires.borders c.requires.held a (omega (arith, l, long)));
     }
 
@@ -26,8 +26,8 @@ areas_by_faces-areas-requires g c =
     let faces = c.in_ok-faces.faces.items in
     let found = c.in_ok-faces.ensures.found in
     let all = numbers_of_borders c.args.borders.now faces c.in_ok-faces.ensures.all in
-    let count = length-map (λ polygon. rings_seen polygon.items) c.args.polygons.now in
-    let long = length-map border_seen c.args.borders.now in
+    let count = length-map c.args.polygons.now (λ polygon. rings_seen polygon.items) in
+    let long = length-map c.args.borders.now border_seen in
     let few : length layer ≤ 4000000 = omega (arith, count, c.requires.few_polygons) in
     let few_borders : length borders ≤ 4000000 = omega (arith, long, c.requires.few_borders) in
     record {
