@@ -1,6 +1,11 @@
 -- Cutting a list of sides into faces.
 use Rattle.kit_words.proofs.Common.{◌≡◌, ℕ, zero, suc, ◌+◌, refl, sym, ap, ap₂, ◌∙◌, subst, arith, List, [], ◌∷◌, ◌++◌, map, take, drop, append_assoc, append-nil, map-append, take-append-drop, length, get_or, All}
+use Rattle.kit_words.proofs.Common.{◌<◌, take_more}
+use Rattle.std.specs.Prelude.{slice_index}
 use Rattle.std.specs.List.{flat_map, range_with_len}
+use Rattle.layer_sides.specs.Common.{Bordering}
+use Rattle.layer_faces.specs.Holders.{features_of}
+use Rattle.layer_faces.specs.Kept.{beside_numbers, held_at, opposite_number}
 use Rattle.std.proofs.lemmas.List.Concat.{flat_map-append}
 use Rattle.std.proofs.lemmas.List.FromFn.{map-range_with_len_more}
 use Rattle.std.proofs.lemmas.List.{map-id}
@@ -21,3 +26,13 @@ cut_more F side faces more_faces f rest run more sides all pushed is made split 
 pub numbers_more : (n : ℕ) → range_with_len 0 (n + 1) ≡ range_with_len 0 n ++ n ∷ []
 numbers_more n =
     sym (map-id (range_with_len 0 (n + 1))) ∙ map-range_with_len_more (λ k. k) 0 n n (omega arith) ∙ ap (λ ks. ks ++ n ∷ []) (map-id (range_with_len 0 n))
+
+-- one more side, in a list of all that stand beside
+pub beside_more : (borders : List Bordering) (owners sides : List ℕ) (i n : ℕ) → i < length sides → n ≡ get_or sides i n
+    → features_of owners (beside_numbers borders (take (i + 1) sides))
+    ≡ features_of owners (beside_numbers borders (take i sides)) ++ features_of owners (held_at borders (opposite_number n))
+beside_more borders owners sides i n l e =
+    let h : ℕ → List ℕ = λ a. held_at borders (opposite_number a) in
+    ap (λ ns. features_of owners (flat_map h ns)) (take_more sides i n l ∙ ap (λ m. take i sides ++ m ∷ []) (sym e))
+    ∙ ap (features_of owners) (flat_map-append h (take i sides) (n ∷ []) ∙ ap (λ ns. flat_map h (take i sides) ++ ns) (append-nil (h n)))
+    ∙ map-append (slice_index owners) (flat_map h (take i sides)) (h n)

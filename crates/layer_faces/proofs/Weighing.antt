@@ -30,6 +30,11 @@ module _ {A : Type 0} (faces : List (Face A)) (i : ℕ) (f : Face A) (l : i < le
       → area_of_kinds test (take (i + 1) faces) ≡ area_of_kinds test (take i faces) +ℤ cond b f.twice_area (pos 0)
   kinds_more test b e = more_weight (λ g. cond (test g.kind) g.twice_area (pos 0)) ∙ ap (λ c. area_of_kinds test (take i faces) +ℤ cond c f.twice_area (pos 0)) e
 
+-- an area that counts or not is no further from 0
+pub kind_near : (b : Bool) (z y : ℤ) → y ≡ cond b z (pos 0) → unsigned_abs y ≤ unsigned_abs z
+kind_near true z y e = omega (arith, ints)
+kind_near false z y e = omega (arith, ints)
+
 -- room for the area of one more face in each sum
 pub room_left : (r a len : ℕ) (z : ℤ) → unsigned_abs z ≤ 4000000 * r → len ≤ 4000000 → r + a ≤ 16000000000000000000000000000000
     → unsigned_abs z + len * a < 2 ^ 127
