@@ -8,8 +8,8 @@ use Rattle.layer_faces.specs.Holders.{features_of}
 use Rattle.layer_faces.specs.Kept.{beside_numbers, held_at, opposite_number}
 use Rattle.std.proofs.lemmas.List.Concat.{flat_map-append}
 use Rattle.std.proofs.lemmas.List.FromFn.{map-range_with_len_more}
-use Rattle.std.proofs.lemmas.List.{map-id}
-use Rattle.std.proofs.lemmas.List.Elements.{All-drop, All-take, All-map}
+use Rattle.std.proofs.lemmas.List.{drop-map, map-id, take-map}
+use Rattle.std.proofs.lemmas.List.Elements.{All-drop, All-take}
 
 -- one more face, of the sides that come next
 pub cut_more : {X L : Type 0} (F : X → List ℕ) (side : L → ℕ) (faces more_faces : List X) (f : X) (rest run more : List L) (sides all : List ℕ)
@@ -36,3 +36,10 @@ beside_more borders owners sides i n l e =
     ap (λ ns. features_of owners (flat_map h ns)) (take_more sides i n l ∙ ap (λ m. take i sides ++ m ∷ []) (sym e))
     ∙ ap (features_of owners) (flat_map-append h (take i sides) (n ∷ []) ∙ ap (λ ns. flat_map h (take i sides) ++ ns) (append-nil (h n)))
     ∙ map-append (slice_index owners) (flat_map h (take i sides)) (h n)
+
+-- what holds of all sides, holds of those of a run and of the rest
+pub all_front : {L : Type 0} (P : ℕ → Type 0) (side : L → ℕ) (rest run : List L) (k : ℕ) → run ≡ take k rest → All P (map side rest) → All P (map side run)
+all_front P side rest run k e h = subst (All P) (sym (ap (map side) e ∙ sym (take-map side k rest))) (All-take P k (map side rest) h)
+
+pub all_back : {L : Type 0} (P : ℕ → Type 0) (side : L → ℕ) (rest more : List L) (k : ℕ) → more ≡ drop k rest → All P (map side rest) → All P (map side more)
+all_back P side rest more k e h = subst (All P) (sym (ap (map side) e ∙ sym (drop-map side k rest))) (All-drop P k (map side rest) h)
