@@ -27,14 +27,14 @@ map_flat g h (x ∷ xs) = map-append g (h x) (flat_map h xs) ∙ ap (λ zs. map 
 
 -- the areas of faces are small together
 reach_small : {A : Type 0} (faces : List (Face A))
-    → All (λ f. unsigned_abs f.twice_area ≤ 2000000000000000000000000 * length f.sides.items) faces
-    → reach faces ≤ 2000000000000000000000000 * length (flat_map (λ f. f.sides.items) faces)
+    → All (λ (f : Face _). unsigned_abs f.twice_area ≤ 2000000000000000000000000 * length f.sides.items) faces
+    → reach faces ≤ 2000000000000000000000000 * length (flat_map (λ (f : Face _). f.sides.items) faces)
 reach_small [] h = omega arith
 reach_small (f ∷ faces) h =
     let here = h 0 f (omega arith) in
-    let more = reach_small faces (All-tail (λ f. unsigned_abs f.twice_area ≤ 2000000000000000000000000 * length f.sides.items) f faces h) in
-    let both = sum_by-cons (λ f. unsigned_abs f.twice_area) f faces in
-    let long = length-append f.sides.items (flat_map (λ f. f.sides.items) faces) in
+    let more = reach_small faces (All-tail (λ (f : Face _). unsigned_abs f.twice_area ≤ 2000000000000000000000000 * length f.sides.items) f faces h) in
+    let both = sum_by-cons (λ (f : Face _). unsigned_abs f.twice_area) f faces in
+    let long = length-append f.sides.items (flat_map (λ (f : Face _). f.sides.items) faces) in
     omega (arith, both, long, here, more)
 
 module _ (layer : List Polygon) (borders : List Bordering) (owners : List ℕ) (are : AreBorders layer borders) (held : AreHeld layer borders) where
@@ -85,29 +85,29 @@ module _ (layer : List Polygon) (borders : List Bordering) (owners : List ℕ) (
       subst (λ ns. length ns ≤ length layer) (sym (holders_of f is ∙ holders_here a (is.within 0 0 is.some))) (numbers_few 0 (λ p. holds p (side_at segments a)) layer)
 
   module _ {A : Type 0} (faces : List (Face A)) (found : All (IsFound borders owners) faces)
-      (all : IsPermutation (range_with_len 0 (2 * length borders)) (flat_map (λ f. f.sides.items) faces)) where
+      (all : IsPermutation (range_with_len 0 (2 * length borders)) (flat_map (λ (f : Face _). f.sides.items) faces)) where
     abbrev seen : List FaceOf
     seen = faces_seen segments faces
 
-    pub all_within : All (λ f. All (λ n. n < length layer) f.holders.items) faces
+    pub all_within : All (λ (f : Face _). All (λ n. n < length layer) f.holders.items) faces
     all_within = λ k d l. holders_within (get_or faces k d) (found k d l)
 
-    pub all_few : length layer ≤ 4000000 → All (λ f. length f.holders.items ≤ 4000000) faces
+    pub all_few : length layer ≤ 4000000 → All (λ (f : Face _). length f.holders.items ≤ 4000000) faces
     all_few few = λ k d l. let h = holders_few (get_or faces k d) (found k d l) in omega arith
 
     pub all_small : length borders ≤ 4000000 → reach faces ≤ 16000000000000000000000000000000
     all_small few =
-        let long = length_permutation (range_with_len 0 (2 * length borders)) (flat_map (λ f. f.sides.items) faces) all ∙ length-range_with_len 0 (2 * length borders) in
+        let long = length_permutation (range_with_len 0 (2 * length borders)) (flat_map (λ (f : Face _). f.sides.items) faces) all ∙ length-range_with_len 0 (2 * length borders) in
         let small = reach_small faces (λ k d l. let is = found k d l in is.small) in
         omega (arith, long, small)
 
     pub faces_are : AreFaces layer owners segments seen
     faces_are = record {
-      all = subst (λ sides. IsPermutation sides (flat_map (λ f. f.sides) seen))
+      all = subst (λ sides. IsPermutation sides (flat_map (λ (f : FaceOf). f.sides) seen))
           (ap (λ n. map (side_at segments) (range_with_len 0 (2 * n))) (sym (length-map borders (λ (b : Bordering). b.segment))) ∙ sides_numbered segments)
           (subst (IsPermutation (map (side_at segments) (range_with_len 0 (2 * length borders))))
-          (map_flat (side_at segments) (λ f. f.sides.items) faces ∙ sym (flat_map-map (λ f. f.sides) (face_seen segments) faces))
-          (IsPermutation-map (side_at segments) (range_with_len 0 (2 * length borders)) (flat_map (λ f. f.sides.items) faces) all));
+          (map_flat (side_at segments) (λ (f : Face _). f.sides.items) faces ∙ sym (flat_map-map (λ (f : FaceOf). f.sides) (face_seen segments) faces))
+          (IsPermutation-map (side_at segments) (range_with_len 0 (2 * length borders)) (flat_map (λ (f : Face _). f.sides.items) faces) all));
       each = All-map (IsFace layer owners) (face_seen segments) faces (λ k d l. face_is (get_or faces k d) (found k d l));
     }
 
@@ -123,40 +123,40 @@ module _ (layer : List Polygon) (borders : List Bordering) (owners : List ℕ) (
           at i l =
               let l' : i < length layer = omega (arith, l, length-map layer (λ p. area_at (holds p) segments)) in
               each i
-              ∙ sym (total-map (λ f. pos (count_by (λ m. eqb m i) f.holders) *ℤ f.area) (face_seen segments) faces)
+              ∙ sym (total-map (λ (f : FaceOf). pos (count_by (λ m. eqb m i) f.holders) *ℤ f.area) (face_seen segments) faces)
               ∙ holder_has layer owners segments seen faces_are i [] l'
               ∙ sym (get_or-map (λ p. area_at (holds p) segments) layer i [] (pos 0) l')
 
       pub uneven_is : told_beside_all 0 layer areas ≡ uneven_from segments 0 layer
       uneven_is = ap (told_beside_all 0 layer) even ∙ told_even segments 0 layer
 
-      whole : total (λ z. z) areas ≡ total (λ f. pos (length f.holders) *ℤ f.area) seen
-      whole = sum ∙ sym (total-map (λ f. pos (length f.holders) *ℤ f.area) (face_seen segments) faces)
+      whole : total (λ z. z) areas ≡ total (λ (f : FaceOf). pos (length f.holders) *ℤ f.area) seen
+      whole = sum ∙ sym (total-map (λ (f : FaceOf). pos (length f.holders) *ℤ f.area) (face_seen segments) faces)
 
-      over : s.over ≡ total (λ f. pos (length f.holders - 1) *ℤ f.area) seen
-      over = sums.over ∙ sym (total-map (λ f. pos (length f.holders - 1) *ℤ f.area) (face_seen segments) faces)
+      over : s.over ≡ total (λ (f : FaceOf). pos (length f.holders - 1) *ℤ f.area) seen
+      over = sums.over ∙ sym (total-map (λ (f : FaceOf). pos (length f.holders - 1) *ℤ f.area) (face_seen segments) faces)
 
       pub sums_hold : AreSums layer segments seen s
       sums_hold =
           sums_are layer owners segments seen faces_are areas s even whole sums.polygons over
-          (sums.covered ∙ sym (total-map (λ f. cond (is_land f.kind) f.area (pos 0)) (face_seen segments) faces))
-          (sums.gaps ∙ sym (total-map (λ f. cond (is_gap f.kind) f.area (pos 0)) (face_seen segments) faces))
-          (sums.within ∙ ap neg_ℤ (sym (total-map (λ f. cond (is_outside f.kind) f.area (pos 0)) (face_seen segments) faces)))
+          (sums.covered ∙ sym (total-map (λ (f : FaceOf). cond (is_land f.kind) f.area (pos 0)) (face_seen segments) faces))
+          (sums.gaps ∙ sym (total-map (λ (f : FaceOf). cond (is_gap f.kind) f.area (pos 0)) (face_seen segments) faces))
+          (sums.within ∙ ap neg_ℤ (sym (total-map (λ (f : FaceOf). cond (is_outside f.kind) f.area (pos 0)) (face_seen segments) faces)))
 
       pub sums_add_up : AddUp s
       sums_add_up =
           add_up layer owners segments seen faces_are areas s even whole sums.polygons over
-          (sums.covered ∙ sym (total-map (λ f. cond (is_land f.kind) f.area (pos 0)) (face_seen segments) faces))
-          (sums.gaps ∙ sym (total-map (λ f. cond (is_gap f.kind) f.area (pos 0)) (face_seen segments) faces))
-          (sums.within ∙ ap neg_ℤ (sym (total-map (λ f. cond (is_outside f.kind) f.area (pos 0)) (face_seen segments) faces)))
+          (sums.covered ∙ sym (total-map (λ (f : FaceOf). cond (is_land f.kind) f.area (pos 0)) (face_seen segments) faces))
+          (sums.gaps ∙ sym (total-map (λ (f : FaceOf). cond (is_gap f.kind) f.area (pos 0)) (face_seen segments) faces))
+          (sums.within ∙ ap neg_ℤ (sym (total-map (λ (f : FaceOf). cond (is_outside f.kind) f.area (pos 0)) (face_seen segments) faces)))
 
 -- the numbers of the sides of borders, by how many they are as they are seen
 pub numbers_of_borders : {A B : Type 0} (borders : List (Border A)) (faces : List (Face B))
-    → IsPermutation (range_with_len 0 (2 * length borders)) (flat_map (λ f. f.sides.items) faces)
-    → IsPermutation (range_with_len 0 (2 * length (borders_seen borders))) (flat_map (λ f. f.sides.items) faces)
+    → IsPermutation (range_with_len 0 (2 * length borders)) (flat_map (λ (f : Face _). f.sides.items) faces)
+    → IsPermutation (range_with_len 0 (2 * length (borders_seen borders))) (flat_map (λ (f : Face _). f.sides.items) faces)
 numbers_of_borders borders faces all =
-    subst (λ n. IsPermutation (range_with_len 0 (2 * n)) (flat_map (λ f. f.sides.items) faces)) (sym (length-map borders border_seen)) all
+    subst (λ n. IsPermutation (range_with_len 0 (2 * n)) (flat_map (λ (f : Face _). f.sides.items) faces)) (sym (length-map borders border_seen)) all
 
 pub all_named : {A : Type 0} (borders : List Bordering) (owners : List ℕ) (faces : List (Face A)) → All (IsFound borders owners) faces
-    → All (λ f. get_or f.sides.items 0 0 ≡ f.first) faces
+    → All (λ (f : Face _). get_or f.sides.items 0 0 ≡ f.first) faces
 all_named borders owners faces found = λ k d l. let is = found k d l in is.named

@@ -20,7 +20,7 @@ module _ {A : Type 0} (faces : List (Face A)) (i : ℕ) (f : Face A) (l : i < le
   more_weight w = total_more w faces i f l ∙ ap (λ g. total w (take i faces) +ℤ w g) (sym is)
 
   pub more_reach : reach (take (i + 1) faces) ≡ reach (take i faces) + unsigned_abs f.twice_area
-  more_reach = sum_by_more (λ g. unsigned_abs g.twice_area) faces i f l ∙ ap (λ (g : Face A). reach (take i faces) + unsigned_abs g.twice_area) (sym is)
+  more_reach = sum_by_more (λ (g : Face _). unsigned_abs g.twice_area) faces i f l ∙ ap (λ (g : Face A). reach (take i faces) + unsigned_abs g.twice_area) (sym is)
 
   pub reach_within : reach (take i faces) + unsigned_abs f.twice_area ≤ reach faces
   reach_within = let e = more_reach in let h = sum_by-take-le (λ (g : Face A). unsigned_abs g.twice_area) faces (i + 1) in omega (arith, e, h)
@@ -28,7 +28,7 @@ module _ {A : Type 0} (faces : List (Face A)) (i : ℕ) (f : Face A) (l : i < le
   -- of a kind, or not
   pub kinds_more : (test : Kind → Bool) (b : Bool) → test f.kind ≡ b
       → area_of_kinds test (take (i + 1) faces) ≡ area_of_kinds test (take i faces) +ℤ cond b f.twice_area (pos 0)
-  kinds_more test b e = more_weight (λ g. cond (test g.kind) g.twice_area (pos 0)) ∙ ap (λ c. area_of_kinds test (take i faces) +ℤ cond c f.twice_area (pos 0)) e
+  kinds_more test b e = more_weight (λ (g : Face _). cond (test g.kind) g.twice_area (pos 0)) ∙ ap (λ c. area_of_kinds test (take i faces) +ℤ cond c f.twice_area (pos 0)) e
 
 -- an area that counts or not is no further from 0
 pub kind_near : (b : Bool) (z y : ℤ) → y ≡ cond b z (pos 0) → unsigned_abs y ≤ unsigned_abs z
