@@ -80,58 +80,58 @@ sides_cancel (s ∷ ss) = cancel (side_term (s, Left)) (side_term (s, Right)) _ 
 
 module _ (layer : List Polygon) (owners : List ℕ) where
   of_face : (g : List ℕ → ℤ) (f : FaceOf) → IsFace layer owners f
-      → total (λ a. g (holders layer a) *ℤ side_term a) f.sides ≡ g f.holders *ℤ f.area
+      → total (λ (a : Side). g (holders layer a) *ℤ side_term a) f.sides ≡ g f.holders *ℤ f.area
   of_face g f is =
-      total_same (λ a. g (holders layer a) *ℤ side_term a) (λ a. g f.holders *ℤ side_term a) f.sides
-      (λ k d l. ap (λ ns. g ns *ℤ side_term (get_or f.sides k d)) (is.held k d l))
+      total_same (λ (a : Side). g (holders layer a) *ℤ side_term a) (λ (a : Side). g f.holders *ℤ side_term a) f.sides
+      (λ k d l. ap (λ (ns : List ℕ). g ns *ℤ side_term (get_or f.sides k d)) (is.held k d l))
       ∙ total_times (g f.holders) side_term f.sides
       ∙ ap (λ z. g f.holders *ℤ z) (sym is.area)
 
   module _ (ss : List Segment) (faces : List FaceOf) (are : AreFaces layer owners ss faces) where
-    pub by_faces : (g : List ℕ → ℤ) → total (λ f. g f.holders *ℤ f.area) faces ≡ total (λ a. g (holders layer a) *ℤ side_term a) (all_sides ss)
+    pub by_faces : (g : List ℕ → ℤ) → total (λ (f : FaceOf). g f.holders *ℤ f.area) faces ≡ total (λ (a : Side). g (holders layer a) *ℤ side_term a) (all_sides ss)
     by_faces g =
         let t : Side → ℤ = λ a. g (holders layer a) *ℤ side_term a in
-        total_same (λ f. g f.holders *ℤ f.area) (λ f. total t f.sides) faces (λ k d l. sym (of_face g (get_or faces k d) (are.each k d l)))
-        ∙ sym (total-flat_map t (λ f. f.sides) faces)
-        ∙ total_permuted t (all_sides ss) (flat_map (λ f. f.sides) faces) are.all
+        total_same (λ (f : FaceOf). g f.holders *ℤ f.area) (λ (f : FaceOf). total t f.sides) faces (λ k d l. sym (of_face g (get_or faces k d) (are.each k d l)))
+        ∙ sym (total-flat_map t (λ (f : FaceOf). f.sides) faces)
+        ∙ total_permuted t (all_sides ss) (flat_map (λ (f : FaceOf). f.sides) faces) are.all
 
     -- all faces, the outside among them, have no area together
-    pub faces_cancel : total (λ f. f.area) faces ≡ pos 0
+    pub faces_cancel : total (λ (f : FaceOf). f.area) faces ≡ pos 0
     faces_cancel =
-        total_alike (λ f. f.area) (λ f. pos 1 *ℤ f.area) (λ f. sym (one_times f.area)) faces
-        ∙ by_faces (λ ns. pos 1)
-        ∙ total_alike (λ a. pos 1 *ℤ side_term a) side_term (λ a. one_times (side_term a)) (all_sides ss)
+        total_alike (λ (f : FaceOf). f.area) (λ (f : FaceOf). pos 1 *ℤ f.area) (λ (f : FaceOf). sym (one_times f.area)) faces
+        ∙ by_faces (λ (ns : List ℕ). pos 1)
+        ∙ total_alike (λ (a : Side). pos 1 *ℤ side_term a) side_term (λ (a : Side). one_times (side_term a)) (all_sides ss)
         ∙ sides_cancel ss
 
     -- what is covered, by the kinds of faces, is what is held
-    land_once : area_of_kind is_land faces ≡ total (λ f. at_most_once f.holders *ℤ f.area) faces
+    land_once : area_of_kind is_land faces ≡ total (λ (f : FaceOf). at_most_once f.holders *ℤ f.area) faces
     land_once =
-        total_same (λ f. cond (is_land f.kind) f.area (pos 0)) (λ f. at_most_once f.holders *ℤ f.area) faces
+        total_same (λ (f : FaceOf). cond (is_land f.kind) f.area (pos 0)) (λ (f : FaceOf). at_most_once f.holders *ℤ f.area) faces
         (λ k d l. let f = get_or faces k d in let is = are.each k d l in land_if_any f.holders f.features f.kind is.kind f.area)
 
     pub land_held : area_of_kind is_land faces ≡ area_at (is_held layer) ss
     land_held =
         land_once ∙ by_faces at_most_once
-        ∙ total_alike (λ a. at_most_once (holders layer a) *ℤ side_term a) (λ a. cond (is_held layer a) (side_term a) (pos 0))
-        (λ a. once_if_any (holders layer a) (side_term a)) (all_sides ss)
+        ∙ total_alike (λ (a : Side). at_most_once (holders layer a) *ℤ side_term a) (λ (a : Side). cond (is_held layer a) (side_term a) (pos 0))
+        (λ (a : Side). once_if_any (holders layer a) (side_term a)) (all_sides ss)
 
     -- what is covered and what is held too often, is what the holders have
-    pub land_and_over : area_of_kind is_land faces +ℤ total (λ f. pos (length f.holders - 1) *ℤ f.area) faces
-        ≡ total (λ f. pos (length f.holders) *ℤ f.area) faces
+    pub land_and_over : area_of_kind is_land faces +ℤ total (λ (f : FaceOf). pos (length f.holders - 1) *ℤ f.area) faces
+        ≡ total (λ (f : FaceOf). pos (length f.holders) *ℤ f.area) faces
     land_and_over =
-        ap (λ z. z +ℤ total (λ f. pos (length f.holders - 1) *ℤ f.area) faces) land_once
-        ∙ sym (total_both (λ f. at_most_once f.holders *ℤ f.area) (λ f. pos (length f.holders - 1) *ℤ f.area) faces)
-        ∙ total_alike (λ f. at_most_once f.holders *ℤ f.area +ℤ pos (length f.holders - 1) *ℤ f.area) (λ f. pos (length f.holders) *ℤ f.area)
-        (λ f. split_times f.holders f.area) faces
+        ap (λ z. z +ℤ total (λ (f : FaceOf). pos (length f.holders - 1) *ℤ f.area) faces) land_once
+        ∙ sym (total_both (λ (f : FaceOf). at_most_once f.holders *ℤ f.area) (λ (f : FaceOf). pos (length f.holders - 1) *ℤ f.area) faces)
+        ∙ total_alike (λ (f : FaceOf). at_most_once f.holders *ℤ f.area +ℤ pos (length f.holders - 1) *ℤ f.area) (λ (f : FaceOf). pos (length f.holders) *ℤ f.area)
+        (λ (f : FaceOf). split_times f.holders f.area) faces
 
     -- what is covered, the gaps and the outside have no area together
     pub kinds_cancel : area_of_kind is_land faces +ℤ (area_of_kind is_gap faces +ℤ area_of_kind is_outside faces) ≡ pos 0
     kinds_cancel =
         ap (λ z. area_of_kind is_land faces +ℤ z)
-        (sym (total_both (λ f. cond (is_gap f.kind) f.area (pos 0)) (λ f. cond (is_outside f.kind) f.area (pos 0)) faces))
-        ∙ sym (total_both (λ f. cond (is_land f.kind) f.area (pos 0)) (λ f. cond (is_gap f.kind) f.area (pos 0) +ℤ cond (is_outside f.kind) f.area (pos 0)) faces)
-        ∙ total_alike (λ f. cond (is_land f.kind) f.area (pos 0) +ℤ (cond (is_gap f.kind) f.area (pos 0) +ℤ cond (is_outside f.kind) f.area (pos 0))) (λ f. f.area)
-        (λ f. each_kind f.kind f.area) faces
+        (sym (total_both (λ (f : FaceOf). cond (is_gap f.kind) f.area (pos 0)) (λ (f : FaceOf). cond (is_outside f.kind) f.area (pos 0)) faces))
+        ∙ sym (total_both (λ (f : FaceOf). cond (is_land f.kind) f.area (pos 0)) (λ (f : FaceOf). cond (is_gap f.kind) f.area (pos 0) +ℤ cond (is_outside f.kind) f.area (pos 0)) faces)
+        ∙ total_alike (λ (f : FaceOf). cond (is_land f.kind) f.area (pos 0) +ℤ (cond (is_gap f.kind) f.area (pos 0) +ℤ cond (is_outside f.kind) f.area (pos 0))) (λ (f : FaceOf). f.area)
+        (λ (f : FaceOf). each_kind f.kind f.area) faces
         ∙ faces_cancel
 
     -- the faces that a polygon holds are what it holds by the even-odd rule
@@ -140,14 +140,14 @@ module _ (layer : List Polygon) (owners : List ℕ) where
     counted_if false z n e = rw e (no_times z)
 
     pub holder_has : (i : ℕ) (d : Polygon) → i < length layer
-        → total (λ f. pos (count_by (λ m. eqb m i) f.holders) *ℤ f.area) faces ≡ area_at (holds (get_or layer i d)) ss
+        → total (λ (f : FaceOf). pos (count_by (λ (m : ℕ). eqb m i) f.holders) *ℤ f.area) faces ≡ area_at (holds (get_or layer i d)) ss
     holder_has i d l =
-        by_faces (λ ns. pos (count_by (λ m. eqb m i) ns))
-        ∙ total_alike (λ a. pos (count_by (λ m. eqb m i) (holders layer a)) *ℤ side_term a) (λ a. cond (holds (get_or layer i d) a) (side_term a) (pos 0))
-        (λ a. counted_if (holds (get_or layer i d) a) (side_term a) _ (here a)) (all_sides ss)
+        by_faces (λ (ns : List ℕ). pos (count_by (λ (m : ℕ). eqb m i) ns))
+        ∙ total_alike (λ (a : Side). pos (count_by (λ (m : ℕ). eqb m i) (holders layer a)) *ℤ side_term a) (λ (a : Side). cond (holds (get_or layer i d) a) (side_term a) (pos 0))
+        (λ (a : Side). counted_if (holds (get_or layer i d) a) (side_term a) _ (here a)) (all_sides ss)
       where
-        here : (a : Side) → count_by (λ m. eqb m i) (holders layer a) ≡ cond (holds (get_or layer i d) a) 1 0
-        here a = counted_once 0 i i (λ p. holds p a) layer d (omega arith) l
+        here : (a : Side) → count_by (λ (m : ℕ). eqb m i) (holders layer a) ≡ cond (holds (get_or layer i d) a) 1 0
+        here a = counted_once 0 i i (λ (p : Polygon). holds p a) layer d (omega arith) l
 
 -- ---- by polygon
 
@@ -158,7 +158,7 @@ same_by_index (x ∷ xs) [] e h = absurd (omega arith)
 same_by_index (x ∷ xs) (y ∷ ys) e h =
     ap₂ (λ (z : ℤ) (zs : List ℤ). z ∷ zs) (h 0 (omega arith)) (same_by_index xs ys (omega arith) (λ i l. h (suc i) (omega arith)))
 
-pub told_even : (ss : List Segment) (n : ℕ) (ps : List Polygon) → told_beside_all n ps (map (λ p. area_at (holds p) ss) ps) ≡ uneven_from ss n ps
+pub told_even : (ss : List Segment) (n : ℕ) (ps : List Polygon) → told_beside_all n ps (map (λ (p : Polygon). area_at (holds p) ss) ps) ≡ uneven_from ss n ps
 told_even ss n [] = refl
 told_even ss n (p ∷ ps) = ap (λ (us : List Uneven). uneven_of ss n p ++ us) (told_even ss (suc n) ps)
 
@@ -168,18 +168,18 @@ sub_from : (a b c s : ℤ) → a +ℤ (b +ℤ c) ≡ pos 0 → s ≡ neg_ℤ c �
 sub_from a b c s e f = omega (arith, ints)
 
 module _ (layer : List Polygon) (owners : List ℕ) (ss : List Segment) (faces : List FaceOf) (are : AreFaces layer owners ss faces)
-    (areas : List ℤ) (s : Sums) (even : areas ≡ map (λ p. area_at (holds p) ss) layer)
-    (all : total (λ z. z) areas ≡ total (λ f. pos (length f.holders) *ℤ f.area) faces)
+    (areas : List ℤ) (s : Sums) (even : areas ≡ map (λ (p : Polygon). area_at (holds p) ss) layer)
+    (all : total (λ z. z) areas ≡ total (λ (f : FaceOf). pos (length f.holders) *ℤ f.area) faces)
     (polygons : s.polygons ≡ s.covered +ℤ s.over)
-    (over : s.over ≡ total (λ f. pos (length f.holders - 1) *ℤ f.area) faces)
+    (over : s.over ≡ total (λ (f : FaceOf). pos (length f.holders - 1) *ℤ f.area) faces)
     (covered : s.covered ≡ area_of_kind is_land faces)
     (gaps : s.gaps ≡ area_of_kind is_gap faces)
     (within : s.within ≡ neg_ℤ (area_of_kind is_outside faces)) where
   pub sums_are : AreSums layer ss faces s
   sums_are = record {
     polygons = polygons ∙ ap₂ ◌+ℤ◌ covered over ∙ land_and_over layer owners ss faces are ∙ sym all
-        ∙ ap (total (λ z. z)) even ∙ total-map (λ z. z) (λ p. area_at (holds p) ss) layer;
-    over = over ∙ by_faces layer owners ss faces are (λ ns. pos (length ns - 1));
+        ∙ ap (total (λ z. z)) even ∙ total-map (λ z. z) (λ (p : Polygon). area_at (holds p) ss) layer;
+    over = over ∙ by_faces layer owners ss faces are (λ (ns : List ℕ). pos (length ns - 1));
     covered = covered ∙ land_held layer owners ss faces are;
     gaps = gaps;
     within = within;

@@ -72,7 +72,7 @@ held_is polygons borders are held a l =
     let within : a / 2 < length borders = omega arith in
     let b = get_or borders (a / 2) no_border in
     let there = Contains-get_or borders (a / 2) no_border within in
-    by_hand polygons b _ (get_or-map (λ (b : Bordering). b.segment) borders (a / 2) no_border within nowhere) (are.bounding b there) (held b there) (eqb (a % 2) 0)
+    by_hand polygons b _ (get_or-map (λ (b : Bordering). b.segment) borders (a / 2) no_border nowhere within) (are.bounding b there) (held b there) (eqb (a % 2) 0)
 
 -- ---- numbers of polygons
 

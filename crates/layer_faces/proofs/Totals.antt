@@ -6,6 +6,7 @@ use Rattle.std.proofs.lemmas.List.Sums.{sum_by-cons}
 use Rattle.std.specs.List.{flat_map, sum_by, swap}
 use Rattle.std.specs.List.Sorted.{IsPermutation}
 use Rattle.std.proofs.lemmas.List.Sorted.{IsPermutation-keeps}
+use Rattle.grid_geometry.proofs.Algebra.{dist}
 use Rattle.layer_faces.specs.Areas.{total}
 
 ahead : (a b c d : ℤ) → b ≡ c +ℤ d → a +ℤ b ≡ a +ℤ c +ℤ d
@@ -84,7 +85,7 @@ total_both f g (x ∷ xs) = let e = total_both f g xs in omega (arith, ints)
 
 -- a factor
 apart_times : (k y z : ℤ) → k *ℤ (y +ℤ z) ≡ k *ℤ y +ℤ k *ℤ z
-apart_times k y z = omega (arith, ints)
+apart_times k y z = dist k y z
 
 pub total_times : {X : Type 0} (k : ℤ) (f : X → ℤ) (xs : List X) → total (λ x. k *ℤ f x) xs ≡ k *ℤ total f xs
 total_times k f [] = omega (arith, ints)

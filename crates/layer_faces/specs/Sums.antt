@@ -26,6 +26,7 @@ is_gap Twice = false
 is_gap Land = false
 is_gap Outside = false
 
+-- it is the kind of the outside
 abbrev pub is_outside : Kind → Bool
 is_outside Outside = true
 is_outside Overlap = false

@@ -26,13 +26,15 @@ pub struct Face<A: Allocator + Copy = Global> {
 }
 
 impl<A: Allocator + Copy> Face<A> {
-    ghost use Rattle.std.specs.Prelude.{◌≡◌};
+    ghost use Rattle.std.specs.Prelude.{◌≡◌, ℕ, pos, ◌*ℤ◌, ◌≤ℤ◌, ◌*◌, ◌<◌, ◌↔◌};
     ghost use Rattle.layer_faces.specs.Lengths.{width_of};
 
-    /// Its width in units, rounded up: twice its area by the length of its border. Of a long sliver that is its mean
-    /// width.
+    /// Its width in units, rounded up: twice its area by the length of its border. Of a long sliver that
+    /// is its mean width.
     pub fn width(&self) -> u128
-        ensures { result ≡ width_of self.now.twice_area self.now.border }
+        ensures value { result ≡ width_of self.now.twice_area self.now.border }
+        ensures within { (w : ℕ) → 0 < self.now.border
+            → (result ≤ w ↔ (pos 65536 *ℤ self.now.twice_area) ≤ℤ pos (w * self.now.border)) }
     {
         if self.twice_area <= 0 || self.border == 0 {
             return 0;

@@ -46,14 +46,15 @@ fn face_of<A: Allocator + Copy>(
     ensures found { IfOk result (λ f. IsFound (borders_seen borders.now) owners.now f) }
     ensures sides { IfOk result (λ f. f.sides.items ≡ sides.items) }
 {
-    let first = sides[0];
-    let holders = common_holders(alloc, borders, sides.as_slice())?;
-    let features = told_by(alloc, borders, owners, sides.as_slice(), holders.as_slice())?;
+    let numbers = sides.as_slice();
+    let first = numbers[0];
+    let holders = common_holders(alloc, borders, numbers)?;
+    let features = told_by(alloc, borders, owners, numbers, holders.as_slice())?;
     let Some(kind) = kind_in(outside, holders.as_slice(), features.as_slice()) else {
         return Err(FaceFault::Unlike(borders[first as usize / 2].segment));
     };
-    let twice_area = area_of(borders, sides.as_slice());
-    let border = border_length(borders, sides.as_slice());
+    let twice_area = area_of(borders, numbers);
+    let border = border_length(borders, numbers);
     Ok(Face {
         sides,
         first,

@@ -1,8 +1,8 @@
 // The polygons that hold the sides of borders.
-ghost use Rattle.std.specs.Prelude.{◌≡◌, ◌++◌, ◌+◌, ◌*◌, ◌<◌, ◌≤◌, ◌↔◌, [], nat_lt, length, All, IfOk, OnOk, IsTrue};
+ghost use Rattle.std.specs.Prelude.{◌≡◌, ℕ, List, ◌++◌, ◌+◌, ◌*◌, ◌<◌, ◌≤◌, ◌↔◌, [], nat_lt, length, All, IfOk, OnOk, IsTrue};
 ghost use Rattle.std.specs.List.{prefix_len};
 ghost use Rattle.layer_sides.specs.Seen.{borders_seen};
-ghost use Rattle.layer_faces.specs.Kept.{apart, held_at};
+ghost use Rattle.layer_faces.specs.Kept.{apart, held_at, merge_one};
 
 use crate::fault::FaceFault;
 use layer_sides::Border;
@@ -23,6 +23,27 @@ fn count_below(numbers: &[u32], n: u32) -> usize
     count
 }
 
+/// Appends the numbers below n, and n itself where it does not follow on them; answers what follows on
+/// these.
+fn push_to<'o, A: Allocator + Copy>(
+    found: &mut Vec<u32, A>,
+    others: &'o [u32],
+    n: u32,
+) -> Result<&'o [u32], AllocError>
+    ensures { IfOk result (λ rest. (g : List ℕ → List ℕ) → found.new.items ++ g rest.now
+        ≡ found.old.items ++ merge_one n g others.now) }
+{
+    let (below, above) = others.split_at(count_below(others, n));
+    found.extend_from_slice(below)?;
+    match above {
+        [first, more @ ..] if *first == n => Ok(more),
+        _ => {
+            found.push(n)?;
+            Ok(above)
+        }
+    }
+}
+
 /// Of two ascending lists of numbers those that are in one of them alone.
 fn apart<A: Allocator + Copy>(
     alloc: A,
@@ -34,15 +55,7 @@ fn apart<A: Allocator + Copy>(
     let mut found = Vec::new(alloc);
     let mut rest = others;
     for n in some {
-        let (below, above) = rest.split_at(count_below(rest, *n));
-        found.extend_from_slice(below)?;
-        match above {
-            [first, more @ ..] if *first == *n => rest = more,
-            _ => {
-                found.push(*n)?;
-                rest = above;
-            }
-        }
+        rest = push_to(&mut found, rest, *n)?;
     }
     found.extend_from_slice(rest)?;
     Ok(found)

@@ -1,6 +1,8 @@
 // The kinds of faces.
 ghost use Rattle.std.specs.Prelude.{◌≡◌};
 ghost use Rattle.layer_faces.specs.Faces as faces;
+ghost use Rattle.layer_faces.specs.Sums as sums;
+ghost use Rattle.layer_faces.specs.Weighed as weighed;
 
 /// The kind of a face.
 #[derive(Clone, Copy, Debug, PartialEq, Eq)]
@@ -30,4 +32,31 @@ pub(crate) fn kind_of(holders: &[u32], features: &[usize]) -> Kind
         _ if features.len() == 1 => Kind::Twice,
         _ => Kind::Overlap,
     }
+}
+
+/// Whether no polygon holds a face of this kind, and it is not the outside.
+pub(crate) fn is_gap(kind: Kind) -> bool
+    ensures { result ≡ sums.is_gap kind }
+{
+    match kind {
+        Kind::Gap | Kind::Lake => true,
+        Kind::Overlap | Kind::Twice | Kind::Land | Kind::Outside => false,
+    }
+}
+
+/// Whether it is the kind of the outside.
+pub(crate) fn is_outside(kind: Kind) -> bool
+    ensures { result ≡ sums.is_outside kind }
+{
+    match kind {
+        Kind::Outside => true,
+        Kind::Overlap | Kind::Twice | Kind::Gap | Kind::Lake | Kind::Land => false,
+    }
+}
+
+/// Whether some polygon holds a face of this kind.
+pub(crate) fn is_land(kind: Kind) -> bool
+    ensures { result ≡ weighed.is_land kind }
+{
+    !is_gap(kind) && !is_outside(kind)
 }

@@ -1,8 +1,8 @@
 // A look at a layer: its faces, and what the areas of its polygons add up to.
-ghost use Rattle.std.specs.Prelude.{◌≡◌, length, slice_index, All, IfOk};
+ghost use Rattle.std.specs.Prelude.{◌≡◌, ◌+◌, ◌*◌, ◌≤◌, length, slice_index, sum_by, All, IfOk};
 ghost use Rattle.std.specs.List.Sorted.{IsNonDecreasingBy};
 ghost use Rattle.ring_parts.specs.Seen.{polygons_seen};
-ghost use Rattle.layer_sides.specs.Borders.{AreBorders, IsProperLayer};
+ghost use Rattle.layer_sides.specs.Borders.{AreBorders, AreHeld, IsProperLayer};
 ghost use Rattle.layer_sides.specs.Seen.{borders_seen};
 ghost use Rattle.layer_faces.specs.Faces.{AreFaces};
 ghost use Rattle.layer_faces.specs.Sums.{AddUp, AreSums};
@@ -31,6 +31,40 @@ pub struct Look<A: Allocator + Copy = Global> {
     pub uneven: Vec<Uneven, A>,
     /// What the areas of its polygons add up to.
     pub sums: Sums,
+}
+
+/// The faces of a layer by the labels of its sides, its uneven polygons, and what the areas of all add up
+/// to.
+fn found_in<A: Allocator + Copy>(
+    alloc: A,
+    polygons: &[Vec<Vec<Pos, A>, A>],
+    owners: &[usize],
+    borders: &[Border<A>],
+    labels: &[u32],
+) -> Result<(Vec<Face<A>, A>, Vec<Uneven, A>, Sums), FaceFault>
+    requires few { sum_by (sum_by length) (polygons_seen polygons.now) ≤ 4000000 }
+    requires few_polygons { length polygons.now ≤ 4000000 }
+    requires few_borders { length borders.now ≤ 4000000 }
+    requires owned { length owners.now ≡ length polygons.now }
+    requires borders { AreBorders (polygons_seen polygons.now) (borders_seen borders.now) }
+    requires held { AreHeld (polygons_seen polygons.now) (borders_seen borders.now) }
+    requires labels { length labels.now ≡ 2 * length borders.now + 1 }
+    ensures faces { IfOk result (λ found. AreFaces (polygons_seen polygons.now) owners.now
+        (segments_seen borders.now) (faces_seen (segments_seen borders.now) found.0.items)) }
+    ensures in_order { IfOk result (λ found. IsNonDecreasingBy (λ f. f.first) found.0.items) }
+    ensures named { IfOk result
+        (λ found. All (λ f. slice_index f.sides.items 0 ≡ f.first) found.0.items) }
+    ensures uneven { IfOk result (λ found. found.1.items
+        ≡ uneven_from (segments_seen borders.now) 0 (polygons_seen polygons.now)) }
+    ensures sums { IfOk result (λ found. AreSums (polygons_seen polygons.now)
+        (segments_seen borders.now) (faces_seen (segments_seen borders.now) found.0.items) found.2) }
+    ensures add_up { IfOk result (λ found. AddUp found.2) }
+{
+    let faces = faces_of(alloc, borders, owners, labels)?;
+    let areas = areas_by_faces(alloc, polygons.len(), faces.as_slice())?;
+    let uneven = uneven_in(alloc, polygons, areas.as_slice())?;
+    let sums = sums_of(faces.as_slice());
+    Ok((faces, uneven, sums))
 }
 
 /// The faces of a layer, and what the areas of its polygons add up to. Each polygon has an owner, the
@@ -68,10 +102,8 @@ pub fn look_at<A: Allocator + Copy>(
     if MAX_POSITIONS < borders.len() {
         return Err(FaceFault::TooLarge);
     }
-    let faces = faces_of(alloc, borders.as_slice(), owners, faces.as_slice())?;
-    let areas = areas_by_faces(alloc, polygons.len(), faces.as_slice())?;
-    let uneven = uneven_in(alloc, polygons, areas.as_slice())?;
-    let sums = sums_of(faces.as_slice());
+    let (faces, uneven, sums) =
+        found_in(alloc, polygons, owners, borders.as_slice(), faces.as_slice())?;
     Ok(Look {
         borders,
         faces,

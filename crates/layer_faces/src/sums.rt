@@ -1,10 +1,10 @@
 // What the areas of a layer's polygons add up to.
-ghost use Rattle.std.specs.Prelude.{◌≡◌, pos, ◌*ℤ◌, ◌*◌, ◌-◌, ◌≤◌, unsigned_abs, length, All};
+ghost use Rattle.std.specs.Prelude.{◌≡◌, pos, ◌*ℤ◌, ◌*◌, ◌-◌, ◌≤◌, unsigned_abs, length, All, if◌then◌else◌};
 ghost use Rattle.layer_faces.specs.Areas.{total};
 ghost use Rattle.layer_faces.specs.Weighed.{AreFaceSums, reach};
 
 use crate::face::Face;
-use crate::kind::Kind;
+use crate::kind::{is_gap, is_land, is_outside};
 use std::alloc::Allocator;
 
 /// What the areas of the polygons of a layer add up to, all twice as large. What the polygons have is
@@ -46,6 +46,13 @@ fn over_of<A: Allocator + Copy>(faces: &[Face<A>]) -> i128
     over
 }
 
+/// Twice the area of a face where it is asked for, and else 0.
+fn area_if<A: Allocator + Copy>(face: &Face<A>, asked: bool) -> i128
+    ensures { result ≡ (if asked then face.now.twice_area else pos 0) }
+{
+    if asked { face.twice_area } else { 0 }
+}
+
 /// What the areas of polygons add up to, of which these are the faces.
 pub(crate) fn sums_of<A: Allocator + Copy>(faces: &[Face<A>]) -> Sums
     requires few { All (λ f. length f.holders.items ≤ 4000000) faces.now }
@@ -56,11 +63,9 @@ pub(crate) fn sums_of<A: Allocator + Copy>(faces: &[Face<A>]) -> Sums
     let mut gaps = 0;
     let mut within = 0;
     for face in faces {
-        match face.kind {
-            Kind::Outside => within -= face.twice_area,
-            Kind::Gap | Kind::Lake => gaps += face.twice_area,
-            Kind::Land | Kind::Twice | Kind::Overlap => covered += face.twice_area,
-        }
+        covered += area_if(face, is_land(face.kind));
+        gaps += area_if(face, is_gap(face.kind));
+        within -= area_if(face, is_outside(face.kind));
     }
     let over = over_of(faces);
     Sums {
