@@ -47,8 +47,8 @@ IsBound greatest (Some text) (Some n) =
 
 -- the arguments are what clap found: MAP, the layers, the bounds of width and area, and how many lines there are at the most
 pub record AreAsked (found : List Row) (asked : Arguments) : Type 0 where
-  pub map : string_bytes asked.map ≡ unwrap_or (first_of (codes "MAP") found) []
   pub layers : map string_bytes asked.layers.items ≡ unwrap_or (all_of (codes "layer") found) []
+  pub map : string_bytes asked.map ≡ unwrap_or (first_of (codes "MAP") found) []
   pub width : IsBound 1000000000000 (first_of (codes "width") found) asked.width
   pub area : IsBound 8000000000000000000000000 (first_of (codes "area") found) asked.area
   pub most : IsCount (first_of (codes "most") found) asked.most
