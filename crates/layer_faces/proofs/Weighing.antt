@@ -1,10 +1,8 @@
 -- Sums over the faces so far, one more; and what is told of the polygons so far.
 use Rattle.kit_words.proofs.Common.{◌≡◌, ℕ, zero, suc, ◌+◌, ◌-◌, ◌*◌, ◌<◌, ◌≤◌, ◌^◌, ℤ, pos, ◌+ℤ◌, ◌*ℤ◌, unsigned_abs, refl, sym, ap, ap₂, ◌∙◌, subst, arith, ints, cond, eqb}
-use Rattle.kit_words.proofs.Common.{List, [], ◌∷◌, ◌++◌, map, length, get_or, take, drop, next_drop, append_assoc, false_from_ne_true, Decides-int_eq, true, false, Bool}
-use Rattle.std.specs.Ordering.{int_eq}
+use Rattle.kit_words.proofs.Common.{replicate, List, [], ◌∷◌, ◌++◌, map, length, get_or, take, drop, next_drop, append_assoc, true, false, Bool}
 use Rattle.std.proofs.Math.Nat.{mul-le-mul_right}
 use Rattle.std.proofs.lemmas.List.Sums.{sum_by_more, sum_by-take-le}
-use Rattle.ring_machine.specs.Common.{polygon_area}
 use Rattle.layer_sides.specs.Common.{Polygon}
 use Rattle.layer_faces.specs.declared.face.Face.{Face}
 use Rattle.layer_faces.specs.declared.kind.Kind.{Kind}
@@ -49,13 +47,6 @@ bound_more r a c y z w same h few e =
 
 -- ---- what is told of polygons
 
-pub told_none : (n : ℕ) (p : Polygon) (z : ℤ) → polygon_area p ≡ z → told_beside n p z ≡ []
-told_none n p z e = let t : int_eq (polygon_area p) z ≡ true = (Decides-int_eq (polygon_area p) z).1 e in rw t refl
-
-pub told_one : (n : ℕ) (p : Polygon) (z : ℤ) → (polygon_area p ≡ z → ⊥) → told_beside n p z ≡ record { polygon = n; by_rings = polygon_area p; even_odd = z } ∷ []
-told_one n p z e =
-    let t : int_eq (polygon_area p) z ≡ false = false_from_ne_true (int_eq (polygon_area p) z) (λ s. e ((Decides-int_eq (polygon_area p) z).0 s)) in rw t refl
-
 -- of the rest of the polygons first what is told of the next one
 pub told_next : {X : Type 0} (seen : X → Polygon) (found more : List Uneven) (ps : List X) (zs : List ℤ) (i : ℕ) (p : X) (z : ℤ) (all : List Uneven)
     → i < length ps → p ≡ get_or ps i p → i < length zs → z ≡ get_or zs i z
@@ -69,3 +60,14 @@ told_next seen found more ps zs i p z all l e k f added h =
       ap₂ (λ qs ys. told_beside_all i (map seen qs) ys) (next_drop ps i p l e) (next_drop zs i z k f)
       ∙ ap (λ j. told_beside i (seen p) z ++ told_beside_all j (map seen (drop (i + 1) ps)) (drop (i + 1) zs)) after in
     ap (λ (us : List Uneven). us ++ rest) added ∙ append_assoc found (told_beside i (seen p) z) rest ∙ ap (λ (us : List Uneven). found ++ us) (sym next) ∙ h
+
+-- ---- before any face
+
+pub zeros_at : (n k : ℕ) → get_or (replicate n (pos 0)) k (pos 0) ≡ pos 0
+zeros_at zero k = refl
+zeros_at (suc n) zero = refl
+zeros_at (suc n) (suc k) = zeros_at n k
+
+pub zeros_total : (n : ℕ) → total (λ z. z) (replicate n (pos 0)) ≡ pos 0
+zeros_total zero = refl
+zeros_total (suc n) = let e = zeros_total n in omega (arith, ints)

@@ -40,11 +40,13 @@ pub record AreFaceSums {A : Type 0} (faces : List (Face A)) (s : Sums) : Type 0 
   pub gaps : s.gaps ≡ area_of_kinds is_gap faces
   pub within : s.within ≡ neg_ℤ (area_of_kinds is_outside faces)
 
+-- a polygon is told where its two areas differ
+abbrev pub told_if : Uneven → List Uneven
+told_if u = if int_eq u.by_rings u.even_odd then [] else (u ∷ [])
+
 -- what is told of polygon n, whose area is z by the even-odd rule
 abbrev pub told_beside : ℕ → Polygon → ℤ → List Uneven
-told_beside n p z =
-    if int_eq (polygon_area p) z then []
-    else (record { polygon = n; by_rings = polygon_area p; even_odd = z } ∷ [])
+told_beside n p z = told_if (record { polygon = n; by_rings = polygon_area p; even_odd = z })
 
 -- what is told of polygons with these areas, of which the first has number n
 abbrev pub told_beside_all : ℕ → List Polygon → List ℤ → List Uneven

@@ -1,7 +1,7 @@
 // The polygons whose area by their rings is not that by the even-odd rule.
-ghost use Rattle.std.specs.Prelude.{◌≡◌, ◌≤◌, length, sum_by, IfOk};
+ghost use Rattle.std.specs.Prelude.{◌≡◌, ◌≤◌, ◌++◌, length, sum_by, IfOk, OnOk};
 ghost use Rattle.ring_parts.specs.Seen.{polygons_seen};
-ghost use Rattle.layer_faces.specs.Weighed.{told_beside_all};
+ghost use Rattle.layer_faces.specs.Weighed.{told_beside_all, told_if};
 
 use crate::rings::polygon_area;
 use grid_geometry::Pos;
@@ -19,6 +19,19 @@ pub struct Uneven {
     pub even_odd: i128,
 }
 
+/// Appends a polygon, where its two areas differ.
+fn push_uneven<A: Allocator + Copy>(
+    found: &mut Vec<Uneven, A>,
+    told: Uneven,
+) -> Result<(), AllocError>
+    ensures { OnOk result (found.new.items ≡ found.old.items ++ told_if told) }
+{
+    if told.by_rings != told.even_odd {
+        found.push(told)?;
+    }
+    Ok(())
+}
+
 /// The polygons whose areas by their rings are not these, in order.
 pub(crate) fn uneven_in<A: Allocator + Copy>(
     alloc: A,
@@ -32,15 +45,12 @@ pub(crate) fn uneven_in<A: Allocator + Copy>(
 {
     let mut found = Vec::new(alloc);
     for (polygon, rings) in polygons.iter().enumerate() {
-        let by_rings = polygon_area(rings.as_slice());
-        let even_odd = areas[polygon];
-        if by_rings != even_odd {
-            found.push(Uneven {
-                polygon,
-                by_rings,
-                even_odd,
-            })?;
-        }
+        let told = Uneven {
+            polygon,
+            by_rings: polygon_area(rings.as_slice()),
+            even_odd: areas[polygon],
+        };
+        push_uneven(&mut found, told)?;
     }
     Ok(found)
 }
