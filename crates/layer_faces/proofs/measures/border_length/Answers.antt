@@ -4,9 +4,6 @@ use Rattle.layer_faces.specs.Common.{border_length, segments_seen, side_at}
 use Rattle.layer_faces.proofs.Reading.{length_more, segment_at}
 use Rattle.layer_faces.proofs.measures.border_length.Goals as goal
 
-pub index-requires : goal.index-requires
-index-requires g c = let h = c.requires.within c.loop-side.side-index 0 c.loop-side-test.true in omega (arith, h)
-
 pub overflow_add-sum : goal.overflow_add-sum
 overflow_add-sum g c = omega (arith, c.requires.few, c.loop-side.invariant.bound, c.length_of-sum.ensures.bound, c.loop-side-test.true)
 
@@ -17,7 +14,7 @@ loop-side-preserved g c =
     let h = c.requires.within i 0 c.loop-side-test.true in
     let within : n / 2 < length c.args.borders.now = omega (arith, h) in
     record {
-      whole = length_more (segments_seen c.args.borders.now) c.args.sides.now i n c.loop-side.sum c.length_of-sum.result _
+      whole = length_more (segments_seen c.args.borders.now) c.args.sides.now i n _ c.length_of-sum.result _
           c.loop-side-test.true (get_or_default c.args.sides.now i 0 n c.loop-side-test.true)
           (segment_at c.args.borders.now (n / 2) c.index-borders-side.result within) c.length_of-sum.ensures.value c.loop-side.invariant.whole;
       bound = omega (arith, c.loop-side.invariant.bound, c.length_of-sum.ensures.bound);
