@@ -1,6 +1,8 @@
 -- Cutting a list of sides into faces.
 use Rattle.kit_words.proofs.Common.{◌≡◌, ℕ, zero, suc, ◌+◌, refl, sym, ap, ap₂, ◌∙◌, subst, arith, List, [], ◌∷◌, ◌++◌, map, take, drop, append_assoc, append-nil, map-append, take-append-drop, length, get_or, All}
 use Rattle.kit_words.proofs.Common.{◌<◌, take_more}
+use Rattle.kit_words.proofs.Common.{IsPermutation}
+use Rattle.std.proofs.lemmas.List.Sorted.{IsPermutation-map}
 use Rattle.std.specs.Prelude.{slice_index}
 use Rattle.std.specs.List.{flat_map, range_with_len}
 use Rattle.layer_sides.specs.Common.{Bordering}
@@ -43,3 +45,7 @@ all_front P side rest run k e h = subst (All P) (sym (ap (map side) e ∙ sym (t
 
 pub all_back : {L : Type 0} (P : ℕ → Type 0) (side : L → ℕ) (rest more : List L) (k : ℕ) → more ≡ drop k rest → All P (map side rest) → All P (map side more)
 all_back P side rest more k e h = subst (All P) (sym (ap (map side) e ∙ sym (drop-map side k rest))) (All-drop P k (map side rest) h)
+
+-- numbers of elements in another order
+pub sorted_numbers : {L : Type 0} (side : L → ℕ) (xs ys : List L) (ns : List ℕ) → map side xs ≡ ns → IsPermutation xs ys → IsPermutation ns (map side ys)
+sorted_numbers side xs ys ns e p = subst (λ ms. IsPermutation ms (map side ys)) e (IsPermutation-map side xs ys p)
