@@ -30,7 +30,7 @@ add_each old areas numbers i n area v l e within is h k = elim (cases_eq n k) [
   | inl same ↦
       let one : cond (eqb (get_or numbers i n) k) 1 0 ≡ 1 = counted_here n k (get_or numbers i n) e same in
       let more : count_by (λ m. eqb m k) (take (i + 1) numbers) ≡ count_by (λ m. eqb m k) (take i numbers) + 1 =
-        sum_by_more (λ m. cond (eqb m k) 1 0) numbers i n l ∙ ap (λ c. count_by (λ m. eqb m k) (take i numbers) + c) one in
+      sum_by_more (λ m. cond (eqb m k) 1 0) numbers i n l ∙ ap (λ c. count_by (λ m. eqb m k) (take i numbers) + c) one in
       subst (λ j. get_or (set areas n v) j (pos 0) ≡ v) same (get_or-set_same areas n v (pos 0) within)
       ∙ is ∙ ap (λ y. y +ℤ area) (ap (λ j. get_or areas j (pos 0)) same)
       ∙ gathered (get_or areas k (pos 0)) (get_or old k (pos 0)) (pos (count_by (λ m. eqb m k) (take i numbers)) *ℤ area) area (h k)
@@ -39,7 +39,7 @@ add_each old areas numbers i n area v l e within is h k = elim (cases_eq n k) [
   | inr other ↦
       let none : cond (eqb (get_or numbers i n) k) 1 0 ≡ 0 = counted_not n k (get_or numbers i n) e other in
       let more : count_by (λ m. eqb m k) (take (i + 1) numbers) ≡ count_by (λ m. eqb m k) (take i numbers) =
-        sum_by_more (λ m. cond (eqb m k) 1 0) numbers i n l ∙ ap (λ c. count_by (λ m. eqb m k) (take i numbers) + c) none ∙ omega arith in
+      sum_by_more (λ m. cond (eqb m k) 1 0) numbers i n l ∙ ap (λ c. count_by (λ m. eqb m k) (take i numbers) + c) none ∙ omega arith in
       get_or-set_other areas n k v (pos 0) (λ f. other (sym f))
       ∙ h k ∙ ap (λ c. get_or old k (pos 0) +ℤ pos c *ℤ area) (sym more)
 ]

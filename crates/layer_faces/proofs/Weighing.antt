@@ -57,8 +57,8 @@ told_next seen found more ps zs i p z all l e k f added h =
     let rest = told_beside_all (i + 1) (map seen (drop (i + 1) ps)) (drop (i + 1) zs) in
     let after : suc i ≡ i + 1 = omega arith in
     let next : told_beside_all i (map seen (drop i ps)) (drop i zs) ≡ told_beside i (seen p) z ++ rest =
-      ap₂ (λ qs ys. told_beside_all i (map seen qs) ys) (next_drop ps i p l e) (next_drop zs i z k f)
-      ∙ ap (λ j. told_beside i (seen p) z ++ told_beside_all j (map seen (drop (i + 1) ps)) (drop (i + 1) zs)) after in
+    ap₂ (λ qs ys. told_beside_all i (map seen qs) ys) (next_drop ps i p l e) (next_drop zs i z k f)
+    ∙ ap (λ j. told_beside i (seen p) z ++ told_beside_all j (map seen (drop (i + 1) ps)) (drop (i + 1) zs)) after in
     ap (λ (us : List Uneven). us ++ rest) added ∙ append_assoc found (told_beside i (seen p) z) rest ∙ ap (λ (us : List Uneven). found ++ us) (sym next) ∙ h
 
 -- ---- before any face

@@ -38,7 +38,11 @@ pub(crate) fn areas_by_faces<A: Allocator + Copy>(
 {
     let mut areas = vec![in alloc; 0; count]?;
     for face in faces {
-        add_to(areas.as_mut_slice(), face.holders.as_slice(), face.twice_area);
+        add_to(
+            areas.as_mut_slice(),
+            face.holders.as_slice(),
+            face.twice_area,
+        );
     }
     Ok(areas)
 }

@@ -102,8 +102,13 @@ pub fn look_at<A: Allocator + Copy>(
     if MAX_POSITIONS < borders.len() {
         return Err(FaceFault::TooLarge);
     }
-    let (faces, uneven, sums) =
-        found_in(alloc, polygons, owners, borders.as_slice(), faces.as_slice())?;
+    let (faces, uneven, sums) = found_in(
+        alloc,
+        polygons,
+        owners,
+        borders.as_slice(),
+        faces.as_slice(),
+    )?;
     Ok(Look {
         borders,
         faces,

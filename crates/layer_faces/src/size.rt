@@ -21,10 +21,7 @@ fn after_polygon<A: Allocator + Copy>(room: usize, rings: &[Vec<Pos, A>]) -> Opt
 }
 
 /// The room that is left after the rings of these polygons, if they fit.
-fn after_all<A: Allocator + Copy>(
-    room: usize,
-    polygons: &[Vec<Vec<Pos, A>, A>],
-) -> Option<usize>
+fn after_all<A: Allocator + Copy>(room: usize, polygons: &[Vec<Vec<Pos, A>, A>]) -> Option<usize>
     ensures { MatchOption result (room < sum_by (sum_by length) (polygons_seen polygons.now))
         (λ left. left + sum_by (sum_by length) (polygons_seen polygons.now) ≡ room) }
 {

@@ -15,7 +15,7 @@ loop-side-preserved g c =
     let i = c.loop-side.side-index in
     let n = get_or c.args.sides.now i 0 in
     let step = area_more (segments_seen c.args.borders.now) c.args.sides.now i n _ c.term-area.result c.ends_at-from.result.0 c.ends_at-from.result.1
-      c.loop-side-test.true (get_or_default c.args.sides.now i 0 n c.loop-side-test.true) c.ends_at-from.ensures c.term-area.ensures.value c.loop-side.invariant.whole in
+    c.loop-side-test.true (get_or_default c.args.sides.now i 0 n c.loop-side-test.true) c.ends_at-from.ensures c.term-area.ensures.value c.loop-side.invariant.whole in
     record {
       whole = omega (arith, ints, step, c.requires.few, c.loop-side.invariant.bound, c.term-area.ensures.bound, c.loop-side-test.true);
       bound = omega (arith, ints, c.requires.few, c.loop-side.invariant.bound, c.term-area.ensures.bound, c.loop-side-test.true);
