@@ -1,8 +1,9 @@
 -- The numbers in one of two lists alone, where these are the numbers of polygons that pass tests.
 use Rattle.kit_words.proofs.Common.{◌≡◌, ℕ, suc, ◌<◌, Bool, true, false, refl, ap, ◌∙◌, arith, cond, eqb, ltb, List, [], ◌∷◌, ◌++◌, take, drop}
-use Rattle.std.proofs.Common.{rules, tests}
+use Rattle.std.proofs.Common.{rules, tests, ◌≢◌}
 use Rattle.std.specs.List.{prefix_len}
-use Rattle.kit_words.proofs.Common.{one-add}
+use Rattle.std.proofs.lemmas.List.Sums.{prefix_len_is}
+use Rattle.kit_words.proofs.Common.{◌+◌, ◌-◌, ◌≤◌, zero, sym, ap₂, length, get_or, append_assoc, take_all}
 use Rattle.grid_geometry.specs.Common.{xor}
 use Rattle.layer_sides.specs.Common.{Polygon, numbers_from}
 use Rattle.layer_faces.specs.Kept.{apart, merge_one}
@@ -66,16 +67,67 @@ abbrev pub taken : ℕ → (List ℕ → List ℕ) → List ℕ → List ℕ
 taken n g [] = n ∷ g []
 taken n g (m ∷ ms) = cond (eqb m n) (g ms) (n ∷ g (m ∷ ms))
 
+merged_step : (b : Bool) (n m k : ℕ) (g : List ℕ → List ℕ) (ms : List ℕ) → merge_one n g ms ≡ take k ms ++ taken n g (drop k ms)
+    → cond b (m ∷ merge_one n g ms) (cond (eqb m n) (g ms) (n ∷ g (m ∷ ms)))
+    ≡ take (cond b (1 + k) 0) (m ∷ ms) ++ taken n g (drop (cond b (1 + k) 0) (m ∷ ms))
+merged_step true n m k g ms h = let e : 1 + k ≡ suc k = omega arith in rw e (ap (λ zs. m ∷ zs) h)
+merged_step false n m k g ms h = refl
+
 pub merged : (n : ℕ) (g : List ℕ → List ℕ) (ms : List ℕ)
     → merge_one n g ms ≡ take (prefix_len (λ m. ltb m n) ms) ms ++ taken n g (drop (prefix_len (λ m. ltb m n) ms) ms)
 merged n g [] = refl
-merged n g (m ∷ ms) = by (ltb m n) (merged n g ms)
-  where
-    abbrev k : ℕ
-    k = prefix_len (λ m. ltb m n) ms
+merged n g (m ∷ ms) = merged_step (ltb m n) n m (prefix_len (λ j. ltb j n) ms) g ms (merged n g ms)
 
-    by : (b : Bool) → merge_one n g ms ≡ take k ms ++ taken n g (drop k ms)
-        → cond b (m ∷ merge_one n g ms) (cond (eqb m n) (g ms) (n ∷ g (m ∷ ms)))
-        ≡ take (cond b (1 + k) 0) (m ∷ ms) ++ taken n g (drop (cond b (1 + k) 0) (m ∷ ms))
-    by true rest = rw (one-add) (ap (λ zs. m ∷ zs) rest)
-    by false rest = refl
+not_under : (m n : ℕ) → n ≤ m → ltb m n ≡ false
+not_under m n l = search (rules, tests)
+
+same_as : (m n : ℕ) → m ≡ n → eqb m n ≡ true
+same_as m n e = search (rules, tests)
+
+other_than : (m n : ℕ) → m ≢ n → eqb m n ≡ false
+other_than m n e = search (rules, tests)
+
+-- n is the first of what follows, which goes on after it
+first_taken : (n : ℕ) (g : List ℕ → List ℕ) (back : List ℕ) → 1 ≤ length back → get_or back 0 0 ≡ n
+    → g (take (length back - 1) (drop 1 back)) ≡ taken n g back
+first_taken n g [] l e = absurd (omega (arith, l))
+first_taken n g (m ∷ ms) l e =
+    ap g (take_all (length (m ∷ ms) - 1) ms (omega arith)) ∙ sym (ap (λ b. cond b (g ms) (n ∷ g (m ∷ ms))) (same_as m n e))
+
+-- n is not the first of what follows
+pub taken_short : (n : ℕ) (g : List ℕ → List ℕ) (back : List ℕ) → length back < 1 → taken n g back ≡ n ∷ g back
+taken_short n g [] l = refl
+taken_short n g (m ∷ ms) l = absurd (omega (arith, l))
+
+pub taken_other : (n : ℕ) (g : List ℕ → List ℕ) (back : List ℕ) → get_or back 0 0 ≢ n → taken n g back ≡ n ∷ g back
+taken_other n g [] l = refl
+taken_other n g (m ∷ ms) l = ap (λ b. cond b (g ms) (n ∷ g (m ∷ ms))) (other_than m n l)
+
+module _ (n k : ℕ) (g : List ℕ → List ℕ) (ms front back found more : List ℕ) (is : k ≡ prefix_len (λ m. ltb m n) ms)
+    (before : front ≡ take k ms) (after : back ≡ drop k ms) (pushed : more ≡ found ++ front) where
+  at_front : (xs : List ℕ) → xs ≡ taken n g back → front ++ xs ≡ merge_one n g ms
+  at_front xs e =
+      ap₂ (λ (ys zs : List ℕ). ys ++ zs) (before ∙ ap (λ j. take j ms) is) (e ∙ ap (taken n g) (after ∙ ap (λ j. drop j ms) is)) ∙ sym (merged n g ms)
+
+  pub pushed_first : 1 ≤ length back → get_or back 0 0 ≡ n → more ++ g (take (length back - 1) (drop 1 back)) ≡ found ++ merge_one n g ms
+  pushed_first l e =
+      let rest = g (take (length back - 1) (drop 1 back)) in
+      ap (λ xs. xs ++ rest) pushed ∙ append_assoc found front rest ∙ ap (λ xs. found ++ xs) (at_front rest (first_taken n g back l e))
+
+  pub pushed_other : (last : List ℕ) → last ≡ more ++ n ∷ [] → taken n g back ≡ n ∷ g back → last ++ g back ≡ found ++ merge_one n g ms
+  pushed_other last e t =
+      ap (λ xs. xs ++ g back) (e ∙ ap (λ xs. xs ++ n ∷ []) pushed)
+      ∙ append_assoc (found ++ front) (n ∷ []) (g back)
+      ∙ append_assoc found front (n ∷ g back)
+      ∙ ap (λ xs. found ++ xs) (at_front (n ∷ g back) (sym t))
+
+-- ---- how many are below n
+
+pub counted_some : (n i : ℕ) (ms : List ℕ) → i < length ms → ((k : ℕ) → k < i → ltb (get_or ms k 0) n ≡ true) → n ≤ get_or ms i 0
+    → i ≡ prefix_len (λ m. ltb m n) ms
+counted_some n i ms l below e =
+    sym (prefix_len_is (λ m. ltb m n) ms i 0 (omega (arith, l)) below (λ w. not_under (get_or ms i 0) n e))
+
+pub counted_all : (n i : ℕ) (ms : List ℕ) → i ≤ length ms → length ms ≤ i → ((k : ℕ) → k < i → ltb (get_or ms k 0) n ≡ true)
+    → i ≡ prefix_len (λ m. ltb m n) ms
+counted_all n i ms h l below = sym (prefix_len_is (λ m. ltb m n) ms i 0 h below (λ w. absurd (omega (arith, w, l))))

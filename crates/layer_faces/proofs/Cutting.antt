@@ -1,6 +1,6 @@
 -- Cutting a list of sides into faces.
 use Rattle.kit_words.proofs.Common.{◌≡◌, ℕ, zero, suc, ◌+◌, refl, sym, ap, ap₂, ◌∙◌, subst, arith, List, [], ◌∷◌, ◌++◌, map, take, drop, append_assoc, append-nil, map-append, take-append-drop, length, get_or, All}
-use Rattle.kit_words.proofs.Common.{◌<◌, take_more}
+use Rattle.kit_words.proofs.Common.{◌<◌, take_more, mapped_more}
 use Rattle.kit_words.proofs.Common.{IsPermutation}
 use Rattle.std.proofs.lemmas.List.Sorted.{IsPermutation-map}
 use Rattle.std.specs.Prelude.{slice_index}
@@ -49,3 +49,11 @@ all_back P side rest more k e h = subst (All P) (sym (ap (map side) e ∙ sym (d
 -- numbers of elements in another order
 pub sorted_numbers : {L : Type 0} (side : L → ℕ) (xs ys : List L) (ns : List ℕ) → map side xs ≡ ns → IsPermutation xs ys → IsPermutation ns (map side ys)
 sorted_numbers side xs ys ns e p = subst (λ ms. IsPermutation ms (map side ys)) e (IsPermutation-map side xs ys p)
+
+-- one more feature, in the list of those appended so far
+pub features_more : (owners ns : List ℕ) (i n v : ℕ) (first fs gs : List ℕ) → i < length ns → n ≡ get_or ns i n → v ≡ slice_index owners n
+    → gs ≡ fs ++ v ∷ [] → fs ≡ first ++ features_of owners (take i ns) → gs ≡ first ++ features_of owners (take (i + 1) ns)
+features_more owners ns i n v first fs gs l e is pushed h =
+    pushed ∙ ap₂ (λ (xs ys : List ℕ). xs ++ ys) h (ap (λ w. w ∷ []) is)
+    ∙ append_assoc first (features_of owners (take i ns)) (slice_index owners n ∷ [])
+    ∙ ap (λ xs. first ++ xs) (sym (mapped_more (slice_index owners) ns i n l e))

@@ -8,9 +8,12 @@ loop-n-preserved g c =
     let i = c.loop-n.n-index in
     let some = c.args.some.now in
     let n = get_or some i 0 in
-    c.in_ok-push_to.ensures (apart (drop (i + 1) some))
+    c.in_ok-rest.ensures (apart (drop (i + 1) some))
     ∙ ap (λ ns. c.loop-n.found.items ++ apart ns c.loop-n.rest.now) (sym (next_drop some i n c.loop-n-test.true (get_or_default some i 0 n c.loop-n-test.true)))
     ∙ c.loop-n.invariant
 
 pub returns : goal.returns
-returns g c = ?
+returns g c =
+    c.in_ok-extend_from_slice.ensures.items
+    ∙ ap (λ ns. c.loop-n.found.items ++ apart ns c.loop-n.rest.now) (sym (drop_of_length-le c.args.some.now c.loop-n-test.false))
+    ∙ c.loop-n.invariant
