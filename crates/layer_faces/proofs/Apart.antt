@@ -94,10 +94,13 @@ first_taken n g [] l e = absurd (omega (arith, l))
 first_taken n g (m ∷ ms) l e =
     ap g (take_all (length (m ∷ ms) - 1) ms (omega arith)) ∙ sym (ap (λ b. cond b (g ms) (n ∷ g (m ∷ ms))) (same_as m n e))
 
+is_below : (m n : ℕ) → ltb m n ≡ true → m < n
+is_below m n e = search (rules, tests)
+
 -- n is not the first of what follows
-pub taken_short : (n : ℕ) (g : List ℕ → List ℕ) (back : List ℕ) → length back < 1 → taken n g back ≡ n ∷ g back
+pub taken_short : (n : ℕ) (g : List ℕ → List ℕ) (back : List ℕ) → ltb (length back) 1 ≡ true → taken n g back ≡ n ∷ g back
 taken_short n g [] l = refl
-taken_short n g (m ∷ ms) l = absurd (omega (arith, l))
+taken_short n g (m ∷ ms) l = let few : length (m ∷ ms) < 1 = is_below (length (m ∷ ms)) 1 l in absurd (omega (arith, few))
 
 pub taken_other : (n : ℕ) (g : List ℕ → List ℕ) (back : List ℕ) → get_or back 0 0 ≢ n → taken n g back ≡ n ∷ g back
 taken_other n g [] l = refl

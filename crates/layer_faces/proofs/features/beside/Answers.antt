@@ -10,8 +10,8 @@ use Rattle.layer_faces.proofs.features.beside.Goals as goal
 pub opposite-requires : goal.opposite-requires
 opposite-requires g c = let h = c.requires.within c.loop-side.side-index 0 c.loop-side-test.true in omega (arith, h, c.requires.few)
 
-pub holders_at-holders-requires : goal.holders_at-holders-requires
-holders_at-holders-requires g c =
+pub holders_at-requires : goal.holders_at-requires
+holders_at-requires g c =
     subst (λ a. a < 2 * length c.args.borders.now) (sym c.opposite.ensures)
     (opposite_within (get_or c.args.sides.now c.loop-side.side-index 0) (length c.args.borders.now) (c.requires.within c.loop-side.side-index 0 c.loop-side-test.true))
 

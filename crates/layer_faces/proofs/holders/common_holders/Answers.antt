@@ -1,4 +1,4 @@
-use Rattle.kit_words.proofs.Common.{◌≡◌, ◌∙◌, subst, take_all, All}
+use Rattle.kit_words.proofs.Common.{◌≡◌, ◌∙◌, All, subst, take_all}
 use Rattle.std.proofs.lemmas.List.Elements.{All-more}
 use Rattle.layer_sides.specs.Seen.{borders_seen}
 use Rattle.layer_faces.specs.Kept.{held_at}
