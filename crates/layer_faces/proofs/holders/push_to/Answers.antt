@@ -14,6 +14,6 @@ returns-in_ok-push-in_default g c more =
     c.count_below.ensures.value c.split_at.ensures.front c.split_at.ensures.back c.in_ok-extend_from_slice.ensures.items
     _ c.in_ok-push-in_default.ensures.items
     (elim c.in_default.branch [
-      in_default-via-then-above-lt1 w ↦ taken_short c.args.n more c.split_at.result.1.now w.if-above-lt1-1.true
-    | in_default-via-in-len1-up+else-first-n w ↦ taken_other c.args.n more c.split_at.result.1.now w.if-first-n.false
+      | in_default-via-then-above-lt1 w ↦ taken_short c.args.n more c.split_at.result.1.now w.if-above-lt1-1.true
+      | in_default-via-in-len1-up+else-first-n w ↦ taken_other c.args.n more c.split_at.result.1.now w.if-first-n.false
     ])
