@@ -25,6 +25,7 @@ no_times : (z : ℤ) → pos 0 *ℤ z ≡ pos 0
 no_times z = zero-*ℤ z
 
 one_times : (z : ℤ) → pos 1 *ℤ z ≡ z
+unfolding lib.IntN.one
 one_times z = *ℤ_comm (pos 1) z ∙ *ℤ-one z
 
 once_if_any : (ns : List ℕ) (z : ℤ) → at_most_once ns *ℤ z ≡ cond (is_any ns) z (pos 0)

@@ -1,14 +1,17 @@
 -- Sums over the faces so far, one more; and what is told of the polygons so far.
 use Rattle.kit_words.proofs.Common.{◌≡◌, ℕ, zero, suc, ◌+◌, ◌-◌, ◌*◌, ◌<◌, ◌≤◌, ◌^◌, ℤ, pos, ◌+ℤ◌, ◌*ℤ◌, unsigned_abs, refl, sym, ap, ap₂, ◌∙◌, subst, arith, ints, cond, eqb}
-use Rattle.kit_words.proofs.Common.{replicate, List, [], ◌∷◌, ◌++◌, map, length, get_or, take, drop, next_drop, append_assoc, true, false, Bool}
+use Rattle.kit_words.proofs.Common.{replicate, List, [], ◌∷◌, ◌++◌, map, length, get_or, take, drop, drop_all, next_drop, append-nil, append_assoc, true, false, Bool}
+use Rattle.kit_words.proofs.Common.{to_z, of_z, w128, unsigned_abs-mul}
 use Rattle.std.proofs.Math.Nat.{mul-le-mul_right}
+use Rattle.std.proofs.lemmas.Int.{fits_signed_from_abs, to_z-of_z}
 use Rattle.std.proofs.lemmas.List.Sums.{sum_by_more, sum_by-take-le}
 use Rattle.layer_sides.specs.Common.{Polygon}
 use Rattle.layer_faces.specs.declared.face.Face.{Face}
 use Rattle.layer_faces.specs.declared.kind.Kind.{Kind}
 use Rattle.layer_faces.specs.declared.uneven.Uneven.{Uneven}
 use Rattle.layer_faces.specs.Areas.{total}
-use Rattle.layer_faces.specs.Weighed.{area_of_kinds, reach, told_beside, told_beside_all}
+use Rattle.ring_machine.specs.Common.{polygon_area}
+use Rattle.layer_faces.specs.Weighed.{area_of_kinds, reach, told_beside, told_beside_all, told_if}
 use Rattle.layer_faces.proofs.Totals.{total_more}
 use Rattle.layer_faces.proofs.Adding.{times_near}
 
@@ -32,6 +35,20 @@ module _ {A : Type 0} (faces : List (Face A)) (i : ℕ) (f : Face A) (l : i < le
 pub kind_near : (b : Bool) (z y : ℤ) → y ≡ cond b z (pos 0) → unsigned_abs y ≤ unsigned_abs z
 kind_near true z y e = omega (arith, ints)
 kind_near false z y e = omega (arith, ints)
+
+-- an area as often as k
+pub often_small : (k : ℕ) (z : ℤ) → k ≤ 4000000 → unsigned_abs (pos k *ℤ z) ≤ 4000000 * unsigned_abs z
+often_small k z few =
+    let part : unsigned_abs (pos k *ℤ z) ≡ k * unsigned_abs z = unsigned_abs-mul (pos k) z in
+    let grows = mul-le-mul_right {m = k} {n = 4000000} (unsigned_abs z) few in
+    omega (arith, part, grows)
+
+pub often_is : (k : ℕ) (x y z : ℤ) → k ≤ 4000000 → unsigned_abs z ≤ 16000000000000000000000000000000 → x ≡ pos k → y ≡ z
+    → to_z w128 (of_z w128 (x *ℤ y)) ≡ pos k *ℤ z
+often_is k x y z few small e f =
+    let near = often_small k z few in
+    let is : x *ℤ y ≡ pos k *ℤ z = ap₂ ◌*ℤ◌ e f in
+    ap (λ v. to_z w128 (of_z w128 v)) is ∙ to_z-of_z w128 (pos k *ℤ z) (fits_signed_from_abs w128 (pos k *ℤ z) (omega (arith, near, small)))
 
 -- room for the area of one more face in each sum
 pub room_left : (r a len : ℕ) (z : ℤ) → unsigned_abs z ≤ 4000000 * r → len ≤ 4000000 → r + a ≤ 16000000000000000000000000000000
@@ -60,6 +77,18 @@ told_next seen found more ps zs i p z all l e k f added h =
     ap₂ (λ qs ys. told_beside_all i (map seen qs) ys) (next_drop ps i p l e) (next_drop zs i z k f)
     ∙ ap (λ j. told_beside i (seen p) z ++ told_beside_all j (map seen (drop (i + 1) ps)) (drop (i + 1) zs)) after in
     ap (λ (us : List Uneven). us ++ rest) added ∙ append_assoc found (told_beside i (seen p) z) rest ∙ ap (λ (us : List Uneven). found ++ us) (sym next) ∙ h
+
+-- a polygon that is told with these areas
+pub told_same : (found more : List Uneven) (i : ℕ) (p : Polygon) (a b z : ℤ) → a ≡ polygon_area p → b ≡ z
+    → more ≡ found ++ told_if (record { polygon = i; by_rings = a; even_odd = b }) → more ≡ found ++ told_beside i p z
+told_same found more i p a b z e f h =
+    h ∙ ap₂ (λ (y x : ℤ). found ++ told_if (record { polygon = i; by_rings = y; even_odd = x })) e f
+
+-- nothing is told of the rest where nothing is left
+pub told_all : {X : Type 0} (seen : X → Polygon) (found all : List Uneven) (ps : List X) (zs : List ℤ) (i : ℕ) → length ps ≤ i
+    → found ++ told_beside_all i (map seen (drop i ps)) (drop i zs) ≡ all → found ≡ all
+told_all seen found all ps zs i l h =
+    sym (append-nil found) ∙ ap (λ qs. found ++ told_beside_all i (map seen qs) (drop i zs)) (sym (drop_all i ps l)) ∙ h
 
 -- ---- before any face
 
