@@ -1,7 +1,8 @@
 -- The lists of elements, one after another, where the elements stand in another order.
-use Rattle.kit_words.proofs.Common.{◌≡◌, ℕ, zero, suc, ◌<◌, arith, subst, List, [], ◌∷◌, ◌++◌, append_assoc, length, get_or, set, IsPermutation}
-use Rattle.std.specs.List.{flat_map, swap}
-use Rattle.std.proofs.lemmas.List.Sorted.{IsPermutation-append_comm, IsPermutation-append_left, IsPermutation-append_right, IsPermutation-keeps, IsPermutation-refl, IsPermutation-trans}
+use Rattle.kit_words.proofs.Common.{◌≡◌, ℕ, zero, suc, ◌<◌, arith, subst, sym, All, List, [], ◌∷◌, ◌++◌, append_assoc, length, get_or, set, IsPermutation}
+use Rattle.std.specs.List.{flat_map, range_with_len, swap}
+use Rattle.std.proofs.lemmas.List.FromFn.{get_or-range_with_len, length-range_with_len}
+use Rattle.std.proofs.lemmas.List.Sorted.{All-permutation, IsPermutation-append_comm, IsPermutation-append_left, IsPermutation-append_right, IsPermutation-keeps, IsPermutation-refl, IsPermutation-trans}
 
 front : {Y : Type 0} (a b c : List Y) → IsPermutation (a ++ (b ++ c)) (b ++ (a ++ c))
 front a b c =
@@ -40,3 +41,14 @@ module _ {X Y : Type 0} (f : X → List Y) where
   flat_permuted xs ys p =
       IsPermutation-keeps xs (λ l. IsPermutation (flat_map f xs) (flat_map f l)) (IsPermutation-refl (flat_map f xs))
       (λ l i j h k so_far. IsPermutation-trans (flat_map f xs) (flat_map f l) (flat_map f (swap l i j)) so_far (exchanged l i j h k)) ys p
+
+  -- the elements of what they join to are still all
+  pub still_all : (all ms : List Y) (xs ys : List X) → IsPermutation all ms → flat_map f xs ≡ ms → IsPermutation xs ys → IsPermutation all (flat_map f ys)
+  still_all all ms xs ys p e q =
+      IsPermutation-trans all (flat_map f xs) (flat_map f ys) (subst (IsPermutation all) (sym e) p) (flat_permuted xs ys q)
+
+-- the numbers below n, in whatever order
+pub numbers_below : (n : ℕ) (ms : List ℕ) → IsPermutation (range_with_len 0 n) ms → All (λ m. m < n) ms
+numbers_below n ms p =
+    All-permutation (λ m. m < n) (range_with_len 0 n) ms p
+    (λ k d l. let short : k < n = omega (arith, l, length-range_with_len 0 n) in let at = get_or-range_with_len 0 n k d short in omega (arith, short, at))
