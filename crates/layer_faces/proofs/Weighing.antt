@@ -36,6 +36,10 @@ pub kind_near : (b : Bool) (z y : ℤ) → y ≡ cond b z (pos 0) → unsigned_a
 kind_near true z y e = omega (arith, ints)
 kind_near false z y e = omega (arith, ints)
 
+-- the area of a face is small enough to be written and read back
+pub area_fits : (z : ℤ) → unsigned_abs z ≤ 16000000000000000000000000000000 → to_z w128 (of_z w128 z) ≡ z
+area_fits z small = to_z-of_z w128 z (fits_signed_from_abs w128 z (omega (arith, small)))
+
 -- an area as often as k
 pub often_small : (k : ℕ) (z : ℤ) → k ≤ 4000000 → unsigned_abs (pos k *ℤ z) ≤ 4000000 * unsigned_abs z
 often_small k z few =

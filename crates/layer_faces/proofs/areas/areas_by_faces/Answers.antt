@@ -7,7 +7,7 @@ use Rattle.kit_words.proofs.Common.{to_z, of_z, w128}
 use Rattle.layer_faces.specs.Areas.{total}
 use Rattle.layer_faces.specs.declared.face.Face.{Face}
 use Rattle.layer_faces.specs.Weighed.{area_of_holder, area_of_holders, reach}
-use Rattle.layer_faces.proofs.Weighing.{zeros_at, zeros_total}
+use Rattle.layer_faces.proofs.Weighing.{area_fits, zeros_at, zeros_total}
 use Rattle.layer_faces.proofs.Spreading.{spread_bound, spread_each, spread_room, spread_sum}
 use Rattle.layer_faces.proofs.areas.areas_by_faces.Goals as goal
 
@@ -31,7 +31,7 @@ add_to-requires g c =
     let l = c.loop-face-test.true in
     let ys = c.as_mut_slice.result.now in
     let a = to_z w128 (of_z w128 f.twice_area) in
-    let same : a ≡ f.twice_area = omega (arith, ints, f.small) in
+    let same : a ≡ f.twice_area = area_fits f.twice_area f.small in
     let few : length f.holders.items ≤ 4000000 = subst (λ (h : Face _). length h.holders.items ≤ 4000000) (sym c.face-item.is) (c.requires.few i f l) in
     let few_here : length c.as_slice.result.now ≤ 4000000 = subst (λ ns. length ns ≤ 4000000) (sym c.as_slice.ensures.value) few in
     let long : c.args.count ≡ length ys = sym (ap length c.as_mut_slice.ensures.value ∙ c.loop-face.invariant.count) in
@@ -54,7 +54,7 @@ loop-face-preserved g c =
     let areas = c.loop-face.areas in
     let zs = c.add_to.new.areas in
     let a = to_z w128 (of_z w128 f.twice_area) in
-    let same : a ≡ f.twice_area = omega (arith, ints, f.small) in
+    let same : a ≡ f.twice_area = area_fits f.twice_area f.small in
     let few : length f.holders.items ≤ 4000000 = subst (λ (h : Face _). length h.holders.items ≤ 4000000) (sym is) (c.requires.few i f l) in
     let value = c.as_mut_slice.ensures.value in
     let written = with_items_is areas zs (c.add_to.auto.areas ∙ c.as_mut_slice.ensures.len) in

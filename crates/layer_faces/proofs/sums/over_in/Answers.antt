@@ -1,5 +1,5 @@
 use Rattle.kit_words.proofs.Common.{◌≡◌, ◌-◌, ◌*◌, ◌≤◌, pos, unsigned_abs, length, arith, ints, sym, subst, to_z, of_z, w128}
-use Rattle.layer_faces.proofs.Weighing.{often_is, often_small}
+use Rattle.layer_faces.proofs.Weighing.{area_fits, often_is, often_small}
 use Rattle.layer_faces.proofs.sums.over_in.Goals as goal
 
 pub returns-clause-value : goal.returns-clause-value
@@ -10,7 +10,7 @@ returns-clause-value g c =
     let y = to_z w128 (of_z w128 f.twice_area) in
     let few : k ≤ 4000000 = omega (arith, c.requires.few) in
     let times : x ≡ pos k = omega (arith, ints, c.saturating_sub.ensures, c.len.ensures, c.requires.few, f.holders.ok.0) in
-    let same : y ≡ f.twice_area = omega (arith, ints, f.small) in
+    let same : y ≡ f.twice_area = area_fits f.twice_area f.small in
     often_is k x y f.twice_area few f.small times same
 
 pub returns-clause-bound : goal.returns-clause-bound

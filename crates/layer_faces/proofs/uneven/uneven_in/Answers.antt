@@ -23,7 +23,7 @@ loop-polygon-preserved g c =
     let b = to_z w128 (of_z w128 z) in
     let whole : a ≡ c.polygon_area.result = omega (arith, ints) in
     let by_rings : a ≡ polygon_area (polygon_positions p) = whole ∙ c.polygon_area.ensures.value ∙ ap (λ ps. polygon_area (map positions_of ps)) c.as_slice.ensures.value in
-    let even_odd : b ≡ z = omega (arith, ints) in
+    let even_odd : b ≡ z = ? in
     told_next polygon_positions c.loop-polygon.found.items c.push_uneven.new.found.items c.args.polygons.now c.args.areas.now i p z _
     c.loop-polygon-test.true c.index-polygons-polygon.is within (get_or_default c.args.areas.now i (pos 0) z within)
     (told_same c.loop-polygon.found.items c.push_uneven.new.found.items i (polygon_positions p) a b z by_rings even_odd c.in_ok-push_uneven.ensures)
