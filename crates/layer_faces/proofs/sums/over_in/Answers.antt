@@ -1,4 +1,5 @@
-use Rattle.kit_words.proofs.Common.{◌≡◌, ◌-◌, ◌*◌, ◌≤◌, pos, unsigned_abs, length, arith, ints, sym, subst, to_z, of_z, w128}
+use Rattle.kit_words.proofs.Common.{◌≡◌, ◌-◌, ◌*◌, ◌≤◌, pos, unsigned_abs, length, arith, ap, ◌∙◌, sym, subst, to_z, of_z, w128}
+use Rattle.std.proofs.lemmas.Int.{to_z_pos}
 use Rattle.layer_faces.proofs.Weighing.{area_fits, often_is, often_small}
 use Rattle.layer_faces.proofs.sums.over_in.Goals as goal
 
@@ -9,7 +10,8 @@ returns-clause-value g c =
     let x = to_z w128 c.saturating_sub.result in
     let y = to_z w128 (of_z w128 f.twice_area) in
     let few : k ≤ 4000000 = omega (arith, c.requires.few) in
-    let times : x ≡ pos k = omega (arith, ints, c.saturating_sub.ensures, c.len.ensures, c.requires.few, f.holders.ok.0) in
+    let times_are : c.saturating_sub.result ≡ k = omega (arith, c.saturating_sub.ensures, c.len.ensures, f.holders.ok.0) in
+    let times : x ≡ pos k = to_z_pos w128 c.saturating_sub.result (omega (arith, times_are, few)) ∙ ap pos times_are in
     let same : y ≡ f.twice_area = area_fits f.twice_area f.small in
     often_is k x y f.twice_area few f.small times same
 
