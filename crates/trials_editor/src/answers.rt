@@ -1,5 +1,5 @@
 //! Lines that tests give to an editor, and what it answers.
-ghost use Rattle.std.specs.Prelude.{IfSome};
+ghost use Rattle.std.specs.Prelude.{IfSome, IsTrue};
 ghost use Rattle.edit_records.specs.Commands.{IsSound};
 
 use crate::maps::Heap;
@@ -39,12 +39,35 @@ impl Said {
     }
 }
 
+/// Whether the path of a split has from 2 to 256 positions, as each has that a line gives.
+fn is_sound(command: &Command) -> bool
+    ensures { IsTrue result → IsSound command.now }
+{
+    if let Command::Split(_, _, path) = command {
+        let count = path.0.len();
+        return 2 <= count && count <= 256;
+    }
+    true
+}
+
+/// The command, where it is sound.
+fn sound(command: Command) -> Option<Command>
+    ensures { IfSome result IsSound }
+{
+    if is_sound(&command) {
+        Some(command)
+    } else {
+        drop(command);
+        None
+    }
+}
+
 /// The command of a line; none where it is no command.
 pub(crate) fn command_of(alloc: Global, line: &str) -> Option<Command>
     ensures { IfSome result IsSound }
 {
     match parse_line(alloc, line.as_bytes()) {
-        Ok(Line::Edit(command)) => Some(command),
+        Ok(Line::Edit(command)) => sound(command),
         _ => None,
     }
 }
