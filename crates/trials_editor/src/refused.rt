@@ -218,15 +218,15 @@ pub(crate) fn there_and_back(stage: &mut Stage<'_>, usuals: &[Usual]) -> Option<
 // ---- each in turn
 
 /// The number of the first allocation after the editor of the text is there; its map is then as before
-/// the usual lines. Each one before is refused in turn, the last of them to the history. `None` where it
-/// is not so.
+/// the usual lines (that one may be refused to its writing). Each one before is refused in turn, the last
+/// of them to the history. `None` where it is not so.
 fn first_growth(alloc: Global, text: &'static str, usuals: &mut Vec<Usual>) -> Option<u64> {
     let mut was_handed_back = false;
     for nth in 1..MANY {
         match on_editor(alloc, text, nth, Job::Open, usuals) {
             (Came::NoMap, true) if !was_handed_back => (),
             (Came::HandedBack(true), true) if !was_handed_back => was_handed_back = true,
-            (Came::Done(Some(_)), false) if was_handed_back => return Some(nth),
+            (Came::Done(Some(_)), _) if was_handed_back => return Some(nth),
             _ => return None,
         }
     }
