@@ -213,8 +213,10 @@ TRIED = [
 BY_ANOTHER = "not proved; it calls `one::put`, which is not proved"
 SHARED = [
     ([("", "put")], {"one::put": "no holes"}, "NOT REFUSED"),
-    ([("", "put")], {"one::Set::put": "not proved; it stands on `proofs.put`, which antt refuses"}, "refused"),
-    ([("", "put")], {"one::put": "depends on a hole in `Rattle.one.proofs.put.Answers.returns`"}, "refused"),
+    ([("", "put")], {"one::Set::put": "not proved; it stands on `proofs.put.Answers.returns`, which antt refuses"},
+     "refused"),
+    ([("", "put")], {"one::put": "not proved; it stands on `proofs.add.Answers.returns`, which antt refuses"}, None),
+    ([("", "put")], {"one::put": "depends on a hole in `proofs.add.Answers.returns`"}, None),
     ([("", "put")], {"one::put": "no proof: `search` did not prove `returns`"}, "refused"),
     ([("", "put")], {"one::put": "no proof: it calls `one::add`, which is not proved"}, None),
     ([("", "put")], {"one::put": "could not tell"}, None),

@@ -14,7 +14,8 @@ LINE = re.compile(r"fn (\S+): (.*)")
 FAULT = re.compile(r"(src/\S+?):(\d+):\d+: error")
 # What a check says of a function with nothing against it, and of one whose proof stands on one that has none.
 PROVED, BY_ANOTHER = ("no holes", "proved"), "it calls `"
-NOT_PROVED = "not proved", "depends on a hole", "no proof"
+# What it says of one that is not proved, and the proof that it names then.
+NOT_PROVED, CITED = ("not proved", "no proof"), re.compile(r"it stands on `([^`]*)`")
 
 # A change of a file, and where it stands: the module's path and the function's name.
 Change = collections.namedtuple("Change", "file old new place")
@@ -87,13 +88,18 @@ def said_at(crate, place, said):
     return [text for name, text in said.items() if name.startswith(front) and name.endswith(f"::{function}")]
 
 
+def is_own(function, text):
+    """Whether the proof that is refused, where one is named, is that of the function."""
+    return all(function in cited.split(".") for cited in CITED.findall(text))
+
+
 def verdict_of(crate, changes, said):
     """What a check says of an edit: that it is refused, that it is not, or None where it does not tell."""
     verdicts = set()
     for change in changes:
         texts = said_at(crate, change.place, said)
         own = [text for text in texts if not text.startswith(PROVED) and BY_ANOTHER not in text]
-        if any(text.startswith(NOT_PROVED) for text in own):
+        if any(text.startswith(NOT_PROVED) and is_own(change.place[1], text) for text in own):
             return "refused"
         verdicts.add(bool(texts) and all(text.startswith(PROVED) for text in texts))
     return "NOT REFUSED" if verdicts == {True} else None
