@@ -101,7 +101,9 @@ class Page:
         return self.later("editor.check()")
 
     def errors(self):
-        return [entry["message"] for entry in self.driver.get_log("browser") if entry["level"] == "SEVERE"]
+        """Errors on the console, but those of a page before, whose server has ended."""
+        said = [entry["message"] for entry in self.driver.get_log("browser") if entry["level"] == "SEVERE"]
+        return [text for text in said if self.url in text or "ERR_CONNECTION_REFUSED" not in text]
 
     def element(self, name):
         return self.driver.find_element(By.ID, name)
