@@ -10,8 +10,8 @@
              at the top of a fresh clone of the last commit, one after another, and prints what the block after it
              holds, where that begins with ```text; else its status is 0 or 1
 
-A block's `./run` runs the border_edit that is named, and the programs that BORDER_EDIT, BORDER_SHOW, BORDER_MEND and
-BORDER_EXPORT name; otherwise those that `rt ci` and `./build` left here, or else it builds an unproved one, once. What it
+A block's `./run` runs the border_edit that is named, and the programs that BORDER_EDIT, BORDER_SHOW, BORDER_MEND,
+BORDER_COVER and BORDER_EXPORT name; otherwise those that `rt ci` and `./build` left here, or else it builds an unproved one, once. What it
 says of that is left out here.
 
 There is one line for each fault, and one that counts; the status is 0 where there is no fault.
@@ -27,7 +27,7 @@ import tempfile
 TOP = pathlib.Path(__file__).resolve().parent.parent
 MOST_LINES, MOST_COLUMNS = 250, 120
 TYPED = ["README.md", "docs/TUTORIAL.md", "docs/TESTED.md"]
-PROGRAMS = ["border_edit", "border_show", "border_mend", "border_export"]
+PROGRAMS = ["border_edit", "border_show", "border_mend", "border_cover", "border_export"]
 FOLDERS = {"gate": "must-fail", "inner": "inner-edits"}
 # What ./run says of itself.
 NOTICE = re.compile(r"^programs: ")

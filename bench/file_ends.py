@@ -18,7 +18,7 @@ import xml.dom.minidom
 import xml.parsers.expat
 
 TOP = pathlib.Path(__file__).resolve().parent.parent
-EDIT, SHOW, MEND, EXPORT = "edit", "show", "mend", "export"
+EDIT, SHOW, MEND, EXPORT, COVER = "edit", "show", "mend", "export", "cover"
 NOBODY = 65534
 LIMIT = 60
 
@@ -187,6 +187,8 @@ NOT_UTF8 = [
     (MEND, [b"wards.json", b"--places", b"\xff"]),
     (SHOW, [b"\xff.json", b"--out", b"saved"]),
     (SHOW, [b"squares.json", b"--out", b"\xff"]),
+    (COVER, [b"\xff.json"]),
+    (COVER, [b"squares.json", b"--layer", b"\xff"]),
     (EXPORT, [b"\xff.json", b"--out", b"saved"]),
     (EXPORT, [b"squares.json", b"--out", b"saved", b"--layer", b"\xff"]),
 ]

@@ -1,5 +1,5 @@
 #!/usr/bin/env python3
-"""Runs the built programs border_edit, border_mend, border_show and border_export with each growth of their memory refused.
+"""Runs the built programs border_edit, border_mend, border_show, border_cover and border_export with each growth refused.
 
 The tests of the gate refuse growths of one allocator. Here the C library's `malloc` and `realloc` are
 refused under the whole program, one call a run: also those for the words, for the files, and for what is
@@ -9,7 +9,7 @@ where the growth was not needed, as it would have ended. The script has an edit 
 undos, and questions. So it is with `--refused` and two lines more that are refused, where the run may also
 end so when FILE holds the map and FILE2 a front of the list. border_mend mends a map that has decimals, a line,
 points and sides that cross: such a run ends with the same statuses and lines, and FILE is as it was. So it is with
-border_show, which draws the surroundings of a feature that an edit has removed, and with border_export.
+border_show, which draws the surroundings of a feature that an edit has removed, with border_cover, and with border_export.
 
 It needs a C compiler, for the few lines that stand before the C library. The programs have to stand already
 (`rt ci` leaves them); others can be named. bench/program.py runs this too. The status is 0 where each run ended so.
@@ -51,6 +51,12 @@ LEFT = """{"type":"Topology","objects":{"land":{"type":"Polygon","id":"A","arcs"
 NESTED = """{"type":"Topology","transform":{"scale":[0.25,1e-1],"translate":[0,0]},"crs":{"n":1},"objects":{"a":{"type":null},"land":
 {"type":"GeometryCollection","geometries":[{"type":"GeometryCollection","geometries":[{"type":"Polygon","id":"A","arcs":[[0]],
 "geometry":{"c":1}},{"type":"MultiPoint","coordinates":[[1,20]]}]}]}},"arcs":[[[0,0],[10,0],[0,10],[-10,-10]]]}"""
+# An overlap, land that two polygons of one feature have, a gap, a lake, and a hole outside its outer ring, in two layers.
+LAPPED = """{"type":"Topology","objects":{"land":{"type":"GeometryCollection","geometries":[{"type":"Polygon","arcs":[[0],[1],[2]]},
+{"type":"Polygon","arcs":[[3]]},{"type":"MultiPolygon","arcs":[[[4]],[[4]]]},{"type":"Polygon","arcs":[[5]]}]},
+"b":{"type":"Polygon","arcs":[[4],[5]]}},"arcs":[[[0,0],[10,0],[10,3],[10,7],[10,10],[0,10],[0,0]],
+[[5,3],[10,3],[10,7],[5,7],[5,3]],[[2,2],[2,4],[4,4],[2,2]],[[10,0],[20,0],[20,10],[10,10],[10,7],[10,3],[10,0]],
+[[30,0],[40,0],[40,10],[30,0]],[[15,5],[16,5],[16,6],[15,5]]]}"""
 # More than the growths of the run.
 MANY = 100_000
 REFUSING = r"""
@@ -208,6 +214,33 @@ def drawn(program, folder, library):
     return made(words, folder / "drawn.svg", library, ["left.json: B", "conflict"])
 
 
+def cover(program, folder, more):
+    """The status, what stands on standard output and standard error, of a map with a line of each kind."""
+    words = [program, folder / "lapped.json", "--layer", "land", "--layer", "b"]
+    ran = subprocess.run(words, capture_output=True, text=True, timeout=60, env={**os.environ, **more})
+    return ran.returncode, ran.stdout, ran.stderr
+
+
+def covered(program, folder, library):
+    """The same counts of border_cover, which prints a report where there is memory for it, and else nothing."""
+    (folder / "lapped.json").write_text(LAPPED)
+    whole = cover(program, folder, {})
+    if whole[0] != 1 or whole[2] or not whole[1].endswith("counts overlap 1 twice 1 gap 1 lake 1 uneven 1\n"):
+        print(f"the overlaps are not told: {whole}")
+        return 0, 0, 1
+    wrong = wanting = 0
+    for nth in range(1, MANY):
+        done = cover(program, folder, {"LD_PRELOAD": str(library), "REFUSED": str(nth)})
+        if done[0] == 100:  # there are fewer growths
+            break
+        if done == (3, "", "out of memory\n"):
+            wanting += 1
+        elif done != whole:
+            wrong += 1
+            print(f"growth {nth}: {done}")
+    return nth - 1, wanting, wrong
+
+
 def exported(program, folder, library):
     """The same counts of border_export."""
     (folder / "nested.json").write_text(NESTED)
@@ -215,8 +248,8 @@ def exported(program, folder, library):
     return made(words, folder / "areas.geojson", library, ["[0.25,2]", '"c":1'])
 
 
-def refused(edit, mend, show, export):
-    """The counts of each of the five runs."""
+def refused(edit, mend, show, cover, export):
+    """The counts of each of the six runs."""
     with tempfile.TemporaryDirectory() as name:
         folder = pathlib.Path(name)
         shutil.copy(MAP, folder / "squares.json")
@@ -225,13 +258,14 @@ def refused(edit, mend, show, export):
             yield tried(edit, folder, library, is_listed)
         yield mended(mend, folder, library)
         yield drawn(show, folder, library)
+        yield covered(cover, folder, library)
         yield exported(export, folder, library)
 
 
 def told(programs):
     """Runs all, writes what differs, and counts the runs and those that differ."""
-    tries = list(refused(*(programs[name] for name in ("edit", "mend", "show", "export"))))
-    names = "border_edit", "border_edit --refused", "border_mend", "border_show", "border_export"
+    tries = list(refused(*(programs[name] for name in ("edit", "mend", "show", "cover", "export"))))
+    names = "border_edit", "border_edit --refused", "border_mend", "border_show", "border_cover", "border_export"
     for what, (_, wanting, _) in zip(names, tries):
         if not wanting:
             print(f"{what}: no growth was wanting")
@@ -240,7 +274,7 @@ def told(programs):
 
 def main():
     words = argparse.ArgumentParser(description=__doc__.split("\n", 1)[0])
-    running.add_programs(words, "edit", "mend", "show", "export")
+    running.add_programs(words, "edit", "mend", "show", "cover", "export")
     if not file_ends.compiler():
         print("no compiler")
         return 2

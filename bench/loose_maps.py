@@ -94,10 +94,16 @@ KNOTS = {
 }
 
 
+def in_layer(geometries, arcs):
+    """The text of a map with one layer, of these geometries."""
+    layer = {"type": "GeometryCollection", "geometries": geometries}
+    return json.dumps({"type": "Topology", "objects": {"rings": layer}, "arcs": arcs})
+
+
 def plain(rings):
     """The text of a map in which each of these rings is a feature."""
-    layer = {"type": "GeometryCollection", "geometries": [{"type": "Polygon", "arcs": [[n]]} for n in range(len(rings))]}
-    return json.dumps({"type": "Topology", "objects": {"rings": layer}, "arcs": [[*ring, ring[0]] for ring in rings]})
+    geometries = [{"type": "Polygon", "arcs": [[n]]} for n in range(len(rings))]
+    return in_layer(geometries, [[*ring, ring[0]] for ring in rings])
 
 
 # ---- drawn rings

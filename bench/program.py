@@ -1,8 +1,8 @@
 #!/usr/bin/env python3
 """Runs the built program border_edit to each of its ends, and looks at FILE before and after; and runs border_mend,
-border_show and border_export to each of theirs (bench/mend_ends.py, bench/show_ends.py, bench/export_ends.py), all four
-programs on files of all kinds (bench/file_ends.py), all four with each growth of their memory refused in turn
-(bench/growths.py), and border_export on hostile texts (bench/export_hostile.py).
+border_show, border_cover and border_export to each of theirs (bench/mend_ends.py, bench/show_ends.py,
+bench/cover_ends.py, bench/export_ends.py), all programs on files of all kinds (bench/file_ends.py), all with each
+growth of their memory refused in turn (bench/growths.py), and border_export on hostile texts (bench/export_hostile.py).
 
 Tests of the crates call what `main` calls. Here the program itself is called: with arguments, on files, on devices
 that are full, with little memory, and with a terminal as standard error. The rows of bench/edit_ends.txt are run, and
@@ -26,6 +26,7 @@ import subprocess
 import sys
 import tempfile
 
+import cover_ends
 import edit_ends
 import export_ends
 import export_hostile
@@ -203,6 +204,7 @@ def advised_ends(words, listing):
     yield from mending_advised()
     yield from drawing_advised()
     yield from exporting_advised()
+    yield from covering_advised()
 
 
 def mending_advised():
@@ -249,6 +251,21 @@ def exporting_advised():
     ):
         told = f"{said}\n" + (f"{path}: {ADVICE[advice]}\n" if path else "")
         yield Row(f"border_export {' '.join(words)}, advice", words, status, "", told, KEPT, terminal=True, program="export")
+
+
+def covering_advised():
+    """The same of border_cover, which names no file where a layer is not there."""
+    report = 'sum 400 over 0 covered 400 gaps 0 within 400 "land"\ncounts overlap 0 twice 0 gap 0 lake 0 uneven 0\n'
+    for words, status, answers, said, path, advice in (
+        (["squares.json"], 0, report, "", None, None),
+        (["cut.json"], 2, "", "open: not json at 1", "cut.json", "not json"),
+        (["halves.json"], 2, "", "open: not whole at 79", "halves.json", "not whole"),
+        (["crossing.json"], 2, "", "open: conflict 0 0 10 10 / 0 10 10 0", "crossing.json", "conflict"),
+        (["none.json"], 3, "", "map fault", "none.json", "read"),
+        (["squares.json", "--layer", "none"], 2, "", "no layer", None, None),
+    ):
+        told = (f"{said}\n" if said else "") + (f"{path}: {ADVICE[advice]}\n" if path else "")
+        yield Row(f"border_cover {' '.join(words)}, advice", words, status, answers, told, KEPT, terminal=True, program="cover")
 
 
 def strict_ends(words):
@@ -368,9 +385,9 @@ def faults(program, row):
 
 def main():
     words = argparse.ArgumentParser(description=__doc__.split("\n", 1)[0])
-    running.add_programs(words, "edit", "show", "mend", "export")
+    running.add_programs(words, "edit", "show", "mend", "cover", "export")
     programs = vars(words.parse_args())
-    rows = [*file_ends.rows(), *mend_ends.rows(), *show_ends.rows(), *export_ends.rows()]
+    rows = [*file_ends.rows(), *mend_ends.rows(), *show_ends.rows(), *cover_ends.rows(), *export_ends.rows()]
     parts = [file_ends.told(programs, rows), edit_ends.told(programs["edit"])]
     # fewer and smaller texts than that script has by itself, which takes longer than all of this
     parts.append(export_hostile.told(programs["export"], count=300, size=1000))

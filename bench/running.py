@@ -23,7 +23,7 @@ PROCESSOR = max(os.sched_getaffinity(0))
 PAUSE = 0.0005
 
 TOP = pathlib.Path(__file__).resolve().parent.parent
-PROGRAMS = {"edit": "border_edit", "show": "border_show", "mend": "border_mend", "export": "border_export"}
+PROGRAMS = {"edit": "border_edit", "show": "border_show", "mend": "border_mend", "export": "border_export", "cover": "border_cover"}
 
 Run = collections.namedtuple("Run", "seconds status out err")
 Count = collections.namedtuple("Count", "instructions misses")

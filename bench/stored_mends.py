@@ -6,6 +6,8 @@
                  is taken apart, the saved text is one of some, since no promise says in which order its parts stand
     drawn.txt    drawn maps, and two on which a search for paths may end too early: their findings by the search over all
                  pairs of bench/looking.py, the places of some, and that each is mended
+    covers.txt   the runs of bench/cover_runs.txt that were worked out by hand, and drawn maps that open, whose overlaps and
+                 gaps bench/covering.py tells
     parted.txt   drawn polygons of which no two segments cross, and how their areas change: a polygon that is taken apart has
                  what an odd number of its rings surrounds
 
@@ -18,6 +20,8 @@ import json
 import pathlib
 import random
 
+import cover_ends
+import covering
 import damaged
 import looking
 import loose_maps
@@ -27,6 +31,8 @@ from topology import edges, read, saved_text, with_features
 DATA = pathlib.Path(__file__).resolve().parent.parent / "crates/stored_mends/data"
 # How many maps are drawn; of each so many, one has its places.
 MAPS, PLACED = 300, 10
+# How many maps are drawn that open, and whose overlaps and gaps are told.
+COVERS = 100
 # How many polygons are drawn along the lines of a grid: how many positions its side has, how far these are from each
 # other, and the steps.
 POLYGONS, SIDE, STEP = 200, 5, 6
@@ -187,7 +193,55 @@ def parted_cases():
         yield parted(f"polygon {number}", random.Random(number))
 
 
-FILES = {"worked.txt": worked_cases, "drawn.txt": drawn_cases, "parted.txt": parted_cases}
+# ---- overlaps and gaps
+
+def covered(name, text, asked, lines, status):
+    """The case of what is told of a map that opens."""
+    bounds = [(word, str(value)) for word, value in (("width", asked.width), ("area", asked.area)) if value is not None]
+    given = [("map", text), *(("layer", layer) for layer in asked.names), *bounds, ("most", str(asked.most))]
+    return case(name, *given, ("status", str(status)), ("report", lines))
+
+
+def refused_covers():
+    """The cases of maps that do not open, or have not the layers that are asked for."""
+    texts, runs = cover_ends.sorted_lines()
+    for line in runs:
+        words, status, _, said = cover_ends.parts_of(line)
+        if status == "2":
+            name, asked = cover_ends.asked_by(words)
+            layers = [("layer", layer) for layer in asked.names]
+            yield case(f"border_cover {' '.join(words)}", ("map", texts[name]), *layers, ("fault", said))
+
+
+def open_map(draw):
+    """A drawn map of squares and triangles on a grid, which share borders, overlap and leave gaps."""
+    side, size = draw.randint(2, 4), draw.choice([1, 7, 10**9])
+    corners = [(size * x, size * y) for y in range(side + 1) for x in range(side + 1)]
+    cells = []
+    for y in range(side):
+        for x in range(side):
+            a, b, c, d = (corners[(y + j) * (side + 1) + x + i] for i, j in ((0, 0), (1, 0), (1, 1), (0, 1)))
+            cells += [[a, b, c], [a, c, d]]
+    features = []
+    for _ in range(draw.randint(2, 6)):
+        chosen = draw.sample(cells, draw.randint(1, min(5, len(cells))))
+        features.append([[ring if draw.random() < 0.5 else ring[::-1]] for ring in chosen])
+    return plain(features)
+
+
+def cover_cases():
+    for name, text, asked, lines, status in cover_ends.worked_runs():
+        yield covered(name, text, asked, lines, status)
+    yield from refused_covers()
+    for number in range(COVERS):
+        draw = random.Random(f"cover {number}")
+        text = open_map(draw)
+        asked = covering.Asked(width=draw.choice([None, None, 2, 10**9]), most=draw.choice([1000, 3]))
+        lines, status = covering.Cover(text).report(asked)
+        yield covered(f"overlaps and gaps {number}", text, asked, lines, status)
+
+
+FILES = {"worked.txt": worked_cases, "drawn.txt": drawn_cases, "parted.txt": parted_cases, "covers.txt": cover_cases}
 
 
 def main():

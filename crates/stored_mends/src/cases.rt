@@ -55,6 +55,11 @@ impl<'t> Case<'t> {
         }
     }
 
+    /// The number of the line with this word, if there is one.
+    pub(crate) fn wide_number(&self, word: &str) -> Option<u128> {
+        self.line(word)?.parse::<u128>().ok()
+    }
+
     /// The text of the lines with this word, with a line feed between two of them.
     pub(crate) fn text(&self, alloc: Global, word: &str) -> Result<Option<String>, AllocError> {
         if !self.has(word) {

@@ -1,9 +1,10 @@
 //! A test: maps that do not open, or have decimals, beside the answers that are stored in `data/`: what
-//! is reported of them, where it is, what they are mended to, and how they are put on a grid. Each
-//! answer that differs has a line, and each file its count.
+//! is reported of them, where it is, what they are mended to, and how they are put on a grid; and the overlaps
+//! and gaps of maps that open. Each answer that differs has a line, and each file its count.
 #![tactic(auto)]
 
 mod cases;
+mod covers;
 mod maps;
 mod points;
 mod stored;
@@ -26,10 +27,11 @@ enum Door {
     DropLines,
     PutPoints,
     KeepDigits,
+    Cover,
 }
 
 /// The files of cases, with what answers to them.
-const FILES: [(&str, Door, &str); 14] = [
+const FILES: [(&str, Door, &str); 15] = [
     ("worked.txt", Door::Report, "reports"),
     ("worked.txt", Door::Mend, "mended maps"),
     ("reports.txt", Door::Report, "reports"),
@@ -44,6 +46,7 @@ const FILES: [(&str, Door, &str); 14] = [
     ("lines.txt", Door::DropLines, "texts without lines"),
     ("points.txt", Door::PutPoints, "texts with points on a grid"),
     ("digits.txt", Door::KeepDigits, "decimals of grids"),
+    ("covers.txt", Door::Cover, "reports of overlaps and gaps"),
 ];
 
 /// How many cases there are, and how many of them have an answer that differs.
@@ -70,6 +73,7 @@ fn compare(stored: &mut Stored<'_>, door: Door, seed: RandomState) -> Result<(),
         Door::DropLines => points::compare_without_lines(stored),
         Door::PutPoints => points::compare_on_grid(stored),
         Door::KeepDigits => points::compare_digits(stored, seed),
+        Door::Cover => covers::compare_cover(stored, seed),
     }
 }
 

@@ -1,0 +1,112 @@
+"""The ends of border_cover: with which status it ends, what it prints, and what its arguments are read as.
+
+Most runs are lines of bench/cover_runs.txt, whose head says what a line means. What a run does not name has to stand as it
+stood before.
+"""
+import argparse
+import pathlib
+import re
+
+import file_ends
+import running
+from covering import Asked
+from file_ends import COVER, FULL, MEMORY, SEED, Row, Text
+
+TOP = pathlib.Path(__file__).resolve().parent.parent
+PAGE = pathlib.Path(__file__).resolve().parent / "cover_runs.txt"
+HELP = TOP / "crates/border_cover/src/help.rt"
+VERSION = TOP / "crates/program_ends/src/lib.rt"
+WRONG = "64"
+
+
+def sorted_lines():
+    """The texts of the page by their names, and its runs."""
+    lines = [line for line in PAGE.read_text(encoding="utf-8").splitlines() if line and not line.startswith("#")]
+    texts = dict(line.split(" = ", 1) for line in lines if " => " not in line)
+    return texts, [line for line in lines if " => " in line]
+
+
+def parts_of(line):
+    """The arguments of a line of the page, the status, the lines of the report, and the line on standard error."""
+    words, status, *rest = line.split(" => ")
+    report, said = (rest + ["", ""])[:2]
+    return words.split(" ") if words else [], status, report.split(";")[:-1], said
+
+
+def row_of(line, texts):
+    """The row of a line of the page."""
+    words, status, report, said = parts_of(line)
+    told = [] if status == WRONG else said + "\n" if said else ""
+    before = {name: Text(text) for name, text in texts.items()}
+    output = ["".join(one + "\n" for one in report), ""]
+    return Row(f"border_cover {line}", COVER, words, int(status), told, before, output=output)
+
+
+def asked_by(words):
+    """The map that arguments name, and what they ask for."""
+    parser = argparse.ArgumentParser()
+    parser.add_argument("map")
+    parser.add_argument("--layer", dest="names", action="append", default=[])
+    for name, usual in ("width", None), ("area", None), ("most", 1000):
+        parser.add_argument(f"--{name}", type=int, default=usual)
+    given = vars(parser.parse_args(words))
+    return given.pop("map"), Asked(**given)
+
+
+def worked_runs():
+    """The runs with a report: a name, the text of the map, what is asked, the lines and the status."""
+    texts, runs = sorted_lines()
+    for line in runs:
+        words, status, report, _ = parts_of(line)
+        if report:
+            name, asked = asked_by(words)
+            yield f"border_cover {' '.join(words)}", texts[name], asked, report, int(status)
+
+
+def told_without_map():
+    """What is told where no map is looked at: the help, which begins as it must, and the version; and without a seed."""
+    about = re.search('ABOUT: &str =\\s*"(.*)"', HELP.read_text())[1]
+    version = re.search('VERSION: &str = "(.*)"', VERSION.read_text())[1]
+    for words in ["--help"], ["map.json", "-h"]:
+        yield Row(f"border_cover {' '.join(words)}", COVER, words, 0, "", output=[about, None])
+    yield Row("border_cover --version", COVER, ["--version"], 0, "", output=[f"border_cover {version}\n", ""])
+    for fails, said in (FULL, "write fault\n"), (MEMORY, "out of memory\n"), (SEED, "no random seed\n"):
+        yield Row(f"border_cover squares.json, {fails}", COVER, ["squares.json"], 3, said, fails=fails)
+
+
+def many_findings():
+    """A map with one overlap more than the lines that a report usually has."""
+    count = 1001
+    squares = [[[x, y], [x + 1, y], [x + 1, y + 1], [x, y + 1], [x, y]] for x in range(0, 2 * count, 2) for y in (0,)]
+    shape = [[[n]] for n in range(count)]
+    geometries = ",".join(f'{{"type":"MultiPolygon","arcs":{shape}}}' for _ in "ab").replace(" ", "")
+    objects = f'{{"a":{{"type":"GeometryCollection","geometries":[{geometries}]}}}}'
+    text = f'{{"type":"Topology","objects":{objects},"arcs":{squares}}}'
+    lines = [f"overlap 0 1 / 2 1 / {x} 1 {x} 0\n" for x in range(0, 2 * count, 2)]
+    rest = f"wide 1 overlap {count} twice 0 gap 0 lake 0\n"
+    rest += f'sum {4 * count} over {2 * count} covered {2 * count} gaps 0 within {2 * count} "a"\n'
+    rest += f"counts overlap {count} twice 0 gap 0 lake 0 uneven 0\n"
+    for more, shown in ([], 1000), (["--most", "1001"], 1001):
+        report = "".join(lines[:shown]) + rest
+        yield Row(f"border_cover many.json {' '.join(more)}", COVER, ["many.json", *more], 1, "",
+                  {"many.json": Text(text)}, output=[report, ""])
+
+
+def rows():
+    texts, runs = sorted_lines()
+    for line in runs:
+        yield row_of(line, texts)
+    yield from told_without_map()
+    yield from many_findings()
+
+
+def main():
+    parser = argparse.ArgumentParser(description=__doc__)
+    running.add_programs(parser, "cover")
+    count, wrong = file_ends.told({"cover": parser.parse_args().cover}, list(rows()))
+    print(f"{count} runs, {wrong} wrong")
+    return wrong > 0
+
+
+if __name__ == "__main__":
+    raise SystemExit(main())

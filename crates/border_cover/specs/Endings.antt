@@ -1,0 +1,14 @@
+-- The line on standard error that tells why there is no report.
+use Rattle.std.specs.Prelude.{◌≡◌, Option, Some, None, IsSomeAnd}
+use Rattle.topo_outline.specs.declared.fault.OpenFault.TheVariants.{OutOfMemory}
+use Rattle.program_ends.specs.Common.{IsOpen}
+use Rattle.program_ends.specs.declared.diagnostic.Diagnostic.{Diagnostic}
+use Rattle.program_ends.specs.declared.diagnostic.Diagnostic.TheVariants.{NoMemory}
+use Rattle.cover_report.specs.declared.fault.CoverFault.{CoverFault}
+use Rattle.cover_report.specs.declared.fault.CoverFault.TheVariants.{Open}
+
+-- the line tells of the memory or of the map's fault; of the layers no program but this one has a line
+abbrev pub TellsFault : CoverFault → Option Diagnostic → Type 0
+TellsFault (Open OutOfMemory) line = line ≡ Some NoMemory
+TellsFault (Open fault) line = IsSomeAnd line (IsOpen fault)
+TellsFault fault line = line ≡ None

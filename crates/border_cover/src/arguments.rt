@@ -1,0 +1,49 @@
+//! What the arguments of the program ask for.
+ghost use Rattle.std.specs.Prelude.{◌≡◌, map, string_bytes, IfOk};
+ghost use Rattle.cover_report.specs.Common.{view_asked};
+ghost use Rattle.border_cover.specs.Asked.{wants_of};
+
+use cover_report::Asked;
+use std::alloc::{AllocError, Global};
+
+/// What the arguments of the program ask for.
+#[derive(Drop)]
+pub struct Arguments {
+    /// The path of the map.
+    pub map: String,
+    /// The names of the layers that are looked at; all, where there is none.
+    pub layers: Vec<String>,
+    /// The greatest width of a face that is told.
+    pub width: Option<u128>,
+    /// The greatest area of one, twice as large.
+    pub area: Option<u128>,
+    /// How many lines of one kind the report has at the most.
+    pub most: usize,
+}
+
+impl Arguments {
+    /// The names of the layers.
+    pub(crate) fn names(&self, alloc: Global) -> Result<Vec<&str>, AllocError>
+        ensures { IfOk result (λ names. map (λ name. name.now) names.items
+            ≡ map string_bytes self.now.layers.items) }
+    {
+        let mut names = Vec::new(alloc);
+        for name in self.layers.as_slice() {
+            names.push(name.as_str())?;
+        }
+        Ok(names)
+    }
+
+    /// What is asked of the report, by the names of the layers.
+    pub(crate) fn asked<'w>(&self, names: &'w [&'w str]) -> Asked<'w>
+        ensures { map (λ name. name.now) names.now ≡ map string_bytes self.now.layers.items
+            → view_asked result ≡ wants_of self.now }
+    {
+        Asked {
+            layers: names,
+            width: self.width,
+            area: self.area,
+            most: self.most,
+        }
+    }
+}

@@ -1,0 +1,69 @@
+-- The faces that are told, and how many there are.
+use Rattle.std.specs.Prelude.{ℕ, ℤ, pos, nat_le, int_le, nat_lt, Bool, true, false, ◌&&◌, ◌==◌, List, length, filter, Option, Some, None}
+use Rattle.std.specs.List.{count_by, flat_map}
+use Rattle.layer_faces.specs.declared.kind.Kind.{Kind}
+use Rattle.layer_faces.specs.declared.kind.Kind.TheVariants.{Overlap, Twice, Gap, Lake, Land, Outside}
+use Rattle.cover_report.specs.Asked.{Wants}
+use Rattle.cover_report.specs.Layers.{LookedAt}
+use Rattle.cover_report.specs.Faces.{FaceTold}
+use Rattle.cover_report.specs.declared.told.Counts.{Counts}
+use Rattle.cover_report.specs.declared.uneven.UnevenPolygon.{UnevenPolygon}
+
+abbrev pub is_kind : Kind → Kind → Bool
+is_kind Overlap Overlap = true
+is_kind Twice Twice = true
+is_kind Gap Gap = true
+is_kind Lake Lake = true
+is_kind Land Land = true
+is_kind Outside Outside = true
+is_kind one other = false
+
+-- the width, and the area, is within a bound, if there is one
+abbrev pub is_width_at_most : ℕ → Option ℕ → Bool
+is_width_at_most width None = true
+is_width_at_most width (Some most) = nat_le width most
+
+abbrev pub is_area_at_most : ℤ → Option ℕ → Bool
+is_area_at_most area None = true
+is_area_at_most area (Some most) = int_le area (pos most)
+
+-- the face is of this kind, and within the bounds
+abbrev pub is_told : Wants → Kind → FaceTold → Bool
+is_told wants kind f =
+    is_kind f.kind kind && is_width_at_most f.width wants.width && is_area_at_most f.area wants.area
+
+-- all faces and all uneven polygons of the layers that were looked at
+abbrev pub faces_of : List LookedAt → List FaceTold
+faces_of looks = flat_map (λ k. k.faces) looks
+
+abbrev pub uneven_of : List LookedAt → List UnevenPolygon
+uneven_of looks = flat_map (λ k. k.uneven) looks
+
+-- the faces of a kind that are told
+abbrev pub told : Wants → Kind → List FaceTold → List FaceTold
+told wants kind faces = filter (is_told wants kind) faces
+
+-- how many faces of a kind are told
+abbrev pub count_told : Wants → Kind → List LookedAt → ℕ
+count_told wants kind looks = length (told wants kind (faces_of looks))
+
+-- how much is told of each kind
+abbrev pub counts_of : Wants → List LookedAt → Counts
+counts_of wants looks = record {
+  overlaps = count_told wants Overlap looks;
+  twices = count_told wants Twice looks;
+  gaps = count_told wants Gap looks;
+  lakes = count_told wants Lake looks;
+  uneven = length (uneven_of looks);
+}
+
+-- nothing but lakes is told
+abbrev pub is_clear : Counts → Bool
+is_clear c = c.overlaps == 0 && c.twices == 0 && c.gaps == 0 && c.uneven == 0
+
+-- the face is of this kind, and wider than one bound and not than the other
+abbrev pub is_wide : Kind → ℕ → ℕ → FaceTold → Bool
+is_wide kind over most f = is_kind f.kind kind && nat_lt over f.width && nat_le f.width most
+
+abbrev pub count_wide : Kind → ℕ → ℕ → List FaceTold → ℕ
+count_wide kind over most faces = count_by (is_wide kind over most) faces

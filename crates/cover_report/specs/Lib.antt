@@ -1,0 +1,11 @@
+pub mod Asked
+pub mod Names
+pub mod Faces
+pub mod Uneven
+pub mod Layers
+pub mod Owned
+pub mod Faults
+pub mod Counted
+pub mod Report
+pub mod Told
+pub mod Common

@@ -1,0 +1,128 @@
+//! The report of the overlaps and gaps of a map.
+ghost use Rattle.std.specs.Prelude.{◌≡◌, ◌++◌, true, length, map, IfErr, IfOk, OnOk};
+ghost use Rattle.cover_report.specs.Faces.{view_told};
+ghost use Rattle.cover_report.specs.Asked.{view_asked};
+ghost use Rattle.cover_report.specs.Counted.{counts_of, told};
+ghost use Rattle.topo_reader.specs.Common.{document_of, IsOfRings, view_raw};
+ghost use Rattle.ring_machine.specs.Common.{Proper};
+ghost use Rattle.cover_report.specs.Faults.{IsRefused, IsUnlooked};
+ghost use Rattle.cover_report.specs.Layers.{AreLooks, asked_layers, view_looked};
+ghost use Rattle.cover_report.specs.Names.{are_there};
+ghost use Rattle.cover_report.specs.Report.{report_text, told_lines};
+ghost use Rattle.cover_report.specs.Told.{IsTold};
+
+use crate::asked::Asked;
+use crate::faces::ToldFace;
+use crate::fault::CoverFault;
+use crate::lines::{push_all_sums, push_counts, push_first, push_widths};
+use crate::looked::{Looked, looks_of};
+use crate::names::are_there;
+use crate::opening::proper_map;
+use crate::told::{Counts, all_faces, all_uneven, told_faces};
+use layer_faces::Kind;
+use std::alloc::{AllocError, Allocator, Global};
+use std::hash::RandomState;
+use topo_reader::RawDoc;
+
+/// Appends the lines of a kind of faces, and answers how many there are.
+fn push_kind<A: Allocator + Copy>(
+    alloc: A,
+    text: &mut Vec<u8, A>,
+    asked: &Asked<'_>,
+    kind: Kind,
+    faces: &[&ToldFace<A>],
+) -> Result<usize, AllocError>
+    ensures lines { OnOk result (text.new.items ≡ text.old.items
+        ++ told_lines (view_asked asked.now) kind (map (λ f. view_told f.now) faces.now)) }
+    ensures count { IfOk result (λ count. count
+        ≡ length (told (view_asked asked.now) kind (map (λ f. view_told f.now) faces.now))) }
+{
+    let told = told_faces(alloc, asked, kind, faces)?;
+    push_first(text, told.as_slice(), asked.most)?;
+    Ok(told.len())
+}
+
+/// Appends the report of the layers that were looked at, and answers how much is told of each kind.
+fn push_report<A: Allocator + Copy>(
+    alloc: A,
+    text: &mut Vec<u8, A>,
+    asked: &Asked<'_>,
+    looks: &[Looked<'_, A>],
+) -> Result<Counts, AllocError>
+    ensures lines { OnOk result (text.new.items ≡ text.old.items
+        ++ report_text (view_asked asked.now) (map view_looked looks.now)) }
+    ensures counts { IfOk result (λ counts. counts
+        ≡ counts_of (view_asked asked.now) (map view_looked looks.now)) }
+{
+    let faces = all_faces(alloc, looks)?;
+    let overlaps = push_kind(alloc, text, asked, Kind::Overlap, faces.as_slice())?;
+    let twices = push_kind(alloc, text, asked, Kind::Twice, faces.as_slice())?;
+    let gaps = push_kind(alloc, text, asked, Kind::Gap, faces.as_slice())?;
+    let lakes = push_kind(alloc, text, asked, Kind::Lake, faces.as_slice())?;
+    let uneven = all_uneven(alloc, looks)?;
+    push_first(text, uneven.as_slice(), asked.most)?;
+    push_widths(text, faces.as_slice())?;
+    push_all_sums(text, looks)?;
+    let counts = Counts {
+        overlaps,
+        twices,
+        gaps,
+        lakes,
+        uneven: uneven.len(),
+    };
+    push_counts(text, counts)?;
+    Ok(counts)
+}
+
+/// What is found in the layers of a map with these names, or in all where there is no name.
+fn looks_at<'a, A: Allocator + Copy>(
+    alloc: A,
+    heap: Global,
+    names: &[&str],
+    raw: RawDoc<'a, A>,
+) -> Result<Vec<Looked<'a, A>, A>, CoverFault<'a>>
+    requires rings { IsOfRings (view_raw raw) }
+    requires proper { Proper (document_of (view_raw raw)) }
+    ensures there { OnOk result
+        (are_there (map (λ name. name.now) names.now) (view_raw raw.entry).layers ≡ true) }
+    ensures found { IfOk result (λ looks. AreLooks (asked_layers (map (λ name. name.now) names.now) 0
+        (view_raw raw.entry).polygons (view_raw raw.entry).layers) (map view_looked looks.items)) }
+    ensures fault { IfErr result (IsUnlooked (map (λ name. name.now) names.now) (view_raw raw.entry).layers) }
+{
+    let RawDoc {
+        layers,
+        polygons,
+        ..
+    } = raw;
+    let layers = layers.values();
+    if !are_there(heap, layers.as_slice(), names)? {
+        return Err(CoverFault::NoLayer);
+    }
+    looks_of(alloc, heap, names, layers.as_slice(), polygons)
+}
+
+/// Looks at a map that opens, and appends the report of its overlaps and gaps to a text. Answers how much is told of each
+/// kind, whatever the most lines are.
+///
+/// Fails where the map does not open, with `NoLayer` where a name that is asked for is none of a layer, with `TooLarge`
+/// where a layer has more sides than can be looked at, and on allocation failure; then the text may have a part of a report.
+pub fn report_map<'a, A: Allocator + Copy>(
+    alloc: A,
+    heap: Global,
+    seed: RandomState,
+    bytes: &'a [u8],
+    asked: &Asked<'_>,
+    text: &mut Vec<u8, A>,
+) -> Result<Counts, CoverFault<'a>>
+    ensures told { IfOk result (λ counts. IsTold (view_asked asked.now) bytes.now counts
+        text.old.items text.new.items) }
+    ensures refused { IfErr result (IsRefused (view_asked asked.now) bytes.now) }
+{
+    let raw = match proper_map(alloc, heap, seed, bytes) {
+        Ok(raw) => raw,
+        Err(fault) => return Err(CoverFault::Open(fault)),
+    };
+    let looks = or_return!(looks_at(alloc, heap, asked.layers, raw));
+    let counts = push_report(alloc, text, asked, looks.as_slice())?;
+    Ok(counts)
+}

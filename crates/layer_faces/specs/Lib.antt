@@ -1,0 +1,12 @@
+pub mod Areas
+pub mod Lengths
+pub mod Holders
+pub mod Faces
+pub mod Sums
+pub mod Uneven
+pub mod Seen
+pub mod Kept
+pub mod Order
+pub mod Faults
+pub mod Weighed
+pub mod Common

@@ -1,0 +1,9 @@
+pub mod Levels
+pub mod Sides
+pub mod Borders
+pub mod Order
+pub mod Sweep
+pub mod Seen
+pub mod Standing
+pub mod Under
+pub mod Common

@@ -1,0 +1,119 @@
+// The sweep over the borders of a layer.
+ghost use Rattle.std.specs.Prelude.{◌≡◌, ◌+◌, ◌*◌, length, IfOk, OnOk};
+ghost use Rattle.std.specs.List.Sorted.{IsStrictlySortedBy};
+ghost use Rattle.grid_geometry.specs.Common.{segment_cmp};
+ghost use Rattle.layer_sides.specs.Levels.{is_under_way};
+ghost use Rattle.layer_sides.specs.Sweep.{AreSwept};
+ghost use Rattle.layer_sides.specs.Under.{AreApart, AreAscending, AreSegments, AreSorted, AreVertices, BegunAt};
+ghost use Rattle.layer_sides.specs.Under.{NoneConflict, Rewrites, Stands, StandsAtEach, awaits, bounds_of};
+ghost use Rattle.layer_sides.specs.Seen.{borders_seen, segments_seen, vertex_seen, vertices_seen};
+
+use crate::begun::in_order;
+use crate::border::Border;
+use crate::faces::Faces;
+use crate::fault::SideFault;
+use crate::holding::write_sides;
+use crate::under::{ended_at, with_begun};
+use crate::vertices::{Vertex, disordered, vertices_of};
+use std::alloc::Allocator;
+
+/// The most borders: so many sides have numbers of 32 bits.
+const MOST_BORDERS: usize = 2_147_483_647;
+
+/// The most numbers of polygons that are kept with right sides.
+const MOST_NUMBERS: usize = 16_000_000;
+
+/// Goes over a vertex: the list of the borders under way there, of which those from `from` to before
+/// `to` begin there.
+fn go_over<A: Allocator + Copy>(
+    alloc: A,
+    borders: &mut Vec<Border<A>, A>,
+    list: &[usize],
+    vertex: &Vertex<A>,
+    room: &mut usize,
+    faces: &mut Faces<A>,
+) -> Result<Vec<usize, A>, SideFault>
+    requires segments { AreSegments (segments_seen borders.old.items) }
+    requires apart { NoneConflict (segments_seen borders.old.items) }
+    requires sorted { AreAscending (bounds_of (borders_seen borders.old.items)) }
+    requires awaits { Stands (borders_seen borders.old.items) (awaits vertex.now.at) list.now }
+    requires begun { BegunAt (segments_seen borders.old.items) (length (segments_seen borders.old.items)) (vertex_seen vertex.now) }
+    ensures rewrites { OnOk result (Rewrites vertex.now.begun.items
+        (borders_seen borders.old.items) (borders_seen borders.new.items)) }
+    ensures stands { IfOk result (λ next. Stands (borders_seen borders.new.items) (is_under_way vertex.now.at) next.items) }
+{
+    let Some((from, to)) = ended_at(borders.as_slice(), list, vertex.at) else {
+        return Err(SideFault::Unswept(vertex.at));
+    };
+    let begun = in_order(
+        alloc,
+        borders.as_slice(),
+        vertex.begun.as_slice(),
+        vertex.at,
+    )?;
+    write_sides(
+        alloc,
+        borders,
+        &list[from..],
+        begun.as_slice(),
+        &list[to..],
+        vertex.at,
+        room,
+    )?;
+    let next = with_begun(alloc, list, from, to, begun.as_slice())?;
+    faces.join_along(next.as_slice(), from, from + begun.len());
+    Ok(next)
+}
+
+/// Goes over the vertices one by one.
+fn go_over_all<A: Allocator + Copy>(
+    alloc: A,
+    borders: &mut Vec<Border<A>, A>,
+    vertices: &[Vertex<A>],
+    faces: &mut Faces<A>,
+) -> Result<(), SideFault>
+    requires segments { AreSegments (segments_seen borders.old.items) }
+    requires apart { NoneConflict (segments_seen borders.old.items) }
+    requires sorted { AreAscending (bounds_of (borders_seen borders.old.items)) }
+    requires vertices { AreVertices (segments_seen borders.old.items) (vertices_seen vertices.now) }
+    ensures segments { OnOk result (segments_seen borders.new.items ≡ segments_seen borders.old.items) }
+    ensures bounds { OnOk result (bounds_of (borders_seen borders.new.items) ≡ bounds_of (borders_seen borders.old.items)) }
+    ensures stands { OnOk result (StandsAtEach (borders_seen borders.new.items) is_under_way (vertices_seen vertices.now)) }
+{
+    let mut list = Vec::new(alloc);
+    let mut room = MOST_NUMBERS;
+    for vertex in vertices {
+        list = go_over(alloc, borders, list.as_slice(), vertex, &mut room, faces)?;
+    }
+    Ok(())
+}
+
+/// Writes with each border the numbers of the polygons that hold its right side, and finds which sides
+/// lie in one face: by side the label of its face, where 2i is the left side of border i, 2i + 1 its
+/// right side, and the last is the label of the outside. Fails on allocation failure, where there are
+/// more borders or numbers than can be kept, and at a vertex where the borders are not as those of
+/// polygons whose segments meet in their ends alone.
+pub(crate) fn sweep<A: Allocator + Copy>(
+    alloc: A,
+    borders: &mut Vec<Border<A>, A>,
+) -> Result<Vec<u32, A>, SideFault>
+    requires ascending { IsStrictlySortedBy segment_cmp (segments_seen borders.old.items) }
+    requires apart { AreApart (borders_seen borders.old.items) }
+    requires sorted { AreSorted (borders_seen borders.old.items) }
+    ensures swept { OnOk result (AreSwept (borders_seen borders.new.items)) }
+    ensures segments { OnOk result (segments_seen borders.new.items ≡ segments_seen borders.old.items) }
+    ensures bounds { OnOk result (bounds_of (borders_seen borders.new.items) ≡ bounds_of (borders_seen borders.old.items)) }
+    ensures labels { IfOk result (λ labels. length labels.items ≡ 2 * length borders.old.items + 1) }
+{
+    if borders.len() > MOST_BORDERS {
+        return Err(SideFault::TooLarge);
+    }
+    if let Some(at) = disordered(borders.as_slice()) {
+        return Err(SideFault::Unswept(at));
+    }
+    let vertices = vertices_of(alloc, borders.as_slice())?;
+    let sides = 2 * borders.len() + 1;
+    let mut faces = Faces::new(alloc, sides)?;
+    go_over_all(alloc, borders, vertices.as_slice(), &mut faces)?;
+    Ok(faces.labels(alloc, sides)?)
+}
