@@ -1,0 +1,67 @@
+// Whether the rings after closing are rings, whose segments were there before.
+use crate::fault::CloseFault;
+use grid_geometry::{Pos, Seg};
+use std::alloc::{AllocError, Allocator};
+use walk_faults::push_segments;
+use walk_mending::are_rings;
+
+/// Appends the segments of a polygon's rings.
+fn push_polygon<A: Allocator + Copy>(
+    segments: &mut Vec<Seg, A>,
+    rings: &[Vec<Pos, A>],
+) -> Result<(), AllocError> {
+    for ring in rings {
+        push_segments(segments, ring.as_slice())?;
+    }
+    Ok(())
+}
+
+/// The segments of polygons, ascending.
+fn sorted_segments<A: Allocator + Copy>(
+    alloc: A,
+    polygons: &[Vec<Vec<Pos, A>, A>],
+) -> Result<Vec<Seg, A>, AllocError> {
+    let mut segments = Vec::new(alloc);
+    for rings in polygons {
+        push_polygon(&mut segments, rings.as_slice())?;
+    }
+    segments.sort_unstable();
+    Ok(segments)
+}
+
+/// Fails with the first of these segments that is not among the others, which ascend.
+fn test_among(segments: &[Seg], others: &[Seg]) -> Result<(), CloseFault> {
+    for segment in segments {
+        if others.binary_search(segment).is_err() {
+            return Err(CloseFault::UnclosedSegment(*segment));
+        }
+    }
+    Ok(())
+}
+
+/// Fails with the feature of the first polygon that has no ring, or one that is no ring begun at its least position.
+fn test_all_rings<A: Allocator + Copy>(
+    alloc: A,
+    polygons: &[Vec<Vec<Pos, A>, A>],
+    owners: &[usize],
+) -> Result<(), CloseFault> {
+    for (rings, owner) in polygons.iter().zip(owners) {
+        if rings.is_empty() || !are_rings(alloc, rings.as_slice())? {
+            return Err(CloseFault::UnclosedFeature(*owner));
+        }
+    }
+    Ok(())
+}
+
+/// Tests that each polygon after closing has rings, all of which are such, and that each of its segments was one before.
+pub(crate) fn test_rings<A: Allocator + Copy>(
+    alloc: A,
+    before: &[Vec<Vec<Pos, A>, A>],
+    after: &[Vec<Vec<Pos, A>, A>],
+    owners: &[usize],
+) -> Result<(), CloseFault> {
+    or_return!(test_all_rings(alloc, after, owners));
+    let segments = sorted_segments(alloc, after)?;
+    let others = sorted_segments(alloc, before)?;
+    test_among(segments.as_slice(), others.as_slice())
+}

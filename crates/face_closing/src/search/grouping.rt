@@ -1,0 +1,144 @@
+// Rings around land as polygons: outer ones with their holes.
+use crate::facing::Facing;
+use crate::search::edges::{Mark, edges_around, mark_pieces};
+use crate::search::pieces::Piece;
+use crate::search::tracing::{Traced, rings_around};
+use grid_geometry::{Pos, area2};
+use ring_parts::begin_at_least;
+use std::alloc::{AllocError, Allocator};
+
+/// The polygons of a feature, each an outer ring and its holes.
+pub(crate) type Polygons<A> = Vec<Vec<Vec<Pos, A>, A>, A>;
+
+/// The greatest count of positions of which an area is computed.
+const MOST: usize = 1_099_511_627_776;
+
+/// Whether a ring turns to the left, or has no area.
+pub(crate) fn turns_left(ring: &[Pos]) -> bool {
+    ring.len() <= MOST && area2(ring) >= 0
+}
+
+/// Appends the places of the faces that are land, beyond the borders of a face, and were not come to; they are come to now.
+fn push_beside<A: Allocator + Copy>(
+    stack: &mut Vec<usize, A>,
+    facing: &Facing<'_, A>,
+    marks: &mut [Mark],
+    place: usize,
+    part: usize,
+) -> Result<(), AllocError> {
+    let Some(face) = facing.face(place) else {
+        return Ok(());
+    };
+    for side in face.sides.as_slice() {
+        if let Some(across) = facing.place_across(*side)
+            && let Some(mark) = marks.get_mut(across)
+            && matches!(mark, Mark::Unseen)
+        {
+            *mark = Mark::Part(part);
+            stack.push(across)?;
+        }
+    }
+    Ok(())
+}
+
+/// Marks the land that hangs together with a face: so many faces at most.
+fn mark_part<A: Allocator + Copy>(
+    alloc: A,
+    facing: &Facing<'_, A>,
+    marks: &mut [Mark],
+    most: usize,
+    place: usize,
+    part: usize,
+) -> Result<(), AllocError> {
+    let mut stack = Vec::new(alloc);
+    stack.push(place)?;
+    if let Some(mark) = marks.get_mut(place) {
+        *mark = Mark::Part(part);
+    }
+    for _ in 0..most {
+        let Some(next) = stack.pop() else {
+            return Ok(());
+        };
+        push_beside(&mut stack, facing, marks, next, part)?;
+    }
+    Ok(())
+}
+
+/// The positions of a ring that was traced with land on its left, the other way round where they are not to be so.
+fn directed<A: Allocator + Copy>(ring: Traced<A>, to_left: bool) -> Vec<Pos, A> {
+    let mut positions = ring.positions;
+    if !to_left {
+        positions.reverse();
+        begin_at_least(positions.as_mut_slice());
+    }
+    positions
+}
+
+/// A polygon of one ring.
+fn polygon_of<A: Allocator + Copy>(
+    alloc: A,
+    outer: Vec<Pos, A>,
+) -> Result<Vec<Vec<Pos, A>, A>, AllocError> {
+    let mut polygon = Vec::new(alloc);
+    polygon.push(outer)?;
+    Ok(polygon)
+}
+
+/// Outer rings and holes, each in the order of their positions.
+fn parted<A: Allocator + Copy>(
+    alloc: A,
+    rings: Vec<Traced<A>, A>,
+) -> Result<(Vec<Traced<A>, A>, Vec<Traced<A>, A>), AllocError> {
+    let mut rings = rings;
+    rings.sort_unstable_by(|one, other| one.positions.cmp(&other.positions));
+    let (mut outer, mut holes) = (Vec::new(alloc), Vec::new(alloc));
+    for ring in rings {
+        if turns_left(ring.positions.as_slice()) {
+            outer.push(ring)?;
+        } else {
+            holes.push(ring)?;
+        }
+    }
+    Ok((outer, holes))
+}
+
+/// The rings as polygons; a hole goes with the outer ring whose land hangs together with that around it.
+fn grouped<A: Allocator + Copy>(
+    alloc: A,
+    facing: &Facing<'_, A>,
+    marks: &mut [Mark],
+    most: usize,
+    rings: Vec<Traced<A>, A>,
+    to_left: bool,
+) -> Result<Polygons<A>, AllocError> {
+    let (outer, holes) = parted(alloc, rings)?;
+    let mut polygons = Vec::new(alloc);
+    for ring in outer {
+        mark_part(alloc, facing, marks, most, ring.place, polygons.len())?;
+        polygons.push(polygon_of(alloc, directed(ring, to_left))?)?;
+    }
+    for hole in holes {
+        if let Some(Mark::Part(part)) = marks.get(hole.place)
+            && let Some(polygon) = polygons.get_mut(*part)
+        {
+            polygon.push(directed(hole, to_left))?;
+        }
+    }
+    Ok(polygons)
+}
+
+/// The polygons of the land of these pieces, whose outer rings turn to the left, or all to the right.
+pub(crate) fn polygons_of<A: Allocator + Copy>(
+    alloc: A,
+    facing: &Facing<'_, A>,
+    marks: &mut [Mark],
+    pieces: &[Piece],
+    to_left: bool,
+) -> Result<Polygons<A>, AllocError> {
+    mark_pieces(marks, pieces, Mark::Unseen);
+    let edges = edges_around(alloc, facing, marks, pieces)?;
+    let rings = rings_around(alloc, edges.as_slice())?;
+    let polygons = grouped(alloc, facing, marks, pieces.len(), rings, to_left)?;
+    mark_pieces(marks, pieces, Mark::Other);
+    Ok(polygons)
+}
