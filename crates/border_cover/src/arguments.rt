@@ -3,6 +3,8 @@ ghost use Rattle.std.specs.Prelude.{◌≡◌, map, string_bytes, IfOk};
 ghost use Rattle.cover_report.specs.Common.{view_asked};
 ghost use Rattle.border_cover.specs.Asked.{wants_of};
 
+use crate::kinds::Kinds;
+use closing_report::Closing;
 use cover_report::Asked;
 use std::alloc::{AllocError, Global};
 
@@ -19,6 +21,8 @@ pub struct Arguments {
     pub area: Option<u128>,
     /// How many lines of one kind the report has at the most.
     pub most: usize,
+    /// Which faces are closed, where any are to be, and the path of the file that gets the map then.
+    pub closing: Option<(Kinds, String)>,
 }
 
 impl Arguments {
@@ -44,6 +48,17 @@ impl Arguments {
             width: self.width,
             area: self.area,
             most: self.most,
+        }
+    }
+
+    /// What is asked to be closed: faces of these kinds, within the bounds.
+    pub(crate) fn closing(&self, kinds: Kinds) -> Closing {
+        Closing {
+            overlaps: kinds.overlaps,
+            gaps: kinds.gaps,
+            lakes: kinds.lakes,
+            width: self.width,
+            area: self.area,
         }
     }
 }

@@ -6,6 +6,7 @@ ghost use Rattle.border_cover.specs.Asked.{cover_program, layer_rule, map_rule, 
 
 use crate::arguments::Arguments;
 use crate::help;
+use crate::kinds::{Kinds, kinds_of};
 use clap::error::ErrorKind;
 use clap::{Arg, ArgAction, ArgMatches, Command};
 use program_ends::VERSION;
@@ -27,6 +28,13 @@ const MOST: &str = "--most takes a whole number from 0 to 4000000";
 const WIDTH: &str = "--width takes a whole number from 0 to 1000000000000";
 
 const AREA: &str = "--area takes a whole number from 0 to 8000000000000000000000000";
+
+const CLOSE: &str = "--close takes overlaps, gaps and lakes, with commas between them";
+
+// What says which arguments go together.
+const TOGETHER: &str = "--close needs --out FILE, and --out needs --close WHAT";
+
+const BOUND: &str = "--close needs a bound: --width W or --area N";
 
 /// The argument that stands in its place.
 fn map<'a>(alloc: Global) -> Arg<'a>
@@ -75,7 +83,9 @@ fn command<'a>(alloc: Global) -> Result<Command<'a>, AllocError>
         .arg(layer(alloc))?
         .arg(option(alloc, "width", "W", help::WIDTH))?
         .arg(option(alloc, "area", "N", help::AREA))?
-        .arg(option(alloc, "most", "N", help::MOST))?;
+        .arg(option(alloc, "most", "N", help::MOST))?
+        .arg(option(alloc, "close", "WHAT", help::CLOSE))?
+        .arg(option(alloc, "out", "FILE", help::OUT))?;
     Ok(command)
 }
 
@@ -142,6 +152,23 @@ impl From<AllocError> for AskFault {
     }
 }
 
+/// What is closed, and the path of the file that gets the map then.
+fn closing_of<'m>(
+    close: Option<&'m str>,
+    out: Option<&'m str>,
+    is_bounded: bool,
+) -> Result<Option<(Kinds, &'m str)>, &'static str> {
+    match (close, out) {
+        (None, None) => Ok(None),
+        (Some(_), Some(_)) if !is_bounded => Err(BOUND),
+        (Some(words), Some(path)) => match kinds_of(words) {
+            Some(kinds) => Ok(Some((kinds, path))),
+            None => Err(CLOSE),
+        },
+        _ => Err(TOGETHER),
+    }
+}
+
 /// What the matches of clap ask for.
 fn asked(alloc: Global, matches: &ArgMatches<'_>) -> Result<Arguments, AskFault>
     ensures { IfOk result (AreAsked (rows_of (found_of matches.now))) }
@@ -149,6 +176,12 @@ fn asked(alloc: Global, matches: &ArgMatches<'_>) -> Result<Arguments, AskFault>
     let width = bound_of(matches.get_str("width"), GREATEST_WIDTH, WIDTH)?;
     let area = bound_of(matches.get_str("area"), GREATEST_AREA, AREA)?;
     let most = count_of(matches.get_str("most"))?;
+    let is_bounded = width.is_some() || area.is_some();
+    let closing = closing_of(matches.get_str("close"), matches.get_str("out"), is_bounded)?;
+    let closing = match closing {
+        Some((kinds, path)) => Some((kinds, String::from_str(alloc, path)?)),
+        None => None,
+    };
     let layers = copies(alloc, matches.get_strs("layer").unwrap_or(&[]))?;
     // A parse gives MAP, since it is required.
     let map = String::from_str(alloc, matches.get_str("MAP").unwrap_or(""))?;
@@ -158,6 +191,7 @@ fn asked(alloc: Global, matches: &ArgMatches<'_>) -> Result<Arguments, AskFault>
         width,
         area,
         most,
+        closing,
     })
 }
 

@@ -3,6 +3,7 @@ ghost use Rattle.std.specs.Prelude.{◌≡◌, None, Some, option_map, IfErr, On
 ghost use Rattle.border_cover.specs.Endings.{TellsFault};
 ghost use Rattle.border_cover.specs.Status.{cover_status};
 
+use closing_report::{ClosedMap, ClosingFault};
 use cover_report::{Counts, CoverFault};
 use program_ends::{Diagnostic, Ending};
 use topo_outline::OpenFault;
@@ -26,8 +27,35 @@ pub(crate) fn ending_of_report<'a>(
             file: Some(report),
             line: None,
         },
-        Err(CoverFault::Open(OpenFault::OutOfMemory)) => Ending::of_fault(3, Diagnostic::NoMemory),
-        Err(CoverFault::Open(fault)) => Ending::of_fault(2, Diagnostic::Open(fault)),
+        Err(fault) => ending_of_fault(fault),
+    }
+}
+
+/// The ending where there is no report.
+fn ending_of_fault<'a>(fault: &'a CoverFault<'a>) -> Ending<'a> {
+    match fault {
+        CoverFault::Open(OpenFault::OutOfMemory) => Ending::of_fault(3, Diagnostic::NoMemory),
+        CoverFault::Open(fault) => Ending::of_fault(2, Diagnostic::Open(fault)),
+        _ => Ending {
+            status: 2,
+            file: None,
+            line: None,
+        },
+    }
+}
+
+/// The ending of closing: standard output gets the report where the map was closed, and nothing after a fault.
+pub(crate) fn ending_of_closing<'a>(
+    outcome: &'a Result<ClosedMap, ClosingFault<'a>>,
+    report: &'a [u8],
+) -> Ending<'a> {
+    match outcome {
+        Ok(_) => Ending {
+            status: 0,
+            file: Some(report),
+            line: None,
+        },
+        Err(ClosingFault::Cover(fault)) => ending_of_fault(fault),
         Err(_) => Ending {
             status: 2,
             file: None,

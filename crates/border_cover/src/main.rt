@@ -5,6 +5,7 @@ mod arguments;
 mod command_line;
 mod ending;
 mod help;
+mod kinds;
 mod telling;
 
 use arguments::Arguments;

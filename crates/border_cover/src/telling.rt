@@ -4,9 +4,11 @@ ghost use Rattle.cover_report.specs.Common.{IsRefused, IsTold};
 ghost use Rattle.border_cover.specs.Asked.{wants_of};
 
 use crate::arguments::Arguments;
-use crate::ending::ending_of_report;
+use crate::ending::{ending_of_closing, ending_of_report};
+use crate::kinds::Kinds;
+use closing_report::{ClosedMap, ClosingFault, close_map};
 use cover_report::{Counts, CoverFault, report_map};
-use program_ends::{Ending, Errors, Paths, Stop, hash_seed, map_bytes};
+use program_ends::{Ending, Errors, Paths, Stop, hash_seed, map_bytes, replace_file};
 use std::alloc::Global;
 use std::hash::RandomState;
 use std::io::{Result as IoResult, Write};
@@ -16,7 +18,10 @@ fn paths_of(arguments: &Arguments) -> Paths<'_> {
     Paths {
         map: arguments.map.as_str(),
         script: "",
-        file: "",
+        file: match &arguments.closing {
+            Some((_, path)) => path.as_str(),
+            None => "",
+        },
         list: "",
         mends: false,
     }
@@ -69,7 +74,88 @@ fn reported<'a>(
     )
 }
 
-/// Reads MAP, and prints its report.
+/// What the map that the bytes are is closed to, as the arguments ask.
+fn closed<'a>(
+    heap: Global,
+    seed: RandomState,
+    bytes: &'a [u8],
+    arguments: &Arguments,
+    kinds: Kinds,
+    report: &mut Vec<u8>,
+) -> Result<ClosedMap, ClosingFault<'a>> {
+    let names = arguments.names(heap)?;
+    close_map(
+        heap,
+        heap,
+        seed,
+        bytes,
+        &arguments.asked(names.as_slice()),
+        &arguments.closing(kinds),
+        report,
+    )
+}
+
+/// Says what is wrong with the layers, or with what they were closed to.
+fn say_closing_fault<E: Write>(fault: &ClosingFault<'_>, errors: &mut Errors<'_, E>) {
+    match fault {
+        ClosingFault::Cover(fault) => say_fault(fault, errors),
+        _ => {
+            let _ = writeln!(errors.writer, "{fault}");
+        }
+    }
+}
+
+/// Writes the closed map in its file where nothing has failed before, and none after a fault.
+fn save<'a>(rt: &HostRuntime, ending: Ending<'a>, path: &str, text: &[u8]) -> Ending<'a> {
+    if ending.line.is_some() {
+        return ending;
+    }
+    ending.once_written(replace_file(rt, path, text))
+}
+
+/// Prints the report of a map, and ends as it did.
+fn report_read<W: Write, E: Write>(
+    rt: &HostRuntime,
+    seed: RandomState,
+    map: &[u8],
+    arguments: &Arguments,
+    output: &mut W,
+    errors: &mut Errors<'_, E>,
+) -> u8 {
+    let mut report = Vec::new(rt.alloc());
+    let outcome = reported(rt.alloc(), seed, map, arguments, &mut report);
+    if let Err(fault) = &outcome {
+        say_fault(fault, errors);
+    }
+    let ending = printed(ending_of_report(&outcome, report.as_slice()), output);
+    errors.end(ending, &paths_of(arguments))
+}
+
+/// Closes a map, prints its report, and at last writes the map in the file of this path.
+fn close_read<W: Write, E: Write>(
+    rt: &HostRuntime,
+    seed: RandomState,
+    map: &[u8],
+    arguments: &Arguments,
+    kinds: Kinds,
+    path: &str,
+    output: &mut W,
+    errors: &mut Errors<'_, E>,
+) -> u8 {
+    let mut report = Vec::new(rt.alloc());
+    let outcome = closed(rt.alloc(), seed, map, arguments, kinds, &mut report);
+    if let Err(fault) = &outcome {
+        say_closing_fault(fault, errors);
+    }
+    let ending = printed(ending_of_closing(&outcome, report.as_slice()), output);
+    let ending = match &outcome {
+        Ok(closed) => save(rt, ending, path, closed.text.as_slice()),
+        Err(_) => ending,
+    };
+    errors.end(ending, &paths_of(arguments))
+}
+
+/// Reads MAP, and tells or closes it.
 fn tell_read<W: Write, E: Write>(
     rt: &HostRuntime,
     arguments: &Arguments,
@@ -78,18 +164,19 @@ fn tell_read<W: Write, E: Write>(
 ) -> Result<u8, Stop> {
     let seed = hash_seed(rt)?;
     let map = map_bytes(rt, arguments.map.as_str())?;
-    let mut report = Vec::new(rt.alloc());
-    let outcome = reported(rt.alloc(), seed, map.as_slice(), arguments, &mut report);
-    if let Err(fault) = &outcome {
-        say_fault(fault, errors);
-    }
-    let ending = printed(ending_of_report(&outcome, report.as_slice()), output);
-    Ok(errors.end(ending, &paths_of(arguments)))
+    let map = map.as_slice();
+    Ok(match &arguments.closing {
+        Some((kinds, path)) => {
+            let path = path.as_str();
+            close_read(rt, seed, map, arguments, *kinds, path, output, errors)
+        }
+        None => report_read(rt, seed, map, arguments, output, errors),
+    })
 }
 
 /// Tells what the arguments ask for. Answers the status that the program ends with; the report and the line that says why
 /// it ends go to these two writers. Faults are found in this order: a seed, the file of the map, the map and its layers,
-/// standard output.
+/// standard output, and FILE, which is written last.
 pub(crate) fn tell<W: Write, E: Write>(
     rt: &HostRuntime,
     arguments: &Arguments,

@@ -42,15 +42,15 @@ fn push_kind<A: Allocator + Copy>(
     Ok(told.len())
 }
 
-/// Appends the report of the layers that were looked at, and answers how much is told of each kind.
-fn push_report<A: Allocator + Copy>(
+/// Appends the report of the layers that were looked at, but for its last line, and answers how much is told of each kind.
+pub fn push_findings<A: Allocator + Copy>(
     alloc: A,
     text: &mut Vec<u8, A>,
     asked: &Asked<'_>,
     looks: &[Looked<'_, A>],
 ) -> Result<Counts, AllocError>
     ensures lines { OnOk result (text.new.items ≡ text.old.items
-        ++ report_text (view_asked asked.now) (map view_looked looks.now)) }
+        ++ findings_part (view_asked asked.now) (map view_looked looks.now)) }
     ensures counts { IfOk result (λ counts. counts
         ≡ counts_of (view_asked asked.now) (map view_looked looks.now)) }
 {
@@ -63,13 +63,28 @@ fn push_report<A: Allocator + Copy>(
     push_first(text, uneven.as_slice(), asked.most)?;
     push_widths(text, faces.as_slice())?;
     push_all_sums(text, looks)?;
-    let counts = Counts {
+    Ok(Counts {
         overlaps,
         twices,
         gaps,
         lakes,
         uneven: uneven.len(),
-    };
+    })
+}
+
+/// Appends the report of the layers that were looked at, and answers how much is told of each kind.
+fn push_report<A: Allocator + Copy>(
+    alloc: A,
+    text: &mut Vec<u8, A>,
+    asked: &Asked<'_>,
+    looks: &[Looked<'_, A>],
+) -> Result<Counts, AllocError>
+    ensures lines { OnOk result (text.new.items ≡ text.old.items
+        ++ report_text (view_asked asked.now) (map view_looked looks.now)) }
+    ensures counts { IfOk result (λ counts. counts
+        ≡ counts_of (view_asked asked.now) (map view_looked looks.now)) }
+{
+    let counts = push_findings(alloc, text, asked, looks)?;
     push_counts(text, counts)?;
     Ok(counts)
 }

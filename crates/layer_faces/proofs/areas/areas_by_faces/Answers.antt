@@ -60,17 +60,17 @@ loop-face-preserved g c =
     let written = with_items_is areas zs (c.add_to.auto.areas ∙ c.as_mut_slice.ensures.len) in
     let each : (k : ℕ) → get_or zs k (pos 0) ≡ get_or areas.items k (pos 0) +ℤ pos (count_by (λ m. eqb m k) f.holders.items) *ℤ a =
     λ k. c.add_to.ensures.each k ∙ ap (λ ys. get_or ys k (pos 0) +ℤ pos (count_by (λ m. eqb m k) c.as_slice.result.now) *ℤ a) value
-        ∙ ap (λ ns. get_or areas.items k (pos 0) +ℤ pos (count_by (λ m. eqb m k) ns) *ℤ a) c.as_slice.ensures.value in
+    ∙ ap (λ ns. get_or areas.items k (pos 0) +ℤ pos (count_by (λ m. eqb m k) ns) *ℤ a) c.as_slice.ensures.value in
     let sum : total (λ z. z) zs ≡ total (λ z. z) areas.items +ℤ pos (length f.holders.items) *ℤ a =
     c.add_to.ensures.sum ∙ ap (λ ys. total (λ z. z) ys +ℤ pos (length c.as_slice.result.now) *ℤ a) value
-        ∙ ap (λ ns. total (λ z. z) areas.items +ℤ pos (length ns) *ℤ a) c.as_slice.ensures.value in
+    ∙ ap (λ ns. total (λ z. z) areas.items +ℤ pos (length ns) *ℤ a) c.as_slice.ensures.value in
     let count = ap length written ∙ c.add_to.auto.areas ∙ ap length value ∙ c.loop-face.invariant.count in
     let each_more = spread_each faces i f l is a same areas.items zs each c.loop-face.invariant.each in
     let sum_more = spread_sum faces i f l is a same (total (λ z. z) areas.items) (total (λ z. z) zs) sum c.loop-face.invariant.sum in
     let bound_more : (n : ℕ) → unsigned_abs (get_or zs n (pos 0)) ≤ 4000000 * reach (take (i + 1) faces) =
     λ n. let often = count_by-le-length (λ m. eqb m n) f.holders.items in
-        spread_bound faces i f l is a same (get_or areas.items n (pos 0)) (get_or zs n (pos 0)) (count_by (λ m. eqb m n) f.holders.items) (omega (arith, often, few))
-        (each n) (c.loop-face.invariant.bound n) in
+    spread_bound faces i f l is a same (get_or areas.items n (pos 0)) (get_or zs n (pos 0)) (count_by (λ m. eqb m n) f.holders.items) (omega (arith, often, few))
+    (each n) (c.loop-face.invariant.bound n) in
     record {
       count = count;
       each = λ n. ap (λ ws. get_or ws n (pos 0)) written ∙ each_more n;

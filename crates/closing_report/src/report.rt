@@ -1,0 +1,133 @@
+// The report of a map that was closed.
+use crate::changes::{area_changes, parts_changes};
+use crate::layers::{Closings, DecidedLayer};
+use crate::lines::{ClosedCounts, ClosedFace, LeftFace, push_all_now, push_closed_counts};
+use cover_report::{Asked, Counts, Feature, Looked, ToldFace, is_kind, push_findings, push_first};
+use face_closing::Decision;
+use layer_faces::Kind;
+use std::alloc::{AllocError, Allocator};
+
+/// The order of the kinds in a report.
+const KINDS: [Kind; 4] = [Kind::Overlap, Kind::Twice, Kind::Gap, Kind::Lake];
+
+/// A face that may be told, and what was decided of it.
+#[derive(Drop)]
+struct DecidedFace<'l, A: Allocator + Copy> {
+    face: &'l ToldFace<A>,
+    decision: Decision,
+}
+
+/// Appends the faces of a layer that may be told, with what was decided of them.
+fn push_decided<'l, A: Allocator + Copy>(
+    found: &mut Vec<DecidedFace<'l, A>, A>,
+    looked: &'l Looked<'_, A>,
+    decided: &DecidedLayer<A>,
+) -> Result<(), AllocError> {
+    for (face, decision) in looked.faces.iter().zip(decided.decisions.as_slice()) {
+        found.push(DecidedFace {
+            face,
+            decision: *decision,
+        })?;
+    }
+    Ok(())
+}
+
+/// The faces of all layers that may be told, with what was decided of them.
+fn all_decided<'l, A: Allocator + Copy>(
+    alloc: A,
+    looks: &'l [Looked<'_, A>],
+    decided: &[DecidedLayer<A>],
+) -> Result<Vec<DecidedFace<'l, A>, A>, AllocError> {
+    let mut found = Vec::new(alloc);
+    for (looked, decided) in looks.iter().zip(decided) {
+        push_decided(&mut found, looked, decided)?;
+    }
+    Ok(found)
+}
+
+/// Appends those of a kind that were closed.
+fn push_closed_of<'l, A: Allocator + Copy>(
+    found: &mut Vec<ClosedFace<'l, A>, A>,
+    kind: Kind,
+    faces: &[DecidedFace<'l, A>],
+) -> Result<(), AllocError> {
+    for it in faces {
+        if let Decision::Closed(feature) = it.decision
+            && is_kind(it.face.kind, kind)
+        {
+            found.push(ClosedFace {
+                face: it.face,
+                feature,
+            })?;
+        }
+    }
+    Ok(())
+}
+
+/// Appends those of a kind that are left.
+fn push_left_of<'l, A: Allocator + Copy>(
+    found: &mut Vec<LeftFace<'l, A>, A>,
+    kind: Kind,
+    faces: &[DecidedFace<'l, A>],
+) -> Result<(), AllocError> {
+    for it in faces {
+        if matches!(it.decision, Decision::Left) && is_kind(it.face.kind, kind) {
+            found.push(LeftFace { face: it.face })?;
+        }
+    }
+    Ok(())
+}
+
+/// Those that were closed, kind by kind.
+fn closed_faces<'l, A: Allocator + Copy>(
+    alloc: A,
+    faces: &[DecidedFace<'l, A>],
+) -> Result<Vec<ClosedFace<'l, A>, A>, AllocError> {
+    let mut found = Vec::new(alloc);
+    for kind in KINDS {
+        push_closed_of(&mut found, kind, faces)?;
+    }
+    Ok(found)
+}
+
+/// Those that are left, kind by kind.
+fn left_faces<'l, A: Allocator + Copy>(
+    alloc: A,
+    faces: &[DecidedFace<'l, A>],
+) -> Result<Vec<LeftFace<'l, A>, A>, AllocError> {
+    let mut found = Vec::new(alloc);
+    for kind in KINDS {
+        push_left_of(&mut found, kind, faces)?;
+    }
+    Ok(found)
+}
+
+/// Appends the report of a map with these features whose layers were closed; answers how much is told of each kind.
+pub(crate) fn push_report<A: Allocator + Copy>(
+    alloc: A,
+    text: &mut Vec<u8, A>,
+    asked: &Asked<'_>,
+    before: &[Feature<A>],
+    closings: &Closings<'_, A>,
+) -> Result<Counts, AllocError> {
+    let (looks, decided) = (closings.looks.as_slice(), closings.decided.as_slice());
+    let counts = push_findings(alloc, text, asked, looks)?;
+    let faces = all_decided(alloc, looks, decided)?;
+    let closed = closed_faces(alloc, faces.as_slice())?;
+    push_first(text, closed.as_slice(), asked.most)?;
+    let left = left_faces(alloc, faces.as_slice())?;
+    push_first(text, left.as_slice(), asked.most)?;
+    let parts = parts_changes(alloc, before, closings.features.as_slice())?;
+    push_first(text, parts.as_slice(), asked.most)?;
+    let areas = area_changes(alloc, before, closings.features.as_slice())?;
+    push_first(text, areas.as_slice(), asked.most)?;
+    push_all_now(text, looks, decided)?;
+    let done = ClosedCounts {
+        closed: closed.len(),
+        left: left.len(),
+        parts: parts.len(),
+        areas: areas.len(),
+    };
+    push_closed_counts(text, counts, done)?;
+    Ok(counts)
+}
