@@ -222,7 +222,7 @@ class Closing:
             count = len(after) - (len(before) - len(touched))
             at = min(touched, default=0)
             kept = [rings for n, rings in enumerate(before) if n not in touched]
-            if count < (len(touched) > 0) or after[:at] + after[at + count:] != kept:
+            if count < 0 or after[:at] + after[at + count:] != kept:
                 yield f"feature {feature} has not its other polygons"
             elif touched:
                 yield from made_faults(feature, before[at], after[at:at + count])

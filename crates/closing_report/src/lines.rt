@@ -1,4 +1,7 @@
 // The lines that tell what was closed.
+ghost use Rattle.cover_report.specs.Faces.{view_told};
+ghost use Rattle.closing_report.specs.Report.{area_line, closed_line, left_line, parts_line};
+
 use crate::changes::{AreaChange, PartsChange};
 use crate::layers::DecidedLayer;
 use cover_report::{
@@ -14,6 +17,8 @@ pub(crate) struct ClosedFace<'l, B: Allocator + Copy> {
 }
 
 impl<'l, B: Allocator + Copy> ReportLine for ClosedFace<'l, B> {
+    ghost line = { λ it. closed_line (view_told it.face.now) it.feature };
+
     fn push_line<A: Allocator>(&self, text: &mut Vec<u8, A>) -> Result<(), AllocError> {
         let face = self.face;
         append!(text; b"closed " push_bytes(word_of(face.kind)) push_number(self.feature) b" / " push_number(face.area)
@@ -28,6 +33,8 @@ pub(crate) struct LeftFace<'l, B: Allocator + Copy> {
 }
 
 impl<'l, B: Allocator + Copy> ReportLine for LeftFace<'l, B> {
+    ghost line = { λ it. left_line (view_told it.face.now) };
+
     fn push_line<A: Allocator>(&self, text: &mut Vec<u8, A>) -> Result<(), AllocError> {
         text.extend_from_slice(b"left ")?;
         self.face.push_line(text)
@@ -35,6 +42,8 @@ impl<'l, B: Allocator + Copy> ReportLine for LeftFace<'l, B> {
 }
 
 impl ReportLine for PartsChange {
+    ghost line = { parts_line };
+
     fn push_line<A: Allocator>(&self, text: &mut Vec<u8, A>) -> Result<(), AllocError> {
         let it = *self;
         append!(text; b"parts " push_number(it.feature) b" " push_number(it.before) b" "
@@ -43,6 +52,8 @@ impl ReportLine for PartsChange {
 }
 
 impl ReportLine for AreaChange {
+    ghost line = { area_line };
+
     fn push_line<A: Allocator>(&self, text: &mut Vec<u8, A>) -> Result<(), AllocError> {
         let it = *self;
         append!(text; b"area " push_number(it.feature) b" " push_number(it.before) b" "

@@ -52,7 +52,7 @@ fn push_closed_of<'l, A: Allocator + Copy>(
     faces: &[DecidedFace<'l, A>],
 ) -> Result<(), AllocError> {
     for it in faces {
-        if let Decision::Closed(feature) = it.decision
+        if let Decision::Given(feature) = it.decision
             && is_kind(it.face.kind, kind)
         {
             found.push(ClosedFace {
@@ -71,7 +71,7 @@ fn push_left_of<'l, A: Allocator + Copy>(
     faces: &[DecidedFace<'l, A>],
 ) -> Result<(), AllocError> {
     for it in faces {
-        if matches!(it.decision, Decision::Left) && is_kind(it.face.kind, kind) {
+        if matches!(it.decision, Decision::Waits) && is_kind(it.face.kind, kind) {
             found.push(LeftFace { face: it.face })?;
         }
     }
@@ -84,8 +84,8 @@ fn closed_faces<'l, A: Allocator + Copy>(
     faces: &[DecidedFace<'l, A>],
 ) -> Result<Vec<ClosedFace<'l, A>, A>, AllocError> {
     let mut found = Vec::new(alloc);
-    for kind in KINDS {
-        push_closed_of(&mut found, kind, faces)?;
+    for kind in KINDS.iter() {
+        push_closed_of(&mut found, *kind, faces)?;
     }
     Ok(found)
 }
@@ -96,8 +96,8 @@ fn left_faces<'l, A: Allocator + Copy>(
     faces: &[DecidedFace<'l, A>],
 ) -> Result<Vec<LeftFace<'l, A>, A>, AllocError> {
     let mut found = Vec::new(alloc);
-    for kind in KINDS {
-        push_left_of(&mut found, kind, faces)?;
+    for kind in KINDS.iter() {
+        push_left_of(&mut found, *kind, faces)?;
     }
     Ok(found)
 }

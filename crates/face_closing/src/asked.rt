@@ -1,4 +1,8 @@
 // Which faces are to be closed.
+ghost use Rattle.std.specs.Prelude.{◌≡◌};
+ghost use Rattle.layer_faces.specs.Common.{width_of};
+ghost use Rattle.face_closing.specs.Asked as spec;
+
 use layer_faces::{Face, Kind};
 use std::alloc::Allocator;
 
@@ -19,7 +23,9 @@ pub struct Closing {
 
 impl Closing {
     /// Whether faces of this kind are to be closed.
-    pub fn has_kind(&self, kind: Kind) -> bool {
+    pub fn has_kind(&self, kind: Kind) -> bool
+        ensures { result ≡ spec.has_kind self.now kind }
+    {
         match kind {
             Kind::Overlap | Kind::Twice => self.overlaps,
             Kind::Gap => self.gaps,
@@ -29,7 +35,10 @@ impl Closing {
     }
 
     /// Whether a face is of such a kind and within the bounds.
-    pub fn has<A: Allocator + Copy>(&self, face: &Face<A>) -> bool {
+    pub fn has<A: Allocator + Copy>(&self, face: &Face<A>) -> bool
+        ensures { result ≡ spec.asks_for self.now face.now.kind face.now.twice_area
+            (width_of face.now.twice_area face.now.border) }
+    {
         self.has_kind(face.kind)
             && is_width_at_most(face.width(), self.width)
             && is_area_at_most(face.twice_area, self.area)
@@ -37,7 +46,9 @@ impl Closing {
 }
 
 /// Whether a width is within a bound, if there is one.
-fn is_width_at_most(width: u128, bound: Option<u128>) -> bool {
+fn is_width_at_most(width: u128, bound: Option<u128>) -> bool
+    ensures { result ≡ spec.is_width_at_most width bound }
+{
     match bound {
         Some(most) => width <= most,
         None => true,
@@ -45,7 +56,9 @@ fn is_width_at_most(width: u128, bound: Option<u128>) -> bool {
 }
 
 /// Whether an area is within a bound, if there is one.
-fn is_area_at_most(area: i128, bound: Option<u128>) -> bool {
+fn is_area_at_most(area: i128, bound: Option<u128>) -> bool
+    ensures { result ≡ spec.is_area_at_most area bound }
+{
     match bound {
         Some(most) => area <= 0 || area.unsigned_abs() <= most,
         None => true,

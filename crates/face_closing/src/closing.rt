@@ -1,9 +1,24 @@
 // A layer closed.
+ghost use Rattle.std.specs.Prelude.{◌≡◌, ℕ, List, length, Contains, IsTrue, IfOk, OnOk};
+ghost use Rattle.grid_geometry.specs.Common.{Segment};
+ghost use Rattle.std.specs.List.{zip};
+ghost use Rattle.std.specs.List.Sorted.{IsNonDecreasingBy};
+ghost use Rattle.layer_faces.specs.Common.{face_seen, segments_seen};
+ghost use Rattle.layer_sides.specs.Common.{IsProperLayer};
+ghost use Rattle.ring_parts.specs.Common.{polygons_seen};
+ghost use Rattle.face_closing.specs.Areas.{AreasAgree};
+ghost use Rattle.face_closing.specs.Decided.{AreDecided, IsAllowed};
+ghost use Rattle.face_closing.specs.Held.{AreHeldSo};
+ghost use Rattle.face_closing.specs.Kept.{OthersStay};
+ghost use Rattle.face_closing.specs.Layer.{IsLook, decided_in, faces_in};
+ghost use Rattle.face_closing.specs.Made.{AreMade};
+ghost use Rattle.face_closing.specs.Remaining.{OnlyLeftRemain};
+
 use crate::asked::Closing;
 use crate::decision::Decision;
 use crate::facing::Facing;
 use crate::fault::{CloseFault, of_face};
-use crate::holding::{Decided, test_holders};
+use crate::holding::{Decided, test_holders, unclosed_at};
 use crate::keeping::{Owned, test_kept};
 use crate::land::test_land;
 use crate::remaining::test_remaining;
@@ -28,21 +43,15 @@ pub struct Closed<A: Allocator + Copy = Global> {
 
 /// Whether it may be decided so of a face: what is asked for is left or closed, and it is closed for a feature that holds it,
 /// or is beside it where none does.
-fn is_allowed<A: Allocator + Copy>(asked: &Closing, face: &Face<A>, decision: &Decision) -> bool {
+fn is_allowed<A: Allocator + Copy>(asked: &Closing, face: &Face<A>, decision: &Decision) -> bool
+    ensures { IsTrue result → (ss : List Segment) → IsAllowed asked.now (face_seen ss face.now) decision.now }
+{
     match decision {
         Decision::Stays => !asked.has(face),
-        Decision::Left => asked.has(face),
-        Decision::Closed(feature) => {
+        Decision::Waits => asked.has(face),
+        Decision::Given(feature) => {
             asked.has(face) && face.features.binary_search(feature).is_ok()
         }
-    }
-}
-
-/// The segment by which a face is told, or a fault.
-fn unclosed<A: Allocator + Copy>(look: &Look<A>, face: &Face<A>) -> CloseFault {
-    match look.borders.get(face.first as usize / 2) {
-        Some(border) => CloseFault::UnclosedSegment(border.segment),
-        None => CloseFault::TooLarge,
     }
 }
 
@@ -51,13 +60,15 @@ fn test_decisions<A: Allocator + Copy>(
     asked: &Closing,
     look: &Look<A>,
     decisions: &[Decision],
-) -> Result<(), CloseFault> {
+) -> Result<(), CloseFault>
+    ensures { OnOk result (AreDecided asked.now (faces_in look.now) decisions.now) }
+{
     if decisions.len() != look.faces.len() {
         return Err(CloseFault::TooLarge);
     }
     for (face, decision) in look.faces.iter().zip(decisions) {
         if !is_allowed(asked, face, decision) {
-            return Err(unclosed(look, face));
+            return Err(unclosed_at(look, face.first));
         }
     }
     Ok(())
@@ -70,7 +81,30 @@ fn tested<A: Allocator + Copy>(
     asked: &Closing,
     before: Owned<'_, A>,
     after: Owned<'_, A>,
-) -> Result<Look<A>, CloseFault> {
+) -> Result<Look<A>, CloseFault>
+    requires look { IsLook (polygons_seen before.polygons.now) before.owners.now decided.facing.now.look.now }
+    requires proper { IsProperLayer (polygons_seen before.polygons.now) }
+    requires owned { length before.owners.now ≡ length before.polygons.now }
+    requires ascending { IsNonDecreasingBy (λ n. n) before.owners.now }
+    ensures made { OnOk result (AreMade (polygons_seen before.polygons.now) (polygons_seen after.polygons.now)) }
+    ensures proper { OnOk result (IsProperLayer (polygons_seen after.polygons.now)) }
+    ensures owned { OnOk result (length after.owners.now ≡ length after.polygons.now) }
+    ensures look { IfOk result (λ look. IsLook (polygons_seen after.polygons.now) after.owners.now look) }
+    ensures held { IfOk result (λ look. AreHeldSo
+        (zip (faces_in decided.facing.now.look.now) decided.decisions.now) (faces_in look)) }
+    ensures remains { IfOk result (λ look. OnlyLeftRemain asked.now
+        (zip (faces_in decided.facing.now.look.now) decided.decisions.now) (faces_in look)) }
+    ensures areas { IfOk result (λ look. AreasAgree before.owners.now
+        (zip (faces_in decided.facing.now.look.now) decided.decisions.now)
+        decided.facing.now.look.now.sums (faces_in look) look.sums) }
+    ensures kept { OnOk result (OthersStay
+        (zip (faces_in decided.facing.now.look.now) decided.decisions.now)
+        before.owners.now (polygons_seen before.polygons.now) after.owners.now (polygons_seen after.polygons.now)) }
+    ensures owners { OnOk result ((n : ℕ) → Contains after.owners.now n → Contains before.owners.now n) }
+{
+    if after.owners.len() != after.polygons.len() {
+        return Err(CloseFault::TooLarge);
+    }
     or_return!(test_rings(alloc, before.polygons, after.polygons, after.owners));
     let look = match look_at(alloc, after.polygons, after.owners) {
         Ok(look) => look,
@@ -84,14 +118,38 @@ fn tested<A: Allocator + Copy>(
 }
 
 /// Closes the overlaps and gaps of a layer, in which this was found, as it is asked. Each polygon has an owner, the number
-/// of its feature; those of one feature stand together.
+/// of its feature; owners ascend.
+///
+/// Which feature gets a face comes of a search, by the longest common border; so do the rings that are made. What is made is
+/// looked at once more and compared with what was decided. Fails with `UnclosedSegment` and `UnclosedFeature` where it is not
+/// so, which is not known to occur; with `TooLarge`, `Unswept` and `Unlike` as `look_at` does; and on allocation failure.
 pub fn close<A: Allocator + Copy>(
     alloc: A,
     polygons: &[Vec<Vec<Pos, A>, A>],
     owners: &[usize],
     look: &Look<A>,
     asked: &Closing,
-) -> Result<Closed<A>, CloseFault> {
+) -> Result<Closed<A>, CloseFault>
+    requires look { IsLook (polygons_seen polygons.now) owners.now look.now }
+    requires proper { IsProperLayer (polygons_seen polygons.now) }
+    requires owned { length owners.now ≡ length polygons.now }
+    requires ascending { IsNonDecreasingBy (λ n. n) owners.now }
+    ensures decided { IfOk result (λ closed. AreDecided asked.now (faces_in look.now) closed.decisions.items) }
+    ensures made { IfOk result (λ closed. AreMade (polygons_seen polygons.now) (polygons_seen closed.polygons.items)) }
+    ensures proper { IfOk result (λ closed. IsProperLayer (polygons_seen closed.polygons.items)) }
+    ensures owned { IfOk result (λ closed. length closed.owners.items ≡ length closed.polygons.items) }
+    ensures look { IfOk result (λ closed.
+        IsLook (polygons_seen closed.polygons.items) closed.owners.items closed.look) }
+    ensures held { IfOk result (λ closed. AreHeldSo (decided_in look.now closed) (faces_in closed.look)) }
+    ensures remains { IfOk result (λ closed.
+        OnlyLeftRemain asked.now (decided_in look.now closed) (faces_in closed.look)) }
+    ensures areas { IfOk result (λ closed. AreasAgree owners.now (decided_in look.now closed)
+        look.now.sums (faces_in closed.look) closed.look.sums) }
+    ensures kept { IfOk result (λ closed. OthersStay (decided_in look.now closed)
+        owners.now (polygons_seen polygons.now) closed.owners.items (polygons_seen closed.polygons.items)) }
+    ensures owners { IfOk result (λ closed.
+        (n : ℕ) → Contains closed.owners.items n → Contains owners.now n) }
+{
     let facing = Facing::new(alloc, look)?;
     let decisions = decisions(alloc, &facing, owners, asked)?;
     or_return!(test_decisions(asked, look, decisions.as_slice()));

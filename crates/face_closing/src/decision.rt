@@ -6,7 +6,7 @@ pub enum Decision {
     /// It is not asked for, or beyond a bound.
     Stays,
     /// It is asked for, and the rule gives it to nobody.
-    Left,
+    Waits,
     /// It is closed: the feature with this number alone holds it now.
-    Closed(usize),
+    Given(usize),
 }

@@ -1,4 +1,8 @@
 // The faces of a layer, by their sides.
+ghost use Rattle.std.specs.Prelude.{◌≡◌, Contains, IfOk, IfSome};
+ghost use Rattle.std.specs.List.{HoldsAt};
+ghost use Rattle.face_closing.specs.Decided.{if_held};
+
 use layer_faces::{Face, Look};
 use std::alloc::{AllocError, Allocator};
 
@@ -21,7 +25,9 @@ pub(crate) fn opposite(side: u32) -> u32 {
 }
 
 /// The features that hold a face, ascending.
-pub(crate) fn land_of<A: Allocator + Copy>(face: &Face<A>) -> &[usize] {
+pub(crate) fn land_of<A: Allocator + Copy>(face: &Face<A>) -> &[usize]
+    ensures { result.now ≡ if_held face.now.holders.items face.now.features.items }
+{
     match face.holders.as_slice() {
         [] => &[],
         _ => face.features.as_slice(),
@@ -39,7 +45,9 @@ fn put_places(places: &mut [usize], sides: &[u32], place: usize) {
 
 impl<'l, A: Allocator + Copy> Facing<'l, A> {
     /// The faces that were found, by their sides.
-    pub(crate) fn new(alloc: A, look: &'l Look<A>) -> Result<Facing<'l, A>, AllocError> {
+    pub(crate) fn new(alloc: A, look: &'l Look<A>) -> Result<Facing<'l, A>, AllocError>
+        ensures { IfOk result (λ facing. facing.look.now ≡ look.now) }
+    {
         let mut places = vec![in alloc; 0; look.borders.len().saturating_mul(2)]?;
         for (place, face) in look.faces.iter().enumerate() {
             put_places(places.as_mut_slice(), face.sides.as_slice(), place);
@@ -53,7 +61,10 @@ impl<'l, A: Allocator + Copy> Facing<'l, A> {
     }
 
     /// The place of the face of a side, which is one of its sides.
-    pub(crate) fn place_of(&self, side: u32) -> Option<usize> {
+    pub(crate) fn place_of(&self, side: u32) -> Option<usize>
+        ensures { IfSome result
+            (HoldsAt (λ f. Contains f.sides.items side) self.now.look.now.faces.items) }
+    {
         let place = *self.places.get(side as usize)?;
         let face = self.look.faces.get(place)?;
         match face.sides.binary_search(&side) {

@@ -21,12 +21,22 @@ pub enum CloseFault {
 }
 
 impl From<AllocError> for CloseFault {
+    ghost use Rattle.std.specs.Prelude.{◌≡◌};
+    ghost use Rattle.face_closing.specs.declared.fault.CloseFault.TheVariants.{OutOfMemory};
+
+    ghost from_gives = { λ _ e. e ≡ OutOfMemory };
+
     fn from(_e: AllocError) -> CloseFault {
         CloseFault::OutOfMemory
     }
 }
 
 impl<T: Drop> From<AllocFailed<T>> for CloseFault {
+    ghost use Rattle.std.specs.Prelude.{◌≡◌};
+    ghost use Rattle.face_closing.specs.declared.fault.CloseFault.TheVariants.{OutOfMemory};
+
+    ghost from_gives = { λ _ e. e ≡ OutOfMemory };
+
     fn from(_e: AllocFailed<T>) -> CloseFault {
         CloseFault::OutOfMemory
     }

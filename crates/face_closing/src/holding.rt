@@ -1,10 +1,18 @@
 // Whether the sides after closing are held as it was decided.
+ghost use Rattle.std.specs.Prelude.{◌≡◌, IfSome, OnOk};
+ghost use Rattle.std.specs.List.{zip};
+ghost use Rattle.layer_faces.specs.Common.{face_seen, segments_seen, side_at};
+ghost use Rattle.face_closing.specs.Decided.{if_held, land_then};
+ghost use Rattle.face_closing.specs.Held.{AreHeldSo, HasSide, IsHeldSo};
+ghost use Rattle.face_closing.specs.Layer.{faces_in};
+
 use crate::decision::Decision;
 use crate::facing::{Facing, land_of};
 use crate::fault::CloseFault;
 use grid_geometry::Seg;
 use layer_faces::{Face, Look};
 use std::alloc::Allocator;
+use std::slice::from_ref;
 
 /// The faces of a layer before closing, and what was decided of each.
 #[derive(Clone, Copy)]
@@ -18,17 +26,27 @@ pub(crate) struct Decided<'d, 'l, A: Allocator + Copy> {
 pub(crate) fn land_after<'d, A: Allocator + Copy>(
     face: &'d Face<A>,
     decision: &'d Decision,
-) -> &'d [usize] {
+) -> &'d [usize]
+    ensures { result.now ≡ land_then (if_held face.now.holders.items face.now.features.items) decision.now }
+{
     match decision {
-        Decision::Closed(feature) => std::slice::from_ref(feature),
-        Decision::Stays | Decision::Left => land_of(face),
+        Decision::Given(feature) => from_ref(feature),
+        Decision::Stays | Decision::Waits => land_of(face),
     }
 }
 
 /// The segment of a side.
-pub(crate) fn segment_of<A: Allocator + Copy>(look: &Look<A>, side: u32) -> Option<Seg> {
+fn segment_of<A: Allocator + Copy>(look: &Look<A>, side: u32) -> Option<Seg> {
     let border = look.borders.get(side as usize / 2)?;
     Some(border.segment)
+}
+
+/// The fault at a side.
+pub(crate) fn unclosed_at<A: Allocator + Copy>(look: &Look<A>, side: u32) -> CloseFault {
+    match segment_of(look, side) {
+        Some(segment) => CloseFault::UnclosedSegment(segment),
+        None => CloseFault::TooLarge,
+    }
 }
 
 impl<'d, 'l, A: Allocator + Copy> Decided<'d, 'l, A> {
@@ -47,7 +65,12 @@ impl<'d, 'l, A: Allocator + Copy> Decided<'d, 'l, A> {
         &self,
         after: &Look<A>,
         side: u32,
-    ) -> Option<(&'l Face<A>, &'d Decision)> {
+    ) -> Option<(&'l Face<A>, &'d Decision)>
+        ensures { IfSome result (λ x. HasSide
+            (zip (faces_in self.now.facing.now.look.now) self.now.decisions.now)
+            (side_at (segments_seen after.now.borders.items) side)
+            (face_seen (segments_seen self.now.facing.now.look.now.borders.items) x.0.now, x.1.now)) }
+    {
         let segment = segment_of(after, side)?;
         let place = self.place_before(segment, side % 2 == 1)?;
         Some((self.facing.face(place)?, self.decisions.get(place)?))
@@ -59,14 +82,16 @@ fn test_face<A: Allocator + Copy>(
     decided: &Decided<'_, '_, A>,
     after: &Look<A>,
     face: &Face<A>,
-) -> Result<(), CloseFault> {
+) -> Result<(), CloseFault>
+    ensures { OnOk result (IsHeldSo (zip (faces_in decided.now.facing.now.look.now) decided.now.decisions.now)
+        (face_seen (segments_seen after.now.borders.items) face.now)) }
+{
     for side in face.sides.as_slice() {
-        let is_so = match decided.face_before(after, *side) {
-            Some((before, decision)) => land_after(before, decision) == land_of(face),
-            None => false,
+        let Some((before, decision)) = decided.face_before(after, *side) else {
+            return Err(unclosed_at(after, *side));
         };
-        if !is_so && let Some(segment) = segment_of(after, *side) {
-            return Err(CloseFault::UnclosedSegment(segment));
+        if land_after(before, decision) != land_of(face) {
+            return Err(unclosed_at(after, *side));
         }
     }
     Ok(())
@@ -76,7 +101,10 @@ fn test_face<A: Allocator + Copy>(
 pub(crate) fn test_holders<A: Allocator + Copy>(
     decided: &Decided<'_, '_, A>,
     after: &Look<A>,
-) -> Result<(), CloseFault> {
+) -> Result<(), CloseFault>
+    ensures { OnOk result (AreHeldSo (zip (faces_in decided.now.facing.now.look.now) decided.now.decisions.now)
+        (faces_in after.now)) }
+{
     for face in after.faces.as_slice() {
         or_return!(test_face(decided, after, face));
     }

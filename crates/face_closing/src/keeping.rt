@@ -1,4 +1,11 @@
 // Whether features that have nothing to do with a closed face keep their polygons.
+ghost use Rattle.std.specs.Prelude.{◌≡◌, ℕ, length, Contains, OnOk};
+ghost use Rattle.std.specs.List.{zip};
+ghost use Rattle.std.specs.List.Sorted.{IsNonDecreasingBy};
+ghost use Rattle.ring_parts.specs.Common.{polygons_seen};
+ghost use Rattle.face_closing.specs.Kept.{OthersStay};
+ghost use Rattle.face_closing.specs.Layer.{faces_in};
+
 use crate::decision::Decision;
 use crate::facing::land_of;
 use crate::fault::CloseFault;
@@ -44,7 +51,7 @@ fn changing<A: Allocator + Copy>(
     let mut changing = Vec::new(alloc);
     let faces = decided.facing.look.faces.as_slice();
     for (face, decision) in faces.iter().zip(decided.decisions) {
-        if let Decision::Closed(feature) = decision {
+        if let Decision::Given(feature) = decision {
             changing.push(*feature)?;
             changing.extend_from_slice(land_of(face))?;
         }
@@ -61,7 +68,15 @@ pub(crate) fn test_kept<A: Allocator + Copy>(
     decided: &Decided<'_, '_, A>,
     before: Owned<'_, A>,
     after: Owned<'_, A>,
-) -> Result<(), CloseFault> {
+) -> Result<(), CloseFault>
+    requires owned { length before.owners.now ≡ length before.polygons.now }
+    requires owned_after { length after.owners.now ≡ length after.polygons.now }
+    requires ascending { IsNonDecreasingBy (λ n. n) before.owners.now }
+    ensures kept { OnOk result (OthersStay
+        (zip (faces_in decided.now.facing.now.look.now) decided.now.decisions.now)
+        before.owners.now (polygons_seen before.polygons.now) after.owners.now (polygons_seen after.polygons.now)) }
+    ensures owners { OnOk result ((n : ℕ) → Contains after.owners.now n → Contains before.owners.now n) }
+{
     let changing = changing(alloc, decided)?;
     let (mut before, mut after) = (before, after);
     for _ in 0..before.polygons.len() {

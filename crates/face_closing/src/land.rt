@@ -1,96 +1,158 @@
 // Whether the land of each feature changed by what was closed, and nothing else.
+ghost use Rattle.std.specs.Prelude.{◌≡◌, ◌≤◌, ◌+◌, pos, length, Contains, IfOk, OnOk};
+ghost use Rattle.std.specs.List.{zip};
+ghost use Rattle.std.specs.List.Sorted.{IsNonDecreasingBy};
+ghost use Rattle.face_closing.specs.Areas.{AddsLand, AreOnce, AreasAgree, IsLandOf, decided_lands, found_lands};
+ghost use Rattle.face_closing.specs.Layer.{faces_in};
+
 use crate::facing::land_of;
 use crate::fault::CloseFault;
-use crate::holding::{Decided, land_after};
-use grid_geometry::Seg;
+use crate::holding::{Decided, land_after, unclosed_at};
 use layer_faces::Look;
-use std::alloc::{AllocError, Allocator};
+use std::alloc::Allocator;
 
-/// Twice the areas of the land of features, from the first of a layer on, and of all land.
+/// Twice the areas of the land of features, by how far their numbers are from the first one's, and of all land.
 #[derive(Drop)]
 struct Land<A: Allocator + Copy> {
-    first: usize,
     areas: Vec<i128, A>,
     all: i128,
 }
 
+/// The number of the first feature.
+fn first_of(owners: &[usize]) -> usize
+    ensures { IsNonDecreasingBy (λ n. n) owners.now → (n : ℕ) → Contains owners.now n → result ≤ n }
+{
+    match owners.first() {
+        Some(first) => *first,
+        None => 0,
+    }
+}
+
+/// Adds a number to one of these.
+fn add_at(areas: &mut [i128], place: usize, area: i128) -> Result<(), CloseFault> {
+    let Some(entry) = areas.get_mut(place) else {
+        return Ok(());
+    };
+    match entry.checked_add(area) {
+        Some(sum) => {
+            *entry = sum;
+            Ok(())
+        }
+        None => Err(CloseFault::TooLarge),
+    }
+}
+
+/// Adds a face that these features hold to the land of each.
+fn add_land(
+    areas: &mut [i128],
+    first: usize,
+    features: &[usize],
+    area: i128,
+) -> Result<(), CloseFault>
+    ensures { OnOk result (AddsLand first features.now area areas.old areas.new) }
+{
+    for feature in features {
+        if let Some(place) = feature.checked_sub(first) {
+            or_return!(add_at(areas, place, area));
+        }
+    }
+    Ok(())
+}
+
 impl<A: Allocator + Copy> Land<A> {
-    /// None, for features from the first to the last.
-    fn new(alloc: A, owners: &[usize]) -> Result<Land<A>, AllocError> {
-        let first = owners.first().copied().unwrap_or(0);
+    /// None, for features that ascend.
+    fn new(alloc: A, owners: &[usize]) -> Result<Land<A>, CloseFault> {
         let last = owners.last().copied().unwrap_or(0);
-        let count = last.saturating_sub(first).saturating_add(1);
+        let count = last.saturating_sub(first_of(owners)).saturating_add(1);
         Ok(Land {
-            first,
             areas: vec![in alloc; 0; count]?,
             all: 0,
         })
     }
 
     /// Adds a face that these features hold.
-    fn add(&mut self, features: &[usize], area: i128) {
+    fn add(&mut self, first: usize, features: &[usize], area: i128) -> Result<(), CloseFault> {
         if !features.is_empty() {
-            self.all = self.all.saturating_add(area);
-        }
-        for feature in features {
-            if let Some(entry) = self.areas.get_mut(feature.saturating_sub(self.first)) {
-                *entry = entry.saturating_add(area);
+            match self.all.checked_add(area) {
+                Some(sum) => self.all = sum,
+                None => return Err(CloseFault::TooLarge),
             }
         }
-    }
-
-    /// The land by the faces of a layer, as it was decided of them.
-    fn add_decided(&mut self, decided: &Decided<'_, '_, A>) {
-        let faces = decided.facing.look.faces.as_slice();
-        for (face, decision) in faces.iter().zip(decided.decisions) {
-            self.add(land_after(face, decision), face.twice_area);
-        }
-    }
-
-    /// The land by the faces of a layer.
-    fn add_found(&mut self, look: &Look<A>) {
-        for face in look.faces.as_slice() {
-            self.add(land_of(face), face.twice_area);
-        }
-    }
-
-    /// Tests that each feature has as much land as here.
-    fn test_same(&self, other: &Land<A>) -> Result<(), CloseFault> {
-        let areas = self.areas.iter().zip(other.areas.as_slice());
-        for (place, (area, wanted)) in areas.enumerate() {
-            if area != wanted {
-                return Err(CloseFault::UnclosedFeature(self.first.saturating_add(place)));
-            }
-        }
-        Ok(())
+        add_land(self.areas.as_mut_slice(), first, features, area)
     }
 }
 
-/// A segment for a layer whose sums are not as they must be: its first border.
-fn first_segment<A: Allocator + Copy>(look: &Look<A>) -> Option<Seg> {
-    let border = look.borders.first()?;
-    Some(border.segment)
+/// The land of the features of a layer, as it was decided of its faces.
+fn land_decided<A: Allocator + Copy>(
+    alloc: A,
+    owners: &[usize],
+    decided: &Decided<'_, '_, A>,
+) -> Result<Land<A>, CloseFault>
+    requires { IsNonDecreasingBy (λ n. n) owners.now }
+    ensures { IfOk result (λ land. IsLandOf owners.now
+        (decided_lands (zip (faces_in decided.now.facing.now.look.now) decided.now.decisions.now))
+        land.areas.items land.all) }
+{
+    let first = first_of(owners);
+    let mut land = or_return!(Land::new(alloc, owners));
+    let faces = decided.facing.look.faces.as_slice();
+    for (face, decision) in faces.iter().zip(decided.decisions) {
+        or_return!(land.add(first, land_after(face, decision), face.twice_area));
+    }
+    Ok(land)
 }
 
-/// Tests that the land of each feature of the owners, after closing, is what it has as it was decided, and that what is
-/// covered is all such land, and what is within what it was.
+/// The land of the features of a layer, in which this was found.
+fn land_found<A: Allocator + Copy>(
+    alloc: A,
+    owners: &[usize],
+    look: &Look<A>,
+) -> Result<Land<A>, CloseFault>
+    requires { IsNonDecreasingBy (λ n. n) owners.now }
+    ensures { IfOk result
+        (λ land. IsLandOf owners.now (found_lands (faces_in look.now)) land.areas.items land.all) }
+{
+    let first = first_of(owners);
+    let mut land = or_return!(Land::new(alloc, owners));
+    for face in look.faces.as_slice() {
+        or_return!(land.add(first, land_of(face), face.twice_area));
+    }
+    Ok(land)
+}
+
+/// The place of the first number that another list has not there.
+fn first_other(areas: &[i128], others: &[i128]) -> Option<usize> {
+    for (place, (area, other)) in areas.iter().zip(others).enumerate() {
+        if area != other {
+            return Some(place);
+        }
+    }
+    None
+}
+
+/// Tests that the land of each feature of the owners, which ascend, is after closing what it is by what was decided, that what
+/// is covered is all such land, and that what is within is what it was.
 pub(crate) fn test_land<A: Allocator + Copy>(
     alloc: A,
     decided: &Decided<'_, '_, A>,
     owners: &[usize],
     after: &Look<A>,
-) -> Result<(), CloseFault> {
-    let mut wanted = Land::new(alloc, owners)?;
-    wanted.add_decided(decided);
-    let mut found = Land::new(alloc, owners)?;
-    found.add_found(after);
-    or_return!(found.test_same(&wanted));
+) -> Result<(), CloseFault>
+    requires ascending { IsNonDecreasingBy (λ n. n) owners.now }
+    requires once { AreOnce (faces_in decided.now.facing.now.look.now) }
+    requires once_after { AreOnce (faces_in after.now) }
+    ensures { OnOk result (AreasAgree owners.now
+        (zip (faces_in decided.now.facing.now.look.now) decided.now.decisions.now)
+        decided.now.facing.now.look.now.sums (faces_in after.now) after.now.sums) }
+{
     let before = decided.facing.look;
-    if after.sums.covered == wanted.all && after.sums.within == before.sums.within {
-        return Ok(());
+    let wanted = or_return!(land_decided(alloc, owners, decided));
+    let found = or_return!(land_found(alloc, owners, after));
+    if let Some(place) = first_other(found.areas.as_slice(), wanted.areas.as_slice()) {
+        return Err(CloseFault::UnclosedFeature(first_of(owners).saturating_add(place)));
     }
-    match first_segment(before) {
-        Some(segment) => Err(CloseFault::UnclosedSegment(segment)),
-        None => Ok(()),
+    if after.sums.covered != wanted.all || after.sums.within != before.sums.within {
+        return Err(unclosed_at(before, 0));
     }
+    Ok(())
 }

@@ -1,4 +1,14 @@
 // Whether the rings after closing are rings, whose segments were there before.
+ghost use Rattle.std.specs.Prelude.{◌≡◌, ◌++◌, length, Contains, IsTrue, IfOk, OnOk};
+ghost use Rattle.std.specs.List.{flat_map, list_all};
+ghost use Rattle.std.specs.List.Sorted.{IsPermutation, IsSorted};
+ghost use Rattle.grid_geometry.specs.Common.{Segment, segment_cmp};
+ghost use Rattle.ring_machine.specs.Common.{is_ring};
+ghost use Rattle.ring_parts.specs.Common.{polygons_seen, rings_seen};
+ghost use Rattle.walk_faults.specs.Common.{walk_segments};
+ghost use Rattle.walk_mending.specs.Common.{has_ring};
+ghost use Rattle.face_closing.specs.Made.{AreMade};
+
 use crate::fault::CloseFault;
 use grid_geometry::{Pos, Seg};
 use std::alloc::{AllocError, Allocator};
@@ -9,7 +19,10 @@ use walk_mending::are_rings;
 fn push_polygon<A: Allocator + Copy>(
     segments: &mut Vec<Seg, A>,
     rings: &[Vec<Pos, A>],
-) -> Result<(), AllocError> {
+) -> Result<(), AllocError>
+    ensures { OnOk result (segments.new.items
+        ≡ segments.old.items ++ flat_map walk_segments (rings_seen rings.now)) }
+{
     for ring in rings {
         push_segments(segments, ring.as_slice())?;
     }
@@ -20,7 +33,11 @@ fn push_polygon<A: Allocator + Copy>(
 fn sorted_segments<A: Allocator + Copy>(
     alloc: A,
     polygons: &[Vec<Vec<Pos, A>, A>],
-) -> Result<Vec<Seg, A>, AllocError> {
+) -> Result<Vec<Seg, A>, AllocError>
+    ensures ascending { IfOk result (λ found. IsSorted segment_cmp found.items) }
+    ensures same { IfOk result (λ found.
+        IsPermutation (flat_map (flat_map walk_segments) (polygons_seen polygons.now)) found.items) }
+{
     let mut segments = Vec::new(alloc);
     for rings in polygons {
         push_polygon(&mut segments, rings.as_slice())?;
@@ -30,7 +47,9 @@ fn sorted_segments<A: Allocator + Copy>(
 }
 
 /// Fails with the first of these segments that is not among the others, which ascend.
-fn test_among(segments: &[Seg], others: &[Seg]) -> Result<(), CloseFault> {
+fn test_among(segments: &[Seg], others: &[Seg]) -> Result<(), CloseFault>
+    ensures { OnOk result ((s : Segment) → Contains segments.now s → Contains others.now s) }
+{
     for segment in segments {
         if others.binary_search(segment).is_err() {
             return Err(CloseFault::UnclosedSegment(*segment));
@@ -44,7 +63,11 @@ fn test_all_rings<A: Allocator + Copy>(
     alloc: A,
     polygons: &[Vec<Vec<Pos, A>, A>],
     owners: &[usize],
-) -> Result<(), CloseFault> {
+) -> Result<(), CloseFault>
+    requires { length owners.now ≡ length polygons.now }
+    ensures filled { OnOk result (IsTrue (list_all has_ring (polygons_seen polygons.now))) }
+    ensures rings { OnOk result (IsTrue (list_all (list_all is_ring) (polygons_seen polygons.now))) }
+{
     for (rings, owner) in polygons.iter().zip(owners) {
         if rings.is_empty() || !are_rings(alloc, rings.as_slice())? {
             return Err(CloseFault::UnclosedFeature(*owner));
@@ -59,7 +82,10 @@ pub(crate) fn test_rings<A: Allocator + Copy>(
     before: &[Vec<Vec<Pos, A>, A>],
     after: &[Vec<Vec<Pos, A>, A>],
     owners: &[usize],
-) -> Result<(), CloseFault> {
+) -> Result<(), CloseFault>
+    requires { length owners.now ≡ length after.now }
+    ensures { OnOk result (AreMade (polygons_seen before.now) (polygons_seen after.now)) }
+{
     or_return!(test_all_rings(alloc, after, owners));
     let segments = sorted_segments(alloc, after)?;
     let others = sorted_segments(alloc, before)?;

@@ -7,6 +7,7 @@ use crate::search::pieces::{Piece, Touched, pieces_of};
 use crate::search::touching::touched_by;
 use grid_geometry::Pos;
 use std::alloc::{AllocError, Allocator};
+use std::ops::Range;
 
 /// Polygons, and of each the number of its feature.
 #[derive(Drop)]
@@ -33,6 +34,7 @@ impl<A: Allocator + Copy> After<A> {
 }
 
 /// The layer, and what becomes of it.
+#[derive(Drop)]
 struct Making<'m, 'l, A: Allocator + Copy> {
     facing: &'m Facing<'l, A>,
     polygons: &'m [Vec<Vec<Pos, A>, A>],
@@ -74,7 +76,7 @@ impl<'m, 'l, A: Allocator + Copy> Making<'m, 'l, A> {
         alloc: A,
         after: &mut After<A>,
         feature: usize,
-        numbers: std::ops::Range<usize>,
+        numbers: Range<usize>,
     ) -> Result<(), AllocError> {
         let mut is_made = false;
         for number in numbers {

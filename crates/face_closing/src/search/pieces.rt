@@ -67,7 +67,7 @@ fn push_face<A: Allocator + Copy>(
     decision: Decision,
 ) -> Result<(), AllocError> {
     let holders = face.holders.as_slice();
-    let Decision::Closed(feature) = decision else {
+    let Decision::Given(feature) = decision else {
         return push_kept(pieces, touched, place, holders);
     };
     let gained = count_of(touched.owners, holders, feature) == 0;

@@ -14,6 +14,7 @@ struct Choice {
 }
 
 /// How many of a face's holders have no land.
+#[derive(Clone, Copy)]
 enum Poor {
     Nobody,
     One(usize),
@@ -64,7 +65,7 @@ impl<'f, 'l, A: Allocator + Copy> Rounds<'f, 'l, A> {
     /// Puts the next face in: it is open, or land of its features.
     fn enter(&mut self, place: usize, face: &Face<A>, is_open: bool) -> Result<(), AllocError> {
         if is_open {
-            self.decisions.push(Decision::Left)?;
+            self.decisions.push(Decision::Waits)?;
             return self.let_wait(place, land_of(face));
         }
         self.decisions.push(Decision::Stays)?;
@@ -135,7 +136,7 @@ impl<'f, 'l, A: Allocator + Copy> Rounds<'f, 'l, A> {
             (Some(Decision::Stays), Some(other)) => {
                 push_shares(shares, land_of(face), land_of(other), length)
             }
-            (Some(Decision::Closed(feature)), _) => {
+            (Some(Decision::Given(feature)), _) => {
                 push_shares(shares, land_of(face), &[*feature], length)
             }
             _ => Ok(()),
@@ -170,7 +171,7 @@ impl<'f, 'l, A: Allocator + Copy> Rounds<'f, 'l, A> {
         choices: &mut Vec<Choice, A>,
         place: usize,
     ) -> Result<(), AllocError> {
-        let (Some(Decision::Left), Some(face)) = (
+        let (Some(Decision::Waits), Some(face)) = (
             self.decisions.get(place),
             self.facing.face(place),
         ) else {
@@ -195,7 +196,7 @@ impl<'f, 'l, A: Allocator + Copy> Rounds<'f, 'l, A> {
     fn decide(&mut self, choices: &[Choice]) {
         for choice in choices {
             if let Some(decision) = self.decisions.get_mut(choice.place) {
-                *decision = Decision::Closed(choice.feature);
+                *decision = Decision::Given(choice.feature);
             }
         }
     }

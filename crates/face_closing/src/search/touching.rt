@@ -69,7 +69,7 @@ pub(crate) fn touched_by<A: Allocator + Copy>(
 ) -> Result<Vec<bool, A>, AllocError> {
     let mut touched = vec![in alloc; false; owners.len()]?;
     for (decision, face) in decisions.iter().zip(facing.look.faces.as_slice()) {
-        if let Decision::Closed(feature) = decision {
+        if let Decision::Given(feature) = decision {
             mark_closed(touched.as_mut_slice(), owners, facing, face, *feature);
         }
     }

@@ -1,0 +1,6 @@
+pub mod Changes
+pub mod Decided
+pub mod Report
+pub mod Layers
+pub mod Closed
+pub mod Common

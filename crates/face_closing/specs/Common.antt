@@ -1,0 +1,9 @@
+-- The words of this crate that others cite most, passed on from one place. Declares nothing.
+pub use Rattle.face_closing.specs.Asked.{asks_for, has_kind, is_area_at_most, is_asked, is_width_at_most}
+pub use Rattle.face_closing.specs.Decided.{AreDecided, DecidedFace, IsAllowed, given, if_held, land_after, land_of, land_then, stays, waits}
+pub use Rattle.face_closing.specs.Made.{AreMade}
+pub use Rattle.face_closing.specs.Held.{AreHeldSo, HasSide, IsAsDecided, IsHeldSo}
+pub use Rattle.face_closing.specs.Remaining.{IsLeft, MayRemain, OnlyLeftRemain, was_gap}
+pub use Rattle.face_closing.specs.Areas.{AreasAgree, decided_area, decided_land, land_area}
+pub use Rattle.face_closing.specs.Kept.{HasToDo, OthersStay, gets, held, polygons_of}
+pub use Rattle.face_closing.specs.Layer.{IsLook, decided_in, faces_in}

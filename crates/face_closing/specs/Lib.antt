@@ -1,0 +1,9 @@
+pub mod Asked
+pub mod Decided
+pub mod Made
+pub mod Held
+pub mod Remaining
+pub mod Areas
+pub mod Kept
+pub mod Layer
+pub mod Common
