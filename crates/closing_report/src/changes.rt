@@ -1,4 +1,10 @@
 // Which features change.
+ghost use Rattle.std.specs.Prelude.{◌≡◌, ◌≤◌, map, length, sum_by, IfOk};
+ghost use Rattle.std.specs.List.{All};
+ghost use Rattle.ring_parts.specs.Common.{polygons_seen};
+ghost use Rattle.closing_report.specs.Changes as spec;
+ghost use Rattle.topo_reader.specs.Uses.{feature_positions};
+
 use cover_report::Feature;
 use grid_geometry::Pos;
 use layer_faces::polygon_area;
@@ -21,10 +27,14 @@ pub(crate) struct AreaChange {
 }
 
 /// Twice the area of polygons, the sum over them.
-fn area_of<A: Allocator + Copy>(polygons: &[Vec<Vec<Pos, A>, A>]) -> i128 {
-    let mut area = 0i128;
+fn area_of<A: Allocator + Copy>(polygons: &[Vec<Vec<Pos, A>, A>]) -> i128
+    requires { sum_by (sum_by length) (polygons_seen polygons.now) ≤ 4000000 }
+    ensures { result ≡ spec.feature_area (polygons_seen polygons.now) }
+{
+    let mut area = 0;
     for polygon in polygons {
-        area = area.saturating_add(polygon_area(polygon.as_slice()));
+        let part = polygon_area(polygon.as_slice());
+        area += part;
     }
     area
 }
@@ -34,7 +44,10 @@ pub(crate) fn parts_changes<A: Allocator + Copy>(
     alloc: A,
     before: &[Feature<A>],
     after: &[Feature<A>],
-) -> Result<Vec<PartsChange, A>, AllocError> {
+) -> Result<Vec<PartsChange, A>, AllocError>
+    ensures { IfOk result (λ changes. changes.items
+        ≡ spec.parts_from 0 (map feature_positions before.now) (map feature_positions after.now)) }
+{
     let mut changes = Vec::new(alloc);
     for (feature, (old, new)) in before.iter().zip(after).enumerate() {
         if old.len() != new.len() {
@@ -53,7 +66,12 @@ pub(crate) fn area_changes<A: Allocator + Copy>(
     alloc: A,
     before: &[Feature<A>],
     after: &[Feature<A>],
-) -> Result<Vec<AreaChange, A>, AllocError> {
+) -> Result<Vec<AreaChange, A>, AllocError>
+    requires few { All (λ feature. sum_by (sum_by length) (feature_positions feature) ≤ 4000000) before.now }
+    requires few_after { All (λ feature. sum_by (sum_by length) (feature_positions feature) ≤ 4000000) after.now }
+    ensures { IfOk result (λ changes. changes.items
+        ≡ spec.areas_from 0 (map feature_positions before.now) (map feature_positions after.now)) }
+{
     let mut changes = Vec::new(alloc);
     for (feature, (old, new)) in before.iter().zip(after).enumerate() {
         if old != new {

@@ -1,4 +1,8 @@
 // From the bytes of a map to the text of what it is closed to.
+ghost use Rattle.std.specs.Prelude.{IfOk};
+ghost use Rattle.cover_report.specs.Asked.{view_asked};
+ghost use Rattle.closing_report.specs.Closed.{IsClosedMap};
+
 use crate::fault::{ClosingFault, of_save};
 use crate::layers::{Closings, closings_of};
 use crate::report::push_report;
@@ -56,7 +60,10 @@ pub fn close_map<'a, A: Allocator + Copy>(
     asked: &Asked<'_>,
     closing: &Closing,
     text: &mut Vec<u8, A>,
-) -> Result<ClosedMap<A>, ClosingFault<'a>> {
+) -> Result<ClosedMap<A>, ClosingFault<'a>>
+    ensures closed { IfOk result (λ closed. IsClosedMap (view_asked asked.now) closing.now bytes.now closed
+        text.old.items text.new.items) }
+{
     let raw = match proper_map(alloc, heap, seed, bytes) {
         Ok(raw) => raw,
         Err(fault) => return Err(ClosingFault::Cover(CoverFault::Open(fault))),

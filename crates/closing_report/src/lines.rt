@@ -1,6 +1,8 @@
 // The lines that tell what was closed.
 ghost use Rattle.cover_report.specs.Faces.{view_told};
-ghost use Rattle.closing_report.specs.Report.{area_line, closed_line, left_line, parts_line};
+ghost use Rattle.closing_report.specs.Report.{area_line, closed_counts_line, closed_line, left_line, now_line, parts_line};
+ghost use Rattle.std.specs.Prelude.{◌≡◌, ◌++◌, flat_map, map, OnOk};
+ghost use Rattle.std.specs.List.{zip};
 
 use crate::changes::{AreaChange, PartsChange};
 use crate::layers::DecidedLayer;
@@ -66,7 +68,9 @@ fn push_now<A: Allocator, B: Allocator + Copy>(
     text: &mut Vec<u8, A>,
     looked: &Looked<'_, B>,
     decided: &DecidedLayer<B>,
-) -> Result<(), AllocError> {
+) -> Result<(), AllocError>
+    ensures { OnOk result (text.new.items ≡ text.old.items ++ now_line (looked.now.name.now, decided.now.now)) }
+{
     let sums = decided.now;
     append!(text; b"now " push_number(sums.polygons) b" over " push_number(sums.over)
         b" covered " push_number(sums.covered) b" gaps " push_number(sums.gaps)
@@ -78,7 +82,10 @@ pub(crate) fn push_all_now<A: Allocator, B: Allocator + Copy>(
     text: &mut Vec<u8, A>,
     looks: &[Looked<'_, B>],
     decided: &[DecidedLayer<B>],
-) -> Result<(), AllocError> {
+) -> Result<(), AllocError>
+    ensures { OnOk result (text.new.items ≡ text.old.items ++ flat_map now_line
+        (zip (map (λ l. l.name.now) looks.now) (map (λ d. d.now) decided.now))) }
+{
     for (looked, decided) in looks.iter().zip(decided) {
         push_now(text, looked, decided)?;
     }
@@ -99,7 +106,9 @@ pub(crate) fn push_closed_counts<A: Allocator>(
     text: &mut Vec<u8, A>,
     told: Counts,
     done: ClosedCounts,
-) -> Result<(), AllocError> {
+) -> Result<(), AllocError>
+    ensures { OnOk result (text.new.items ≡ text.old.items ++ closed_counts_line told done) }
+{
     append!(text; b"counts overlap " push_number(told.overlaps)
         b" twice " push_number(told.twices) b" gap " push_number(told.gaps)
         b" lake " push_number(told.lakes) b" uneven " push_number(told.uneven)

@@ -8,7 +8,7 @@ ghost use Rattle.ring_machine.specs.Common.{Proper};
 ghost use Rattle.cover_report.specs.Faults.{IsRefused, IsUnlooked};
 ghost use Rattle.cover_report.specs.Layers.{AreLooks, asked_layers, view_looked};
 ghost use Rattle.cover_report.specs.Names.{are_there};
-ghost use Rattle.cover_report.specs.Report.{report_text, told_lines};
+ghost use Rattle.cover_report.specs.Report.{findings_part, report_text, told_lines};
 ghost use Rattle.cover_report.specs.Told.{IsTold};
 
 use crate::asked::Asked;
