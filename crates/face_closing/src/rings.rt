@@ -1,9 +1,10 @@
 // Whether the rings after closing are rings, whose segments were there before.
-ghost use Rattle.std.specs.Prelude.{◌≡◌, ◌++◌, length, Contains, IsTrue, IfOk, OnOk};
+ghost use Rattle.std.specs.Prelude.{◌≡◌, ◌++◌, ◌&&◌, map, length, Contains, IsTrue, IfOk, OnOk};
 ghost use Rattle.std.specs.List.{flat_map, list_all};
 ghost use Rattle.std.specs.List.Sorted.{IsPermutation, IsSorted};
 ghost use Rattle.grid_geometry.specs.Common.{Segment, segment_cmp};
 ghost use Rattle.ring_machine.specs.Common.{is_ring};
+ghost use Rattle.ring_machine.specs.Ring as machine;
 ghost use Rattle.ring_parts.specs.Common.{polygons_seen, rings_seen};
 ghost use Rattle.walk_faults.specs.Common.{walk_segments};
 ghost use Rattle.walk_mending.specs.Common.{has_ring};
@@ -11,9 +12,10 @@ ghost use Rattle.face_closing.specs.Made.{AreMade};
 
 use crate::fault::CloseFault;
 use grid_geometry::{Pos, Seg};
+use ring_parts::canonical;
 use std::alloc::{AllocError, Allocator};
 use walk_faults::push_segments;
-use walk_mending::are_rings;
+use walk_mending::all_simple;
 
 /// Appends the segments of a polygon's rings.
 fn push_polygon<A: Allocator + Copy>(
@@ -58,6 +60,38 @@ fn test_among(segments: &[Seg], others: &[Seg]) -> Result<(), CloseFault>
     Ok(())
 }
 
+/// Whether a ring begins at its least position.
+fn begins_least<A: Allocator + Copy>(alloc: A, ring: &[Pos]) -> Result<bool, AllocError>
+    ensures { IfOk result (λ begins. IsTrue begins → machine.canonical ring.now ≡ ring.now) }
+{
+    let turned = canonical(alloc, ring)?;
+    Ok(turned.as_slice() == ring)
+}
+
+/// Whether each begins at its least position.
+fn all_begin_least<A: Allocator + Copy>(alloc: A, rings: &[Vec<Pos, A>]) -> Result<bool, AllocError>
+    ensures { IfOk result (λ begin. IsTrue begin
+        → map machine.canonical (rings_seen rings.now) ≡ rings_seen rings.now) }
+{
+    for ring in rings {
+        if !begins_least(alloc, ring.as_slice())? {
+            return Ok(false);
+        }
+    }
+    Ok(true)
+}
+
+/// Whether a polygon has rings, and all are such, each begun at its least position.
+fn has_rings<A: Allocator + Copy>(alloc: A, rings: &[Vec<Pos, A>]) -> Result<bool, AllocError>
+    ensures { IfOk result (λ has. IsTrue has
+        → IsTrue (has_ring (rings_seen rings.now) && list_all is_ring (rings_seen rings.now))) }
+{
+    if rings.is_empty() || !all_simple(alloc, rings)? {
+        return Ok(false);
+    }
+    all_begin_least(alloc, rings)
+}
+
 /// Fails with the feature of the first polygon that has no ring, or one that is no ring begun at its least position.
 fn test_all_rings<A: Allocator + Copy>(
     alloc: A,
@@ -69,7 +103,7 @@ fn test_all_rings<A: Allocator + Copy>(
     ensures rings { OnOk result (IsTrue (list_all (list_all is_ring) (polygons_seen polygons.now))) }
 {
     for (rings, owner) in polygons.iter().zip(owners) {
-        if rings.is_empty() || !are_rings(alloc, rings.as_slice())? {
+        if !has_rings(alloc, rings.as_slice())? {
             return Err(CloseFault::UnclosedFeature(*owner));
         }
     }

@@ -18,4 +18,4 @@ mod simple;
 pub use bounding::bounding_segments;
 pub use laying::laid_walk;
 pub use mending::mended_polygon;
-pub use simple::{all_simple, are_rings};
+pub use simple::all_simple;

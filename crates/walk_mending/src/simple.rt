@@ -66,7 +66,7 @@ fn begins_least(ring: &[Pos]) -> bool
 }
 
 /// Whether all are rings, each begun at its least position.
-pub fn are_rings<A: Allocator + Copy>(
+pub(crate) fn are_rings<A: Allocator + Copy>(
     alloc: A,
     rings: &[Vec<Pos, A>],
 ) -> Result<bool, AllocError>
