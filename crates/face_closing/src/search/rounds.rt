@@ -2,7 +2,7 @@
 use crate::asked::Closing;
 use crate::decision::Decision;
 use crate::facing::{Facing, land_of};
-use crate::search::shares::{Share, longest, push_shares};
+use crate::search::shares::{Share, longest, may_have, push_shares};
 use layer_faces::{Face, Kind, length_of};
 use std::alloc::{AllocError, Allocator};
 
@@ -201,25 +201,28 @@ impl<'f, 'l, A: Allocator + Copy> Rounds<'f, 'l, A> {
         }
     }
 
-    /// Appends the places of the faces beside one.
-    fn push_beside(&self, next: &mut Vec<usize, A>, place: usize) -> Result<(), AllocError> {
-        let Some(face) = self.facing.face(place) else {
+    /// Appends the places of the faces beside one that a feature got, which may get them too.
+    fn push_beside(&self, next: &mut Vec<usize, A>, choice: Choice) -> Result<(), AllocError> {
+        let Some(face) = self.facing.face(choice.place) else {
             return Ok(());
         };
         for side in face.sides.as_slice() {
-            if let Some(beside) = self.facing.place_across(*side) {
-                next.push(beside)?;
+            if let Some(place) = self.facing.place_across(*side)
+                && let Some(beside) = self.facing.face(place)
+                && may_have(land_of(beside), choice.feature)
+            {
+                next.push(place)?;
             }
         }
         Ok(())
     }
 
-    /// The places of the faces that are looked at again after a round: those beside one that was given, and those that
-    /// a feature holds which has land now and had none.
+    /// The places of the faces that are looked at again after a round: those beside one that was given, whose feature may get
+    /// them, and those that a feature holds which has land now and had none. Nothing changed for others.
     fn places_after(&mut self, alloc: A, choices: &[Choice]) -> Result<Vec<usize, A>, AllocError> {
         let mut next = Vec::new(alloc);
         for choice in choices {
-            self.push_beside(&mut next, choice.place)?;
+            self.push_beside(&mut next, *choice)?;
             if self.give_land(choice.feature)
                 && let Some(waiting) = self.waiting.get(choice.feature.saturating_sub(self.first))
             {

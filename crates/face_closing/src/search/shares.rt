@@ -37,7 +37,12 @@ pub(crate) fn longest<A: Allocator>(shares: &mut Vec<Share, A>) -> Option<usize>
     found.map(|most| most.feature)
 }
 
-/// Appends a share for each of these features that is asked for: all, where none holds the face, else its holders.
+/// Whether a face that these features hold may go to a feature: any, where none holds it, else one of these.
+pub(crate) fn may_have(holders: &[usize], feature: usize) -> bool {
+    holders.is_empty() || holders.binary_search(&feature).is_ok()
+}
+
+/// Appends a share for each of these features to which a face may go that has these holders.
 pub(crate) fn push_shares<A: Allocator>(
     shares: &mut Vec<Share, A>,
     holders: &[usize],
@@ -45,7 +50,7 @@ pub(crate) fn push_shares<A: Allocator>(
     length: u128,
 ) -> Result<(), AllocError> {
     for feature in features {
-        if holders.is_empty() || holders.binary_search(feature).is_ok() {
+        if may_have(holders, *feature) {
             shares.push(Share {
                 feature: *feature,
                 length,
