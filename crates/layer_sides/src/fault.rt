@@ -7,7 +7,8 @@ use std::alloc::{AllocError, AllocFailed};
 pub enum SideFault {
     /// Memory was refused.
     OutOfMemory,
-    /// There are more polygons, borders or numbers of polygons than can be kept.
+    /// There are more polygons, borders or numbers of polygons than can be kept, or more borders beside
+    /// each other than can be gone over.
     TooLarge,
     /// The segments at this vertex are not as those of polygons whose segments meet in their ends alone.
     Unswept(Pos),

@@ -23,6 +23,9 @@ const MOST_BORDERS: usize = 2_147_483_647;
 /// The most numbers of polygons that are kept with right sides.
 const MOST_NUMBERS: usize = 16_000_000;
 
+/// The most borders under way, added over all vertices: some minutes of work.
+const MOST_UNDER_WAY: usize = 50_000_000_000;
+
 /// Goes over a vertex: the list of the borders under way there, of which those from `from` to before
 /// `to` begin there.
 fn go_over<A: Allocator + Copy>(
@@ -65,7 +68,8 @@ fn go_over<A: Allocator + Copy>(
     Ok(next)
 }
 
-/// Goes over the vertices one by one.
+/// Goes over the vertices one by one. Fails on allocation failure, where more is under way than can be
+/// gone over, and at a vertex where the borders are not as those of polygons.
 fn go_over_all<A: Allocator + Copy>(
     alloc: A,
     borders: &mut Vec<Border<A>, A>,
@@ -82,8 +86,13 @@ fn go_over_all<A: Allocator + Copy>(
 {
     let mut list = Vec::new(alloc);
     let mut room = MOST_NUMBERS;
+    let mut steps = MOST_UNDER_WAY;
     for vertex in vertices {
         list = go_over(alloc, borders, list.as_slice(), vertex, &mut room, faces)?;
+        if steps < list.len() {
+            return Err(SideFault::TooLarge);
+        }
+        steps -= list.len();
     }
     Ok(())
 }
@@ -91,7 +100,7 @@ fn go_over_all<A: Allocator + Copy>(
 /// Writes with each border the numbers of the polygons that hold its right side, and finds which sides
 /// lie in one face: by side the label of its face, where 2i is the left side of border i, 2i + 1 its
 /// right side, and the last is the label of the outside. Fails on allocation failure, where there are
-/// more borders or numbers than can be kept, and at a vertex where the borders are not as those of
+/// more borders or numbers than can be kept or gone over, and at a vertex where the borders are not as those of
 /// polygons whose segments meet in their ends alone.
 pub(crate) fn sweep<A: Allocator + Copy>(
     alloc: A,
