@@ -1,5 +1,6 @@
 -- What is decided of the faces of a layer, and whose land each is then.
 use Rattle.std.specs.Prelude.{ℕ, List, [], ◌∷◌, Contains, IsTrue, IsFalse}
+use Rattle.std.specs.List.{AllZip}
 use Rattle.layer_faces.specs.Common.{FaceOf}
 use Rattle.face_closing.specs.declared.asked.Closing.{Closing}
 use Rattle.face_closing.specs.declared.decision.Decision.{Decision}
@@ -19,9 +20,7 @@ pub data IsAllowed (asked : Closing) (f : FaceOf) : Decision → Type 0 where
 
 -- there is a decision of each face, and it may be so
 abbrev pub AreDecided : Closing → List FaceOf → List Decision → Type 0
-AreDecided asked [] [] = Unit {0}
-AreDecided asked (f ∷ fs) (d ∷ ds) = IsAllowed asked f d × AreDecided asked fs ds
-AreDecided asked faces decisions = ⊥
+AreDecided asked faces decisions = AllZip (IsAllowed asked) faces decisions
 
 -- the features that are told of a face, where polygons hold it
 abbrev pub if_held : List ℕ → List ℕ → List ℕ

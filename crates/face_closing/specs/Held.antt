@@ -1,5 +1,6 @@
 -- Who holds the sides after closing.
 use Rattle.std.specs.Prelude.{◌≡◌, ℕ, List, Contains}
+use Rattle.std.specs.List.{All}
 use Rattle.layer_sides.specs.Common.{Side}
 use Rattle.layer_faces.specs.Common.{FaceOf}
 use Rattle.face_closing.specs.Decided.{DecidedFace, land_after, land_of}
@@ -17,7 +18,7 @@ pub record IsAsDecided (decided : List DecidedFace) (a : Side) (features : List 
 
 -- each side of a face that is found after closing is held as it was decided
 abbrev pub IsHeldSo : List DecidedFace → FaceOf → Type 0
-IsHeldSo decided f = (a : Side) → Contains f.sides a → IsAsDecided decided a (land_of f)
+IsHeldSo decided f = All (λ a. IsAsDecided decided a (land_of f)) f.sides
 
 abbrev pub AreHeldSo : List DecidedFace → List FaceOf → Type 0
-AreHeldSo decided after = (f : FaceOf) → Contains after f → IsHeldSo decided f
+AreHeldSo decided after = All (IsHeldSo decided) after

@@ -1,7 +1,6 @@
 -- The rings that are made.
 use Rattle.std.specs.Prelude.{List, Contains, IsTrue}
-use Rattle.std.specs.List.{list_all}
-use Rattle.grid_geometry.specs.Common.{Segment}
+use Rattle.std.specs.List.{All, list_all}
 use Rattle.ring_machine.specs.Common.{is_ring}
 use Rattle.layer_sides.specs.Common.{Polygon, segments_in}
 use Rattle.walk_mending.specs.Common.{has_ring}
@@ -10,4 +9,4 @@ use Rattle.walk_mending.specs.Common.{has_ring}
 pub record AreMade (before after : List Polygon) : Type 0 where
   pub filled : IsTrue (list_all has_ring after)
   pub rings : IsTrue (list_all (list_all is_ring) after)
-  pub segments : (s : Segment) → Contains (segments_in after) s → Contains (segments_in before) s
+  pub segments : All (Contains (segments_in before)) (segments_in after)

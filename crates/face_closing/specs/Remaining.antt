@@ -1,5 +1,6 @@
 -- What remains of the faces that are asked for.
 use Rattle.std.specs.Prelude.{◌≡◌, List, Contains, IsTrue}
+use Rattle.std.specs.List.{All}
 use Rattle.layer_sides.specs.Common.{Side}
 use Rattle.layer_faces.specs.Common.{FaceOf}
 use Rattle.layer_faces.specs.declared.kind.Kind.{Kind}
@@ -27,5 +28,4 @@ pub record IsLeft (decided : List DecidedFace) (f : FaceOf) : Type 0 where
 
 -- each face that is found after closing, and that is asked for, is one that may remain, or has a part of one
 abbrev pub OnlyLeftRemain : Closing → List DecidedFace → List FaceOf → Type 0
-OnlyLeftRemain asked decided after =
-    (f : FaceOf) → Contains after f → IsTrue (is_asked asked f) → IsLeft decided f
+OnlyLeftRemain asked decided after = All (λ f. IsTrue (is_asked asked f) → IsLeft decided f) after

@@ -1,5 +1,5 @@
 // The faces of a layer, by their sides.
-ghost use Rattle.std.specs.Prelude.{◌≡◌, Contains, IfOk, IfSome};
+ghost use Rattle.std.specs.Prelude.{◌≡◌, ◌<◌, length, Contains, IfOk, IfSome};
 ghost use Rattle.std.specs.List.{HoldsAt};
 ghost use Rattle.face_closing.specs.Decided.{if_held};
 
@@ -62,7 +62,8 @@ impl<'l, A: Allocator + Copy> Facing<'l, A> {
 
     /// The place of the face of a side, which is one of its sides.
     pub(crate) fn place_of(&self, side: u32) -> Option<usize>
-        ensures { IfSome result
+        ensures below { IfSome result (λ place. place < length self.now.look.now.faces.items) }
+        ensures has { IfSome result
             (HoldsAt (λ f. Contains f.sides.items side) self.now.look.now.faces.items) }
     {
         let place = *self.places.get(side as usize)?;

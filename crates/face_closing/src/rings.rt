@@ -1,8 +1,8 @@
 // Whether the rings after closing are rings, whose segments were there before.
 ghost use Rattle.std.specs.Prelude.{◌≡◌, ◌++◌, ◌&&◌, map, length, Contains, IsTrue, IfOk, OnOk};
-ghost use Rattle.std.specs.List.{flat_map, list_all};
+ghost use Rattle.std.specs.List.{All, flat_map, list_all};
 ghost use Rattle.std.specs.List.Sorted.{IsPermutation, IsSorted};
-ghost use Rattle.grid_geometry.specs.Common.{Segment, segment_cmp};
+ghost use Rattle.grid_geometry.specs.Common.{segment_cmp};
 ghost use Rattle.ring_machine.specs.Common.{is_ring};
 ghost use Rattle.ring_machine.specs.Ring as machine;
 ghost use Rattle.ring_parts.specs.Common.{polygons_seen, rings_seen};
@@ -50,7 +50,7 @@ fn sorted_segments<A: Allocator + Copy>(
 
 /// Fails with the first of these segments that is not among the others, which ascend.
 fn test_among(segments: &[Seg], others: &[Seg]) -> Result<(), CloseFault>
-    ensures { OnOk result ((s : Segment) → Contains segments.now s → Contains others.now s) }
+    ensures { OnOk result (All (Contains others.now) segments.now) }
 {
     for segment in segments {
         if others.binary_search(segment).is_err() {
