@@ -34,7 +34,6 @@ from covering import Asked
 from topology import Unreadable, from_least, read, saved_text, with_features
 
 TOP = pathlib.Path(__file__).resolve().parent.parent
-PAGE = TOP / "bench/closing_runs.txt"
 # How many seconds a program may take.
 LIMIT = 600
 # How often each mistake is made in each run that was worked out by hand.
@@ -230,38 +229,10 @@ TELLING = [told_otherwise(mistake) for mistake in covered.MISTAKES]
 
 # ---- runs worked out by hand
 
-def asked_by(words):
-    """What is asked, and the kinds that are closed, by arguments."""
-    what = words[words.index("--close") + 1]
-    others = [word for n, word in enumerate(words) if "--close" not in (word, words[n - 1] if n else "")]
-    return cover_ends.asked_by(others)[1], what.split(",")
-
-
-def polygons_by(text):
-    """The polygons that a part of a line means."""
-    return [[[tuple(map(int, p.split())) for p in ring.split(",")] for ring in rings.split("|")] for rings in text.split("||")]
-
-
 def worked_runs():
-    """The runs of the page: a name, what is to become of the map, and how the run ends."""
-    texts, _ = cover_ends.sorted_lines()
-    for line in PAGE.read_text(encoding="utf-8").splitlines():
-        if not line or line.startswith("#"):
-            continue
-        words, report, rings = line.split(" =>")
-        changes = {}
-        for part in filter(str.strip, rings.split(";")):
-            number, _, polygons = part.strip().partition(" ")
-            changes[int(number)] = polygons_by(polygons)
-
-        def changed(number, feature, changes=changes):
-            if number in changes:
-                feature.polygons = changes[number]
-        name, *more = words.split(" ")
-        asked, what = asked_by(words.split(" "))
-        after = saved_text(with_features(read(texts[name]), changed))
-        ended = Ended(0, [part.strip() for part in report.split(";")[:-1]], "", after)
-        yield words, more, Closing(texts[name], asked, what), ended
+    """The runs of the page: a name, the arguments but the map, what is to become of the map, and how the run ends."""
+    for words, text, asked, what, lines, after in cover_ends.closing_runs():
+        yield " ".join(words), words[1:], Closing(text, asked, what), Ended(0, lines, "", after)
 
 
 def trial_of_check(seed):
