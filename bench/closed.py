@@ -29,6 +29,7 @@ import cover_ends
 import covered
 import loose_maps
 import running
+from boxes import boxes
 from closing import WORDS, Closing
 from covering import Asked
 from topology import Unreadable, from_least, read, saved_text, with_features
@@ -347,16 +348,15 @@ def named_maps(programs, paths):
 
 
 def drawn_maps(programs, count, seed):
-    """The same of drawn maps, with a line for each with a fault."""
+    """The same of drawn maps, of boxes and of rings of all kinds in turn, with a line for each with a fault."""
     faults, reports = [], []
     for number in range(count):
         draw = random.Random(f"{seed} {number}")
-        text = loose_maps.drawn(draw)
         try:
-            text = programs.mended(text)
+            text = boxes(draw) if number % 2 else programs.mended(loose_maps.drawn(draw))
             fault, counts = closed_once(programs, draw, text)
         except Unreadable as why:
-            fault, counts = str(why), ""
+            fault, counts, text = str(why), "", ""
         reports.append(counts)
         if fault:
             kept = TOP / "bench/out" / f"closed-{seed}-{number}.json"

@@ -1,1 +1,3 @@
 mod Examples
+pub mod Making
+pub mod Placing
