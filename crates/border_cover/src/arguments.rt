@@ -4,7 +4,7 @@ ghost use Rattle.cover_report.specs.Common.{view_asked};
 ghost use Rattle.border_cover.specs.Asked.{wants_of};
 
 use crate::kinds::Kinds;
-use closing_report::Closing;
+use closing_report::{AskedClosing, Closing};
 use cover_report::Asked;
 use std::alloc::{AllocError, Global};
 
@@ -51,14 +51,17 @@ impl Arguments {
         }
     }
 
-    /// What is asked to be closed: faces of these kinds, within the bounds.
-    pub(crate) fn closing(&self, kinds: Kinds) -> Closing {
-        Closing {
-            overlaps: kinds.overlaps,
-            gaps: kinds.gaps,
-            lakes: kinds.lakes,
-            width: self.width,
-            area: self.area,
+    /// What is asked of a map that is closed: faces of these kinds, within the bounds.
+    pub(crate) fn asked_closing<'w>(&self, names: &'w [&'w str], kinds: Kinds) -> AskedClosing<'w> {
+        AskedClosing {
+            report: self.asked(names),
+            closing: Closing {
+                overlaps: kinds.overlaps,
+                gaps: kinds.gaps,
+                lakes: kinds.lakes,
+                width: self.width,
+                area: self.area,
+            },
         }
     }
 }

@@ -74,25 +74,24 @@ fn reported<'a>(
     )
 }
 
-/// What the map that the bytes are is closed to, as the arguments ask.
-fn closed<'a>(
-    heap: Global,
+/// A map that was read, and what the arguments ask.
+#[derive(Clone, Copy)]
+struct Given<'g> {
     seed: RandomState,
-    bytes: &'a [u8],
-    arguments: &Arguments,
+    map: &'g [u8],
+    arguments: &'g Arguments,
+}
+
+/// What a map is closed to, as the arguments ask.
+fn closed<'g>(
+    heap: Global,
+    given: Given<'g>,
     kinds: Kinds,
     report: &mut Vec<u8>,
-) -> Result<ClosedMap, ClosingFault<'a>> {
-    let names = arguments.names(heap)?;
-    close_map(
-        heap,
-        heap,
-        seed,
-        bytes,
-        &arguments.asked(names.as_slice()),
-        &arguments.closing(kinds),
-        report,
-    )
+) -> Result<ClosedMap, ClosingFault<'g>> {
+    let names = given.arguments.names(heap)?;
+    let asked = given.arguments.asked_closing(names.as_slice(), kinds);
+    close_map(heap, heap, given.seed, given.map, &asked, report)
 }
 
 /// Says what is wrong with the layers, or with what they were closed to.
@@ -116,34 +115,36 @@ fn save<'a>(rt: &HostRuntime, ending: Ending<'a>, path: &str, text: &[u8]) -> En
 /// Prints the report of a map, and ends as it did.
 fn report_read<W: Write, E: Write>(
     rt: &HostRuntime,
-    seed: RandomState,
-    map: &[u8],
-    arguments: &Arguments,
+    given: Given<'_>,
     output: &mut W,
     errors: &mut Errors<'_, E>,
 ) -> u8 {
     let mut report = Vec::new(rt.alloc());
-    let outcome = reported(rt.alloc(), seed, map, arguments, &mut report);
+    let outcome = reported(
+        rt.alloc(),
+        given.seed,
+        given.map,
+        given.arguments,
+        &mut report,
+    );
     if let Err(fault) = &outcome {
         say_fault(fault, errors);
     }
     let ending = printed(ending_of_report(&outcome, report.as_slice()), output);
-    errors.end(ending, &paths_of(arguments))
+    errors.end(ending, &paths_of(given.arguments))
 }
 
-/// Closes a map, prints its report, and at last writes the map in the file of this path.
+/// Closes faces of these kinds, prints the report, and at last writes the map in the file of this path.
 fn close_read<W: Write, E: Write>(
     rt: &HostRuntime,
-    seed: RandomState,
-    map: &[u8],
-    arguments: &Arguments,
-    kinds: Kinds,
-    path: &str,
+    given: Given<'_>,
+    closing: (Kinds, &str),
     output: &mut W,
     errors: &mut Errors<'_, E>,
 ) -> u8 {
+    let (kinds, path) = closing;
     let mut report = Vec::new(rt.alloc());
-    let outcome = closed(rt.alloc(), seed, map, arguments, kinds, &mut report);
+    let outcome = closed(rt.alloc(), given, kinds, &mut report);
     if let Err(fault) = &outcome {
         say_closing_fault(fault, errors);
     }
@@ -152,7 +153,7 @@ fn close_read<W: Write, E: Write>(
         Ok(closed) => save(rt, ending, path, closed.text.as_slice()),
         Err(_) => ending,
     };
-    errors.end(ending, &paths_of(arguments))
+    errors.end(ending, &paths_of(given.arguments))
 }
 
 /// Reads MAP, and tells or closes it.
@@ -164,13 +165,14 @@ fn tell_read<W: Write, E: Write>(
 ) -> Result<u8, Stop> {
     let seed = hash_seed(rt)?;
     let map = map_bytes(rt, arguments.map.as_str())?;
-    let map = map.as_slice();
+    let given = Given {
+        seed,
+        map: map.as_slice(),
+        arguments,
+    };
     Ok(match &arguments.closing {
-        Some((kinds, path)) => {
-            let path = path.as_str();
-            close_read(rt, seed, map, arguments, *kinds, path, output, errors)
-        }
-        None => report_read(rt, seed, map, arguments, output, errors),
+        Some((kinds, path)) => close_read(rt, given, (*kinds, path.as_str()), output, errors),
+        None => report_read(rt, given, output, errors),
     })
 }
 

@@ -3,11 +3,11 @@ ghost use Rattle.std.specs.Prelude.{IfOk};
 ghost use Rattle.cover_report.specs.Asked.{view_asked};
 ghost use Rattle.closing_report.specs.Closed.{IsClosedMap};
 
+use crate::asked::AskedClosing;
 use crate::fault::{ClosingFault, of_save};
 use crate::layers::{Closings, closings_of};
 use crate::report::push_report;
-use cover_report::{Asked, Counts, CoverFault, are_there, proper_map};
-use face_closing::Closing;
+use cover_report::{Counts, CoverFault, are_there, proper_map};
 use map_mending::with_polygons;
 use mend_report::saved_text;
 use std::alloc::{Allocator, Global};
@@ -27,23 +27,15 @@ pub struct ClosedMap<A: Allocator + Copy = Global> {
 fn closings_in<'a, A: Allocator + Copy>(
     alloc: A,
     heap: Global,
-    asked: &Asked<'_>,
-    closing: &Closing,
+    asked: &AskedClosing<'_>,
     raw: &RawDoc<'a, A>,
 ) -> Result<Closings<'a, A>, ClosingFault<'a>> {
     let layers = raw.layers.values();
-    if !are_there(heap, layers.as_slice(), asked.layers)? {
+    if !are_there(heap, layers.as_slice(), asked.report.layers)? {
         return Err(ClosingFault::Cover(CoverFault::NoLayer));
     }
     let features = raw.polygons.clone()?;
-    closings_of(
-        alloc,
-        heap,
-        asked.layers,
-        closing,
-        layers.as_slice(),
-        features,
-    )
+    closings_of(alloc, heap, asked, layers.as_slice(), features)
 }
 
 /// Looks at a map that opens, closes its overlaps and gaps as it is asked, and appends the report of what there was, what was
@@ -57,19 +49,24 @@ pub fn close_map<'a, A: Allocator + Copy>(
     heap: Global,
     seed: RandomState,
     bytes: &'a [u8],
-    asked: &Asked<'_>,
-    closing: &Closing,
+    asked: &AskedClosing<'_>,
     text: &mut Vec<u8, A>,
 ) -> Result<ClosedMap<A>, ClosingFault<'a>>
-    ensures closed { IfOk result (λ closed. IsClosedMap (view_asked asked.now) closing.now bytes.now closed
+    ensures closed { IfOk result (λ closed. IsClosedMap (view_asked asked.now.report) asked.now.closing bytes.now closed
         text.old.items text.new.items) }
 {
     let raw = match proper_map(alloc, heap, seed, bytes) {
         Ok(raw) => raw,
         Err(fault) => return Err(ClosingFault::Cover(CoverFault::Open(fault))),
     };
-    let closings = or_return!(closings_in(alloc, heap, asked, closing, &raw));
-    let counts = push_report(alloc, text, asked, raw.polygons.as_slice(), &closings)?;
+    let closings = or_return!(closings_in(alloc, heap, asked, &raw));
+    let counts = push_report(
+        alloc,
+        text,
+        &asked.report,
+        raw.polygons.as_slice(),
+        &closings,
+    )?;
     let Closings { features, .. } = closings;
     match saved_text(alloc, heap, seed, with_polygons(raw, features)) {
         Ok(text) => Ok(ClosedMap { counts, text }),

@@ -1,4 +1,5 @@
 // The layers of a map, closed one after another.
+use crate::asked::AskedClosing;
 use crate::fault::{ClosingFault, of_close};
 use cover_report::{
     Feature, Looked, Owned, is_asked, is_found, leaf_count, next_polygons, of_face, told_at,
@@ -47,6 +48,14 @@ fn told_decisions<A: Allocator + Copy>(
 }
 
 impl<'a, A: Allocator + Copy> Closings<'a, A> {
+    /// Appends so many features without polygons.
+    fn push_empty(&mut self, alloc: A, count: usize) -> Result<(), AllocError> {
+        for _ in 0..count {
+            self.features.push(Vec::new(alloc))?;
+        }
+        Ok(())
+    }
+
     /// Appends so many features, with these polygons, each of which has the number of its feature.
     fn push_features(
         &mut self,
@@ -55,9 +64,7 @@ impl<'a, A: Allocator + Copy> Closings<'a, A> {
         polygons: Vec<Vec<Vec<Pos, A>, A>, A>,
         owners: &[usize],
     ) -> Result<(), AllocError> {
-        for _ in 0..count {
-            self.features.push(Vec::new(alloc))?;
-        }
+        self.push_empty(alloc, count)?;
         let mut owners = owners.iter();
         for polygon in polygons {
             if let Some(owner) = owners.next()
@@ -69,15 +76,15 @@ impl<'a, A: Allocator + Copy> Closings<'a, A> {
         Ok(())
     }
 
-    /// Closes a layer of so many features.
+    /// Closes a layer, which has these polygons.
     fn close_layer(
         &mut self,
         alloc: A,
         closing: &Closing,
-        name: &'a [u8],
-        count: usize,
+        layer: &RawLayer<'a, A>,
         owned: Owned<A>,
     ) -> Result<(), ClosingFault<'a>> {
+        let count = leaf_count(layer.items.as_slice());
         let (polygons, owners) = (owned.polygons.as_slice(), owned.owners.as_slice());
         let look = match look_at(alloc, polygons, owners) {
             Ok(look) => look,
@@ -98,7 +105,7 @@ impl<'a, A: Allocator + Copy> Closings<'a, A> {
             now: after.sums,
         })?;
         self.push_features(alloc, count, polygons, owners.as_slice())?;
-        self.looks.push(told_at(alloc, name, &owned, look)?)?;
+        self.looks.push(told_at(alloc, layer.name, &owned, look)?)?;
         Ok(())
     }
 
@@ -114,7 +121,7 @@ impl<'a, A: Allocator + Copy> Closings<'a, A> {
         let first = self.features.len();
         let owned = next_polygons(alloc, &mut self.rest, first, count)?;
         if is_asked {
-            return self.close_layer(alloc, closing, layer.name, count, owned);
+            return self.close_layer(alloc, closing, layer, owned);
         }
         let Owned {
             polygons,
@@ -130,8 +137,7 @@ impl<'a, A: Allocator + Copy> Closings<'a, A> {
 pub(crate) fn closings_of<'a, A: Allocator + Copy>(
     alloc: A,
     heap: Global,
-    names: &[&str],
-    closing: &Closing,
+    asked: &AskedClosing<'_>,
     layers: &[RawLayer<'a, A>],
     features: Vec<Feature<A>, A>,
 ) -> Result<Closings<'a, A>, ClosingFault<'a>> {
@@ -142,8 +148,8 @@ pub(crate) fn closings_of<'a, A: Allocator + Copy>(
         rest: features.into_iter(),
     };
     for layer in layers {
-        let is_asked = is_asked(heap, names, layer.name)?;
-        or_return!(closings.step(alloc, closing, is_asked, layer));
+        let is_asked = is_asked(heap, asked.report.layers, layer.name)?;
+        or_return!(closings.step(alloc, &asked.closing, is_asked, layer));
     }
     Ok(closings)
 }

@@ -29,6 +29,7 @@ macro_rules! append {
     }};
 }
 
+mod asked;
 mod changes;
 mod closing;
 mod fault;
@@ -36,6 +37,7 @@ mod layers;
 mod lines;
 mod report;
 
+pub use asked::AskedClosing;
 pub use closing::{ClosedMap, close_map};
 pub use face_closing::Closing;
 pub use fault::ClosingFault;

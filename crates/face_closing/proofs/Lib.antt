@@ -1,3 +1,4 @@
 mod Examples
 pub mod Making
 pub mod Placing
+pub mod Keeping

@@ -1,18 +1,11 @@
 -- A layer that was closed.
-use Rattle.std.specs.Prelude.{◌≡◌, ℕ, List, length, map}
-use Rattle.std.specs.List.{zip}
-use Rattle.ring_parts.specs.Common.{polygons_seen}
-use Rattle.layer_sides.specs.Common.{AreBorders, IsProperLayer, Polygon, borders_seen}
-use Rattle.layer_faces.specs.Common.{AddUp, AreFaces, AreSums, FaceOf, faces_seen, segments_seen}
+use Rattle.std.specs.Prelude.{◌<◌, ℕ, List, length, map, Contains}
+use Rattle.std.specs.List.{HoldsAt, zip}
+use Rattle.layer_sides.specs.Common.{AreBorders, Polygon, Side, borders_seen}
+use Rattle.layer_faces.specs.Common.{AddUp, AreFaces, AreSums, FaceOf, faces_seen, segments_seen, side_at}
 use Rattle.layer_faces.specs.declared.looking.Look.{Look}
-use Rattle.face_closing.specs.declared.asked.Closing.{Closing}
 use Rattle.face_closing.specs.declared.closing.Closed.{Closed}
-use Rattle.face_closing.specs.Areas.{AreasAgree}
-use Rattle.face_closing.specs.Decided.{AreDecided, DecidedFace}
-use Rattle.face_closing.specs.Held.{AreHeldSo}
-use Rattle.face_closing.specs.Kept.{OthersStay}
-use Rattle.face_closing.specs.Made.{AreMade}
-use Rattle.face_closing.specs.Remaining.{OnlyLeftRemain}
+use Rattle.face_closing.specs.Decided.{DecidedFace}
 
 -- the faces that were found
 abbrev pub faces_in : {A : Type 0} → Look A → List FaceOf
@@ -21,6 +14,11 @@ faces_in look = faces_seen (segments_seen look.borders.items) look.faces.items
 -- the faces that were found, each with what was decided of it
 abbrev pub decided_in : {A : Type 0} → Look A → Closed A → List DecidedFace
 decided_in look closed = zip (faces_in look) closed.decisions.items
+
+-- the face at this place has the side
+pub record IsPlaceOf {A : Type 0} (look : Look A) (a : Side) (place : ℕ) : Type 0 where
+  pub below : place < length look.faces.items
+  pub has : HoldsAt (λ f. Contains (map (side_at (segments_seen look.borders.items)) f.sides.items) a) look.faces.items place
 
 -- the layer was looked at, and this is what was found
 pub record IsLook {A : Type 0} (polygons : List Polygon) (owners : List ℕ) (look : Look A) : Type 0 where

@@ -1,10 +1,11 @@
 // Whether the sides after closing are held as it was decided.
-ghost use Rattle.std.specs.Prelude.{◌≡◌, IfSome, OnOk};
+ghost use Rattle.std.specs.Prelude.{◌≡◌, if◌then◌else◌, IfSome, OnOk};
 ghost use Rattle.std.specs.List.{zip};
 ghost use Rattle.layer_faces.specs.Common.{face_seen, segments_seen, side_at};
 ghost use Rattle.face_closing.specs.Decided.{if_held, land_then};
 ghost use Rattle.face_closing.specs.Held.{AreHeldSo, HasSide, IsHeldSo};
-ghost use Rattle.face_closing.specs.Layer.{faces_in};
+ghost use Rattle.face_closing.specs.Layer.{IsPlaceOf, faces_in};
+ghost use Rattle.layer_sides.specs.Common.{Left, Right};
 
 use crate::decision::Decision;
 use crate::facing::{Facing, land_of};
@@ -36,7 +37,9 @@ pub(crate) fn land_after<'d, A: Allocator + Copy>(
 }
 
 /// The segment of a side.
-fn segment_of<A: Allocator + Copy>(look: &Look<A>, side: u32) -> Option<Seg> {
+fn segment_of<A: Allocator + Copy>(look: &Look<A>, side: u32) -> Option<Seg>
+    ensures { IfSome result (λ s. (side_at (segments_seen look.now.borders.items) side).0 ≡ s) }
+{
     let border = look.borders.get(side as usize / 2)?;
     Some(border.segment)
 }
@@ -52,7 +55,10 @@ pub(crate) fn unclosed_at<A: Allocator + Copy>(look: &Look<A>, side: u32) -> Clo
 impl<'d, 'l, A: Allocator + Copy> Decided<'d, 'l, A> {
     /// The place of the face before closing that had a side of this segment: the right one, if it is that, else the left.
     /// None where the segment was no border.
-    fn place_before(&self, segment: Seg, is_right: bool) -> Option<usize> {
+    fn place_before(&self, segment: Seg, is_right: bool) -> Option<usize>
+        ensures { IfSome result (IsPlaceOf self.now.facing.now.look.now
+            (segment, if is_right then Right else Left)) }
+    {
         let borders = self.facing.look.borders.as_slice();
         let found = borders.binary_search_by_key(&segment, |border| border.segment);
         let border = u32::try_from(found.ok()?).ok()?;

@@ -1,7 +1,6 @@
 // Whether features that have nothing to do with a closed face keep their polygons.
 ghost use Rattle.std.specs.Prelude.{◌≡◌, ℕ, length, Contains, OnOk};
 ghost use Rattle.std.specs.List.{zip};
-ghost use Rattle.std.specs.List.Sorted.{IsNonDecreasingBy};
 ghost use Rattle.ring_parts.specs.Common.{polygons_seen};
 ghost use Rattle.face_closing.specs.Kept.{OthersStay};
 ghost use Rattle.face_closing.specs.Layer.{faces_in};
@@ -71,7 +70,6 @@ pub(crate) fn test_kept<A: Allocator + Copy>(
 ) -> Result<(), CloseFault>
     requires owned { length before.owners.now ≡ length before.polygons.now }
     requires owned_after { length after.owners.now ≡ length after.polygons.now }
-    requires ascending { IsNonDecreasingBy (λ n. n) before.owners.now }
     ensures kept { OnOk result (OthersStay
         (zip (faces_in decided.now.facing.now.look.now) decided.now.decisions.now)
         before.owners.now (polygons_seen before.polygons.now) after.owners.now (polygons_seen after.polygons.now)) }

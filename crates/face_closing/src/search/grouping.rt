@@ -18,52 +18,6 @@ pub(crate) fn turns_left(ring: &[Pos]) -> bool {
     ring.len() <= MOST && area2(ring) >= 0
 }
 
-/// Appends the places of the faces that are land, beyond the borders of a face, and were not come to; they are come to now.
-fn push_beside<A: Allocator + Copy>(
-    stack: &mut Vec<usize, A>,
-    facing: &Facing<'_, A>,
-    marks: &mut [Mark],
-    place: usize,
-    part: usize,
-) -> Result<(), AllocError> {
-    let Some(face) = facing.face(place) else {
-        return Ok(());
-    };
-    for side in face.sides.as_slice() {
-        if let Some(across) = facing.place_across(*side)
-            && let Some(mark) = marks.get_mut(across)
-            && matches!(mark, Mark::Unseen)
-        {
-            *mark = Mark::Part(part);
-            stack.push(across)?;
-        }
-    }
-    Ok(())
-}
-
-/// Marks the land that hangs together with a face: so many faces at most.
-fn mark_part<A: Allocator + Copy>(
-    alloc: A,
-    facing: &Facing<'_, A>,
-    marks: &mut [Mark],
-    most: usize,
-    place: usize,
-    part: usize,
-) -> Result<(), AllocError> {
-    let mut stack = Vec::new(alloc);
-    stack.push(place)?;
-    if let Some(mark) = marks.get_mut(place) {
-        *mark = Mark::Part(part);
-    }
-    for _ in 0..most {
-        let Some(next) = stack.pop() else {
-            return Ok(());
-        };
-        push_beside(&mut stack, facing, marks, next, part)?;
-    }
-    Ok(())
-}
-
 /// The positions of a ring that was traced with land on its left, the other way round where they are not to be so.
 fn directed<A: Allocator + Copy>(ring: Traced<A>, to_left: bool) -> Vec<Pos, A> {
     let mut positions = ring.positions;
@@ -102,29 +56,86 @@ fn parted<A: Allocator + Copy>(
     Ok((outer, holes))
 }
 
-/// The rings as polygons; a hole goes with the outer ring whose land hangs together with that around it.
-fn grouped<A: Allocator + Copy>(
-    alloc: A,
-    facing: &Facing<'_, A>,
-    marks: &mut [Mark],
-    most: usize,
-    rings: Vec<Traced<A>, A>,
+/// The land of a feature, as it is grouped.
+#[derive(Drop)]
+struct Grouping<'g, 'l, A: Allocator + Copy> {
+    facing: &'g Facing<'l, A>,
+    marks: &'g mut [Mark],
+    /// How many faces the land has.
+    count: usize,
+    /// Whether outer rings turn to the left.
     to_left: bool,
-) -> Result<Polygons<A>, AllocError> {
-    let (outer, holes) = parted(alloc, rings)?;
-    let mut polygons = Vec::new(alloc);
-    for ring in outer {
-        mark_part(alloc, facing, marks, most, ring.place, polygons.len())?;
-        polygons.push(polygon_of(alloc, directed(ring, to_left))?)?;
-    }
-    for hole in holes {
-        if let Some(Mark::Part(part)) = marks.get(hole.place)
-            && let Some(polygon) = polygons.get_mut(*part)
-        {
-            polygon.push(directed(hole, to_left))?;
+}
+
+impl<'g, 'l, A: Allocator + Copy> Grouping<'g, 'l, A> {
+    /// Appends the places of the faces that are land, beyond the borders of a face, and were not come to; they are part of an
+    /// outer ring's land now.
+    fn push_beside(
+        &mut self,
+        stack: &mut Vec<usize, A>,
+        place: usize,
+        part: usize,
+    ) -> Result<(), AllocError> {
+        let Some(face) = self.facing.face(place) else {
+            return Ok(());
+        };
+        for side in face.sides.as_slice() {
+            if let Some(across) = self.facing.place_across(*side)
+                && let Some(mark) = self.marks.get_mut(across)
+                && matches!(mark, Mark::Unseen)
+            {
+                *mark = Mark::Part(part);
+                stack.push(across)?;
+            }
         }
+        Ok(())
     }
-    Ok(polygons)
+
+    /// Marks the land that hangs together with a face.
+    fn mark_part(&mut self, alloc: A, place: usize, part: usize) -> Result<(), AllocError> {
+        let mut stack = Vec::new(alloc);
+        stack.push(place)?;
+        if let Some(mark) = self.marks.get_mut(place) {
+            *mark = Mark::Part(part);
+        }
+        for _ in 0..self.count {
+            let Some(next) = stack.pop() else {
+                return Ok(());
+            };
+            self.push_beside(&mut stack, next, part)?;
+        }
+        Ok(())
+    }
+
+    /// Outer rings as polygons, whose land is marked.
+    fn outer_polygons(
+        &mut self,
+        alloc: A,
+        outer: Vec<Traced<A>, A>,
+    ) -> Result<Polygons<A>, AllocError> {
+        let mut polygons = Vec::new(alloc);
+        for ring in outer {
+            self.mark_part(alloc, ring.place, polygons.len())?;
+            polygons.push(polygon_of(alloc, directed(ring, self.to_left))?)?;
+        }
+        Ok(polygons)
+    }
+
+    /// Puts each hole with the outer ring whose land hangs together with that around it.
+    fn put_holes(
+        &self,
+        polygons: &mut Polygons<A>,
+        holes: Vec<Traced<A>, A>,
+    ) -> Result<(), AllocError> {
+        for hole in holes {
+            if let Some(Mark::Part(part)) = self.marks.get(hole.place)
+                && let Some(polygon) = polygons.get_mut(*part)
+            {
+                polygon.push(directed(hole, self.to_left))?;
+            }
+        }
+        Ok(())
+    }
 }
 
 /// The polygons of the land of these pieces, whose outer rings turn to the left, or all to the right.
@@ -138,7 +149,15 @@ pub(crate) fn polygons_of<A: Allocator + Copy>(
     mark_pieces(marks, pieces, Mark::Unseen);
     let edges = edges_around(alloc, facing, marks, pieces)?;
     let rings = rings_around(alloc, edges.as_slice())?;
-    let polygons = grouped(alloc, facing, marks, pieces.len(), rings, to_left)?;
-    mark_pieces(marks, pieces, Mark::Other);
+    let (outer, holes) = parted(alloc, rings)?;
+    let mut grouping = Grouping {
+        facing,
+        marks,
+        count: pieces.len(),
+        to_left,
+    };
+    let mut polygons = grouping.outer_polygons(alloc, outer)?;
+    grouping.put_holes(&mut polygons, holes)?;
+    mark_pieces(grouping.marks, pieces, Mark::Other);
     Ok(polygons)
 }

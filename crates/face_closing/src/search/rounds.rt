@@ -21,6 +21,27 @@ enum Poor {
     Several,
 }
 
+/// So many empty lists.
+fn empty_lists<A: Allocator + Copy>(
+    alloc: A,
+    count: usize,
+) -> Result<Vec<Vec<usize, A>, A>, AllocError> {
+    let mut lists = Vec::new(alloc);
+    for _ in 0..count {
+        lists.push(Vec::new(alloc))?;
+    }
+    Ok(lists)
+}
+
+/// The places from 0 on, so many.
+fn all_places<A: Allocator + Copy>(alloc: A, count: usize) -> Result<Vec<usize, A>, AllocError> {
+    let mut places = Vec::new(alloc);
+    for place in 0..count {
+        places.push(place)?;
+    }
+    Ok(places)
+}
+
 /// What was decided of the faces of a layer so far.
 #[derive(Drop)]
 struct Rounds<'f, 'l, A: Allocator + Copy> {
@@ -51,11 +72,8 @@ impl<'f, 'l, A: Allocator + Copy> Rounds<'f, 'l, A> {
             decisions: Vec::new(alloc),
             first,
             has_land: vec![in alloc; false; count]?,
-            waiting: Vec::new(alloc),
+            waiting: empty_lists(alloc, count)?,
         };
-        for _ in 0..count {
-            rounds.waiting.push(Vec::new(alloc))?;
-        }
         for (place, face) in facing.look.faces.iter().enumerate() {
             rounds.enter(place, face, asked.has(face))?;
         }
@@ -237,10 +255,7 @@ impl<'f, 'l, A: Allocator + Copy> Rounds<'f, 'l, A> {
     /// Goes round after round until one decides nothing. At first all faces are looked at.
     fn go(&mut self, alloc: A) -> Result<(), AllocError> {
         let most = self.decisions.len();
-        let mut places = Vec::new(alloc);
-        for place in 0..most {
-            places.push(place)?;
-        }
+        let mut places = all_places(alloc, most)?;
         for _ in 0..most {
             let choices = self.choices(alloc, places.as_slice())?;
             if choices.is_empty() {
