@@ -2,3 +2,4 @@ mod Examples
 pub mod Making
 pub mod Placing
 pub mod Keeping
+pub mod Lands

@@ -54,8 +54,17 @@ pub record AddsLand (first : ℕ) (features : List ℕ) (area : ℤ) (old new : 
   pub each : (k : ℕ) → k < length old
       → slice_index_or new k (pos 0) ≡ slice_index_or old k (pos 0) +ℤ times_area (first + k) (features, area)
 
--- the areas of the land of features, by how far their numbers are from that of the first, and of all land
-pub record IsLandOf (features : List ℕ) (lands : List Held) (areas : List ℤ) (all : ℤ) : Type 0 where
-  pub each : (n : ℕ) → Contains features n
-      → slice_index_or areas (n - slice_index_or features 0 0) (pos 0) ≡ total (times_area n) lands
+-- the areas of the land of features from a first number on, and of all land
+pub record IsLandFrom (first count : ℕ) (lands : List Held) (areas : List ℤ) (all : ℤ) : Type 0 where
+  pub length : length areas ≡ count
+  pub each : (k : ℕ) → k < count → slice_index_or areas k (pos 0) ≡ total (times_area (first + k)) lands
   pub all : all ≡ total (λ h. if is_any h.0 then h.1 else pos 0) lands
+
+-- how far the last of these features is from the first, and one more
+abbrev pub reach_of : List ℕ → ℕ
+reach_of features =
+    slice_index_or features (length features - 1) 0 - slice_index_or features 0 0 + 1
+
+-- the same of these features
+abbrev pub IsLandOf : List ℕ → List Held → List ℤ → ℤ → Type 0
+IsLandOf features lands areas all = IsLandFrom (slice_index_or features 0 0) (reach_of features) lands areas all

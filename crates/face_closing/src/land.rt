@@ -1,8 +1,8 @@
 // Whether the land of each feature changed by what was closed, and nothing else.
-ghost use Rattle.std.specs.Prelude.{◌≡◌, ◌≤◌, ◌+◌, pos, length, Contains, IfOk, OnOk};
+ghost use Rattle.std.specs.Prelude.{◌≡◌, ◌≤◌, ◌<◌, ◌++◌, ◌∷◌, [], ◌+ℤ◌, ℕ, List, pos, length, slice_index_or, slice_set, IfNone, IfOk, OnOk};
 ghost use Rattle.std.specs.List.{zip};
 ghost use Rattle.std.specs.List.Sorted.{IsNonDecreasingBy};
-ghost use Rattle.face_closing.specs.Areas.{AddsLand, AreOnce, AreasAgree, IsLandOf, decided_lands, found_lands};
+ghost use Rattle.face_closing.specs.Areas.{AddsLand, AreOnce, AreasAgree, Held, IsLandFrom, IsLandOf, decided_lands, found_lands, reach_of};
 ghost use Rattle.face_closing.specs.Layer.{faces_in};
 
 use crate::facing::land_of;
@@ -20,7 +20,7 @@ struct Land<A: Allocator + Copy> {
 
 /// The number of the first feature.
 fn first_of(owners: &[usize]) -> usize
-    ensures { IsNonDecreasingBy (λ n. n) owners.now → (n : ℕ) → Contains owners.now n → result ≤ n }
+    ensures { result ≡ slice_index_or owners.now 0 0 }
 {
     match owners.first() {
         Some(first) => *first,
@@ -28,8 +28,23 @@ fn first_of(owners: &[usize]) -> usize
     }
 }
 
+/// How far the last feature is from the first, and one more.
+fn reach_of(owners: &[usize]) -> usize
+    ensures { result ≡ reach_of owners.now }
+{
+    match owners.last() {
+        Some(last) => last.saturating_sub(first_of(owners)).saturating_add(1),
+        None => 1,
+    }
+}
+
 /// Adds a number to one of these.
-fn add_at(areas: &mut [i128], place: usize, area: i128) -> Result<(), CloseFault> {
+fn add_at(areas: &mut [i128], place: usize, area: i128) -> Result<(), CloseFault>
+    ensures length { OnOk result (length areas.new ≡ length areas.old) }
+    ensures here { OnOk result (place < length areas.old
+        → areas.new ≡ slice_set areas.old place (slice_index_or areas.old place (pos 0) +ℤ area)) }
+    ensures past { OnOk result (length areas.old ≤ place → areas.new ≡ areas.old) }
+{
     let Some(entry) = areas.get_mut(place) else {
         return Ok(());
     };
@@ -61,17 +76,21 @@ fn add_land(
 
 impl<A: Allocator + Copy> Land<A> {
     /// None, for features that ascend.
-    fn new(alloc: A, owners: &[usize]) -> Result<Land<A>, CloseFault> {
-        let last = owners.last().copied().unwrap_or(0);
-        let count = last.saturating_sub(first_of(owners)).saturating_add(1);
+    fn new(alloc: A, owners: &[usize]) -> Result<Land<A>, CloseFault>
+        ensures { IfOk result (λ land. IsLandOf owners.now [] land.areas.items land.all) }
+    {
         Ok(Land {
-            areas: vec![in alloc; 0; count]?,
+            areas: vec![in alloc; 0; reach_of(owners)]?,
             all: 0,
         })
     }
 
     /// Adds a face that these features hold.
-    fn add(&mut self, first: usize, features: &[usize], area: i128) -> Result<(), CloseFault> {
+    fn add(&mut self, first: usize, features: &[usize], area: i128) -> Result<(), CloseFault>
+        ensures { OnOk result ((count : ℕ) (lands : List Held)
+            → IsLandFrom first count lands self.old.areas.items self.old.all
+            → IsLandFrom first count (lands ++ (features.now, area) ∷ []) self.new.areas.items self.new.all) }
+    {
         if !features.is_empty() {
             match self.all.checked_add(area) {
                 Some(sum) => self.all = sum,
@@ -121,7 +140,9 @@ fn land_found<A: Allocator + Copy>(
 }
 
 /// The place of the first number that another list has not there.
-fn first_other(areas: &[i128], others: &[i128]) -> Option<usize> {
+fn first_other(areas: &[i128], others: &[i128]) -> Option<usize>
+    ensures { IfNone result (length areas.now ≡ length others.now → areas.now ≡ others.now) }
+{
     for (place, (area, other)) in areas.iter().zip(others).enumerate() {
         if area != other {
             return Some(place);
