@@ -2,7 +2,7 @@
 use Rattle.kit_words.proofs.Common.{◌≡◌, refl, sym, ap, subst, List, [], ◌∷◌, ◌++◌, inl, inr, ◌⊎◌, IsTrue, ⊎_elim}
 use Rattle.kit_words.proofs.Common.{AllByRecursion, ◌∙◌, ℕ, false, map, map-append}
 use Rattle.grid_geometry.specs.Common.{Position, Segment, IsSegment, conflict}
-use Rattle.layer_sides.specs.Common.{bottom, top, is_under_way}
+use Rattle.layer_sides.specs.Common.{bottom, is_under_way}
 use Rattle.layer_sides.specs.Under.{AreInOrder}
 use Rattle.ring_machine.proofs.Common.{In, in-append, in_left, in_mapped, in_recursion, in_right}
 use Rattle.layer_sides.proofs.InOrder.{is_left, is_right, reaches}

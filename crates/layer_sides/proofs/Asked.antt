@@ -1,9 +1,9 @@
 -- What is asked of borders, said of their segments and of their numbers.
-use Rattle.kit_words.proofs.Common.{◌≡◌, ℕ, ◌<◌, sym, ◌∙◌, subst, List, length, get_or, map, Contains, get_or-map, get_or_default}
+use Rattle.kit_words.proofs.Common.{◌≡◌, ℕ, ◌<◌, sym, ◌∙◌, subst, List, length, map, Contains, get_or-map, get_or_default}
 use Rattle.kit_words.proofs.Common.{length-map, IsStrictlySortedBy, Option, Some, None, IsNone, refl}
 use Rattle.std.specs.Prelude.{IsFalse}
 use Rattle.std.specs.Ordering.{nat_cmp}
-use Rattle.grid_geometry.specs.Common.{Segment, conflict}
+use Rattle.grid_geometry.specs.Common.{conflict}
 use Rattle.layer_sides.specs.Borders.{Bordering}
 use Rattle.layer_sides.specs.Under.{AreApart, AreAscending, AreSorted, NoneConflict, border_at, bounds_of, segments_of}
 

@@ -1,5 +1,5 @@
 -- A list cut at a vertex, and places put in among others.
-use Rattle.kit_words.proofs.Common.{◌≡◌, ℕ, ◌+◌, ◌-◌, ◌<◌, ◌≤◌, refl, sym, ap, ◌∙◌, subst, arith, List, [], ◌∷◌, ◌++◌, take, drop}
+use Rattle.kit_words.proofs.Common.{◌≡◌, ℕ, ◌+◌, ◌-◌, ◌<◌, ◌≤◌, sym, ap, ◌∙◌, subst, arith, List, [], ◌∷◌, ◌++◌, take, drop}
 use Rattle.kit_words.proofs.Common.{length, get_or, All, IsTrue, IsPermutation, drop-drop, length-drop, length-append, take_more}
 use Rattle.std.proofs.lemmas.List.{get_or_at}
 use Rattle.kit_words.proofs.Common.{get_or_default, get_or-take, get_or-drop, length-take-le, not, false}

@@ -1,14 +1,13 @@
 -- Vertices by level: between which two of them a position lies.
-use Rattle.kit_words.proofs.Common.{ℤ, ℕ, neg_ℤ, ◌≡◌, Bool, true, false, ◌&&◌, ◌||◌, int_lt, int_eq, int_cmp, arith, ints, refl, sym}
-use Rattle.kit_words.proofs.Common.{ap, ◌∙◌, subst, by_bool, false≢true, List, [], ◌∷◌, map, inl, inr, Less, ordering_then}
-use Rattle.std.specs.List.Sorted.{IsStrictlySortedBy}
+use Rattle.kit_words.proofs.Common.{ℤ, neg_ℤ, ◌≡◌, Bool, true, false, ◌&&◌, ◌||◌, int_lt, int_eq, int_cmp, arith, ints, refl, sym}
+use Rattle.kit_words.proofs.Common.{◌∙◌, subst, by_bool, false≢true, List, [], ◌∷◌, map, inl, inr, Less, ordering_then}
 use Rattle.grid_geometry.specs.Common.{Position, position_cmp}
-use Rattle.ring_machine.proofs.Common.{In, in_mapped}
+use Rattle.ring_machine.proofs.Common.{In}
 use Rattle.layer_sides.specs.Common.{doubled, level_lt}
 use Rattle.layer_sides.specs.Under.{AreRising, VertexOf, turned}
 use Rattle.layer_sides.proofs.Ascending.{rises_first, rises_rest}
 use Rattle.layer_sides.proofs.Aligned.{map_in}
-use Rattle.layer_sides.proofs.Levels.{before_before, before_up_to, not_back, not_itself}
+use Rattle.layer_sides.proofs.Levels.{before_before, not_back, not_itself}
 use Rattle.layer_sides.proofs.Doubling.{level_doubled}
 
 -- the order of turned positions is that of levels

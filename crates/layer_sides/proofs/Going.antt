@@ -1,19 +1,18 @@
 -- From vertex to vertex: the list of those under way at the one is that of those which await the next.
-use Rattle.kit_words.proofs.Common.{◌≡◌, ℕ, zero, suc, ◌+◌, ◌-◌, ◌<◌, ◌≤◌, ◌&&◌, Bool, true, false, not, refl, sym, ap, ap₂, ◌∙◌}
-use Rattle.kit_words.proofs.Common.{subst, arith, List, [], ◌∷◌, ◌++◌, map, take, length, get_or, inl, inr, Contains, All, cond}
-use Rattle.kit_words.proofs.Common.{nat_lt, ltb-true, length-map, false≢true, by_bool, take_more, get_or_default, ◌⊎◌, ⊎_elim, get_or-take, length-take-le}
+use Rattle.kit_words.proofs.Common.{◌≡◌, ℕ, zero, suc, ◌+◌, ◌<◌, ◌≤◌, ◌&&◌, Bool, true, false, not, refl, sym, ap, ◌∙◌}
+use Rattle.kit_words.proofs.Common.{subst, arith, List, [], ◌∷◌, map, take, length, get_or, inl, inr, cond}
+use Rattle.kit_words.proofs.Common.{nat_lt, ltb-true, false≢true, by_bool, take_more, get_or_default, ⊎_elim, get_or-take, length-take-le}
 use Rattle.std.proofs.Common.{ltb-false}
 use Rattle.grid_geometry.specs.Common.{Position, Segment, position_eq}
 use Rattle.ring_machine.proofs.Common.{In, contains_in, in-append, in_contains}
 use Rattle.layer_sides.specs.Common.{Bordering, bottom, is_under_way, level_lt, top}
 use Rattle.layer_sides.specs.Under.{AreInOrder, AreNumbered, AreRising, AreVertices, BegunAt, ListsPlaces, Rewrites, Stands}
-use Rattle.layer_sides.specs.Under.{StandsAtEach, VertexOf, awaits, border_at, borders_at, segment_at, segments_of, times}
+use Rattle.layer_sides.specs.Under.{StandsAtEach, VertexOf, awaits, segment_at, segments_of, times}
 use Rattle.layer_sides.proofs.Levelled.{awaited_next, none_awaits}
 use Rattle.layer_sides.proofs.Levels.{before_differs, not_back, not_itself, up_to_before}
 use Rattle.layer_sides.proofs.Noting.{in_turn}
 use Rattle.layer_sides.proofs.Numbering.{same_borders}
-use Rattle.layer_sides.proofs.Passage.{IsListed, listed}
-use Rattle.layer_sides.proofs.Places.{times_in}
+use Rattle.layer_sides.proofs.Passage.{listed}
 use Rattle.layer_sides.proofs.Sweeping.{VertexAt, segment_there, vertex_at}
 
 -- ---- tests that agree

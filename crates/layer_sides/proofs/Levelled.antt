@@ -1,12 +1,11 @@
 -- A segment at a vertex: it waits for it, ends there, begins there, or goes on.
-use Rattle.kit_words.proofs.Common.{◌≡◌, Bool, true, false, not, ◌&&◌, ◌||◌, refl, sym, ap, ap₂, ◌∙◌, subst, IsTrue, pos}
+use Rattle.kit_words.proofs.Common.{◌≡◌, Bool, true, false, not, ◌&&◌, ◌||◌, refl, sym, ap, ap₂, ◌∙◌, IsTrue, pos}
 use Rattle.kit_words.proofs.Common.{int_lt, false≢true, by_bool, ints, arith, ℤ}
 use Rattle.grid_geometry.specs.Common.{Position, Segment, orientation, position_eq}
-use Rattle.grid_geometry.proofs.Turns.{orientation-start}
 use Rattle.layer_sides.specs.Common.{bottom, top, level_lt, is_under_way}
 use Rattle.layer_sides.specs.Under.{awaits}
 use Rattle.layer_sides.proofs.InOrder.{is_left, is_right, reaches}
-use Rattle.layer_sides.proofs.Levels.{before_differs, after_differs, same_level, not_back, up_to_before, before_up_to}
+use Rattle.layer_sides.proofs.Levels.{before_differs, after_differs, same_level, not_back, up_to_before}
 use Rattle.layer_sides.proofs.Events.{orientation-end, position_eq-exact}
 
 -- ---- levels

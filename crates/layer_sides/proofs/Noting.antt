@@ -1,9 +1,9 @@
 -- The vertices of segments by level, and what begins at each.
-use Rattle.kit_words.proofs.Common.{◌≡◌, ℕ, zero, suc, ◌+◌, ◌<◌, ◌≤◌, ◌==◌, ◌&&◌, Bool, true, false, not, refl, sym, ap, ap₂, ◌∙◌}
-use Rattle.kit_words.proofs.Common.{subst, arith, List, [], ◌∷◌, ◌++◌, map, take, length, get_or, set, inl, inr, Contains, All, Vec}
+use Rattle.kit_words.proofs.Common.{◌≡◌, ℕ, ◌+◌, ◌<◌, ◌≤◌, ◌==◌, ◌&&◌, Bool, true, false, refl, sym, ap, ap₂, ◌∙◌}
+use Rattle.kit_words.proofs.Common.{subst, arith, List, [], ◌∷◌, ◌++◌, map, take, length, get_or, set, inl, inr, Contains, All}
 use Rattle.kit_words.proofs.Common.{flat_map, flat_map-append, take_more, append_assoc, get_or-map, length-map, map-set, cond, nat_lt}
 use Rattle.kit_words.proofs.Common.{ltb-true, lt-ltb, get_or_default, get_or-set_same, get_or-set_other, length-set, eqb-true, eq-eqb}
-use Rattle.kit_words.proofs.Common.{false≢true, by_bool, Less, IsStrictlySortedBy, set-get_or, nat_tests}
+use Rattle.kit_words.proofs.Common.{false≢true, by_bool, IsStrictlySortedBy, set-get_or, nat_tests}
 use Rattle.std.proofs.Common.{le-ltb, ltb-false}
 use Rattle.std.proofs.lemmas.Map.Keys.{Less-from_sorted}
 use Rattle.grid_geometry.specs.Common.{Position, Segment, position_cmp, position_eq, IsSegment}

@@ -1,9 +1,9 @@
 -- The numbers that are kept with the list of the borders under way: its parts, and what a vertex changes.
-use Rattle.kit_words.proofs.Common.{◌≡◌, ℕ, Bool, refl, sym, ap, ap₂, ◌∙◌, List, [], ◌∷◌, ◌++◌, map, append_assoc, subst, inl, inr}
+use Rattle.kit_words.proofs.Common.{◌≡◌, ℕ, refl, sym, ap, ap₂, ◌∙◌, List, [], ◌∷◌, ◌++◌, inl, inr}
 use Rattle.grid_geometry.specs.Common.{xor}
 use Rattle.layer_sides.specs.Borders.{Bordering}
 use Rattle.layer_sides.specs.Sweep.{has_number}
-use Rattle.layer_sides.specs.Under.{AreNumbered, AreOddOf, border_at, borders_at, is_odd_of}
+use Rattle.layer_sides.specs.Under.{AreNumbered, border_at, borders_at, is_odd_of}
 use Rattle.ring_machine.proofs.Common.{In, xor-assoc}
 
 pub odd_of-append : (n : ℕ) (bs cs : List Bordering) → is_odd_of n (bs ++ cs) ≡ xor (is_odd_of n bs) (is_odd_of n cs)

@@ -1,10 +1,10 @@
 -- A list that was sorted and rid of equal neighbours.
-use Rattle.kit_words.proofs.Common.{◌≡◌, ℕ, Bool, true, sym, ap, ◌∙◌, subst, List, [], ◌∷◌, Contains, arith, dedup, eqb, eqb-true}
+use Rattle.kit_words.proofs.Common.{◌≡◌, ℕ, Bool, true, sym, subst, List, [], Contains, arith, dedup, eqb, eqb-true}
 use Rattle.kit_words.proofs.Common.{IsPermutation, IsSorted, IsFiltered, DiffersFromLast, eq_by_cmp, Ordering, IsTotalOrder}
 use Rattle.kit_words.proofs.Common.{IsStrictlySortedBy-dedup, IsPermutation-sym, dedup_is, nat_cmp_total, nat_tests}
 use Rattle.std.specs.Ordering.{nat_cmp}
 use Rattle.grid_geometry.specs.Common.{Position, position_cmp, position_eq}
-use Rattle.ring_machine.proofs.Common.{In, contains_in, in_contains, in_permuted, none_new, none_lost, position_eq-true}
+use Rattle.ring_machine.proofs.Common.{contains_in, in_contains, in_permuted, none_new, none_lost, position_eq-true}
 use Rattle.ring_machine.proofs.Common.{position_total, ties}
 use Rattle.layer_sides.specs.Under.{Ascends}
 

@@ -1,10 +1,10 @@
 -- A vertex, with the list of the borders that await it: what is in the list, and the list of those under way behind it.
-use Rattle.kit_words.proofs.Common.{◌≡◌, ℕ, zero, suc, ◌+◌, ◌<◌, ◌≤◌, ◌&&◌, Bool, true, false, not, refl, sym, ap, ap₂, ◌∙◌}
-use Rattle.kit_words.proofs.Common.{subst, arith, List, [], ◌∷◌, ◌++◌, map, length, take, drop, get_or, inl, inr, ◌⊎◌, ⊎_elim}
-use Rattle.kit_words.proofs.Common.{Contains, IsTrue, IsPermutation, IsPermutation-sym, All-from_recursion, All, cond, nat_lt}
-use Rattle.kit_words.proofs.Common.{ltb-true, length-map, map-append, append_assoc, take-append-drop, drop_split, slice_range}
+use Rattle.kit_words.proofs.Common.{◌≡◌, ℕ, ◌<◌, ◌&&◌, Bool, true, false, refl, sym, ap, ◌∙◌}
+use Rattle.kit_words.proofs.Common.{subst, arith, List, ◌++◌, map, length, take, drop, ⊎_elim}
+use Rattle.kit_words.proofs.Common.{IsTrue, IsPermutation, All-from_recursion, cond, nat_lt}
+use Rattle.kit_words.proofs.Common.{ltb-true, map-append, append_assoc, take-append-drop, drop_split, slice_range}
 use Rattle.kit_words.proofs.Common.{recursion_from_All, false≢true}
-use Rattle.grid_geometry.specs.Common.{IsSegment, Position, Segment, conflict, position_eq}
+use Rattle.grid_geometry.specs.Common.{IsSegment, Segment, conflict, position_eq}
 use Rattle.ring_machine.proofs.Common.{In, contains_in, in-append, in_left, in_mapped, in_recursion, in_right, position_eq-refl}
 use Rattle.layer_sides.specs.Common.{Bordering, bottom, is_under_way, level_lt, top}
 use Rattle.layer_sides.specs.Under.{AreApartFrom, AreBelow, AreInOrder, AreNumbered, AreSegments, AreTurned, BegunAt, CutsAt}
@@ -16,7 +16,7 @@ use Rattle.layer_sides.proofs.InOrder.{is_left, is_right, reaches}
 use Rattle.layer_sides.proofs.Levelled.{awaits_reaches, begins_apart, left_not_top, right_not_top, way_after, way_on}
 use Rattle.layer_sides.proofs.Levels.{rises}
 use Rattle.layer_sides.proofs.Numbering.{numbered_after, numbered_back, same_borders}
-use Rattle.layer_sides.proofs.Places.{in_times, listed_after, none_times, times-append, times-permuted, times_in}
+use Rattle.layer_sides.proofs.Places.{in_times, listed_after, none_times, times-permuted}
 use Rattle.layer_sides.proofs.Sweeping.{segment_there}
 use Rattle.layer_sides.proofs.Turned.{turned_in_order}
 

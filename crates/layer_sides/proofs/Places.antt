@@ -1,6 +1,6 @@
 -- How often a place stands in a list, and lists that differ in their order alone.
-use Rattle.kit_words.proofs.Common.{◌≡◌, ◌<◌, ◌+◌, ◌==◌, ◌&&◌, ◌||◌, ℕ, zero, suc, Bool, true, false, not, refl, sym, ap}
-use Rattle.kit_words.proofs.Common.{◌∙◌, subst, cond, List, [], ◌∷◌, ◌++◌, ◌⊎◌, inl, inr, arith, eqb-true, eq-eqb, nat_lt}
+use Rattle.kit_words.proofs.Common.{◌≡◌, ◌<◌, ◌+◌, ◌==◌, ◌&&◌, ◌||◌, ℕ, suc, Bool, true, false, not, refl, sym, ap}
+use Rattle.kit_words.proofs.Common.{◌∙◌, subst, cond, List, [], ◌∷◌, ◌++◌, inl, inr, arith, eqb-true, eq-eqb, nat_lt}
 use Rattle.kit_words.proofs.Common.{IsPermutation, sum_by-cons, sum_by-IsPermutation, filter, length, ◌≤◌, false≢true, ltb-true}
 use Rattle.std.proofs.Common.{ltb-false}
 use Rattle.std.specs.Prelude.{sum_by}

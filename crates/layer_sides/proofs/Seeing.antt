@@ -1,5 +1,5 @@
 -- What the code holds, seen as borders: at a place, and with one border changed.
-use Rattle.kit_words.proofs.Common.{◌≡◌, ℕ, ◌<◌, sym, ap, ◌∙◌, refl, List, map, length, get_or, set, get_or-map, map-set, Vec}
+use Rattle.kit_words.proofs.Common.{◌≡◌, ℕ, ◌<◌, sym, ap, ◌∙◌, List, length, get_or, set, get_or-map, map-set, Vec}
 use Rattle.kit_words.proofs.Common.{length-map, get_or_default, ap₂, [], ◌∷◌, ◌++◌, subst, IsStrictlySortedBy}
 use Rattle.std.specs.Ordering.{nat_cmp}
 use Rattle.grid_geometry.specs.Common.{Position}

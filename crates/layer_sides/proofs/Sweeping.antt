@@ -1,5 +1,5 @@
 -- What the lists at all vertices say of each border: which polygons hold its right side.
-use Rattle.kit_words.proofs.Common.{◌≡◌, ℕ, zero, suc, ◌+◌, ◌<◌, ◌&&◌, Bool, true, false, refl, sym, ap, ap₂, ◌∙◌, subst, arith}
+use Rattle.kit_words.proofs.Common.{◌≡◌, ℕ, suc, ◌+◌, ◌<◌, ◌&&◌, Bool, true, false, refl, sym, ap, ap₂, ◌∙◌, subst, arith}
 use Rattle.kit_words.proofs.Common.{List, [], ◌∷◌, ◌++◌, map, length, get_or, inl, inr, Contains, IsTrue, ints, neg_ℤ, ℤ}
 use Rattle.kit_words.proofs.Common.{ltb-true, get_or-map, get_or_at, get_or_default, length-map, map-append, append_assoc, cond, nat_lt, lt-ltb}
 use Rattle.kit_words.proofs.Common.{IsStrictlySortedBy}
@@ -9,7 +9,7 @@ use Rattle.grid_geometry.proofs.Conflicts.{position-path}
 use Rattle.ring_machine.proofs.Common.{In, contains_in, in_contains, in_left, in_mapped, in_recursion, in_right}
 use Rattle.layer_sides.specs.Common.{AreSwept, Bordering, bottom, counts_for, doubled, has_number, is_odd_at, is_under_way}
 use Rattle.layer_sides.specs.Common.{level_lt, middle, top}
-use Rattle.layer_sides.specs.Under.{AreInOrder, AreNumbered, AreOddOf, AreRising, AreSegments, AreVertices, Stands, StandsAtEach}
+use Rattle.layer_sides.specs.Under.{AreInOrder, AreNumbered, AreSegments, AreVertices, Stands, StandsAtEach}
 use Rattle.layer_sides.specs.Under.{VertexOf, border_at, borders_at, is_odd_of, segment_at, segments_of, times, turned, twice}
 use Rattle.layer_sides.proofs.Aligned.{map_in, order_across, order_back}
 use Rattle.layer_sides.proofs.Doubling.{InFineOrder, bottom-doubled, top-doubled, under_way_between}

@@ -1,11 +1,11 @@
 -- Segments that begin at one vertex: from the turn of each to the next, the order of all.
-use Rattle.kit_words.proofs.Common.{ℤ, ℕ, zero, suc, pos, ◌≡◌, ◌+◌, ◌<◌, ◌+ℤ◌, ◌-ℤ◌, ◌*ℤ◌, ◌≤ℤ◌, ◌<ℤ◌, neg_ℤ, arith, ap, ap₂}
-use Rattle.kit_words.proofs.Common.{◌∙◌, sym, refl, subst, ints, by_lt_z, int_lt, int_eq, true, false, ◌&&◌, ◌||◌, IsTrue}
+use Rattle.kit_words.proofs.Common.{ℤ, ℕ, suc, pos, ◌≡◌, ◌+◌, ◌<◌, ◌+ℤ◌, ◌-ℤ◌, ◌*ℤ◌, ◌≤ℤ◌, ◌<ℤ◌, arith, ap}
+use Rattle.kit_words.proofs.Common.{◌∙◌, sym, refl, subst, ints, by_lt_z, int_lt, int_eq, true, ◌&&◌, ◌||◌, IsTrue}
 use Rattle.kit_words.proofs.Common.{List, [], ◌∷◌, map, length, get_or, inl, inr}
-use Rattle.grid_geometry.specs.Common.{Position, Segment, IsSegment, orientation}
-use Rattle.grid_geometry.proofs.Algebra.{expand, comm, assoc, weak, up_up, down_up, above_above, below_above}
+use Rattle.grid_geometry.specs.Common.{Position, Segment, orientation}
+use Rattle.grid_geometry.proofs.Algebra.{expand, comm, assoc, weak, up_up, down_up, below_above}
 use Rattle.ring_machine.proofs.Common.{In}
-use Rattle.layer_sides.specs.Common.{bottom, top, level_lt}
+use Rattle.layer_sides.specs.Common.{top, level_lt}
 use Rattle.layer_sides.specs.Under.{AreInOrder, AreTurned, segment_at}
 use Rattle.layer_sides.proofs.InOrder.{is_right}
 use Rattle.layer_sides.proofs.Levels.{rises}

@@ -1,5 +1,5 @@
 -- Words of the sweep: its vertices, the list of the borders under way, and what is kept with them.
-use Rattle.std.specs.Prelude.{ℕ, suc, ◌≡◌, ◌<◌, ◌≤◌, ◌+◌, ◌==◌, ◌&&◌, ◌++◌, ◌↔◌, Bool, not, false, pos, neg_ℤ}
+use Rattle.std.specs.Prelude.{ℕ, suc, ◌≡◌, ◌<◌, ◌≤◌, ◌==◌, ◌&&◌, ◌++◌, ◌↔◌, Bool, not, false, pos, neg_ℤ}
 use Rattle.std.specs.Prelude.{List, [], ◌∷◌, map, length, take, drop, Contains, IsTrue, IsFalse, nat_lt, slice_index_or}
 use Rattle.std.specs.Prelude.{slice_range, slice_set, if◌then◌else◌}
 use Rattle.std.specs.List.{All, AllAdjacentBelow, AllByRecursion}

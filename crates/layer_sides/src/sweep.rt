@@ -1,5 +1,5 @@
 // The sweep over the borders of a layer.
-ghost use Rattle.std.specs.Prelude.{◌≡◌, ◌+◌, ◌*◌, length, IfOk, OnOk};
+ghost use Rattle.std.specs.Prelude.{◌≡◌, ◌+◌, ◌*◌, ◌≤◌, ◌++◌, length, take, drop, IfOk, OnOk};
 ghost use Rattle.std.specs.List.Sorted.{IsStrictlySortedBy};
 ghost use Rattle.grid_geometry.specs.Common.{segment_cmp};
 ghost use Rattle.layer_sides.specs.Levels.{is_under_way};
@@ -13,7 +13,7 @@ use crate::border::Border;
 use crate::faces::Faces;
 use crate::fault::SideFault;
 use crate::holding::write_sides;
-use crate::under::{ended_at, with_begun};
+use crate::under::{ended_at, put_begun};
 use crate::vertices::{Vertex, disordered, vertices_of};
 use std::alloc::Allocator;
 
@@ -26,16 +26,25 @@ const MOST_NUMBERS: usize = 16_000_000;
 /// The most borders under way, added over all vertices: some minutes of work.
 const MOST_UNDER_WAY: usize = 50_000_000_000;
 
-/// Goes over a vertex: the list of the borders under way there, of which those from `from` to before
-/// `to` begin there.
-fn go_over<A: Allocator + Copy>(
+/// How the list of the borders under way changes at a vertex.
+#[derive(Drop)]
+struct Passage<A: Allocator + Copy> {
+    /// The place of the first one that ends there, or where one would stand.
+    from: usize,
+    /// The place behind the last one that ends there.
+    to: usize,
+    /// Those that begin there, from left to right.
+    begun: Vec<usize, A>,
+}
+
+/// Writes the sides of the borders that begin at a vertex, and answers how the list changes there.
+fn pass<A: Allocator + Copy>(
     alloc: A,
     borders: &mut Vec<Border<A>, A>,
     list: &[usize],
     vertex: &Vertex<A>,
     room: &mut usize,
-    faces: &mut Faces<A>,
-) -> Result<Vec<usize, A>, SideFault>
+) -> Result<Passage<A>, SideFault>
     requires segments { AreSegments (segments_seen borders.old.items) }
     requires apart { NoneConflict (segments_seen borders.old.items) }
     requires sorted { AreAscending (bounds_of (borders_seen borders.old.items)) }
@@ -43,7 +52,10 @@ fn go_over<A: Allocator + Copy>(
     requires begun { BegunAt (segments_seen borders.old.items) (length (segments_seen borders.old.items)) (vertex_seen vertex.now) }
     ensures rewrites { OnOk result (Rewrites vertex.now.begun.items
         (borders_seen borders.old.items) (borders_seen borders.new.items)) }
-    ensures stands { IfOk result (λ next. Stands (borders_seen borders.new.items) (is_under_way vertex.now.at) next.items) }
+    ensures rising { IfOk result (λ passage. passage.from ≤ passage.to) }
+    ensures bound { IfOk result (λ passage. passage.to ≤ length list.now) }
+    ensures stands { IfOk result (λ passage. Stands (borders_seen borders.new.items) (is_under_way vertex.now.at)
+        (take passage.from list.now ++ passage.begun.items ++ drop passage.to list.now)) }
 {
     let Some((from, to)) = ended_at(borders.as_slice(), list, vertex.at) else {
         return Err(SideFault::Unswept(vertex.at));
@@ -63,9 +75,31 @@ fn go_over<A: Allocator + Copy>(
         vertex.at,
         room,
     )?;
-    let next = with_begun(alloc, list, from, to, begun.as_slice())?;
-    faces.join_along(next.as_slice(), from, from + begun.len());
-    Ok(next)
+    Ok(Passage { from, to, begun })
+}
+
+/// Goes over a vertex: in the list of the borders under way those that begin there come in the place of those that end.
+fn go_over<A: Allocator + Copy>(
+    alloc: A,
+    borders: &mut Vec<Border<A>, A>,
+    list: &mut Vec<usize, A>,
+    vertex: &Vertex<A>,
+    room: &mut usize,
+    faces: &mut Faces<A>,
+) -> Result<(), SideFault>
+    requires segments { AreSegments (segments_seen borders.old.items) }
+    requires apart { NoneConflict (segments_seen borders.old.items) }
+    requires sorted { AreAscending (bounds_of (borders_seen borders.old.items)) }
+    requires awaits { Stands (borders_seen borders.old.items) (awaits vertex.now.at) list.old.items }
+    requires begun { BegunAt (segments_seen borders.old.items) (length (segments_seen borders.old.items)) (vertex_seen vertex.now) }
+    ensures rewrites { OnOk result (Rewrites vertex.now.begun.items
+        (borders_seen borders.old.items) (borders_seen borders.new.items)) }
+    ensures stands { OnOk result (Stands (borders_seen borders.new.items) (is_under_way vertex.now.at) list.new.items) }
+{
+    let Passage { from, to, begun } = pass(alloc, borders, list.as_slice(), vertex, room)?;
+    put_begun(list, from, to, begun.as_slice())?;
+    faces.join_along(list.as_slice(), from, from + begun.len());
+    Ok(())
 }
 
 /// Goes over the vertices one by one. Fails on allocation failure, where more is under way than can be
@@ -88,7 +122,7 @@ fn go_over_all<A: Allocator + Copy>(
     let mut room = MOST_NUMBERS;
     let mut steps = MOST_UNDER_WAY;
     for vertex in vertices {
-        list = go_over(alloc, borders, list.as_slice(), vertex, &mut room, faces)?;
+        go_over(alloc, borders, &mut list, vertex, &mut room, faces)?;
         if steps < list.len() {
             return Err(SideFault::TooLarge);
         }

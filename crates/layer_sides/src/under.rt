@@ -1,5 +1,5 @@
 // The list of the borders under way, from left to right: the place of a vertex in it.
-ghost use Rattle.std.specs.Prelude.{◌≡◌, ◌<◌, ◌≤◌, ◌++◌, ◌∷◌, [], ℕ, List, length, take, drop, IsTrue, IfOk, IfSome};
+ghost use Rattle.std.specs.Prelude.{◌≡◌, ◌<◌, ◌≤◌, ◌++◌, ◌∷◌, [], ℕ, List, length, take, drop, IsTrue, IfSome, OnOk};
 ghost use Rattle.std.specs.List.{All};
 ghost use Rattle.layer_sides.specs.Levels.{top};
 ghost use Rattle.layer_sides.specs.Order as order;
@@ -98,21 +98,45 @@ pub(crate) fn ended_at<A: Allocator + Copy>(
     }
 }
 
-/// The list with others in the place of those from one place to before another.
-pub(crate) fn with_begun<A: Allocator + Copy>(
-    alloc: A,
-    list: &[usize],
+/// Takes the places from one on, up to before another, out of the list.
+fn take_out<A: Allocator + Copy>(list: &mut Vec<usize, A>, from: usize, to: usize)
+    requires rising { from ≤ to }
+    requires bound { to ≤ length list.old.items }
+    ensures { list.new.items ≡ take from list.old.items ++ drop to list.old.items }
+{
+    for _ in from..to {
+        list.remove(from);
+    }
+}
+
+/// Puts places into the list, the first of them at this place of it.
+fn put_in<A: Allocator + Copy>(
+    list: &mut Vec<usize, A>,
+    at: usize,
+    begun: &[usize],
+) -> Result<(), AllocError>
+    requires { at ≤ length list.old.items }
+    ensures { OnOk result
+        (list.new.items ≡ take at list.old.items ++ begun.now ++ drop at list.old.items) }
+{
+    for (i, place) in begun.iter().enumerate() {
+        list.insert(at + i, *place)?;
+    }
+    Ok(())
+}
+
+/// Puts places into the list, in the place of those from one on, up to before another.
+pub(crate) fn put_begun<A: Allocator + Copy>(
+    list: &mut Vec<usize, A>,
     from: usize,
     to: usize,
     begun: &[usize],
-) -> Result<Vec<usize, A>, AllocError>
+) -> Result<(), AllocError>
     requires rising { from ≤ to }
-    requires bound { to ≤ length list.now }
-    ensures { IfOk result (λ found. found.items ≡ take from list.now ++ begun.now ++ drop to list.now) }
+    requires bound { to ≤ length list.old.items }
+    ensures { OnOk result
+        (list.new.items ≡ take from list.old.items ++ begun.now ++ drop to list.old.items) }
 {
-    let mut found = Vec::new(alloc);
-    found.extend_from_slice(&list[..from])?;
-    found.extend_from_slice(begun)?;
-    found.extend_from_slice(&list[to..])?;
-    Ok(found)
+    take_out(list, from, to);
+    put_in(list, from, begun)
 }

@@ -1,8 +1,7 @@
-use Rattle.kit_words.proofs.Common.{◌≡◌, ◌+◌, ◌<◌, ◌∙◌, sym, ap, ap₂, true, not, arith, length, get_or, take, drop, ◌-◌, subst, IsTrue}
+use Rattle.kit_words.proofs.Common.{◌≡◌, ◌+◌, ◌<◌, ◌∙◌, sym, ap, ap₂, true, arith, length, get_or, take, drop, ◌-◌}
 use Rattle.layer_sides.specs.Common.{top}
 use Rattle.layer_sides.specs.Order as order
 use Rattle.layer_sides.specs.Seen.{segments_seen}
-use Rattle.layer_sides.specs.Under.{segment_at}
 use Rattle.layer_sides.proofs.Cutting.{rest_at, rest_length, turned_more}
 use Rattle.layer_sides.proofs.begun.are_in_order.Goals as goal
 

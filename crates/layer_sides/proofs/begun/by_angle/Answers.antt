@@ -1,4 +1,4 @@
-use Rattle.kit_words.proofs.Common.{◌<◌, ◌+◌, sym, subst, arith, refl, length, get_or, take, All, All-take, All-permutation, IsPermutation}
+use Rattle.kit_words.proofs.Common.{◌<◌, ◌+◌, sym, subst, arith, refl, length, get_or, take, All-take, All-permutation, IsPermutation}
 use Rattle.layer_sides.specs.Under.{AreBelow}
 use Rattle.layer_sides.proofs.Cutting.{put_in}
 use Rattle.layer_sides.proofs.begun.by_angle.Goals as goal

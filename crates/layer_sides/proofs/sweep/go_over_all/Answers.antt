@@ -1,4 +1,4 @@
-use Rattle.kit_words.proofs.Common.{◌≡◌, ◌<◌, ◌≤◌, ◌+◌, ◌∙◌, sym, ap, subst, arith, length, length-map, get_or, get_or-map, take, take_all}
+use Rattle.kit_words.proofs.Common.{◌≡◌, ◌<◌, ◌≤◌, ◌∙◌, sym, ap, subst, arith, length, length-map, get_or, get_or-map, take_all}
 use Rattle.layer_sides.specs.Common.{is_under_way}
 use Rattle.layer_sides.specs.Seen.{borders_seen, segments_seen, vertex_seen, vertices_seen}
 use Rattle.layer_sides.specs.Under.{AreVertices, Rewrites, Stands, StandsAtEach, VertexOf, awaits}
@@ -14,9 +14,8 @@ go_over-requires-clause-awaits g c =
     let l : k < length c.args.vertices.now = omega (arith, c.loop-vertex-test.true) in
     let m : k < length vs = subst (λ n. k < n) (sym (length-map c.args.vertices.now vertex_seen)) l in
     let there : get_or vs k v ≡ v = get_or-map vertex_seen c.args.vertices.now k c.vertex-item.result v l ∙ ap vertex_seen (sym c.vertex-item.is) in
-    subst (Stands bs (awaits c.vertex-item.result.at)) (sym c.as_slice.ensures.value)
-    (subst (λ (w : VertexOf). Stands bs (awaits w.0) c.loop-vertex.list.items) there
-    (awaited bs vs k v c.loop-vertex.list.items (subst (λ ss. AreVertices ss vs) (sym c.loop-vertex.invariant.0) c.requires.vertices) m c.loop-vertex.invariant.3))
+    subst (λ (w : VertexOf). Stands bs (awaits w.0) c.loop-vertex.list.items) there
+    (awaited bs vs k v c.loop-vertex.list.items (subst (λ ss. AreVertices ss vs) (sym c.loop-vertex.invariant.0) c.requires.vertices) m c.loop-vertex.invariant.3)
 
 pub go_over-requires-clause-begun : goal.go_over-requires-clause-begun
 go_over-requires-clause-begun g c =
@@ -41,13 +40,13 @@ loop-vertex-preserved g c =
     let there : get_or vs k v ≡ v = get_or-map vertex_seen c.args.vertices.now k c.vertex-item.result v l ∙ ap vertex_seen (sym c.vertex-item.is) in
     let w : AreVertices (segments_seen c.loop-vertex.borders.items) vs = subst (λ ss. AreVertices ss vs) (sym c.loop-vertex.invariant.0) c.requires.vertices in
     let after = borders_seen c.go_over.new.borders.items in
-    let r : Rewrites (get_or vs k v).1 bs after = subst (λ (z : VertexOf). Rewrites z.1 bs after) (sym there) c.in_ok-list.ensures.rewrites in
-    let s : Stands after (is_under_way (get_or vs k v).0) c.in_ok-list.list.items =
-    subst (λ (z : VertexOf). Stands after (is_under_way z.0) c.in_ok-list.list.items) (sym there) c.in_ok-list.ensures.stands in (
-      c.in_ok-list.ensures.rewrites.segments ∙ c.loop-vertex.invariant.0,
-      c.in_ok-list.ensures.rewrites.bounds ∙ c.loop-vertex.invariant.1,
-      each_more bs after vs k v c.in_ok-list.list.items w m r s c.loop-vertex.invariant.2,
-      stands_after_more bs after vs k v c.in_ok-list.list.items w m r s,
+    let r : Rewrites (get_or vs k v).1 bs after = subst (λ (z : VertexOf). Rewrites z.1 bs after) (sym there) c.in_ok-go_over.ensures.rewrites in
+    let s : Stands after (is_under_way (get_or vs k v).0) c.go_over.new.list.items =
+    subst (λ (z : VertexOf). Stands after (is_under_way z.0) c.go_over.new.list.items) (sym there) c.in_ok-go_over.ensures.stands in (
+      c.in_ok-go_over.ensures.rewrites.segments ∙ c.loop-vertex.invariant.0,
+      c.in_ok-go_over.ensures.rewrites.bounds ∙ c.loop-vertex.invariant.1,
+      each_more bs after vs k v c.go_over.new.list.items w m r s c.loop-vertex.invariant.2,
+      stands_after_more bs after vs k v c.go_over.new.list.items w m r s,
     )
 
 pub returns-clause-stands : goal.returns-clause-stands

@@ -1,4 +1,4 @@
-use Rattle.kit_words.proofs.Common.{◌∙◌, sym, subst}
+use Rattle.kit_words.proofs.Common.{sym, subst}
 use Rattle.layer_sides.specs.Common.{is_under_way}
 use Rattle.layer_sides.specs.Seen.{borders_seen, segments_seen, vertices_seen}
 use Rattle.layer_sides.specs.Under.{AreSegments, AreVertices, StandsAtEach}

@@ -1,4 +1,4 @@
-use Rattle.kit_words.proofs.Common.{◌≡◌, ◌<◌, ◌≤◌, ◌∙◌, sym, ap, subst, arith, length, get_or, take, take_all, All, All-more}
+use Rattle.kit_words.proofs.Common.{◌≡◌, ◌<◌, ◌≤◌, ◌∙◌, sym, ap, subst, arith, length, take_all, All, All-more}
 use Rattle.layer_sides.specs.Common.{top}
 use Rattle.layer_sides.specs.Seen.{segments_seen}
 use Rattle.layer_sides.specs.Under.{segment_at}

@@ -1,6 +1,5 @@
-use Rattle.kit_words.proofs.Common.{◌≡◌, ◌<◌, ◌≤◌, ◌∙◌, sym, ap, subst, arith, true, length, take_all, All, All-more}
+use Rattle.kit_words.proofs.Common.{◌≡◌, ◌<◌, ◌≤◌, sym, subst, arith, true, length, take_all, All, All-more}
 use Rattle.grid_geometry.specs.Common.{IsSegment}
-use Rattle.layer_sides.specs.Borders.{Bordering}
 use Rattle.layer_sides.specs.Seen.{segments_seen}
 use Rattle.layer_sides.proofs.Noting.{all_segments}
 use Rattle.layer_sides.proofs.Seeing.{length_seen, segment_item}

@@ -1,4 +1,4 @@
-use Rattle.kit_words.proofs.Common.{◌≡◌, ◌<◌, ◌∙◌, ◌++◌, ◌∷◌, [], sym, ap, ap₂, subst, arith, length}
+use Rattle.kit_words.proofs.Common.{◌<◌, ◌∙◌, ◌++◌, ◌∷◌, [], sym, ap, ap₂, subst, arith, length}
 use Rattle.layer_sides.specs.Seen.{segments_seen}
 use Rattle.layer_sides.specs.Under.{turned}
 use Rattle.layer_sides.proofs.Noting.{ends_more}

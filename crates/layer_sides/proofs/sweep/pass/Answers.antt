@@ -1,13 +1,13 @@
-use Rattle.kit_words.proofs.Common.{◌≡◌, ℕ, ◌-◌, ◌++◌, ◌∙◌, sym, ap, subst, List, length, take, drop, IsPermutation}
+use Rattle.kit_words.proofs.Common.{◌≡◌, ℕ, ◌-◌, ◌++◌, ◌∙◌, sym, ap, subst, length, take, drop, IsPermutation}
 use Rattle.std.proofs.lemmas.List.{take_rest}
 use Rattle.grid_geometry.specs.Common.{position_eq}
-use Rattle.layer_sides.specs.Common.{bottom, is_under_way}
+use Rattle.layer_sides.specs.Common.{bottom}
 use Rattle.layer_sides.specs.Seen.{borders_seen, segments_seen, vertex_seen}
-use Rattle.layer_sides.specs.Under.{AreApartFrom, AreBelow, AreNumbered, AreTurned, CutsAt, Rewrites, Stands, awaits, borders_at}
+use Rattle.layer_sides.specs.Under.{AreApartFrom, AreBelow, AreNumbered, AreTurned, CutsAt, Rewrites, awaits, borders_at}
 use Rattle.layer_sides.specs.Under.{is_odd_of, segment_at}
 use Rattle.layer_sides.proofs.Passage.{apart_from, below_all, below_listed, below_rest, numbered_rest, rewrites_vertex, stands_behind}
 use Rattle.layer_sides.proofs.Seeing.{length_seen}
-use Rattle.layer_sides.proofs.sweep.go_over.Goals as goal
+use Rattle.layer_sides.proofs.sweep.pass.Goals as goal
 
 pub ended_at-requires : goal.ended_at-requires
 ended_at-requires g c =
@@ -111,13 +111,11 @@ returns-clause-stands g c =
     let after = borders_seen c.write_sides.new.borders.items in
     let cut = subst (λ xs. CutsAt (segments_seen xs) list c.args.vertex.now.at from to) c.as_slice.ensures.value c.in-Some.ensures in
     let perm = subst (λ ks. IsPermutation ks begun) c.as_slice-3.ensures.value c.in_ok-begun.ensures.same in
-    subst (Stands after (is_under_way c.args.vertex.now.at))
-    (sym (c.in_ok-next.ensures ∙ ap (λ ks. take from list ++ ks ++ drop to list) c.as_slice-5.ensures.value))
-    (stands_behind (borders_seen items) (vertex_seen c.args.vertex.now) list begun from to c.requires.segments c.requires.apart c.requires.awaits c.requires.begun cut perm after
+    stands_behind (borders_seen items) (vertex_seen c.args.vertex.now) list begun from to c.requires.segments c.requires.apart c.requires.awaits c.requires.begun cut perm after
     (subst (λ xs. AreTurned (segments_seen xs) begun) c.as_slice-2.ensures.value c.in_ok-begun.ensures.turned)
     (subst (λ ks. Rewrites ks (borders_seen items) after) c.as_slice-4.ensures.value c.in_ok-write_sides.ensures.rewrites)
     (subst (λ ks. AreNumbered (borders_at after (ks ++ drop to list))) c.as_slice-4.ensures.value
     (subst (λ ks. AreNumbered (borders_at after (c.as_slice-4.result.now ++ ks))) (take_rest list to) c.in_ok-write_sides.ensures.numbered))
     (subst (λ ks. (n : ℕ) → is_odd_of n (borders_at after (ks ++ drop to list)) ≡ is_odd_of n (borders_at (borders_seen items) (drop from list))) c.as_slice-4.ensures.value
     (subst (λ ks. (n : ℕ) → is_odd_of n (borders_at after (c.as_slice-4.result.now ++ ks)) ≡ is_odd_of n (borders_at (borders_seen items) (drop from list))) (take_rest list to)
-    (subst (λ ks. (n : ℕ) → is_odd_of n (borders_at after (c.as_slice-4.result.now ++ take (length list - to) (drop to list))) ≡ is_odd_of n (borders_at (borders_seen items) ks)) (take_rest list from) c.in_ok-write_sides.ensures.same))))
+    (subst (λ ks. (n : ℕ) → is_odd_of n (borders_at after (c.as_slice-4.result.now ++ take (length list - to) (drop to list))) ≡ is_odd_of n (borders_at (borders_seen items) ks)) (take_rest list from) c.in_ok-write_sides.ensures.same)))
