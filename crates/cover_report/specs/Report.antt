@@ -102,11 +102,8 @@ found_text wants faces uneven =
     told_lines wants Overlap faces ++ (told_lines wants Twice faces ++ (told_lines wants Gap faces
     ++ (told_lines wants Lake faces ++ lines wants.most uneven_line uneven)))
 
--- the report of the layers that were looked at, but for its last line
-abbrev pub findings_part : Wants → List LookedAt → List ℕ
-findings_part wants looks =
-    found_text wants (faces_of looks) (uneven_of looks) ++ (wide_lines (faces_of looks) ++ flat_map sum_line looks)
-
 -- the report of the layers that were looked at
 abbrev pub report_text : Wants → List LookedAt → List ℕ
-report_text wants looks = findings_part wants looks ++ counts_line (counts_of wants looks)
+report_text wants looks =
+    found_text wants (faces_of looks) (uneven_of looks) ++ (wide_lines (faces_of looks)
+    ++ (flat_map sum_line looks ++ counts_line (counts_of wants looks)))

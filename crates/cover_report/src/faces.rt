@@ -12,21 +12,21 @@ use std::alloc::{AllocError, Allocator};
 
 /// A face that may be told.
 #[derive(Drop)]
-pub struct ToldFace<A: Allocator + Copy> {
-    pub kind: Kind,
+pub(crate) struct ToldFace<A: Allocator + Copy> {
+    pub(crate) kind: Kind,
     /// The features that hold it, or that are beside it, ascending.
-    pub features: Vec<usize, A>,
+    pub(crate) features: Vec<usize, A>,
     /// Twice its area.
-    pub area: i128,
+    pub(crate) area: i128,
     /// Its width in units, rounded up.
-    pub width: u128,
+    pub(crate) width: u128,
     /// The ends of the first segment of its border, which has the face on its left.
-    pub from: Pos,
-    pub to: Pos,
+    pub(crate) from: Pos,
+    pub(crate) to: Pos,
 }
 
 /// Whether a face is told where it is within the bounds: others are land, or outside.
-pub fn is_found(kind: Kind) -> bool
+fn is_found(kind: Kind) -> bool
     ensures { result ≡ is_found kind }
 {
     match kind {
@@ -115,7 +115,7 @@ fn push_told<A: Allocator + Copy>(
 }
 
 /// What may be told of the faces of these borders.
-pub fn told_of_all<A: Allocator + Copy>(
+pub(crate) fn told_of_all<A: Allocator + Copy>(
     alloc: A,
     borders: &[Border<A>],
     faces: Vec<Face<A>, A>,

@@ -43,14 +43,6 @@ mod told;
 mod uneven;
 
 pub use asked::Asked;
-pub use faces::{ToldFace, is_found};
-pub use fault::{CoverFault, of_face};
-pub use layers::{Feature, Owned, leaf_count, next_polygons};
-pub use lines::{ReportLine, push_first, word_of};
-pub use looked::{Looked, told_at};
-pub use names::{are_there, is_asked};
-pub use numbers::{push_bytes, push_number, push_position};
-pub use opening::proper_map;
-pub use report::{push_findings, report_map};
-pub use told::{Counts, is_kind};
-pub use uneven::UnevenPolygon;
+pub use fault::CoverFault;
+pub use report::report_map;
+pub use told::Counts;

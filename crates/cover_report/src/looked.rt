@@ -24,17 +24,17 @@ use topo_outline::RawLayer;
 
 /// What was found in a layer.
 #[derive(Drop)]
-pub struct Looked<'a, A: Allocator + Copy> {
+pub(crate) struct Looked<'a, A: Allocator + Copy> {
     /// The layer's name with its quotes, as it stands.
-    pub name: &'a [u8],
+    pub(crate) name: &'a [u8],
     /// What may be told of its faces.
-    pub faces: Vec<ToldFace<A>, A>,
-    pub uneven: Vec<UnevenPolygon, A>,
-    pub sums: Sums,
+    pub(crate) faces: Vec<ToldFace<A>, A>,
+    pub(crate) uneven: Vec<UnevenPolygon, A>,
+    pub(crate) sums: Sums,
 }
 
 /// What is told of a layer with this name, in which this was found.
-pub fn told_at<'a, A: Allocator + Copy>(
+fn told_at<'a, A: Allocator + Copy>(
     alloc: A,
     name: &'a [u8],
     owned: &Owned<A>,
@@ -125,7 +125,7 @@ impl<'a, A: Allocator + Copy> Looks<'a, A> {
 }
 
 /// Looks at the layers that are asked for, in their order.
-pub fn looks_of<'a, A: Allocator + Copy>(
+pub(crate) fn looks_of<'a, A: Allocator + Copy>(
     alloc: A,
     heap: Global,
     names: &[&str],

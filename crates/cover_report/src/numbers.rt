@@ -7,14 +7,17 @@ use itoa::{Buffer, Integer};
 use std::alloc::{AllocError, Allocator};
 
 /// Appends a text.
-pub fn push_bytes<A: Allocator>(text: &mut Vec<u8, A>, bytes: &[u8]) -> Result<(), AllocError>
+pub(crate) fn push_bytes<A: Allocator>(
+    text: &mut Vec<u8, A>,
+    bytes: &[u8],
+) -> Result<(), AllocError>
     ensures { OnOk result (text.new.items ≡ text.old.items ++ bytes.now) }
 {
     text.extend_from_slice(bytes)
 }
 
 /// Appends a number in decimal.
-pub fn push_number<A: Allocator, I: Integer>(
+pub(crate) fn push_number<A: Allocator, I: Integer>(
     text: &mut Vec<u8, A>,
     number: I,
 ) -> Result<(), AllocError>
@@ -25,7 +28,10 @@ pub fn push_number<A: Allocator, I: Integer>(
 }
 
 /// Appends both numbers, with a space between them.
-pub fn push_position<A: Allocator>(text: &mut Vec<u8, A>, position: Pos) -> Result<(), AllocError>
+pub(crate) fn push_position<A: Allocator>(
+    text: &mut Vec<u8, A>,
+    position: Pos,
+) -> Result<(), AllocError>
     ensures { OnOk result (text.new.items ≡ text.old.items ++ position_text position) }
 {
     append!(text; push_number(position.x()) b" " push_number(position.y()))

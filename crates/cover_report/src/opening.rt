@@ -59,7 +59,7 @@ fn test<A: Allocator + Copy>(
 }
 
 /// The map that the bytes are, where it opens in the editor, or its first fault.
-pub fn proper_map<'a, A: Allocator + Copy>(
+pub(crate) fn proper_map<'a, A: Allocator + Copy>(
     alloc: A,
     heap: Global,
     seed: RandomState,

@@ -8,7 +8,7 @@ ghost use Rattle.ring_machine.specs.Common.{Proper};
 ghost use Rattle.cover_report.specs.Faults.{IsRefused, IsUnlooked};
 ghost use Rattle.cover_report.specs.Layers.{AreLooks, asked_layers, view_looked};
 ghost use Rattle.cover_report.specs.Names.{are_there};
-ghost use Rattle.cover_report.specs.Report.{findings_part, report_text, told_lines};
+ghost use Rattle.cover_report.specs.Report.{report_text, told_lines};
 ghost use Rattle.cover_report.specs.Told.{IsTold};
 
 use crate::asked::Asked;
@@ -42,36 +42,6 @@ fn push_kind<A: Allocator + Copy>(
     Ok(told.len())
 }
 
-/// Appends the report of the layers that were looked at, but for its last line, and answers how much is told of each kind.
-pub fn push_findings<A: Allocator + Copy>(
-    alloc: A,
-    text: &mut Vec<u8, A>,
-    asked: &Asked<'_>,
-    looks: &[Looked<'_, A>],
-) -> Result<Counts, AllocError>
-    ensures lines { OnOk result (text.new.items ≡ text.old.items
-        ++ findings_part (view_asked asked.now) (map view_looked looks.now)) }
-    ensures counts { IfOk result (λ counts. counts
-        ≡ counts_of (view_asked asked.now) (map view_looked looks.now)) }
-{
-    let faces = all_faces(alloc, looks)?;
-    let overlaps = push_kind(alloc, text, asked, Kind::Overlap, faces.as_slice())?;
-    let twices = push_kind(alloc, text, asked, Kind::Twice, faces.as_slice())?;
-    let gaps = push_kind(alloc, text, asked, Kind::Gap, faces.as_slice())?;
-    let lakes = push_kind(alloc, text, asked, Kind::Lake, faces.as_slice())?;
-    let uneven = all_uneven(alloc, looks)?;
-    push_first(text, uneven.as_slice(), asked.most)?;
-    push_widths(text, faces.as_slice())?;
-    push_all_sums(text, looks)?;
-    Ok(Counts {
-        overlaps,
-        twices,
-        gaps,
-        lakes,
-        uneven: uneven.len(),
-    })
-}
-
 /// Appends the report of the layers that were looked at, and answers how much is told of each kind.
 fn push_report<A: Allocator + Copy>(
     alloc: A,
@@ -84,7 +54,22 @@ fn push_report<A: Allocator + Copy>(
     ensures counts { IfOk result (λ counts. counts
         ≡ counts_of (view_asked asked.now) (map view_looked looks.now)) }
 {
-    let counts = push_findings(alloc, text, asked, looks)?;
+    let faces = all_faces(alloc, looks)?;
+    let overlaps = push_kind(alloc, text, asked, Kind::Overlap, faces.as_slice())?;
+    let twices = push_kind(alloc, text, asked, Kind::Twice, faces.as_slice())?;
+    let gaps = push_kind(alloc, text, asked, Kind::Gap, faces.as_slice())?;
+    let lakes = push_kind(alloc, text, asked, Kind::Lake, faces.as_slice())?;
+    let uneven = all_uneven(alloc, looks)?;
+    push_first(text, uneven.as_slice(), asked.most)?;
+    push_widths(text, faces.as_slice())?;
+    push_all_sums(text, looks)?;
+    let counts = Counts {
+        overlaps,
+        twices,
+        gaps,
+        lakes,
+        uneven: uneven.len(),
+    };
     push_counts(text, counts)?;
     Ok(counts)
 }

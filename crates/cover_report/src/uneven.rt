@@ -7,12 +7,12 @@ use std::alloc::{AllocError, Allocator};
 
 /// A polygon whose area by its rings is not that by the even-odd rule, both twice as large.
 #[derive(Clone, Copy, Debug)]
-pub struct UnevenPolygon {
-    pub feature: usize,
+pub(crate) struct UnevenPolygon {
+    pub(crate) feature: usize,
     /// Its number among the polygons of the feature.
-    pub polygon: usize,
-    pub by_rings: i128,
-    pub even_odd: i128,
+    pub(crate) polygon: usize,
+    pub(crate) by_rings: i128,
+    pub(crate) even_odd: i128,
 }
 
 /// The number at a place of a list, and 0 behind its end.
@@ -26,7 +26,7 @@ fn number_or_zero(numbers: &[usize], at: usize) -> usize
 }
 
 /// What is told of polygons of a layer, each of which has the number of its feature, and its own among the polygons of it.
-pub fn uneven_told<A: Allocator + Copy>(
+pub(crate) fn uneven_told<A: Allocator + Copy>(
     alloc: A,
     owners: &[usize],
     numbers: &[usize],
