@@ -1,0 +1,199 @@
+// @ts-check
+/**
+ * Draws faces in the map. Each kind has its own colour, and also its own hatching, line and mark, since not all eyes tell
+ * colours apart. The numbers are those of the list.
+ */
+import { meets } from "./boxes.js";
+import { across, down, traceWay } from "./screen.js";
+
+/** @typedef {import("./screen.js").Frame} Frame */
+/** @typedef {import("./boxes.js").Box} Box */
+/** @typedef {"overlap" | "twice" | "gap" | "lake"} Kind */
+/** @typedef {{number: number, kind: Kind, layer: number, shape: import("./faces.js").Shape}} Face */
+/** @typedef {{faces: Face[], isOld: boolean}} Covered */
+/**
+ * The lines of a tile, each x, y, x, y; the dashes of an outline; and what draws the mark of a face that is too small to be seen.
+ * @typedef {{colour: string, pale: string, tile: number[][], dash: number[], mark: (ctx: CanvasRenderingContext2D) => void}} Look
+ */
+
+/** pixels of a tile, of a mark from its middle, and of a face from which on it has no mark */
+const TILE = 8, MARK = 4.5, SMALL = 9;
+/** how much can be seen through what was found before the map was edited */
+const OLD = 0.4;
+const RISING = [[-2, 2, 2, -2], [0, 8, 8, 0], [6, 10, 10, 6]], FALLING = [[-2, 6, 2, 10], [0, 0, 8, 8], [6, -2, 10, 2]];
+/** @type {Record<Kind, Look>} */
+const LOOKS = {
+  overlap: { colour: "#b8390e", pale: "rgba(184,57,14,0.16)", tile: RISING, dash: [], mark: polygonMark(4, 0.5) },
+  twice: { colour: "#8e2f79", pale: "rgba(142,47,121,0.16)", tile: [...RISING, ...FALLING], dash: [8, 2, 2, 2], mark: polygonMark(4, 0) },
+  gap: { colour: "#0b5fa5", pale: "rgba(11,95,165,0.16)", tile: FALLING, dash: [5, 3], mark: polygonMark(3, 0.25) },
+  lake: { colour: "#0a7467", pale: "rgba(10,116,103,0.16)", tile: [[0, 4, 8, 4]], dash: [2, 2], mark: polygonMark(12, 0) },
+};
+/** what was made of the tiles, for each kind; a browser makes it once */
+const patterns = new Map();
+
+/**
+ * What draws a regular polygon about 0 0.
+ * @param {number} corners
+ * @param {number} turned from where the first corner is to the right, in corners
+ * @returns {(ctx: CanvasRenderingContext2D) => void}
+ */
+function polygonMark(corners, turned) {
+  return ctx => {
+    ctx.beginPath();
+    for (let k = 0; k < corners; k++) {
+      const angle = ((k + turned) * 2 * Math.PI) / corners;
+      ctx.lineTo(MARK * Math.cos(angle), MARK * Math.sin(angle));
+    }
+    ctx.closePath();
+  };
+}
+
+/**
+ * The hatching of a kind, as what fills.
+ * @param {CanvasRenderingContext2D} ctx
+ * @param {Kind} kind
+ * @returns {CanvasPattern}
+ */
+function patternOf(ctx, kind) {
+  const known = patterns.get(kind);
+  if (known) return known;
+  const tile = document.createElement("canvas"), on = /** @type {CanvasRenderingContext2D} */ (tile.getContext("2d"));
+  tile.width = tile.height = TILE;
+  on.strokeStyle = LOOKS[kind].colour;
+  on.lineWidth = 1.2;
+  for (const [x, y, u, v] of LOOKS[kind].tile) {
+    on.beginPath();
+    on.moveTo(x, y);
+    on.lineTo(u, v);
+    on.stroke();
+  }
+  const pattern = /** @type {CanvasPattern} */ (ctx.createPattern(tile, "repeat"));
+  patterns.set(kind, pattern);
+  return pattern;
+}
+
+/**
+ * Draws the faces that are seen.
+ * @param {CanvasRenderingContext2D} ctx
+ * @param {Frame} frame
+ * @param {import("./model.js").Model} model
+ * @param {Covered} covered
+ * @returns {Generator<void, void, void>}
+ */
+export function* hatchFaces(ctx, frame, model, { faces, isOld }) {
+  const seen = faces.filter(({ layer, shape }) => model.layers[layer]?.isShown && meets(shape.box, frame.box));
+  for (const face of seen) {
+    // whatever is set here goes within one step, since a drawing may end behind any
+    ctx.save();
+    if (isOld) ctx.globalAlpha = OLD;
+    drawFace(ctx, frame, face);
+    ctx.restore();
+    yield;
+  }
+  ctx.save();
+  /** @type {Box[]} */
+  const taken = [];
+  for (const face of seen) writeNumber(ctx, frame, face, taken);
+  ctx.restore();
+  yield;
+}
+
+/**
+ * Pixels of the longer side of the box of a face.
+ * @param {Frame} frame
+ * @param {Face} face
+ */
+const sizeOf = ({ kx, ky }, { shape: { box } }) => Math.max((box[2] - box[0]) * kx, (box[3] - box[1]) * Math.abs(ky));
+
+/**
+ * Makes the outlines of a face the path of a canvas.
+ * @param {CanvasRenderingContext2D} ctx
+ * @param {Frame} frame
+ * @param {import("./faces.js").Shape} shape
+ */
+export function traceShape(ctx, frame, { ways }) {
+  ctx.beginPath();
+  for (const xy of ways) {
+    traceWay(ctx, frame, { xy, from: 0, to: xy.length }, 0.7);
+    ctx.closePath();
+  }
+}
+
+/**
+ * @param {CanvasRenderingContext2D} ctx
+ * @param {Frame} frame
+ * @param {Face} face
+ */
+function drawFace(ctx, frame, face) {
+  const { kind, shape } = face, { colour, pale, dash, mark } = LOOKS[kind];
+  if (sizeOf(frame, face) < SMALL) {
+    ctx.translate(across(frame, shape.place[0]), down(frame, shape.place[1]));
+    mark(ctx);
+    fillMark(ctx, colour);
+    return;
+  }
+  traceShape(ctx, frame, shape);
+  // where an island is not known, what is hatched would be more than the face
+  if (shape.isWhole) hatch(ctx, frame, kind, pale);
+  ctx.strokeStyle = colour;
+  ctx.lineWidth = 2;
+  ctx.setLineDash(dash);
+  ctx.stroke();
+}
+
+/**
+ * @param {CanvasRenderingContext2D} ctx
+ * @param {string} colour
+ */
+function fillMark(ctx, colour) {
+  ctx.fillStyle = colour;
+  ctx.fill();
+  ctx.strokeStyle = "#fff";
+  ctx.lineWidth = 1;
+  ctx.stroke();
+}
+
+/**
+ * Fills the path with the hatching of a kind, which stays where it is on the grid.
+ * @param {CanvasRenderingContext2D} ctx
+ * @param {Frame} frame
+ * @param {Kind} kind
+ * @param {string} pale
+ */
+function hatch(ctx, frame, kind, pale) {
+  const pattern = patternOf(ctx, kind);
+  pattern.setTransform(new DOMMatrix().translate(across(frame, 0) % TILE, down(frame, 0) % TILE));
+  for (const style of [pale, pattern]) {
+    ctx.fillStyle = style;
+    ctx.fill("evenodd");
+  }
+}
+
+/**
+ * Writes the number of a face on it, where the face is not too small and no other number stands.
+ * @param {CanvasRenderingContext2D} ctx
+ * @param {Frame} frame
+ * @param {Face} face
+ * @param {Box[]} taken
+ */
+function writeNumber(ctx, frame, face, taken) {
+  if (sizeOf(frame, face) < 2 * SMALL) return;
+  const [x, y] = face.shape.place, sx = across(frame, x), sy = down(frame, y), text = String(face.number);
+  ctx.font = "bold 12px system-ui, sans-serif";
+  const half = ctx.measureText(text).width / 2 + 3;
+  /** @type {Box} */
+  const room = [sx - half, sy - 8, sx + half, sy + 8];
+  if (taken.some(other => meets(other, room))) return;
+  taken.push(room);
+  ctx.fillStyle = "#fff";
+  ctx.strokeStyle = LOOKS[face.kind].colour;
+  ctx.lineWidth = 1;
+  ctx.beginPath();
+  ctx.rect(sx - half, sy - 8, 2 * half, 16);
+  ctx.fill();
+  ctx.stroke();
+  ctx.textAlign = "center";
+  ctx.textBaseline = "middle";
+  ctx.fillStyle = LOOKS[face.kind].colour;
+  ctx.fillText(text, sx, sy + 0.5);
+}
