@@ -168,14 +168,18 @@ function checkShot(check) {
 
 /** Areas and widths in the unit of the map. The width is twice the area by the length of the border. */
 function checkSizes(check) {
-  const sizes = (transform, shapeIs = true) => {
-    const model = new Model({ ...mapOf(PAIR), transform: undefined });
-    model.transform = transform;
-    const [shape] = all(shapesOf(model.shot(), [{ layer: 0, segment: [9, 10, 9, 0], area: "20" }]));
-    return Object.values(new Measuring(model, new Units(transform)).face({ area: "20", width: "1" }, shapeIs ? shape : null)).join(" / ");
+  const size = (transform, isTraced = true) => {
+    const model = new Model({ ...mapOf(PAIR), transform });
+    // numbers are positions already, and no differences
+    model.isDegrees = transform?.translate[0] === 0;
+    const [shape] = all(shapesOf(new Model(mapOf(PAIR)).shot(), [{ layer: 0, segment: [9, 10, 9, 0], area: "20" }]));
+    return new Measuring(model, new Units(transform)).face({ area: "20", width: "1" }, isTraced ? shape : null);
   };
-  check("a face on the grid", sizes(undefined), "10 square grid units / 1 on the grid");
-  // a length of 11, and so a width of 10 / 11
-  check("a face in the unit of the map", sizes({ scale: [0.5, 0.5], translate: [0, 0] }), "2.5 square map units / 0.454545 map units, 1 on the grid");
-  check("without an outline", sizes({ scale: [0.5, 0.5], translate: [0, 0] }, false), "2.5 square map units / 1 on the grid");
+  const halves = { scale: [0.5, 0.5], translate: [1000, 0] }, degrees = { scale: [1, 1], translate: [0, 0] };
+  check("a face on the grid", size(undefined), "10 square grid units · width 1 grid units");
+  check("a face in the unit of the map", size(halves), "2.5 square map units · width 0.454545 map units · grid 1");
+  check("a face without an outline", size(halves, false), "2.5 square map units · width 1 grid units");
+  // the area is R^2 sin 10 by the width of a degree, 123,016.68 km²; the border has 21 degrees and cos 10 of one, 2,444.6024 km
+  check("a face in degrees", size(degrees), "10 square map units (123,017 km² if these are degrees) · width 0.909091 map units "
+    + "(100.644 km if these are degrees) · grid 1");
 }

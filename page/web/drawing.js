@@ -42,11 +42,11 @@ export function* drawMap(ctx, frame, contents) {
   model.eachPiece(frame.box, (_, i) => { if (!without || !without.has(i)) pieces.push(i); });
   yield;
   yield* strokeBorders(ctx, frame, model, pieces);
-  if (contents.covered) yield* hatchFaces(ctx, frame, model, contents.covered);
+  const numbers = contents.covered ? yield* hatchFaces(ctx, frame, model, contents.covered) : [];
   const vertices = pieces.reduce((sum, i) => sum + verticesOf(model.pieces[i]), 0), isRoom = vertices < MOST_VERTICES;
   if (isRoom) markVertices(ctx, frame, model, pieces);
   yield;
-  if (contents.showNames && seen.length <= MOST_NAMES) yield* writeNames(ctx, frame, model, seen);
+  if (contents.showNames && seen.length <= MOST_NAMES) yield* writeNames(ctx, frame, model, seen, numbers);
   return isRoom;
 }
 
@@ -207,9 +207,10 @@ function markVertices(ctx, frame, model, pieces) {
  * @param {Frame} frame
  * @param {Model} model
  * @param {number[]} seen
+ * @param {Box[]} taken where something stands already
  * @returns {Steps}
  */
-function* writeNames(ctx, frame, model, seen) {
+function* writeNames(ctx, frame, model, seen, taken) {
   ctx.font = "12px system-ui, sans-serif";
   ctx.textAlign = "center";
   ctx.textBaseline = "middle";
@@ -217,8 +218,6 @@ function* writeNames(ctx, frame, model, seen) {
   ctx.lineJoin = "round";
   ctx.strokeStyle = "rgba(255,255,255,0.85)";
   ctx.fillStyle = LABEL;
-  /** @type {Box[]} */
-  const taken = [];
   for (const num of seen) {
     const feature = model.features.get(num), place = feature && widestPlace(model, feature, frame.box);
     if (!place) continue;

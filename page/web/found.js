@@ -49,6 +49,8 @@ export class Found {
   async show({ faces, uneven, wide, sums, counts }, width) {
     this.faces = faces;
     this.named = this.panel.layers.nameBy;
+    // where there are many sums, the list is what is seen first
+    if (by("coverFound").hidden) by("coverSums").open = sums.length === 1;
     by("coverFound").hidden = false;
     by("sums").replaceChildren(...sums.flatMap(each => this.sum(each, sums.length > 1)), make("p", TEXT.sumsNotch, "dim"));
     by("widths").replaceChildren(...wide.map(each => make("li", widthText(each))));
@@ -69,7 +71,7 @@ export class Found {
   }
 
   /** @param {Face} face */
-  isShown(face) { return this.faces.includes(face) && !this.hidden.has(face.kind); }
+  isShown(face) { return !this.hidden.has(face.kind); }
 
   // ---- the list
 
@@ -95,11 +97,11 @@ export class Found {
 
   /** @param {Face} face */
   row(face) {
-    const { panel } = this, { area, width } = panel.measures.face(face, face.shape);
+    const { panel } = this, size = panel.measures.face(face, face.shape);
     const names = face.features.slice(0, MOST_NAMES).map(num => panel.nameOf(num));
     const text = faceText(face.kind, names, face.count - names.length);
     const row = make("button", [
-      hatched(face.kind), make("b", String(face.number)), make("span", text), make("small", TEXT.coverSize(area, width)),
+      hatched(face.kind), make("b", String(face.number)), make("span", text), make("small", size),
     ]);
     row.addEventListener("click", () => { this.mark(face); this.goTo(face); by("said").textContent = TEXT.coverShown(face.number, text); });
     row.addEventListener("focus", () => this.reach(row));

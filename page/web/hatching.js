@@ -73,12 +73,12 @@ function patternOf(ctx, kind) {
 }
 
 /**
- * Draws the faces that are seen.
+ * Draws the faces that are seen. Answers where their numbers stand.
  * @param {CanvasRenderingContext2D} ctx
  * @param {Frame} frame
  * @param {import("./model.js").Model} model
  * @param {Covered} covered
- * @returns {Generator<void, void, void>}
+ * @returns {Generator<void, Box[], void>}
  */
 export function* hatchFaces(ctx, frame, model, { faces, isOld }) {
   const seen = faces.filter(({ layer, shape }) => model.layers[layer]?.isShown && meets(shape.box, frame.box));
@@ -96,6 +96,7 @@ export function* hatchFaces(ctx, frame, model, { faces, isOld }) {
   for (const face of seen) writeNumber(ctx, frame, face, taken);
   ctx.restore();
   yield;
+  return taken;
 }
 
 /**

@@ -54,18 +54,15 @@ export class Measuring {
    * @param {import("./faces.js").Shape | null} shape
    */
   face({ area, width }, shape) {
-    const { units, model } = this, own = units.areaOfTwice(Number(area)), onGrid = TEXT.onGrid(grouped(width));
-    if (!shape || !units.hasUnit) return { area: this.squares(own), width: onGrid };
+    const { units, model } = this, own = units.areaOfTwice(Number(area)), squares = this.squares(own), onGrid = grouped(width);
+    if (!shape || !units.hasUnit) return TEXT.faceOnGrid(squares, onGrid);
     const { ways } = shape, sum = (/** @type {number[]} */ all) => all.reduce((one, other) => one + other, 0);
     const border = sum(ways.map(way => units.length(way) + units.length([...way.slice(-2), ...way.slice(0, 2)])));
     const ownWidth = `${readable((2 * own) / border)} ${this.unit}`;
-    if (!model.isDegrees) return { area: this.squares(own), width: `${ownWidth}, ${onGrid}` };
+    if (!model.isDegrees) return TEXT.faceSize(squares, ownWidth, onGrid);
     // islands are no part of it
-    const squares = sum(ways.map((way, i) => (i ? -1 : 1) * areaOfRing(model, way).value));
-    const kilometres = (2 * squares) / sum(ways.map(way => lengthOfChain(model, way, true).value));
-    return {
-      area: TEXT.ifDegrees(this.squares(own), `${readable(squares)} km²`),
-      width: `${TEXT.ifDegrees(ownWidth, `${readable(kilometres)} km`)}, ${onGrid}`,
-    };
+    const land = sum(ways.map((way, i) => (i ? -1 : 1) * areaOfRing(model, way).value));
+    const across = (2 * land) / sum(ways.map(way => lengthOfChain(model, way, true).value));
+    return TEXT.faceSize(TEXT.ifDegrees(squares, `${readable(land)} km²`), TEXT.ifDegrees(ownWidth, `${readable(across)} km`), onGrid);
   }
 }
