@@ -1,4 +1,4 @@
-"""Overlaps and gaps: border_cover, which runs beside the server on the text of a map, and its report as the page reads it."""
+"""Overlaps and gaps: border_cover, which runs beside the server on the text of a map, and its report for the page."""
 import json
 import re
 import subprocess
@@ -12,7 +12,7 @@ MOST = 500
 MOST_NAMED = 20
 KINDS = ("overlap", "twice", "gap", "lake")
 # The lines of a report. Those of the same kind stand together.
-FACE = re.compile("(overlap|twice|gap|lake) ([0-9 ]+) / ([0-9]+) ([0-9]+) / (-?[0-9]+) (-?[0-9]+) (-?[0-9]+) (-?[0-9]+)")
+FACE = re.compile("(overlap|twice|gap|lake) ([0-9 ]+) / ([0-9]+) ([0-9]+) /" + 4 * " (-?[0-9]+)")
 UNEVEN = re.compile("uneven ([0-9]+) ([0-9]+) (-?[0-9]+) (-?[0-9]+)")
 WIDE = re.compile("wide ([0-9]+) overlap ([0-9]+) twice ([0-9]+) gap ([0-9]+) lake ([0-9]+)")
 SUM = re.compile("sum ([0-9]+) over ([0-9]+) covered ([0-9]+) gaps ([0-9]+) within ([0-9]+) (.*)")
@@ -26,8 +26,8 @@ class Unknown(Exception):
 def face(found):
     """A face. Areas and widths stay texts, since a browser's numbers have fewer digits."""
     features = [int(number) for number in found[2].split()]
-    return {"kind": found[1], "features": features[:MOST_NAMED], "count": len(features), "area": found[3], "width": found[4],
-            "segment": [int(number) for number in found.groups()[4:]]}
+    return {"kind": found[1], "features": features[:MOST_NAMED], "count": len(features), "area": found[3],
+            "width": found[4], "segment": [int(number) for number in found.groups()[4:]]}
 
 
 def uneven(found):

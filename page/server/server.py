@@ -18,9 +18,9 @@ Everything is below /TOKEN/, on the loopback address alone.
 | `save` | `owner`, `force` | `file`, `bytes` |
 | `mend` | `owner`, perhaps `digits` | `report`, `opens` |
 | `place` | `owner`, `x`, `y`, `width` | `picture`: that square of a map that does not open, as SVG |
-| `seek` | `owner` | `building`: whether border_cover is still looked for, which may have to be built; it waits for that a while |
-| `look` | `owner`, perhaps `width` | of a look at overlaps and gaps that begins: `look`, its number, and `proved`; or `missing` |
-| `looked` | `owner`, `look` | what was found (looking.py), or `fault`; it waits for that, and others are answered meanwhile |
+| `seek` | `owner` | `building`: whether border_cover is still looked for, after a while; it may have to be built |
+| `look` | `owner`, perhaps `width` | `look`, a number, of a look at overlaps and gaps that begins, `proved`; or `missing` |
+| `looked` | `owner`, `look` | once that has ended what was found (looking.py), or `fault`; all else is answered meanwhile |
 | `alive`, `leave` | `owner` | nothing |
 | GET `socket` | texts with the names that `begin` tells | a WebSocket, on which these are answered |
 
@@ -525,5 +525,5 @@ def alive(session, given):
 
 
 # What the page that has the map can ask.
-ANSWERS = {"edit": edit, "try": attempt, "ask": ask, "save": save, "mend": mend, "place": place, "seek": seek, "look": look,
-           "looked": looked, "alive": alive}
+ANSWERS = {"edit": edit, "try": attempt, "ask": ask, "save": save, "mend": mend, "place": place, "seek": seek,
+           "look": look, "looked": looked, "alive": alive}

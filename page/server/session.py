@@ -282,8 +282,10 @@ class Session:
             self._with_child(lambda: self._write_text(text))
             self.looked = looking.Look(program, text, width)
         except OSError as fault:
-            text.unlink(missing_ok=True)
-            raise Refusal(f"there is no room for the map, or border_cover can't be run: {fault.strerror}") from None
+            raise Refusal(f"the map can't be handed to border_cover: {fault.strerror}") from None
+        finally:
+            if self.looked is None:
+                text.unlink(missing_ok=True)
         return {"look": self.looks, "missing": False, "proved": self.programs.are_proved}
 
     def _write_text(self, path):

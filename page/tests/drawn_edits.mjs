@@ -1,5 +1,5 @@
-// Drawn edits of all kinds, given to border_edit and, where it accepts them, to the model of the page; and the outlines of all
-// overlaps and gaps that border_cover finds on the way.
+// Drawn edits of all kinds, given to border_edit and, where it accepts them, to the model of the page; and the outlines of
+// all overlaps and gaps that border_cover finds on the way.
 import { execFile, spawn } from "node:child_process";
 import { mkdtempSync, readFileSync, rmSync, writeFileSync } from "node:fs";
 import { tmpdir } from "node:os";
@@ -57,18 +57,21 @@ class Child {
 }
 
 /**
- * The faces that border_cover finds in a text: of each its features, as they stand in the text, its area, and the segment that
- * names it.
+ * The faces that border_cover finds in a text: of each its features, as they stand in the text, its area, and the segment
+ * that names it.
  * @returns {Promise<{features: number[], area: string, segment: number[]}[]>}
  */
 async function facesIn(program, text, folder) {
   const file = join(folder, "text.json");
   writeFileSync(file, text);
-  const report = await new Promise((done, failed) => execFile(program, [file, "--most", "4000000"], { maxBuffer: 2 ** 30 }, (fault, out, said) => {
-    if (fault && fault.code !== 1) failed(new Error(`border_cover: ${said || fault}`)); else done(out);
-  }));
+  const report = await new Promise((done, failed) => {
+    execFile(program, [file, "--most", "4000000"], { maxBuffer: 2 ** 30 }, (fault, out, said) => {
+      if (fault && fault.code !== 1) failed(new Error(`border_cover: ${said || fault}`)); else done(out);
+    });
+  });
   const faces = report.matchAll(/^(?:overlap|twice|gap|lake) ([\d ]+) \/ (\d+) \d+ \/ (.+)$/gm);
-  return Array.from(faces, ([, features, area, segment]) => ({ features: features.split(" ").map(Number), area, segment: segment.split(" ").map(Number) }));
+  const numbers = text => text.split(" ").map(Number);
+  return Array.from(faces, ([, features, area, segment]) => ({ features: numbers(features), area, segment: numbers(segment) }));
 }
 
 /** Numbers below n, the same for the same seed. */
@@ -136,7 +139,8 @@ function merges(model, rand, num, kind) {
 /** All that is done to one map. */
 class Run {
   constructor(programs, map, { edits, every, seed }) {
-    Object.assign(this, { map, edits, every, rand: source(seed), child: new Child(programs.edit, map), cover: programs.cover });
+    Object.assign(this, { map, edits, every, rand: source(seed), child: new Child(programs.edit, map) });
+    this.cover = programs.cover;
     Object.assign(this, { log: [], tally: {}, done: 0, compared: 0, faces: 0, isFile: false });
     this.folder = mkdtempSync(join(tmpdir(), "drawn_edits-"));
   }
@@ -229,7 +233,8 @@ class Run {
     const { model, child } = this, { text, topology, count } = await child.document(), { features, vertices, segments } = model.counts;
     const counts = `features ${features} vertices ${vertices} segments ${segments}`;
     const fault = model.differs(topology) || (String(orderAfter(this.first, this.log)) !== String(model.order) && "order")
-      || (count !== counts && `${counts}, and not ${count}`) || await this.differentArea() || this.differentHit(topology) || await this.differentFace(text);
+      || (count !== counts && `${counts}, and not ${count}`) || await this.differentArea() || this.differentHit(topology)
+      || await this.differentFace(text);
     if (fault) throw new Error(`${fault}, after ${JSON.stringify(this.log.slice(-4))}`);
     this.compared++;
   }

@@ -12,9 +12,9 @@ from server_runs import PATHS, Served, folder, until
 import looking
 import server as served
 
-# Layers, each at a place of its own: of each its features, the faces that are told, by the features, and what its areas add up
-# to. All is worked by hand from the rules in docs/COVERING.md: areas are twice as large, and the width is that by the length of
-# the border, rounded up. A face is named by its least segment, with the face on its left.
+# Layers, each at a place of its own: of each its features, the faces that are told, by the features, and what its areas
+# add up to. All is worked by hand from the rules in docs/COVERING.md: areas are twice as large, and the width is that
+# area by the length of the border, rounded up. A face is named by its least segment, with the face on its left.
 SIDES = [["0 0, 9 0, 9 10, 0 10"], ["10 0, 20 0, 20 10, 10 10"]]
 BELOW, ABOVE = ["0 -5, 20 -5, 20 0, 10 0, 9 0, 0 0"], ["0 10, 9 10, 10 10, 20 10, 20 15, 0 15"]
 LAYERS = [
@@ -25,11 +25,13 @@ LAYERS = [
     ("a notch", SIDES, [], "380 0 380 0 380"),
     ("one upon another", [[box(0, 0, 20, 20)], [box(5, 5, 10, 10)]], [("overlap", [0, 1], "50", "3", [5, 10, 5, 5])],
      "850 50 800 0 800"),
-    ("a lake", [[f"{box(0, 0, 20, 20)}; {box(5, 5, 10, 10)}"]], [("lake", [0], "50", "3", [5, 10, 5, 5])], "750 0 750 50 800"),
+    ("a lake", [[f"{box(0, 0, 20, 20)}; {box(5, 5, 10, 10)}"]], [("lake", [0], "50", "3", [5, 10, 5, 5])],
+     "750 0 750 50 800"),
     ("one outline", [[box(0, 0, 10, 10)]] * 2, [("overlap", [0, 1], "200", "5", [0, 10, 0, 0])], "400 200 200 0 200"),
     ("twice", [["0 0, 6 0, 10 0, 10 10, 6 10, 0 10", "6 0, 10 0, 16 0, 16 10, 10 10, 6 10"]],
      [("twice", [0], "80", "3", [6, 10, 6, 0])], "400 80 320 0 320"),
-    ("a gap in one's own", [SIDES[0] + SIDES[1], BELOW, ABOVE], [("gap", [0, 1, 2], "20", "1", [9, 10, 9, 0])], "780 0 780 20 800"),
+    ("a gap in one's own", [SIDES[0] + SIDES[1], BELOW, ABOVE], [("gap", [0, 1, 2], "20", "1", [9, 10, 9, 0])],
+     "780 0 780 20 800"),
     ("an island", [[box(0, 0, 8, 10)], [box(12, 0, 20, 10)], ["0 -5, 20 -5, 20 0, 12 0, 8 0, 0 0"],
                    ["0 10, 8 10, 12 10, 20 10, 20 15, 0 15"], [box(9, 4, 11, 6)]],
      [("gap", [0, 1, 2, 3, 4], "72", "2", [8, 10, 8, 0])], "728 0 728 72 800"),
@@ -41,12 +43,14 @@ LAYERS = [
       ("overlap", [1, 2], "160", "5", [10, 10, 10, 0])], "740 220 520 0 520"),
     ("a hole outside", [[f"{box(0, 0, 10, 10)}; {box(20, 0, 30, 10)}"]], [], "400 0 400 0 400"),
 ]
-WIDE = [{"most": "1", "overlap": 3, "twice": 0, "gap": 2, "lake": 0}, {"most": "2", "overlap": 0, "twice": 0, "gap": 1, "lake": 0},
-        {"most": "4", "overlap": 1, "twice": 1, "gap": 1, "lake": 1}, {"most": "8", "overlap": 2, "twice": 0, "gap": 0, "lake": 0}]
+# How many there are of each width: of overlaps, held twice, gaps, lakes.
+WIDE = [{"most": most, **dict(zip(looking.KINDS, counts))}
+        for most, *counts in [("1", 3, 0, 2, 0), ("2", 0, 0, 1, 0), ("4", 1, 1, 1, 1), ("8", 2, 0, 0, 0)]]
+NOTHING = dict.fromkeys([*looking.KINDS, "uneven"], 0)
 # How far a layer is from the one before.
 APART = 100
-# border_cover, which keeps the text that it is given, and waits while a file is there; or says what another file has, with its
-# status.
+# border_cover, which keeps the text that it is given, and waits while a file is there; or says what another file has,
+# with its status.
 STAND_IN = """#!/bin/sh
 cp "$1" "$0.text"
 while [ -e "$0.wait" ]; do sleep 0.02; done
@@ -54,10 +58,11 @@ while [ -e "$0.wait" ]; do sleep 0.02; done
 exec "$REAL_BORDER_COVER" "$@"
 """
 # What the program says, its status, and the fault that is told.
-FAULTS = [("open: too large sides", 2, "open: too large sides"), ("open: too large bytes\n", 2, "open: too large bytes"),
+UNKNOWN = "border_cover said what the page does not know: "
+FAULTS = [("open: too large sides", 2, "open: too large sides"),
+          ("open: too large bytes\n", 2, "open: too large bytes"),
           ("out of memory", 3, "out of memory"), ("unlike 0 0 1 1", 2, "unlike 0 0 1 1"),
-          ("", 3, "border_cover ended with status 3"), ("", 0, "border_cover said what the page does not know: "),
-          ("said, all the same", 1, "border_cover said what the page does not know: ")]
+          ("", 3, "border_cover ended with status 3"), ("", 0, UNKNOWN), ("said, all the same", 1, UNKNOWN)]
 
 
 def stand_in(files):
@@ -76,8 +81,8 @@ def look(page, **given):
 
 def told(features, faces, first, layer):
     """The faces of a layer as the page is told of them: its features begin with a number, and it lies beside others."""
-    return [{"kind": kind, "features": [first + number for number in own], "count": len(own), "area": area, "width": width,
-             "segment": [value + (0 if at % 2 else APART * layer) for at, value in enumerate(segment)]}
+    return [{"kind": kind, "features": [first + number for number in own], "count": len(own), "area": area,
+             "width": width, "segment": [value + (0 if at % 2 else APART * layer) for at, value in enumerate(segment)]}
             for kind, own, area, width, segment in faces]
 
 
@@ -123,11 +128,12 @@ def as_it_is(checks):
         program, named = stand_in(files)
         with Served(files / "map.json", TMPDIR=files / "tmp", **named) as page:
             page.begin()
-            checks.same("nothing at first", look(page)[1]["counts"], {"overlap": 0, "twice": 0, "gap": 0, "lake": 0, "uneven": 0})
+            checks.same("nothing at first", look(page)[1]["counts"], NOTHING)
             page.edit('split 0 "C" 0 0 10 10', "delete 0", 'rename 2 "D"')
-            checks.same("the sums after it", look(page)[1]["sums"],
-                        [{"polygons": "300", "over": "0", "covered": "300", "gaps": "0", "within": "300", "layer": "land"}])
-            checks.same("what border_cover was given", program.with_suffix(".text").read_bytes(), page.get("document")[1])
+            sums = {"polygons": "300", "over": "0", "covered": "300", "gaps": "0", "within": "300", "layer": "land"}
+            checks.same("the sums after it", look(page)[1]["sums"], [sums])
+            given = program.with_suffix(".text").read_bytes()
+            checks.same("what border_cover was given", given, page.get("document")[1])
             checks.same("the file is as it was", (files / "map.json").read_text(), SQUARES)
             checks.same("no text is left", [path.name for path in (files / "tmp").glob("*/looked*")], [])
             for given in [{"look": 1}, {"look": 2}, {"look": 3}]:
@@ -158,12 +164,14 @@ def meanwhile(checks):
             page.edit("undo")
             checks.same("the first program has ended", len(set(page.children()) & before), 1)
             wait.unlink()
-            checks.same("what the second found, without the edit behind it", second.result(20)[1]["sums"][0]["polygons"], "200")
+            sums, = second.result(20)[1]["sums"]
+            checks.same("what the second found, without the edit behind it", sums["polygons"], "200")
             wait.write_text("")
             page.post("look")
             third, = set(page.children()) - before
             page.begin()
-            checks.same("a new page ends it", (until(lambda: not is_running(third), 5), page.post("looked", look=3)[0]), (True, 409))
+            checks.same("a new page ends it", until(lambda: not is_running(third), 5), True)
+            checks.same("and it is not told", page.post("looked", look=3)[0], 409)
 
 
 def at_the_end(checks):
@@ -204,7 +212,8 @@ def faults_of_looks(checks):
             page.post("look")
             killed, = [child for child in page.children() if str(program) in command(child)]
             os.kill(killed, 9)
-            checks.same("killed", page.post("looked", look=len(FAULTS) + 2), (200, {"fault": "border_cover ended with status -9"}))
+            checks.same("killed", page.post("looked", look=len(FAULTS) + 2),
+                        (200, {"fault": "border_cover ended with status -9"}))
 
 
 def command(number):
@@ -246,14 +255,16 @@ def reports(checks):
     """Reports as they are read: long lists of features, far numbers, names of layers, and lines that are not known."""
     counts = "counts overlap 1 twice 0 gap 0 lake 0 uneven 0"
     many = " ".join(map(str, range(1000)))
-    face, = looking.read(f"overlap {many} / 8{'0' * 24} 1{'0' * 12} / -1000000000000 5 0 -7\n{counts}\n".encode())["faces"]
+    row = f"overlap {many} / 8{'0' * 24} 1{'0' * 12} / -1000000000000 5 0 -7"
+    face, = looking.read(f"{row}\n{counts}\n".encode())["faces"]
     checks.same("the first features are named", (face["features"], face["count"]), (list(range(20)), 1000))
     checks.same("numbers as they stand", (face["area"], face["width"], face["segment"]),
                 ("8" + "0" * 24, "1" + "0" * 12, [-10 ** 12, 5, 0, -7]))
     for name in ('a "b" \\', "over 5 covered", "\u00fc\n\U0001d11e", "\ud800", "<b>"):
         said = looking.read(f"sum 2 over 0 covered 2 gaps 0 within 2 {json.dumps(name)}\n{counts}\n".encode())
         checks.same(f"layer {ascii(name)}", said["sums"][0]["layer"], name)
-    for rows in ("", counts, "x\n", f"overlap 0 1 / 2 1 / 0 0 1\n{counts}\n", f"{counts}\nlake 0 / 2 1 / 0 0 1 1\n", f"near 5\n{counts}\n"):
+    for rows in ("", counts, "x\n", f"overlap 0 1 / 2 1 / 0 0 1\n{counts}\n", f"near 5\n{counts}\n",
+                 f"{counts}\nlake 0 / 2 1 / 0 0 1 1\n"):
         try:
             said = looking.read(rows.encode())
         except looking.Unknown:

@@ -43,8 +43,9 @@ def positions_in(text, right):
 
 
 def of_layers(layers, apart=0):
-    """A map of layers, each so far to the right of the one before. Each has a list of features, each of these its polygons,
-    each of these its rings, as texts with `;` between. Each segment is an arc, since a border stands once alone."""
+    """A map of layers, each so far to the right of the one before. Each has a list of features, each of these its
+    polygons, each of these its rings, as texts with `;` between. Each segment is an arc, since a border stands once
+    alone."""
     arcs, objects = {}, {}
 
     def index_of(start, end):

@@ -1,5 +1,5 @@
-// Tests the model of the page: cases, each a line of data, and drawn edits that border_edit and the model both do, with the
-// overlaps and gaps that border_cover finds.
+// Tests the model of the page: cases, each a line of data, and drawn edits that border_edit and the model both do, with
+// the overlaps and gaps that border_cover finds.
 // node page/tests/test_model.mjs [MAPS..] [--edits N] [--every K] [--seed S] [--program PATH] [--cover PATH]
 import { existsSync, readdirSync } from "node:fs";
 import { fileURLToPath } from "node:url";
@@ -35,7 +35,8 @@ checkAll(check);
 checkFaces(check);
 checkFiles(check);
 await checkSocket(check);
-const programs = { edit: given.program, cover: given.cover }, lacking = Object.values(programs).filter(path => !existsSync(path));
+const programs = { edit: given.program, cover: given.cover };
+const lacking = Object.values(programs).filter(path => !existsSync(path));
 check("programs that are not there", String(lacking), "");
 let edits = 0, found = 0;
 for (const map of lacking.length ? [] : maps) {
@@ -43,8 +44,8 @@ for (const map of lacking.length ? [] : maps) {
   check(map, fault, "");
   edits += done;
   found += faces;
-  console.log(`${map.split("/").pop()}: ${done} edits, compared ${compared} times, ${faces} overlaps and gaps, beginning with `
-    + `${isFile ? "the file" : "the text"}; ${JSON.stringify(tally)}`);
+  console.log(`${map.split("/").pop()}: ${done} edits, compared ${compared} times, ${faces} overlaps and gaps, `
+    + `beginning with ${isFile ? "the file" : "the text"}; ${JSON.stringify(tally)}`);
 }
 if (!lacking.length) check("there were overlaps and gaps", found > 0, true);
 console.log(`${edits} drawn edits, ${found} overlaps and gaps`);

@@ -12,8 +12,9 @@ sys.path.insert(0, str(pathlib.Path(__file__).resolve().parent))
 sys.path.insert(1, str(pathlib.Path(__file__).resolve().parents[1]))
 
 from browser import By, Keys, Page, new_folder, start_browser
-from page_covering import COVERED, HOSTILE_PAIR, covering, test_covering, test_covering_hostile, test_covering_troubles, test_not_covering
 from page_checks import COUNTS, act_of, document, is_map, put, same, true, verbs
+from page_covering import (COVERED, HOSTILE_PAIR, covering, test_covering, test_covering_hostile, test_covering_troubles,
+                           test_not_covering)
 from page_files import files_and_tabs, test_mending, test_not_mendable
 from page_geojson import GEOJSON, ROUNDED, exporting, test_geojson, test_geojson_mended
 from page_keys import by_keys

@@ -1,8 +1,8 @@
 // @ts-check
 /**
- * Overlaps and gaps: looking for them, and where they are in the map; their list stands in found.js. border_cover looks at the
- * map as it is at that moment. What is edited meanwhile, or afterwards, changes nothing of what was found, but makes it out of
- * date.
+ * Overlaps and gaps: looking for them, and where they are in the map; their list stands in found.js. border_cover looks
+ * at the map as it is at that moment. What is edited meanwhile, or afterwards, changes nothing of what was found, but
+ * makes it out of date.
  */
 import { by } from "./dom.js";
 import { drawChain } from "./marks.js";
@@ -15,8 +15,8 @@ import { coverFaultText, TEXT } from "./words.js";
 
 /** @typedef {import("./found.js").Face} Face */
 /**
- * A look that has begun: its number, the map as it was then, how many entries the log had, and the greatest width that is asked
- * for, if any.
+ * A look that has begun: its number, the map as it was then, how many entries the log had, and the greatest width that
+ * is asked for, if any.
  * @typedef {{look: number, shot: import("./pieces.js").Shot, entries: number, width: string}} Begun
  */
 
@@ -51,6 +51,7 @@ export class Covering {
     editor.watchers.push(() => this.follow());
     editor.view.layers.push(ctx => this.paint(ctx));
     by("coverForm").addEventListener("submit", (/** @type {Event} */ e) => { e.preventDefault(); this.look(); });
+    by("coverClear").addEventListener("click", () => this.clear());
   }
 
   // ---- looking
@@ -114,7 +115,20 @@ export class Covering {
     this.entries = entries;
     this.current = null;
     this.follow();
-    await this.found.show({ ...report, faces: faces.map((face, i) => ({ ...face, number: i + 1, shape: shapes[i] })), uneven }, width);
+    const numbered = faces.map((face, i) => ({ ...face, number: i + 1, shape: shapes[i] }));
+    await this.found.show({ ...report, faces: numbered, uneven }, width);
+  }
+
+  /** Takes away what was found. */
+  clear() {
+    this.newest++;
+    this.isLooking = false;
+    this.entries = -1;
+    this.problem = "";
+    this.current = null;
+    this.found.clear();
+    this.follow();
+    by("look").focus();
   }
 
   /** @param {any} fault */
@@ -129,11 +143,11 @@ export class Covering {
 
   /** What is true once something has changed: what is listed may be out of date, and features may have other names. */
   follow() {
-    const { editor, entries } = this, acts = entries < 0 ? 0 : actsBetween(editor.log.slice(entries)), wasOld = this.isOld;
+    const { editor, entries, isOld: wasOld } = this, acts = entries < 0 ? 0 : actsBetween(editor.log.slice(entries));
     by("look").disabled = !editor.canEdit;
     if (!this.isLooking) this.tell(this.problem);
     this.isOld = acts > 0;
-    by("coverAge").hidden = entries < 0;
+    by("coverAge").hidden = by("coverClear").hidden = entries < 0;
     setText("coverAge", this.isOld ? TEXT.coverOld(acts) : TEXT.coverNow);
     for (const id of ["coverAge", "coverFound"]) by(id).classList.toggle("old", this.isOld);
     this.found.nameAnew();

@@ -1,7 +1,7 @@
 // @ts-check
 /**
- * Areas and sides, exactly: positions are whole numbers of up to 10^12, and products of them have more digits than a number
- * of JavaScript. Where a number is near enough to tell, it is taken.
+ * Areas and sides, exactly: positions are whole numbers of up to 10^12, and products of them have more digits than a
+ * number of JavaScript. Where a number is near enough to tell, it is taken.
  */
 
 /** @typedef {import("./boxes.js").Box} Box */
@@ -53,8 +53,8 @@ export function* doubledArea(way, pace) {
 }
 
 /**
- * Whether a way lies within another one, which it does not meet: its first position has an odd number of segments to its
- * right.
+ * Whether a way lies within another one, which it does not meet: its first position has an odd number of segments to
+ * its right.
  * @param {Way} way
  * @param {Way} other closed; the first position is not repeated
  * @param {Pace} pace
@@ -76,8 +76,8 @@ export function* isInside([x, y], other, pace) {
 }
 
 /**
- * The middle of the widest place that closed ways have within them by the even-odd rule, along one of three level lines. It
- * is near enough to write a number there.
+ * The middle of the widest place that closed ways have within them by the even-odd rule, along one of three level
+ * lines. It is near enough to write a number there.
  * @param {Way[]} ways
  * @param {Box} box
  * @param {Pace} pace
@@ -87,7 +87,8 @@ export function* widestRow(ways, [x0, y0, x1, y1], pace) {
   let best = { x: (x0 + x1) / 2, y: (y0 + y1) / 2, width: 0 };
   for (const part of [0.5, 0.35, 0.65]) {
     // between two heights of vertices, so that none is on the line
-    const y = Math.floor(y0 + part * (y1 - y0)) + (y1 - y0 > 1 ? 0.5 : part), crossings = yield* crossingsAt(ways, y, pace);
+    const y = Math.floor(y0 + part * (y1 - y0)) + (y1 - y0 > 1 ? 0.5 : part);
+    const crossings = yield* crossingsAt(ways, y, pace);
     for (let k = 1; k < crossings.length; k += 2) {
       const left = crossings[k - 1], width = crossings[k] - left;
       if (width > best.width) best = { x: left + width / 2, y, width };

@@ -1,11 +1,11 @@
 // @ts-check
 /**
- * The outlines of faces that border_cover tells of. It names a face by a segment, directed with the face on its left; here
- * the outline is followed from there along the borders of the layer. All is exact. Each function gives way often, so that the
- * page stays quick on a large map; nothing of a browser is used here.
+ * The outlines of faces that border_cover tells of. It names a face by a segment, directed with the face on its left;
+ * here the outline is followed from there along the borders of the layer. All is exact. Each function gives way often,
+ * so that the page stays quick on a large map; nothing of a browser is used here.
  *
- * A border is what stands in some polygon of the layer an odd number of times. Pieces meet at their ends alone, and two of
- * them have no segment in common, so borders are followed from piece to piece.
+ * A border is what stands in some polygon of the layer an odd number of times. Pieces meet at their ends alone, and two
+ * of them have no segment in common, so borders are followed from piece to piece.
  */
 import { boxOf, meets } from "./boxes.js";
 import { doubledArea, exactSign, isInside, widestRow } from "./exact.js";
@@ -19,8 +19,9 @@ import { pieceOf } from "./pieces.js";
  * @typedef {{layer: number, segment: number[], area: string}} Named
  */
 /**
- * The outline of a face, then those of the islands in it, each closed: the first position is not repeated. `isWhole` is false
- * where their areas do not add up to that of the face, so that some island is not known. `place` is within the face.
+ * The outline of a face, then those of the islands in it, each closed: the first position is not repeated. `isWhole` is
+ * false where their areas do not add up to that of the face, so that some island is not known. `place` is within the
+ * face.
  * @typedef {{ways: Way[], box: Box, isWhole: boolean, place: [number, number]}} Shape
  */
 /**
@@ -33,7 +34,7 @@ import { pieceOf } from "./pieces.js";
  */
 
 /** pieces, features or positions after which it gives way */
-const STEP = 2000;
+const STEP = 1000;
 
 /** Steps of work, counted over several functions. */
 class Pace {
@@ -208,7 +209,8 @@ class Borders {
   }
 
   /**
-   * The borders that have the segments which name faces: of each face the border that goes the same way, if there is one.
+   * The borders that have the segments which name faces: of each face the border that goes the same way, if there is
+   * one.
    * @param {Named[]} faces
    * @returns {Steps<(number | undefined)[]>}
    */
@@ -261,7 +263,8 @@ class Borders {
     for (const island of this.found) {
       // what the outline is part of reaches to its box at least
       const [x0, y0, x1, y1] = island.box, [u0, v0, u1, v1] = outline.box;
-      if (x0 > u0 && y0 > v0 && x1 < u1 && y1 < v1 && (yield* isInside(island.way, outline.way, this.pace))) within.push(island);
+      const isNear = x0 > u0 && y0 > v0 && x1 < u1 && y1 < v1;
+      if (isNear && (yield* isInside(island.way, outline.way, this.pace))) within.push(island);
     }
     const outer = [];
     for (const island of within) if (!(yield* this.isInOther(island, within))) outer.push(island);

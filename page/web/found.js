@@ -7,9 +7,10 @@ import { faceText, grouped, halved, TEXT } from "./words.js";
 
 /** @typedef {import("./talk.js").Kind} Kind */
 /**
- * A face: `features` are as the page numbers them, and `number` is its place in the list, from 1. Where it is in the map is not
- * known if there is no shape.
- * @typedef {import("./talk.js").ToldFace & {number: number, layer: number, shape: import("./faces.js").Shape | null}} Face
+ * A face: `features` are as the page numbers them, and `number` is its place in the list, from 1. Where it is in the
+ * map is not known if there is no shape.
+ * @typedef {import("./talk.js").ToldFace & {number: number, layer: number,
+ *   shape: import("./faces.js").Shape | null}} Face
  */
 /** @typedef {Omit<import("./talk.js").Report, "faces"> & {faces: Face[]}} Listed */
 
@@ -52,17 +53,38 @@ export class Found {
     // where there are many sums, the list is what is seen first
     if (by("coverFound").hidden) by("coverSums").open = sums.length === 1;
     by("coverFound").hidden = false;
-    by("sums").replaceChildren(...sums.flatMap(each => this.sum(each, sums.length > 1)), make("p", TEXT.sumsNotch, "dim"));
+    const tables = sums.flatMap(each => this.sum(each, sums.length > 1));
+    by("sums").replaceChildren(...tables, make("p", TEXT.sumsNotch, "dim"));
     by("widths").replaceChildren(...wide.map(each => make("li", widthText(each))));
     by("coverWidths").hidden = !wide.length;
-    for (const kind of KINDS) by(`${kind}Count`).textContent = TEXT.coverKind(TEXT.coverKinds[kind], counts[kind]);
-    const most = Math.max(...KINDS.map(kind => faces.filter(face => face.kind === kind).length));
-    const isAll = KINDS.every(kind => counts[kind] === faces.filter(face => face.kind === kind).length);
-    by("coverMore").hidden = isAll && faces.length > 0;
-    by("coverMore").textContent = faces.length ? TEXT.coverFirst(most) : width ? TEXT.coverNothingSo(width) : TEXT.coverNothing;
     by("uneven").replaceChildren(...uneven.map(each => this.unevenRow(each)));
+    this.tellCounts(counts, width);
     this.redraw();
     await this.list();
+  }
+
+  /**
+   * Says how many there are of each kind, and whether all are listed.
+   * @param {Record<Kind, number>} counts
+   * @param {string} width
+   */
+  tellCounts(counts, width) {
+    const { faces } = this, listed = KINDS.map(kind => faces.filter(face => face.kind === kind).length);
+    const texts = KINDS.map(kind => TEXT.coverKind(TEXT.coverKinds[kind], counts[kind]));
+    KINDS.forEach((kind, i) => { by(`${kind}Count`).textContent = texts[i]; });
+    by("said").textContent = texts.join(", ");
+    by("coverMore").hidden = faces.length > 0 && KINDS.every((kind, i) => counts[kind] === listed[i]);
+    const none = width ? TEXT.coverNothingSo(width) : TEXT.coverNothing;
+    by("coverMore").textContent = faces.length ? TEXT.coverFirst(Math.max(...listed)) : none;
+  }
+
+  /** Takes all away. */
+  clear() {
+    this.faces = [];
+    this.newest++;
+    by("coverFound").hidden = true;
+    by("faces").replaceChildren();
+    this.redraw();
   }
 
   /** The faces that are drawn. */
@@ -103,7 +125,11 @@ export class Found {
     const row = make("button", [
       hatched(face.kind), make("b", String(face.number)), make("span", text), make("small", size),
     ]);
-    row.addEventListener("click", () => { this.mark(face); this.goTo(face); by("said").textContent = TEXT.coverShown(face.number, text); });
+    row.addEventListener("click", () => {
+      this.mark(face);
+      this.goTo(face);
+      by("said").textContent = TEXT.coverShown(face.number, text);
+    });
     row.addEventListener("focus", () => this.reach(row));
     return row;
   }
@@ -113,7 +139,8 @@ export class Found {
    * @param {Face} face
    */
   mark(face) {
-    for (const [each, row] of this.rows) if (each === face) row.setAttribute("aria-current", "true"); else row.removeAttribute("aria-current");
+    for (const row of this.rows.values()) row.removeAttribute("aria-current");
+    this.rows.get(face)?.setAttribute("aria-current", "true");
   }
 
   /**
@@ -146,7 +173,8 @@ export class Found {
 
   /** @param {Kind} kind */
   choice(kind) {
-    const box = make("input"), text = make("span", TEXT.coverKinds[kind]), label = make("label", [box, hatched(kind), text], "check");
+    const box = make("input"), text = make("span", TEXT.coverKinds[kind]);
+    const label = make("label", [box, hatched(kind), text], "check");
     box.type = "checkbox";
     box.checked = true;
     text.id = `${kind}Count`;
@@ -168,10 +196,10 @@ export class Found {
    * @returns {Node[]}
    */
   sum({ polygons, over, covered, gaps, within, layer }, isNamed) {
-    const values = [polygons, over, covered, gaps, within], { unit } = this.panel.measures;
-    const rows = values.map((twice, i) => make("tr", [make("td", TEXT.sumsRows[i]), this.areaCell(twice)], i % 2 ? "" : "sum"));
-    const said = [over !== "0" ? TEXT.sumsOver : "", gaps !== "0" ? TEXT.sumsGaps : ""].filter(Boolean).join(" ") || TEXT.sumsClear;
-    const caption = make("p", `${said} ${TEXT.sumsUnit(this.panel.units.hasUnit ? TEXT.square(TEXT.unitGrid) : TEXT.square(unit))}`);
+    const rows = [polygons, over, covered, gaps, within].map((twice, i) =>
+      make("tr", [make("td", TEXT.sumsRows[i]), this.areaCell(twice)], i % 2 ? "" : "sum"));
+    const said = [over === "0" ? "" : TEXT.sumsOver, gaps === "0" ? "" : TEXT.sumsGaps].filter(Boolean);
+    const caption = make("p", [said.join(" ") || TEXT.sumsClear, TEXT.sumsUnit].join(" "));
     return [...(isNamed ? [make("h4", layer)] : []), make("table", rows), caption];
   }
 
@@ -184,7 +212,8 @@ export class Found {
 
   /** @param {import("./talk.js").Uneven} uneven */
   unevenRow({ feature, polygon, rings, even }) {
-    const row = make("button", TEXT.coverUneven(this.panel.nameOf(feature), polygon + 1, halved(rings), halved(even)), "plain");
+    const text = TEXT.coverUneven(this.panel.nameOf(feature), polygon + 1, halved(rings), halved(even));
+    const row = make("button", text, "plain");
     row.addEventListener("click", () => this.panel.goTo(feature));
     return make("li", [row]);
   }
@@ -199,7 +228,7 @@ function hatched(kind) {
 
 /** @param {import("./talk.js").Wide} wide */
 function widthText(wide) {
-  const kinds = KINDS.filter(kind => wide[kind]).map(kind => `${TEXT.coverKinds[kind].toLowerCase()} ${grouped(wide[kind])}`);
-  const most = BigInt(wide.most);
+  const some = KINDS.filter(kind => wide[kind]), most = BigInt(wide.most);
+  const kinds = some.map(kind => `${TEXT.coverKinds[kind].toLowerCase()} ${grouped(wide[kind])}`);
   return TEXT.coverWide(grouped(most / 2n), grouped(most), kinds.join(", "));
 }

@@ -1,7 +1,7 @@
 // @ts-check
 /**
- * Draws faces in the map. Each kind has its own colour, and also its own hatching, line and mark, since not all eyes tell
- * colours apart. The numbers are those of the list.
+ * Draws faces in the map. Each kind has its own colour, and also its own hatching, line and mark, since not all eyes
+ * tell colours apart. The numbers are those of the list.
  */
 import { meets } from "./boxes.js";
 import { across, down, traceWay } from "./screen.js";
@@ -12,8 +12,12 @@ import { across, down, traceWay } from "./screen.js";
 /** @typedef {{number: number, kind: Kind, layer: number, shape: import("./faces.js").Shape}} Face */
 /** @typedef {{faces: Face[], isOld: boolean}} Covered */
 /**
- * The lines of a tile, each x, y, x, y; the dashes of an outline; and what draws the mark of a face that is too small to be seen.
- * @typedef {{colour: string, pale: string, tile: number[][], dash: number[], mark: (ctx: CanvasRenderingContext2D) => void}} Look
+ * What draws the mark of a face that is too small to be seen.
+ * @typedef {(ctx: CanvasRenderingContext2D) => void} Mark
+ */
+/**
+ * The lines of a tile, each x, y, x, y; the dashes of an outline; a mark.
+ * @typedef {{colour: string, pale: string, tile: number[][], dash: number[], mark: Mark}} Look
  */
 
 /** pixels of a tile, of a mark from its middle, and of a face from which on it has no mark */
@@ -21,12 +25,16 @@ const TILE = 8, MARK = 4.5, SMALL = 9;
 /** how much can be seen through what was found before the map was edited */
 const OLD = 0.4;
 const RISING = [[-2, 2, 2, -2], [0, 8, 8, 0], [6, 10, 10, 6]], FALLING = [[-2, 6, 2, 10], [0, 0, 8, 8], [6, -2, 10, 2]];
+const CROSSED = [...RISING, ...FALLING], LEVEL = [[0, 4, 8, 4]];
+/** of marks: squares, diamonds, triangles and disks */
+const SQUARE = polygonMark(4, 0.5), DIAMOND = polygonMark(4, 0), TRIANGLE = polygonMark(3, 0.25);
+const DISK = polygonMark(12, 0);
 /** @type {Record<Kind, Look>} */
 const LOOKS = {
-  overlap: { colour: "#b8390e", pale: "rgba(184,57,14,0.16)", tile: RISING, dash: [], mark: polygonMark(4, 0.5) },
-  twice: { colour: "#8e2f79", pale: "rgba(142,47,121,0.16)", tile: [...RISING, ...FALLING], dash: [8, 2, 2, 2], mark: polygonMark(4, 0) },
-  gap: { colour: "#0b5fa5", pale: "rgba(11,95,165,0.16)", tile: FALLING, dash: [5, 3], mark: polygonMark(3, 0.25) },
-  lake: { colour: "#0a7467", pale: "rgba(10,116,103,0.16)", tile: [[0, 4, 8, 4]], dash: [2, 2], mark: polygonMark(12, 0) },
+  overlap: { colour: "#b8390e", pale: "rgba(184,57,14,0.16)", tile: RISING, dash: [], mark: SQUARE },
+  twice: { colour: "#8e2f79", pale: "rgba(142,47,121,0.16)", tile: CROSSED, dash: [8, 2, 2, 2], mark: DIAMOND },
+  gap: { colour: "#0b5fa5", pale: "rgba(11,95,165,0.16)", tile: FALLING, dash: [5, 3], mark: TRIANGLE },
+  lake: { colour: "#0a7467", pale: "rgba(10,116,103,0.16)", tile: LEVEL, dash: [2, 2], mark: DISK },
 };
 /** what was made of the tiles, for each kind; a browser makes it once */
 const patterns = new Map();
@@ -35,7 +43,7 @@ const patterns = new Map();
  * What draws a regular polygon about 0 0.
  * @param {number} corners
  * @param {number} turned from where the first corner is to the right, in corners
- * @returns {(ctx: CanvasRenderingContext2D) => void}
+ * @returns {Mark}
  */
 function polygonMark(corners, turned) {
   return ctx => {

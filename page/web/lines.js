@@ -18,8 +18,8 @@ export function splitWords(line) {
 export const isChange = answer => answer.startsWith("ok") && answer !== "ok 0";
 
 /**
- * How many acts are between the map as it was before some lines and as it is after them: those that were made, and those
- * from before that were taken back.
+ * How many acts are between the map as it was before some lines and as it is after them: those that were made, and
+ * those from before that were taken back.
  * @param {{line: string, answer: string, act: number}[]} log
  */
 export function actsBetween(log) {

@@ -61,7 +61,8 @@ async function open(began, drawn) {
   const units = new Units(editor.model.transform), layers = new Layers(editor);
   const panel = new Panel(editor, layers, units, new Measuring(editor.model, units));
   const features = new Features(editor, panel), tools = new Tools(editor, panel, features);
-  const thinning = new Thinning(editor, panel), files = new Files(editor, panel, began), covering = new Covering(editor, panel);
+  const thinning = new Thinning(editor, panel), files = new Files(editor, panel, began);
+  const covering = new Covering(editor, panel);
   editor.view.layers.push(ctx => paint(ctx, tools));
   wireEdits(tools, features, thinning);
   wireView(files);

@@ -48,13 +48,14 @@ export class Measuring {
   }
 
   /**
-   * The area of a face, and its width: twice the area by the length of its border. On the grid the width is what border_cover
-   * tells, which is rounded up.
+   * The area of a face, and its width: twice the area by the length of its border. On the grid the width is what
+   * border_cover tells, which is rounded up.
    * @param {{area: string, width: string}} face
    * @param {import("./faces.js").Shape | null} shape
    */
   face({ area, width }, shape) {
-    const { units, model } = this, own = units.areaOfTwice(Number(area)), squares = this.squares(own), onGrid = grouped(width);
+    const { units, model } = this, own = units.areaOfTwice(Number(area));
+    const squares = this.squares(own), onGrid = grouped(width);
     if (!shape || !units.hasUnit) return TEXT.faceOnGrid(squares, onGrid);
     const { ways } = shape, sum = (/** @type {number[]} */ all) => all.reduce((one, other) => one + other, 0);
     const border = sum(ways.map(way => units.length(way) + units.length([...way.slice(-2), ...way.slice(0, 2)])));
@@ -63,6 +64,7 @@ export class Measuring {
     // islands are no part of it
     const land = sum(ways.map((way, i) => (i ? -1 : 1) * areaOfRing(model, way).value));
     const across = (2 * land) / sum(ways.map(way => lengthOfChain(model, way, true).value));
-    return TEXT.faceSize(TEXT.ifDegrees(squares, `${readable(land)} km²`), TEXT.ifDegrees(ownWidth, `${readable(across)} km`), onGrid);
+    const [landText, acrossText] = [`${readable(land)} km²`, `${readable(across)} km`];
+    return TEXT.faceSize(TEXT.ifDegrees(squares, landText), TEXT.ifDegrees(ownWidth, acrossText), onGrid);
   }
 }

@@ -3,8 +3,8 @@
 
 /** @typedef {import("./boxes.js").Box} Box */
 /**
- * Where a picture is: the position of the grid in its middle, pixels for a unit (`ky` is below 0 where y grows downwards),
- * half its width and height, and the box that it shows.
+ * Where a picture is: the position of the grid in its middle, pixels for a unit (`ky` is below 0 where y grows
+ * downwards), half its width and height, and the box that it shows.
  * @typedef {{x: number, y: number, kx: number, ky: number, halfWidth: number, halfHeight: number, box: Box}} Frame
  */
 

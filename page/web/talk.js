@@ -1,7 +1,7 @@
 // @ts-check
 /**
- * What the page asks of the server. Edits go one after the other, so that lines keep their order; no edit waits for the answer
- * to a question.
+ * What the page asks of the server. Edits go one after the other, so that lines keep their order; no edit waits for the
+ * answer to a question.
  */
 import { post } from "./early.js";
 import { Socket } from "./socket.js";
@@ -32,14 +32,16 @@ import { parsedStream } from "./topology.js";
  */
 
 /**
- * What border_cover found; numbers of features are those of the text. Areas are twice as large; they and widths are texts,
- * since they may have more digits than a number of JavaScript. `count`: of how many features the first are named.
+ * What border_cover found; numbers of features are those of the text. Areas are twice as large; they and widths are
+ * texts, since they may have more digits than a number of JavaScript. `count`: of how many features the first are
+ * named.
  * @typedef {"overlap" | "twice" | "gap" | "lake"} Kind
  * @typedef {{kind: Kind, features: number[], count: number, area: string, width: string, segment: number[]}} ToldFace
  * @typedef {{feature: number, polygon: number, rings: string, even: string}} Uneven
  * @typedef {Record<Kind, number> & {most: string}} Wide
  * @typedef {{polygons: string, over: string, covered: string, gaps: string, within: string, layer: string}} Sums
- * @typedef {{faces: ToldFace[], uneven: Uneven[], wide: Wide[], sums: Sums[], counts: Record<Kind | "uneven", number>}} Report
+ * @typedef {Record<Kind | "uneven", number>} Counts
+ * @typedef {{faces: ToldFace[], uneven: Uneven[], wide: Wide[], sums: Sums[], counts: Counts}} Report
  */
 
 /** An answer of the server that is no answer to the question. */

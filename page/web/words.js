@@ -94,9 +94,9 @@ const FINDINGS = [
  */
 const COVER_FAULTS = [
   [/^open: too large sides/, "The map has too many borders, or too many features lie upon each other."],
-  [/^open: too large bytes/, "The text of the map is larger than 64 MiB by now, which is the most that border_cover reads."],
+  [/^open: too large bytes/, "The text of the map is larger than 64 MiB by now, and border_cover reads no more."],
   [/^out of memory/, "There is too little memory."],
-  [/^(unswept|unlike) /, "A check of the work itself failed, which has never been seen. Please tell the makers, and keep the map."],
+  [/^(unswept|unlike) /, "A check of the work itself failed, which has never been seen. Please keep the map, and tell us."],
   [/^map fault/, "The map could not be handed to border_cover."],
   [/^no random seed/, "The system gave border_cover no random numbers."],
 ];
@@ -127,7 +127,7 @@ export function answerText(answer) {
 export const faultText = fault => fromTable(FAULTS, fault.trim().replace(/^open: /, "")) ?? fault;
 
 /** @param {string} fault */
-export const coverFaultText = fault => fromTable(COVER_FAULTS, fault.trim()) ?? fromTable(FAULTS, fault.trim().replace(/^open: /, "")) ?? fault;
+export const coverFaultText = fault => fromTable(COVER_FAULTS, fault.trim()) ?? faultText(fault);
 
 /**
  * Several names, and how many more there are.
@@ -278,13 +278,14 @@ export const TEXT = {
   mending: "Mending …",
   coverLooking: "Looking for overlaps and gaps …",
   coverBuilding: "border_cover is not there yet. It is built without proof, once, which takes about two minutes …",
-  coverMissing: "border_cover is not there, so overlaps and gaps cannot be looked for. ./build proves and builds it; it came with a newer version.",
+  coverMissing: "border_cover is not there, so overlaps and gaps cannot be looked for. An older build does not have it; " +
+    "./build proves and builds it.",
   coverFailed: (/** @type {string} */ reason) => `Nothing was found out. ${sentence(reason)}`,
   coverThinning: "Keep or discard the thinning first.",
   coverWidth: "Give a whole number of grid units, from 0 to 1000000000000, or none.",
   coverNow: "Looked at the map as it is now.",
-  coverOld: (/** @type {number} */ acts) => acts === 1
-    ? "Out of date: the map was looked at before the last change." : `Out of date: the map was looked at before the last ${grouped(acts)} changes.`,
+  coverOld: (/** @type {number} */ acts) =>
+    `Out of date: the map was looked at before the last ${acts === 1 ? "change" : `${grouped(acts)} changes`}.`,
   coverNothing: "No overlaps and no gaps.",
   coverNothingSo: (/** @type {string} */ width) => `No overlaps and no gaps that are at most ${grouped(width)} wide.`,
   coverFirst: (/** @type {number} */ most) => `Of each kind the first ${grouped(most)} are listed.`,
@@ -296,18 +297,24 @@ export const TEXT = {
     lake: "No feature holds this land, and one feature alone lies around it.",
   },
   coverKind: (/** @type {string} */ kind, /** @type {number} */ count) => `${kind} (${grouped(count)})`,
-  faceSize: (/** @type {string} */ area, /** @type {string} */ width, /** @type {string} */ grid) => `${area} · width ${width} · grid ${grid}`,
+  faceSize: (/** @type {string} */ area, /** @type {string} */ width, /** @type {string} */ grid) =>
+    `${area} · width ${width} · grid ${grid}`,
   faceOnGrid: (/** @type {string} */ area, /** @type {string} */ width) => `${area} · width ${width} grid units`,
   coverShown: (/** @type {number} */ number, /** @type {string} */ text) => `Shows number ${number}: ${text}`,
-  sumsUnit: (/** @type {string} */ unit) => `In ${unit}, exactly.`,
-  sumsRows: ["Areas of all features", "less what is held too often", "Land that some feature holds", "and gaps and lakes", "All within the outer border"],
+  sumsUnit: "In square grid units, exactly.",
+  sumsRows: [
+    "Areas of all features", "less what is held too often", "Land that some feature holds", "and gaps and lakes",
+    "All within the outer border",
+  ],
   sumsClear: "The areas add up: no land is held twice, and within the outer border there is no gap.",
   sumsOver: "Some land is held too often, so the areas of the features are more than the land.",
   sumsGaps: "Within the outer border some land belongs to no feature.",
   sumsNotch: "A gap that is open to the outside is none: it is not listed, and in no sum.",
   coverUneven: (/** @type {string} */ name, /** @type {number} */ part, /** @type {string} */ rings, /** @type {string} */ even) =>
-    `${name}, part ${part}: a hole is not where it should be. The area is ${rings} by its rings, and ${even} as the program sees what is inside.`,
-  coverWide: (/** @type {string} */ least, /** @type {string} */ most, /** @type {string} */ kinds) => `over ${least}, up to ${most}: ${kinds}`,
+    `${name}, part ${part}: a hole is not within its outer ring, or lies in another one. The area is ${rings} by its rings, ` +
+    `and ${even} by the rule that says what is inside.`,
+  coverWide: (/** @type {string} */ least, /** @type {string} */ most, /** @type {string} */ kinds) =>
+    `over ${least}, up to ${most}: ${kinds}`,
   mended: "Mended. Nothing is saved yet.",
 };
 
