@@ -186,8 +186,9 @@ def at_the_end(checks):
                 page.begin()
                 page.post("look")
                 if is_awaited:
-                    threads.submit(page.post, "looked", look=1)
-                    until(lambda: page.post("looked", look=1)[0] == 409)
+                    # one of them waits, and the other is told so
+                    asked = [threads.submit(page.post, "looked", look=1) for _ in range(2)]
+                    until(lambda: any(each.done() for each in asked))
                 children = page.children()
                 checks.same(f"stopped, awaited {is_awaited}", page.stop(), (0, ""))
                 checks.same("all programs have ended", until(lambda: not any(map(is_running, children)), 5), True)

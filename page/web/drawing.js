@@ -2,7 +2,7 @@
 /** Draws a map on a canvas, in short steps so that the page stays quick: each function gives way often. */
 import { nameOf } from "./names.js";
 import { meets } from "./boxes.js";
-import { hatchFaces } from "./hatching.js";
+import { hatchFaces, numberFaces } from "./hatching.js";
 import { pieceOf } from "./pieces.js";
 import { across, down, traceWay } from "./screen.js";
 
@@ -42,9 +42,11 @@ export function* drawMap(ctx, frame, contents) {
   model.eachPiece(frame.box, (_, i) => { if (!without || !without.has(i)) pieces.push(i); });
   yield;
   yield* strokeBorders(ctx, frame, model, pieces);
-  const numbers = contents.covered ? yield* hatchFaces(ctx, frame, model, contents.covered) : [];
+  if (contents.covered) yield* hatchFaces(ctx, frame, model, contents.covered);
   const vertices = pieces.reduce((sum, i) => sum + verticesOf(model.pieces[i]), 0), isRoom = vertices < MOST_VERTICES;
   if (isRoom) markVertices(ctx, frame, model, pieces);
+  yield;
+  const numbers = contents.covered ? numberFaces(ctx, frame, model, contents.covered) : [];
   yield;
   if (contents.showNames && seen.length <= MOST_NAMES) yield* writeNames(ctx, frame, model, seen, numbers);
   return isRoom;

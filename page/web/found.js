@@ -199,14 +199,15 @@ export class Found {
     const rows = [polygons, over, covered, gaps, within].map((twice, i) =>
       make("tr", [make("td", TEXT.sumsRows[i]), this.areaCell(twice)], i % 2 ? "" : "sum"));
     const said = [over === "0" ? "" : TEXT.sumsOver, gaps === "0" ? "" : TEXT.sumsGaps].filter(Boolean);
-    const caption = make("p", [said.join(" ") || TEXT.sumsClear, TEXT.sumsUnit].join(" "));
+    const unit = this.panel.units.hasUnit ? TEXT.sumsUnits : TEXT.sumsUnit;
+    const caption = make("p", `${said.join(" ") || TEXT.sumsClear} ${unit}`);
     return [...(isNamed ? [make("h4", layer)] : []), make("table", rows), caption];
   }
 
   /** @param {string} twice */
   areaCell(twice) {
-    const { units, measures } = this.panel, exact = document.createTextNode(halved(twice));
-    const own = make("small", `${readable(units.areaOfTwice(Number(twice)))} ${TEXT.square(measures.unit)}`);
+    const { units } = this.panel, exact = document.createTextNode(halved(twice));
+    const own = make("small", readable(units.areaOfTwice(Number(twice))));
     return make("td", units.hasUnit ? [exact, own] : [exact]);
   }
 

@@ -12,15 +12,15 @@ import { across, down, traceWay } from "./screen.js";
 /** @typedef {{number: number, kind: Kind, layer: number, shape: import("./faces.js").Shape}} Face */
 /** @typedef {{faces: Face[], isOld: boolean}} Covered */
 /**
- * What draws the mark of a face that is too small to be seen.
- * @typedef {(ctx: CanvasRenderingContext2D) => void} Mark
+ * What makes the mark of a face, at a place on the screen, the path of a canvas.
+ * @typedef {(ctx: CanvasRenderingContext2D, x: number, y: number) => void} Mark
  */
 /**
  * The lines of a tile, each x, y, x, y; the dashes of an outline; a mark.
  * @typedef {{colour: string, pale: string, tile: number[][], dash: number[], mark: Mark}} Look
  */
 
-/** pixels of a tile, of a mark from its middle, and of a face from which on it has no mark */
+/** pixels of a tile, of a mark from its middle, and of a face that is hatched; of twice as many it has a number */
 const TILE = 8, MARK = 4.5, SMALL = 9;
 /** how much can be seen through what was found before the map was edited */
 const OLD = 0.4;
@@ -40,17 +40,17 @@ const LOOKS = {
 const patterns = new Map();
 
 /**
- * What draws a regular polygon about 0 0.
+ * What makes a regular polygon the path of a canvas.
  * @param {number} corners
  * @param {number} turned from where the first corner is to the right, in corners
  * @returns {Mark}
  */
 function polygonMark(corners, turned) {
-  return ctx => {
+  return (ctx, x, y) => {
     ctx.beginPath();
     for (let k = 0; k < corners; k++) {
       const angle = ((k + turned) * 2 * Math.PI) / corners;
-      ctx.lineTo(MARK * Math.cos(angle), MARK * Math.sin(angle));
+      ctx.lineTo(x + MARK * Math.cos(angle), y + MARK * Math.sin(angle));
     }
     ctx.closePath();
   };
@@ -81,29 +81,54 @@ function patternOf(ctx, kind) {
 }
 
 /**
- * Draws the faces that are seen. Answers where their numbers stand.
+ * The faces that are seen.
+ * @param {Frame} frame
+ * @param {import("./model.js").Model} model
+ * @param {Covered} covered
+ */
+function seenFaces(frame, model, { faces }) {
+  return faces.filter(({ layer, shape }) => model.layers[layer]?.isShown && meets(shape.box, frame.box));
+}
+
+/**
+ * Hatches the faces that are seen, and are not too small for that.
  * @param {CanvasRenderingContext2D} ctx
  * @param {Frame} frame
  * @param {import("./model.js").Model} model
  * @param {Covered} covered
- * @returns {Generator<void, Box[], void>}
+ * @returns {Generator<void, void, void>}
  */
-export function* hatchFaces(ctx, frame, model, { faces, isOld }) {
-  const seen = faces.filter(({ layer, shape }) => model.layers[layer]?.isShown && meets(shape.box, frame.box));
-  for (const face of seen) {
+export function* hatchFaces(ctx, frame, model, covered) {
+  for (const face of seenFaces(frame, model, covered)) {
+    if (sizeOf(frame, face) < SMALL) continue;
     // whatever is set here goes within one step, since a drawing may end behind any
     ctx.save();
-    if (isOld) ctx.globalAlpha = OLD;
+    if (covered.isOld) ctx.globalAlpha = OLD;
     drawFace(ctx, frame, face);
     ctx.restore();
     yield;
   }
-  ctx.save();
+}
+
+/**
+ * Numbers the faces that are seen, and marks those that are too small to be hatched. Answers where the numbers stand.
+ * @param {CanvasRenderingContext2D} ctx
+ * @param {Frame} frame
+ * @param {import("./model.js").Model} model
+ * @param {Covered} covered
+ * @returns {Box[]}
+ */
+export function numberFaces(ctx, frame, model, covered) {
   /** @type {Box[]} */
   const taken = [];
-  for (const face of seen) writeNumber(ctx, frame, face, taken);
+  ctx.save();
+  for (const face of seenFaces(frame, model, covered)) {
+    ctx.globalAlpha = 1;
+    if (sizeOf(frame, face) >= 2 * SMALL) writeNumber(ctx, frame, face, taken);
+    if (covered.isOld) ctx.globalAlpha = OLD;
+    if (sizeOf(frame, face) < SMALL) markFace(ctx, frame, face);
+  }
   ctx.restore();
-  yield;
   return taken;
 }
 
@@ -120,7 +145,7 @@ const sizeOf = ({ kx, ky }, { shape: { box } }) => Math.max((box[2] - box[0]) * 
  * @param {Frame} frame
  * @param {import("./faces.js").Shape} shape
  */
-export function traceShape(ctx, frame, { ways }) {
+function traceShape(ctx, frame, { ways }) {
   ctx.beginPath();
   for (const xy of ways) {
     traceWay(ctx, frame, { xy, from: 0, to: xy.length }, 0.7);
@@ -133,14 +158,8 @@ export function traceShape(ctx, frame, { ways }) {
  * @param {Frame} frame
  * @param {Face} face
  */
-function drawFace(ctx, frame, face) {
-  const { kind, shape } = face, { colour, pale, dash, mark } = LOOKS[kind];
-  if (sizeOf(frame, face) < SMALL) {
-    ctx.translate(across(frame, shape.place[0]), down(frame, shape.place[1]));
-    mark(ctx);
-    fillMark(ctx, colour);
-    return;
-  }
+function drawFace(ctx, frame, { kind, shape }) {
+  const { colour, pale, dash } = LOOKS[kind];
   traceShape(ctx, frame, shape);
   // where an island is not known, what is hatched would be more than the face
   if (shape.isWhole) hatch(ctx, frame, kind, pale);
@@ -152,9 +171,12 @@ function drawFace(ctx, frame, face) {
 
 /**
  * @param {CanvasRenderingContext2D} ctx
- * @param {string} colour
+ * @param {Frame} frame
+ * @param {Face} face
  */
-function fillMark(ctx, colour) {
+function markFace(ctx, frame, { kind, shape }) {
+  const { colour, mark } = LOOKS[kind], [x, y] = shape.place;
+  mark(ctx, across(frame, x), down(frame, y));
   ctx.fillStyle = colour;
   ctx.fill();
   ctx.strokeStyle = "#fff";
@@ -179,14 +201,13 @@ function hatch(ctx, frame, kind, pale) {
 }
 
 /**
- * Writes the number of a face on it, where the face is not too small and no other number stands.
+ * Writes the number of a face on it, where no other number stands.
  * @param {CanvasRenderingContext2D} ctx
  * @param {Frame} frame
  * @param {Face} face
  * @param {Box[]} taken
  */
 function writeNumber(ctx, frame, face, taken) {
-  if (sizeOf(frame, face) < 2 * SMALL) return;
   const [x, y] = face.shape.place, sx = across(frame, x), sy = down(frame, y), text = String(face.number);
   ctx.font = "bold 12px system-ui, sans-serif";
   const half = ctx.measureText(text).width / 2 + 3;

@@ -302,6 +302,7 @@ export const TEXT = {
   faceOnGrid: (/** @type {string} */ area, /** @type {string} */ width) => `${area} · width ${width} grid units`,
   coverShown: (/** @type {number} */ number, /** @type {string} */ text) => `Shows number ${number}: ${text}`,
   sumsUnit: "In square grid units, exactly.",
+  sumsUnits: "In square grid units, exactly; below, in square map units.",
   sumsRows: [
     "Areas of all features", "less what is held too often", "Land that some feature holds", "and gaps and lakes",
     "All within the outer border",
