@@ -29,14 +29,15 @@ while [ -e "$0.wait" ]; do sleep 0.02; done
 exec "$REAL_BORDER_COVER" "$@"
 """
 ATTACK = "<img src=x onerror=\"window.hit=1\">"
-# Two squares upon each other, in the first of two layers.
+# Two triangles upon each other in the first of two layers, and one with a hole outside in the second.
 HOSTILE_PAIR = {
     "type": "Topology",
     "objects": {
         ATTACK: {"type": "GeometryCollection", "geometries": [
             {"type": "Polygon", "id": ATTACK, "arcs": [[0]]}, {"type": "Polygon", "id": "</b><b>", "arcs": [[0]]}]},
-        "b": {"type": "Polygon", "arcs": [[1]]}},
-    "arcs": [[[0, 0], [10, 0], [10, 10], [0, 0]], [[20, 0], [30, 0], [30, 10], [20, 0]]],
+        "b": {"type": "Polygon", "id": ATTACK, "arcs": [[1], [2]]}},
+    "arcs": [[[0, 0], [10, 0], [10, 10], [0, 0]], [[20, 0], [30, 0], [30, 10], [20, 0]],
+             [[40, 0], [50, 0], [50, 11], [40, 0]]],
 }
 PIXEL = ("const v = editor.view, [x, y] = v.screen(...arguments); "
          "return [...v.ctx.getImageData(Math.floor(x * v.ratio), Math.floor(y * v.ratio), 1, 1).data].slice(0, 3)")
@@ -245,7 +246,7 @@ def test_widths(page):
     look(page, "")
     same("any again", [len(rows(page)), page.is_shown("coverState")], [17, False])
     page.keys("t")
-    true("while the map is thinned it is not looked at", not page.element("look").is_enabled())
+    true("while the map is thinned it is not looked at", page.js("return document.getElementById('look').disabled"))
     page.keys(Keys.ESCAPE)
     page.wait("!editor.isLocked")
     page.element("coverClear").click()
@@ -318,7 +319,12 @@ def test_covering_hostile(page):
     page.load()
     page.keys("o")
     look(page)
-    same("names are texts", [rows(page)[0].startswith(f"1{ATTACK} and </b><b> overlap"),
-                             page.js("return document.querySelector('#sums h4').textContent")], [True, ATTACK])
+    same("names are texts", [rows(page)[0].startswith(f"1{ATTACK} and </b><b> overlap"), texts(page, "#sums h4")],
+         [True, [ATTACK, "b"]])
+    said = page.text("uneven")
+    true("a hole outside is told, with both areas", said.startswith(f"{ATTACK}, part 1: a hole is not within") and
+         "is -5 by its rings, and 105 by the rule" in said, said)
+    page.driver.find_element(By.CSS_SELECTOR, "#uneven button").click()
+    same("a click leads to its feature", page.js("return editor.selected"), [2])
     same("no text becomes an element", page.js("return document.querySelectorAll('#cover img').length"), 0)
     same("nothing runs", page.js("return window.hit || 0"), 0)

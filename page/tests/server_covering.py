@@ -53,6 +53,7 @@ APART = 100
 # with its status.
 STAND_IN = """#!/bin/sh
 cp "$1" "$0.text"
+echo "$@" > "$0.words"
 while [ -e "$0.wait" ]; do sleep 0.02; done
 [ -e "$0.says" ] && cat "$0.says" >&2 && exit "$(cat "$0.status")"
 exec "$REAL_BORDER_COVER" "$@"
@@ -134,9 +135,13 @@ def as_it_is(checks):
             checks.same("the sums after it", look(page)[1]["sums"], [sums])
             given = program.with_suffix(".text").read_bytes()
             checks.same("what border_cover was given", given, page.get("document")[1])
+            words = program.with_suffix(".words")
+            checks.same("what it was asked for", words.read_text().split()[1:], ["--most", "500"])
+            look(page, width=7)
+            checks.same("and how wide at most", words.read_text().split()[1:], ["--most", "500", "--width", "7"])
             checks.same("the file is as it was", (files / "map.json").read_text(), SQUARES)
             checks.same("no text is left", [path.name for path in (files / "tmp").glob("*/looked*")], [])
-            for given in [{"look": 1}, {"look": 2}, {"look": 3}]:
+            for given in [{"look": 1}, {"look": 3}, {"look": 4}]:
                 checks.same(f"not told again {given}", page.post("looked", **given),
                             (409, {"reason": "there is no such look any more", "force": False}))
             checks.same("no look", [page.post("looked", look=look)[0] for look in (None, -1, "1", 1.5)], [400] * 4)

@@ -159,7 +159,10 @@ export function faceText(kind, names, more) {
  * Half of a whole number, exactly.
  * @param {string} twice
  */
-export const halved = twice => `${grouped(BigInt(twice) / 2n)}${BigInt(twice) % 2n ? ".5" : ""}`;
+export function halved(twice) {
+  const whole = BigInt(twice), size = whole < 0n ? -whole : whole;
+  return `${whole < 0n ? "-" : ""}${grouped(size / 2n)}${size % 2n ? ".5" : ""}`;
+}
 
 /** @param {string} line */
 export const findingText = line => fromTable(FINDINGS, line.trim()) ?? line;
