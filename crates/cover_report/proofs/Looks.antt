@@ -49,13 +49,13 @@ module _ (names : List Text) (whole : List LayerOf) where
       subst (λ (z : List LookedAt). AreLooks whole z) (sym (ap (λ (z : List LookedAt). z ++ ks) is ∙ append_assoc before (k ∷ []) ks))
       (goes (k ∷ ks) (subst (λ (z : List LayerOf). AreLooks z (k ∷ ks)) (sym (turned first features l ls true e)) (found, h)))
 
+  no_layer : (n : ℕ) (fs : List (List Polygon)) → AreLooks (asked_layers names n fs []) []
+  unfolding asked_layers
+  no_layer n fs = tt
+
   -- where no layer is left, what was found is found in all
   pub goes_end : (first : ℕ) (features : List (List Polygon)) (ls : List LayerText) (before : List LookedAt) → ls ≡ [] → GoesOn first features ls before
       → AreLooks whole before
   goes_end first features ls before none goes =
       subst (λ (z : List LookedAt). AreLooks whole z) (append-nil before)
       (goes [] (subst (λ (z : List LayerText). AreLooks (asked_layers names first features z) []) (sym none) (no_layer first features)))
-    where
-      no_layer : (n : ℕ) (fs : List (List Polygon)) → AreLooks (asked_layers names n fs []) []
-      unfolding asked_layers
-      no_layer n fs = tt
