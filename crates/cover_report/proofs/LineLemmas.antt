@@ -1,6 +1,6 @@
 -- The lines of a report, put one behind another.
-use Rattle.kit_words.proofs.Common.{◌≡◌, ◌∙◌, ℕ, zero, suc, ◌+◌, ◌-◌, ◌*◌, ◌^◌, ◌<◌, ◌++◌, ◌∷◌, [], List, ap, ap₂, sym, subst, refl, arith, length, map, take}
-use Rattle.kit_words.proofs.Common.{append_assoc, append-nil, flat_map-map, take-map, appended_four, appended_five}
+use Rattle.kit_words.proofs.Common.{◌≡◌, ◌∙◌, ℕ, zero, suc, ◌+◌, ◌-◌, ◌*◌, ◌^◌, ◌<◌, ◌≤◌, ◌++◌, ◌∷◌, [], List, ap, ap₂, sym, subst, refl, arith, length, map, take}
+use Rattle.kit_words.proofs.Common.{append_assoc, append-nil, flat_map-map, pow-le-pow_right, take-map, appended_four, appended_five}
 use Rattle.std.specs.Prelude.{flat_map}
 use Rattle.cover_report.specs.Faces.{FaceTold}
 use Rattle.cover_report.specs.Report.{face_line, lines, wide_from, wide_line, wide_lines}
@@ -44,3 +44,11 @@ widths_next faces k over most now new whole l is twice e h =
 pub widths_left : (faces : List FaceTold) (k : ℕ) (now whole : List ℕ) → 126 - k ≡ 0 → now ++ wide_from (126 - k) k faces ≡ whole → now ≡ whole
 widths_left faces k now whole none h =
     sym (append-nil now) ∙ ap (λ z. now ++ z) (sym (ap (λ n. wide_from n k faces) none ∙ wide_end faces k)) ∙ h
+
+-- twice the width before the last fits
+pub twice_fits : (k over : ℕ) → k < 126 → over ≡ 2 ^ k → 2 * over ≤ 2 ^ 126
+twice_fits k over l e =
+    let two : 0 < 2 = omega arith in
+    let small : k ≤ 125 = omega (arith, l) in
+    let most : 2 ^ k ≤ 2 ^ 125 = pow-le-pow_right two small in
+    omega (arith, most, e)

@@ -1,8 +1,9 @@
 -- Layers that are looked at one after another.
-use Rattle.kit_words.proofs.Common.{◌≡◌, ◌∙◌, ℕ, suc, ◌+◌, ◌++◌, ◌∷◌, [], Bool, true, false, List, ap, ap₂, sym, subst, refl, length, map, take, drop}
-use Rattle.kit_words.proofs.Common.{append_assoc, append-nil, drop-map, if◌then◌else◌, length-append}
+use Rattle.kit_words.proofs.Common.{◌≡◌, ◌∙◌, ℕ, suc, ◌+◌, ◌<◌, ◌++◌, ◌∷◌, [], Bool, true, false, List, ap, ap₂, sym, subst, refl, length, map, take, drop}
+use Rattle.kit_words.proofs.Common.{append_assoc, append-nil, drop-map, get_or, if◌then◌else◌, length-append, next_drop}
 use Rattle.ring_machine.specs.Common.{Text}
-use Rattle.topo_outline.specs.Common.{LayerText, leaves, leaves_in}
+use Rattle.topo_outline.specs.Common.{LayerText, leaves, leaves_in, view_layer}
+use Rattle.topo_outline.specs.declared.document.RawLayer.{RawLayer}
 use Rattle.layer_sides.specs.Common.{Polygon}
 use Rattle.layer_sides.specs.Common.{AreBorders, Bordering}
 use Rattle.layer_faces.specs.Common.{AddUp, AreFaces, AreSums, FaceOf, uneven_from}
@@ -36,6 +37,18 @@ found_in l k polygons owners borders faces uneven sums p o are_borders are_faces
 pub leaves_next : (l : LayerText) (ls : List LayerText) → length (leaves (l ∷ ls)) ≡ length (leaves_in l.pieces) + length (leaves ls)
 unfolding leaves
 leaves_next l ls = length-append (leaves_in l.pieces) (leaves ls)
+
+pub leaves_here : {A : Type 0} (layers : List (RawLayer A)) (i : ℕ) (layer : RawLayer A) → i < length layers → layer ≡ get_or layers i layer
+    → length (leaves (map view_layer (drop i layers))) ≡ length (leaves_in (view_layer layer).pieces) + length (leaves (map view_layer (drop (i + 1) layers)))
+leaves_here layers i layer l e =
+    ap (λ z. length (leaves (map view_layer z))) (next_drop layers i layer l e) ∙ leaves_next (view_layer layer) (map view_layer (drop (i + 1) layers))
+
+-- at first nothing was found
+pub goes_begun : {X Y : Type 0} (of : X → List Polygon) (see : Y → LookedAt) (names : List Text) (ls : List LayerText) (rest features : List X) (before : List Y) → rest ≡ features → before ≡ []
+    → (ks : List LookedAt) → AreLooks (asked_layers names 0 (map of rest) ls) ks → AreLooks (asked_layers names 0 (map of features) ls) (map see before ++ ks)
+goes_begun of see names ls rest features before same none ks h =
+    subst (λ (z : List LookedAt). AreLooks (asked_layers names 0 (map of features) ls) (z ++ ks)) (sym (ap (map see) none))
+    (subst (λ (z : List LayerOf). AreLooks z ks) (ap (λ z. asked_layers names 0 (map of z) ls) same) h)
 
 module _ (names : List Text) (whole : List LayerOf) where
   -- whatever is found in the layers that are left, with what was found before it is found in all

@@ -55,12 +55,12 @@ none_left of xs m now all none e h = sym (append-nil now) ∙ ap (λ z. now ++ z
 
 -- one less is left out
 pub left_out : {X : Type 0} (before after all : List X) (m k : ℕ) → m ≡ suc k → after ≡ drop 1 before → drop m before ≡ all → drop k after ≡ all
-left_out before after all m k e d h = ap (drop k) d ∙ by before ∙ ap (λ n. drop n before) (sym e) ∙ h
+left_out {X = X} before after all m k e d h = ap (drop k) d ∙ by before ∙ ap (λ n. drop n before) (sym e) ∙ h
   where
-    by : (xs : List _) → drop k (drop 1 xs) ≡ drop (suc k) xs
+    by : (xs : List X) → drop k (drop 1 xs) ≡ drop (suc k) xs
     by [] = none k
       where
-        none : (n : ℕ) → drop n [] ≡ []
+        none : (n : ℕ) → drop {A = X} n [] ≡ []
         none zero = refl
         none (suc n) = refl
     by (x ∷ xs) = refl

@@ -1,4 +1,4 @@
-use Rattle.kit_words.proofs.Common.{◌≡◌, ◌∙◌, ◌+◌, ◌-◌, ◌++◌, ℕ, suc, List, [], ap, arith, into_iter_items, map, refl, take}
+use Rattle.kit_words.proofs.Common.{◌≡◌, ◌∙◌, ◌+◌, ◌-◌, ◌++◌, ℕ, suc, List, [], ap, arith, drop, into_iter_items, map, refl, sym, take}
 use Rattle.ring_parts.specs.Common.{polygons_seen}
 use Rattle.topo_reader.specs.Common.{feature_positions}
 use Rattle.cover_report.specs.Layers.{numbers_in, owners_from, polygons_in}
@@ -10,10 +10,10 @@ loop-number-init g c =
     let rest = into_iter_items c.args.rest.now in
     let all : c.args.first + c.args.count - c.args.first ≡ c.args.count = omega arith in
     record {
-      polygons = ap (λ z. polygons_seen z ++ polygons_in (map feature_positions (take _ rest))) c.new.ensures.items ∙ ap (λ n. polygons_in (map feature_positions (take n rest))) all;
-      owners = ap (λ z. z ++ owners_from c.args.first (map feature_positions (take _ rest))) c.new-2.ensures.items ∙ ap (λ n. owners_from c.args.first (map feature_positions (take n rest))) all;
-      numbers = ap (λ z. z ++ numbers_in (map feature_positions (take _ rest))) c.new-3.ensures.items ∙ ap (λ n. numbers_in (map feature_positions (take n rest))) all;
-      rest = refl;
+      polygons = ap (λ z. polygons_seen z ++ polygons_in (map feature_positions (take (c.args.first + c.args.count - c.args.first) rest))) c.new.ensures.items ∙ ap (λ n. polygons_in (map feature_positions (take n rest))) all;
+      owners = ap (λ z. z ++ owners_from c.args.first (map feature_positions (take (c.args.first + c.args.count - c.args.first) rest))) c.new-2.ensures.items ∙ ap (λ n. owners_from c.args.first (map feature_positions (take n rest))) all;
+      numbers = ap (λ z. z ++ numbers_in (map feature_positions (take (c.args.first + c.args.count - c.args.first) rest))) c.new-3.ensures.items ∙ ap (λ n. numbers_in (map feature_positions (take n rest))) all;
+      rest = ap (λ n. drop n rest) all;
     }
 
 pub loop-number-preserved : goal.loop-number-preserved
@@ -23,11 +23,18 @@ loop-number-preserved g c =
     let after = into_iter_items c.push_next.new.rest in
     let one : n + 1 ≡ suc n = omega arith in
     let less : c.args.first + c.args.count - n ≡ suc (c.args.first + c.args.count - (n + 1)) = omega (arith, c.loop-number-test.true) in
+    let owned = c.loop-number.owned in
+    let new = c.push_next.new.owned in
+    let all = map feature_positions (take c.args.count (into_iter_items c.args.rest.now)) in
+    let more = c.args.first + c.args.count - (n + 1) in
     record {
-      polygons = polygons_next feature_positions before after _ _ _ _ _ less c.push_next.ensures.rest c.in_ok-push_next.ensures.polygons c.loop-number.invariant.polygons;
-      owners = owners_next feature_positions before after n (n + 1) _ _ _ _ _ one less c.push_next.ensures.rest c.in_ok-push_next.ensures.owners c.loop-number.invariant.owners;
-      numbers = numbers_next feature_positions before after _ _ _ _ _ less c.push_next.ensures.rest c.in_ok-push_next.ensures.numbers c.loop-number.invariant.numbers;
-      rest = left_out before after _ _ _ less c.push_next.ensures.rest c.loop-number.invariant.rest;
+      polygons = polygons_next feature_positions before after (polygons_seen new.polygons.items) (polygons_seen owned.polygons.items) (polygons_in all) (suc more) more
+          refl c.push_next.ensures.rest c.in_ok-push_next.ensures.polygons (ap (λ k. polygons_seen owned.polygons.items ++ polygons_in (map feature_positions (take k before))) (sym less) ∙ c.loop-number.invariant.polygons);
+      owners = owners_next feature_positions before after n (n + 1) new.owners.items owned.owners.items (owners_from c.args.first all) (suc more) more
+          one refl c.push_next.ensures.rest c.in_ok-push_next.ensures.owners (ap (λ k. owned.owners.items ++ owners_from n (map feature_positions (take k before))) (sym less) ∙ c.loop-number.invariant.owners);
+      numbers = numbers_next feature_positions before after new.numbers.items owned.numbers.items (numbers_in all) (suc more) more
+          refl c.push_next.ensures.rest c.in_ok-push_next.ensures.numbers (ap (λ k. owned.numbers.items ++ numbers_in (map feature_positions (take k before))) (sym less) ∙ c.loop-number.invariant.numbers);
+      rest = left_out before after (drop c.args.count (into_iter_items c.args.rest.now)) (c.args.first + c.args.count - n) more less c.push_next.ensures.rest c.loop-number.invariant.rest;
     }
 
 pub returns-clause-polygons : goal.returns-clause-polygons

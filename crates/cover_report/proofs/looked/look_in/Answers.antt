@@ -12,10 +12,10 @@ pub look_at-requires-clause-owned : goal.look_at-requires-clause-owned
 look_at-requires-clause-owned g c =
     ap length c.as_slice-2.ensures.value ∙ c.requires.owned ∙ ap length (sym c.as_slice.ensures.value)
 
-pub returns-in-Ok-clause-found : goal.returns-in-Ok-clause-found
-returns-in-Ok-clause-found g c =
+pub returns-in_ok-told_at-in-Ok-clause-found : goal.returns-in_ok-told_at-in-Ok-clause-found
+returns-in_ok-told_at-in-Ok-clause-found g c =
     let look = c.in-Ok.look in
     found_in _ _ (polygons_seen c.as_slice.result.now) c.as_slice-2.result.now (borders_seen look.borders.items) (faces_seen (segments_seen look.borders.items) look.faces.items)
     look.uneven.items look.sums (ap polygons_seen c.as_slice.ensures.value) c.as_slice-2.ensures.value
     c.in-Ok.ensures.borders c.in-Ok.ensures.faces c.in-Ok.ensures.uneven c.in-Ok.ensures.sums c.in-Ok.ensures.add_up
-    c.in_ok-told_at.ensures.named c.in_ok-told_at.ensures.faces c.in_ok-told_at.ensures.uneven c.in_ok-told_at.ensures.sums
+    c.in_ok-told_at-in-Ok.ensures.named c.in_ok-told_at-in-Ok.ensures.faces c.in_ok-told_at-in-Ok.ensures.uneven c.in_ok-told_at-in-Ok.ensures.sums

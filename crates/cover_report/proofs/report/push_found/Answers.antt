@@ -1,4 +1,4 @@
-use Rattle.kit_words.proofs.Common.{appended_five, map}
+use Rattle.kit_words.proofs.Common.{appended_five, map, refl}
 use Rattle.layer_faces.specs.declared.kind.Kind.TheVariants.{Overlap, Twice, Gap, Lake}
 use Rattle.cover_report.specs.Asked.{view_asked}
 use Rattle.cover_report.specs.Faces.{view_told}
@@ -18,4 +18,4 @@ returns-clause-lines g c =
 pub returns-clause-counts : goal.returns-clause-counts
 returns-clause-counts g c =
     counted (view_asked c.args.asked.now) (map (λ f. view_told f.now) c.args.faces.now) c.args.uneven.now _ _ _ _ _
-    c.in_ok-overlaps.ensures.count c.in_ok-twices.ensures.count c.in_ok-gaps.ensures.count c.in_ok-lakes.ensures.count c.len.ensures
+    c.in_ok-overlaps.ensures.count c.in_ok-twices.ensures.count c.in_ok-gaps.ensures.count c.in_ok-lakes.ensures.count refl

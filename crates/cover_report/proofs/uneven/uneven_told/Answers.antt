@@ -7,7 +7,7 @@ loop-it-preserved g c =
     let told = uneven_told c.args.owners.now c.args.numbers.now in
     c.in_ok-push.ensures.items
     ∙ ap₂ (λ y z. y ++ z ∷ []) c.loop-it.invariant
-    (ap₂ (λ f p. record { feature = f; polygon = p; by_rings = c.it-item.result.by_rings; even_odd = c.it-item.result.even_odd }) c.number_or_zero.ensures c.number_or_zero-2.ensures)
+    c.told_of.ensures
     ∙ sym (mapped_more told c.args.uneven.now c.loop-it.it-index c.it-item.result c.loop-it-test.true c.it-item.is)
 
 pub returns : goal.returns

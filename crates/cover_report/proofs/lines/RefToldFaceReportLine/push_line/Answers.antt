@@ -2,7 +2,7 @@ use Rattle.kit_words.proofs.Common.{◌≡◌, ◌∙◌, ◌++◌, ap, codes, d
 use Rattle.grid_geometry.specs.Common.{position_text}
 use Rattle.cover_report.specs.Report.{features_text, kind_word}
 use Rattle.cover_report.proofs.Appending.{eleven}
-use Rattle.cover_report.proofs.lines.ToldFaceReportLine.push_line.Goals as goal
+use Rattle.cover_report.proofs.lines.RefToldFaceReportLine.push_line.Goals as goal
 
 pub returns : goal.returns
 returns g c =
