@@ -1,6 +1,6 @@
 -- The features of layers, and numbers, counted one after another.
-use Rattle.kit_words.proofs.Common.{◌≡◌, ℕ, zero, suc, ◌+◌, ◌<◌, ◌++◌, ◌∙◌, ◌∷◌, [], Bool, cond, List, Option, Some, None, is_some}
-use Rattle.kit_words.proofs.Common.{length, map, take, get_or, ap, sym, refl, arith, append_assoc, append-nil, length-append, map-append, map-id, take_more}
+use Rattle.kit_words.proofs.Common.{◌≡◌, ℕ, ◌+◌, ◌<◌, ◌++◌, ◌∙◌, ◌∷◌, [], cond, List, Option, Some, None, is_some}
+use Rattle.kit_words.proofs.Common.{length, map, take, get_or, ap, sym, refl, append_assoc, append-nil, length-append, map-append, map-id, take_more}
 use Rattle.std.proofs.lemmas.List.FromFn.{map-range_with_len_more}
 use Rattle.std.specs.List.{range_with_len}
 use Rattle.json_spans.specs.Common.{Node}

@@ -1,9 +1,9 @@
 -- The segments of a map that come into an index one after another.
 use Rattle.kit_words.proofs.Common.{◌≡◌, ◌∙◌, ℕ, ◌+◌, ◌<◌, ◌≤◌, Bool, true, false, cond, List, [], ◌∷◌, ◌++◌, ◌&&◌, ap, ap₂, sym, subst, refl}
-use Rattle.kit_words.proofs.Common.{length, map, take, drop, get_or, Option, flat_map, list_all, flat_map-append, list_all-append, and_parts, nat_le}
+use Rattle.kit_words.proofs.Common.{length, map, take, drop, get_or, flat_map, list_all, flat_map-append, list_all-append, and_parts, nat_le}
 use Rattle.kit_words.proofs.Common.{append_assoc, append-nil, flat_mapped_more, next_drop, take_all, drop_of_length-le}
-use Rattle.grid_geometry.specs.Common.{Position, Segment, Edge, links, position_eq}
-use Rattle.ring_machine.specs.Common.{Document, all_segments, begins_least, first_pair, is_distinct, is_ring, least_conflict, segment_of, segments}
+use Rattle.grid_geometry.specs.Common.{Position, Segment, links, position_eq}
+use Rattle.ring_machine.specs.Common.{begins_least, first_pair, is_distinct, is_ring, least_conflict, segment_of, segments}
 use Rattle.ring_machine.proofs.Common.{position_eq-refl, position_eq-true}
 use Rattle.local_planarity.specs.Common.{IsFilled}
 use Rattle.layer_sides.specs.Common.{Polygon, segments_in}

@@ -1,9 +1,9 @@
 -- The lines of a report, put one behind another.
-use Rattle.kit_words.proofs.Common.{◌≡◌, ◌∙◌, ℕ, zero, suc, ◌+◌, ◌-◌, ◌*◌, ◌^◌, ◌<◌, ◌≤◌, ◌++◌, ◌∷◌, [], List, ap, ap₂, sym, subst, refl, arith, length, map, take}
-use Rattle.kit_words.proofs.Common.{append_assoc, append-nil, flat_map-map, pow-le-pow_right, take-map, appended_four, appended_five}
+use Rattle.kit_words.proofs.Common.{◌≡◌, ◌∙◌, ℕ, suc, ◌+◌, ◌-◌, ◌*◌, ◌^◌, ◌<◌, ◌≤◌, ◌++◌, [], List, ap, ap₂, sym, refl, arith, map, take}
+use Rattle.kit_words.proofs.Common.{append_assoc, append-nil, flat_map-map, pow-le-pow_right, take-map}
 use Rattle.std.specs.Prelude.{flat_map}
 use Rattle.cover_report.specs.Faces.{FaceTold}
-use Rattle.cover_report.specs.Report.{face_line, lines, wide_from, wide_line, wide_lines}
+use Rattle.cover_report.specs.Report.{lines, wide_from, wide_line, wide_lines}
 
 -- lines of what is seen
 pub lines_of : {X Y : Type 0} (most : ℕ) (line : Y → List ℕ) (of : X → Y) (xs whole : List X) (ys : List Y) → whole ≡ xs → map of xs ≡ ys

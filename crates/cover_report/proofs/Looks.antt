@@ -1,5 +1,5 @@
 -- Layers that are looked at one after another.
-use Rattle.kit_words.proofs.Common.{◌≡◌, ◌∙◌, ℕ, suc, ◌+◌, ◌<◌, ◌++◌, ◌∷◌, [], Bool, true, false, List, ap, ap₂, sym, subst, refl, length, map, take, drop}
+use Rattle.kit_words.proofs.Common.{◌≡◌, ◌∙◌, ℕ, ◌+◌, ◌<◌, ◌++◌, ◌∷◌, [], Bool, true, false, List, ap, sym, subst, refl, length, map, take, drop}
 use Rattle.kit_words.proofs.Common.{append_assoc, append-nil, drop-map, get_or, if◌then◌else◌, length-append, next_drop}
 use Rattle.ring_machine.specs.Common.{Text}
 use Rattle.topo_outline.specs.Common.{LayerText, leaves, leaves_in, view_layer}

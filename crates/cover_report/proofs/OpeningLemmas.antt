@@ -1,5 +1,5 @@
 -- Why a map does not open.
-use Rattle.kit_words.proofs.Common.{◌≡◌, ◌∙◌, sym, ℕ, List, Option, Some, None}
+use Rattle.kit_words.proofs.Common.{◌≡◌, ◌∙◌, ℕ, List, Option, Some, None}
 use Rattle.grid_geometry.specs.Common.{Segment}
 use Rattle.ring_machine.specs.Common.{Proper, first_pair}
 use Rattle.topo_outline.specs.declared.fault.OpenFault.TheVariants as open_fault

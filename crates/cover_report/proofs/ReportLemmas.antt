@@ -1,12 +1,12 @@
 -- The parts of a report, put one behind another.
-use Rattle.kit_words.proofs.Common.{◌≡◌, ◌∙◌, ℕ, List, ◌++◌, ap, ap₂, length, append_assoc, appended_two, appended_four, appended_five}
+use Rattle.kit_words.proofs.Common.{◌≡◌, ◌∙◌, ℕ, List, ◌++◌, ap, ap₂, length, appended_four}
 use Rattle.std.specs.Prelude.{flat_map}
 use Rattle.layer_faces.specs.declared.kind.Kind.TheVariants.{Overlap, Twice, Gap, Lake}
 use Rattle.cover_report.specs.Asked.{Wants}
 use Rattle.cover_report.specs.Counted.{counts_among, counts_of, faces_of, told, uneven_of}
 use Rattle.cover_report.specs.Faces.{FaceTold}
 use Rattle.cover_report.specs.Layers.{LookedAt}
-use Rattle.cover_report.specs.Report.{counts_line, found_text, lines, report_text, sum_line, told_lines, uneven_line, wide_lines}
+use Rattle.cover_report.specs.Report.{counts_line, found_text, report_text, sum_line, wide_lines}
 use Rattle.cover_report.specs.declared.told.Counts.{Counts}
 use Rattle.cover_report.specs.declared.uneven.UnevenPolygon.{UnevenPolygon}
 

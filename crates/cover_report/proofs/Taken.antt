@@ -1,7 +1,6 @@
 -- The polygons of features that are taken off one after another.
 use Rattle.kit_words.proofs.Common.{◌≡◌, ◌∙◌, ℕ, zero, suc, ◌+◌, ◌++◌, ◌∷◌, [], List, ap, ap₂, sym, refl, arith, length, map, take, drop, replicate}
 use Rattle.kit_words.proofs.Common.{append_assoc, append-nil, length-append, length-replicate, take_all}
-use Rattle.std.proofs.lemmas.List.FromFn.{length-range_with_len}
 use Rattle.std.specs.List.{range_with_len}
 use Rattle.layer_sides.specs.Common.{Polygon}
 use Rattle.cover_report.specs.Layers.{numbers_in, owners_from, polygons_in}

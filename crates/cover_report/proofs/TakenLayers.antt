@@ -4,7 +4,7 @@ use Rattle.grid_geometry.specs.Common.{Position}
 use Rattle.ring_machine.specs.Common.{Text}
 use Rattle.ring_parts.specs.Common.{polygons_seen, rings_seen}
 use Rattle.layer_sides.specs.Common.{IsProperLayer, Polygon}
-use Rattle.cover_report.specs.Layers.{LayerOf, layer_of, numbers_in, owners_from, polygons_in}
+use Rattle.cover_report.specs.Layers.{layer_of, numbers_in, owners_from, polygons_in}
 use Rattle.cover_report.specs.Owned.{owned_layer}
 use Rattle.cover_report.specs.declared.layers.Owned.{Owned}
 use Rattle.cover_report.proofs.ProperLayers.{proper_left, proper_taken}

@@ -4,7 +4,6 @@ use Rattle.layer_faces.specs.declared.fault.FaceFault.{FaceFault}
 use Rattle.layer_faces.specs.declared.fault.FaceFault.TheVariants as face
 use Rattle.ring_machine.specs.Common.{Proper, Text}
 use Rattle.topo_outline.specs.Common.{LayerText}
-use Rattle.topo_outline.specs.declared.fault.OpenFault.{OpenFault}
 use Rattle.topo_outline.specs.declared.fault.OpenFault.TheVariants as open_fault
 use Rattle.topo_reader.specs.Common.{IsFault, Opened, Opens, document_of}
 use Rattle.cover_report.specs.Asked.{Wants}

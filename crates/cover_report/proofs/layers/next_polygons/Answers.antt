@@ -1,4 +1,4 @@
-use Rattle.kit_words.proofs.Common.{◌≡◌, ◌∙◌, ◌+◌, ◌-◌, ◌++◌, ℕ, suc, List, [], ap, arith, drop, into_iter_items, map, refl, sym, take}
+use Rattle.kit_words.proofs.Common.{◌≡◌, ◌∙◌, ◌+◌, ◌-◌, ◌++◌, suc, ap, arith, drop, into_iter_items, map, refl, sym, take}
 use Rattle.ring_parts.specs.Common.{polygons_seen}
 use Rattle.topo_reader.specs.Common.{feature_positions}
 use Rattle.cover_report.specs.Layers.{numbers_in, owners_from, polygons_in}

@@ -1,4 +1,4 @@
-use Rattle.kit_words.proofs.Common.{◌≡◌, ◌∙◌, ◌++◌, ◌∷◌, [], ap, append-nil, arith, sym}
+use Rattle.kit_words.proofs.Common.{◌∷◌, [], append-nil, arith, sym}
 use Rattle.cover_report.proofs.Counted.{range_more}
 use Rattle.cover_report.proofs.ToldLemmas.{longer}
 use Rattle.cover_report.proofs.layers.push_numbers.Goals as goal

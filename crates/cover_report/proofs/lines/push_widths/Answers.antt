@@ -1,4 +1,4 @@
-use Rattle.kit_words.proofs.Common.{◌≡◌, ◌∙◌, ◌+◌, ◌-◌, ◌*◌, ◌^◌, ◌++◌, ℕ, ap, arith, map, refl}
+use Rattle.kit_words.proofs.Common.{arith, map, refl}
 use Rattle.std.proofs.lemmas.Nat.{one_shl}
 use Rattle.cover_report.specs.Faces.{view_told}
 use Rattle.cover_report.proofs.LineLemmas.{twice_fits, widths_begun, widths_left, widths_next}

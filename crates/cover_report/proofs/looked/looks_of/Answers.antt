@@ -1,4 +1,4 @@
-use Rattle.kit_words.proofs.Common.{◌≡◌, ◌∙◌, ◌+◌, ap, arith, drop, drop_all, into_iter_items, length, map, next_drop, subst, sym}
+use Rattle.kit_words.proofs.Common.{◌+◌, ap, arith, drop, drop_all, into_iter_items, map, next_drop, subst, sym}
 use Rattle.layer_sides.specs.Common.{IsProperLayer}
 use Rattle.topo_outline.specs.Common.{view_layer}
 use Rattle.topo_reader.specs.Common.{feature_positions}

@@ -1,4 +1,4 @@
-use Rattle.kit_words.proofs.Common.{◌≡◌, ◌∙◌, ◌++◌, ap, flat_mapped_more, map, sym, take, take_all}
+use Rattle.kit_words.proofs.Common.{◌∙◌, ◌++◌, ap, flat_mapped_more, map, sym, take, take_all}
 use Rattle.cover_report.specs.Counted.{faces_of}
 use Rattle.cover_report.specs.Faces.{view_told}
 use Rattle.cover_report.specs.Layers.{LookedAt, view_looked}

@@ -1,4 +1,4 @@
-use Rattle.kit_words.proofs.Common.{◌≡◌, ◌∙◌, ◌++◌, ap, flat_mapped_more, map, sym, take, take_all}
+use Rattle.kit_words.proofs.Common.{◌∙◌, ◌++◌, ap, flat_mapped_more, map, sym, take, take_all}
 use Rattle.cover_report.specs.Counted.{uneven_of}
 use Rattle.cover_report.specs.Layers.{LookedAt, view_looked}
 use Rattle.cover_report.proofs.told.all_uneven.Goals as goal

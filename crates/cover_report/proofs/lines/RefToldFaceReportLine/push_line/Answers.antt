@@ -1,4 +1,4 @@
-use Rattle.kit_words.proofs.Common.{◌≡◌, ◌∙◌, ◌++◌, ap, codes, decimal, rules, FitsSigned, w128, signed_decimal, to_z-of_z}
+use Rattle.kit_words.proofs.Common.{◌∙◌, ◌++◌, ap, codes, decimal, rules, FitsSigned, w128, signed_decimal, to_z-of_z}
 use Rattle.grid_geometry.specs.Common.{position_text}
 use Rattle.cover_report.specs.Report.{features_text, kind_word}
 use Rattle.cover_report.proofs.Appending.{eleven}

@@ -1,4 +1,4 @@
-use Rattle.kit_words.proofs.Common.{◌∙◌, ap, into_iter_items, length, map, on_ok_weaker, subst, sym}
+use Rattle.kit_words.proofs.Common.{◌∙◌, ap, into_iter_items, length, map, on_ok_weaker, subst}
 use Rattle.topo_outline.specs.Common.{leaves_in, view_item}
 use Rattle.topo_reader.specs.Common.{feature_positions}
 use Rattle.cover_report.specs.Layers.{AddsLook, view_looked}
