@@ -11,7 +11,7 @@ class NotFound(Exception):
 
 
 def look_for(name):
-    """Begins to look for one of the four programs, such as border_edit; `found` has what comes of it. Where there is none it is
+    """Begins to look for one of the five programs, such as border_edit; `found` has what comes of it. Where there is none it is
     built without proof, which takes two minutes and is said on standard error."""
     return subprocess.Popen([FIND, name], stdin=subprocess.DEVNULL, stdout=subprocess.PIPE, text=True)
 

@@ -1,4 +1,4 @@
-"""The four programs. Each is found when it is needed first, since one that is not proved takes minutes to build."""
+"""The five programs. Each is found when it is needed first, since one that is not proved takes minutes to build."""
 import programs
 
 
@@ -12,6 +12,13 @@ class Programs:
         """Begins to look for a program that is needed soon, once."""
         if name not in self.looked_for:
             self.looked_for[name] = programs.look_for(name)
+
+    def begun(self, name):
+        """The process that looks for a program, which may build it; nothing where the program is found."""
+        if name in self.found:
+            return None
+        self.look_for(name)
+        return self.looked_for[name]
 
     def path(self, name):
         """The path of a program."""

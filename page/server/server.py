@@ -18,6 +18,9 @@ Everything is below /TOKEN/, on the loopback address alone.
 | `save` | `owner`, `force` | `file`, `bytes` |
 | `mend` | `owner`, perhaps `digits` | `report`, `opens` |
 | `place` | `owner`, `x`, `y`, `width` | `picture`: that square of a map that does not open, as SVG |
+| `seek` | `owner` | `building`: whether border_cover is still looked for, after a while; it may have to be built |
+| `look` | `owner`, perhaps `width` | `look`, a number, of a look at overlaps and gaps that begins, `proved`; or `missing` |
+| `looked` | `owner`, `look` | once that has ended what was found (looking.py), or `fault`; all else is answered meanwhile |
 | `alive`, `leave` | `owner` | nothing |
 | GET `socket` | texts with the names that `begin` tells | a WebSocket, on which these are answered |
 
@@ -35,6 +38,7 @@ import re
 import secrets
 import socket
 import socketserver
+import subprocess
 import sys
 import threading
 import time
@@ -71,6 +75,8 @@ MOST_LINES = 2000
 MOST_DIGITS = 24
 # The greatest coordinate, and the greatest width of a picture, that border_show takes.
 MOST_COORDINATE, MOST_WIDTH = 10 ** 12, 4 * 10 ** 12
+# The greatest width that border_cover takes as a bound, and seconds for which a request waits until it is found.
+MOST_BOUND, SEEKING = 10 ** 12, 2
 # Seconds for which the page can ask why the map could not be opened.
 TELLING = 1
 
@@ -194,6 +200,8 @@ class Server(socketserver.ThreadingTCPServer):
             raise Lost(str(self.fault))
         owner = self.visits.begin()
         self.has_warned = False
+        # nobody waits for it any more
+        self.session.end_look()
         if owner == 1:
             self.on_first_page()
         return {"owner": owner, "socket": ON_SOCKET, **self.session.begin()}
@@ -401,8 +409,11 @@ class Handler(Connection):
         """Status and answer of a request."""
         with self.server.lock:
             status, body = self._answer(name, given)
-            # written as JSON here, since the next request may change the log
-            return status, json.dumps(body).encode()
+            if not callable(body):
+                # written as JSON here, since the next request may change the log
+                return status, json.dumps(body).encode()
+        # what takes long, and needs the session no more
+        return status, json.dumps(body()).encode()
 
     def _answer(self, name, given):
         """Status and answer of a POST, or of a text that stands for one."""
@@ -474,10 +485,45 @@ def place(session, given):
     return {"picture": drawn.decode()}
 
 
+def seek(session, given):
+    """Looks for border_cover, which may have to be built."""
+    looking = session.programs.begun("border_cover")
+
+    def is_building():
+        if looking is None:
+            return {"building": False}
+        try:
+            looking.wait(SEEKING)
+        except subprocess.TimeoutExpired:
+            pass
+        return {"building": looking.poll() is None}
+
+    return is_building
+
+
+def look(session, given):
+    """Begins to look for overlaps and gaps."""
+    return session.look(None if given.get("width") is None else number_in(given, "width", MOST_BOUND))
+
+
+def looked(session, given):
+    """What was found."""
+    begun = session.look_that_is(number_in(given, "look", 2 ** 53))
+
+    def report():
+        found = begun.report()
+        if found is None:
+            raise Refusal("another look was begun")
+        return found
+
+    return report
+
+
 def alive(session, given):
     """The page says that it is there."""
     return {}
 
 
 # What the page that has the map can ask.
-ANSWERS = {"edit": edit, "try": attempt, "ask": ask, "save": save, "mend": mend, "place": place, "alive": alive}
+ANSWERS = {"edit": edit, "try": attempt, "ask": ask, "save": save, "mend": mend, "place": place, "seek": seek,
+           "look": look, "looked": looked, "alive": alive}

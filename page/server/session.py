@@ -8,10 +8,12 @@ import tempfile
 import time
 
 import exporting
+import looking
 import mending
 import saving
 from child import DEPTH, Child, Ended
 from paths import shown, why_not_writable
+from programs import NotFound
 
 # Bytes of a map that opens.
 MOST_BYTES = 67_108_864
@@ -59,7 +61,7 @@ class Session:
     """A map, what was done to it, and the file that it is saved in."""
 
     def __init__(self, programs, map_path, out):
-        """`programs` finds the four programs."""
+        """`programs` finds the five programs."""
         self.programs, self.out = programs, out
         # as they are shown
         self.name, self.file = shown(map_path.name), shown(out)
@@ -68,6 +70,8 @@ class Session:
         self.states = collections.deque([0], maxlen=MOST_UNDOS + 1)
         self.newest_state = self.saved_state = 0
         self.child = self.opening = self.lost = self.fault = self.mended_by = None
+        # the look at overlaps and gaps that was begun last, and how many there were
+        self.looked, self.looks = None, 0
         self.findings, self.is_mendable = [], False
         # what FILE holds, as far as is known here, and what was written in it; of MAP that is read while it is opened
         self.is_saved_over = out == map_path
@@ -224,8 +228,7 @@ class Session:
         """A file without a name, with what border_export makes of the map."""
         edited, made = self.scratch / "edited.json", self.scratch / "made.geojson"
         try:
-            with open(edited, "wb") as file, contextlib.closing(self.child.document()) as pieces:
-                file.writelines(pieces)
+            self._write_text(edited)
             exporting.export(self.programs.path("border_export"), edited, made)
             return open(made, "rb")
         except exporting.NotExported as why:
@@ -262,6 +265,46 @@ class Session:
             line, answer = entry["line"], entry["answer"]
             rows.append(line if is_accepted(answer) else comment(f"{answer}: {line}"))
         return "".join(row + "\n" for row in rows).encode()
+
+    # ---- overlaps and gaps
+
+    def look(self, width):
+        """Begins to look for overlaps and gaps in the map as it is. The look before is given up."""
+        self._must_be_open()
+        self.end_look()
+        try:
+            program = self.programs.path("border_cover")
+        except NotFound:
+            return {"missing": True}
+        self.looks += 1
+        text = self.scratch / f"looked-{self.looks}.json"
+        try:
+            self._with_child(lambda: self._write_text(text))
+            self.looked = looking.Look(program, text, width)
+        except OSError as fault:
+            raise Refusal(f"the map can't be handed to border_cover: {fault.strerror}") from None
+        finally:
+            if self.looked is None:
+                text.unlink(missing_ok=True)
+        return {"look": self.looks, "missing": False, "proved": self.programs.are_proved}
+
+    def _write_text(self, path):
+        """Writes the text of the map in a file."""
+        with open(path, "wb") as file, contextlib.closing(self.child.document()) as pieces:
+            file.writelines(pieces)
+
+    def look_that_is(self, number):
+        """The look with a number, whose report is waited for."""
+        if self.looked is None or number != self.looks or self.looked.is_awaited:
+            raise Refusal("there is no such look any more")
+        self.looked.is_awaited = True
+        return self.looked
+
+    def end_look(self):
+        """Gives the look up that was begun last."""
+        if self.looked is not None:
+            self.looked.end()
+            self.looked = None
 
     # ---- editing
 
@@ -450,7 +493,8 @@ class Session:
         return None
 
     def end(self):
-        """Ends border_edit, and removes what was kept meanwhile."""
+        """Ends border_edit and border_cover, and removes what was kept meanwhile."""
+        self.end_look()
         for child in (self.child, self.opening):
             if child is not None:
                 child.end()

@@ -1,8 +1,12 @@
-// Drawn edits of all kinds, given to border_edit and, where it accepts them, to the model of the page.
-import { spawn } from "node:child_process";
-import { readFileSync } from "node:fs";
+// Drawn edits of all kinds, given to border_edit and, where it accepts them, to the model of the page; and the outlines of
+// all overlaps and gaps that border_cover finds on the way.
+import { execFile, spawn } from "node:child_process";
+import { mkdtempSync, readFileSync, rmSync, writeFileSync } from "node:fs";
+import { tmpdir } from "node:os";
+import { join } from "node:path";
 import { Model, orderAfter, parsed } from "../web/model.js";
 import { isCounted } from "../web/counts.js";
+import { shapesOf } from "../web/faces.js";
 import { areaOfFeature } from "../web/measures.js";
 
 /** A running border_edit: one answer for each line. */
@@ -46,10 +50,28 @@ class Child {
       lines.push(line);
       line = await new Promise((answered, failed) => this.waiting.push({ answered, failed }));
     }
-    return { topology: parsed(lines.join("\n")), count: line };
+    return { text: lines.join("\n"), topology: parsed(lines.join("\n")), count: line };
   }
 
   close() { this.process.stdin.end(); }
+}
+
+/**
+ * The faces that border_cover finds in a text: of each its features, as they stand in the text, its area, and the segment
+ * that names it.
+ * @returns {Promise<{features: number[], area: string, segment: number[]}[]>}
+ */
+async function facesIn(program, text, folder) {
+  const file = join(folder, "text.json");
+  writeFileSync(file, text);
+  const report = await new Promise((done, failed) => {
+    execFile(program, [file, "--most", "4000000"], { maxBuffer: 2 ** 30 }, (fault, out, said) => {
+      if (fault && fault.code !== 1) failed(new Error(`border_cover: ${said || fault}`)); else done(out);
+    });
+  });
+  const faces = report.matchAll(/^(?:overlap|twice|gap|lake) ([\d ]+) \/ (\d+) \d+ \/ (.+)$/gm);
+  const numbers = text => text.split(" ").map(Number);
+  return Array.from(faces, ([, features, area, segment]) => ({ features: numbers(features), area, segment: numbers(segment) }));
 }
 
 /** Numbers below n, the same for the same seed. */
@@ -116,9 +138,11 @@ function merges(model, rand, num, kind) {
 
 /** All that is done to one map. */
 class Run {
-  constructor(program, map, { edits, every, seed }) {
-    Object.assign(this, { map, edits, every, rand: source(seed), child: new Child(program, map) });
-    Object.assign(this, { log: [], tally: {}, done: 0, compared: 0, isFile: false });
+  constructor(programs, map, { edits, every, seed }) {
+    Object.assign(this, { map, edits, every, rand: source(seed), child: new Child(programs.edit, map) });
+    this.cover = programs.cover;
+    Object.assign(this, { log: [], tally: {}, done: 0, compared: 0, faces: 0, isFile: false });
+    this.folder = mkdtempSync(join(tmpdir(), "drawn_edits-"));
   }
 
   /** The map as the page has it first: as its file has it, where that counts nothing twice; else from the text. */
@@ -146,6 +170,7 @@ class Run {
       await this.compare();
     } finally {
       this.child.close();
+      rmSync(this.folder, { recursive: true });
     }
   }
 
@@ -205,10 +230,11 @@ class Run {
   }
 
   async compare() {
-    const { model, child } = this, { topology, count } = await child.document(), { features, vertices, segments } = model.counts;
+    const { model, child } = this, { text, topology, count } = await child.document(), { features, vertices, segments } = model.counts;
     const counts = `features ${features} vertices ${vertices} segments ${segments}`;
     const fault = model.differs(topology) || (String(orderAfter(this.first, this.log)) !== String(model.order) && "order")
-      || (count !== counts && `${counts}, and not ${count}`) || await this.differentArea() || this.differentHit(topology);
+      || (count !== counts && `${counts}, and not ${count}`) || await this.differentArea() || this.differentHit(topology)
+      || await this.differentFace(text);
     if (fault) throw new Error(`${fault}, after ${JSON.stringify(this.log.slice(-4))}`);
     this.compared++;
   }
@@ -220,6 +246,18 @@ class Run {
     const num = model.order[rand(model.order.length)], twice = Number(await child.ask(`area ${num}`));
     const found = 2 * areaOfFeature(model, model.feature(num)).grid;
     return Math.abs(found - twice) <= 1e-9 * Math.abs(twice) ? null : `area of ${num}: ${found}, ${twice}`;
+  }
+
+  /** The outlines of all faces that border_cover finds: each has its area, so no island is missing or too much. */
+  async differentFace(text) {
+    const { model } = this, told = await facesIn(this.cover, text, this.folder);
+    const faces = told.map(face => ({ ...face, layer: model.feature(model.order[face.features[0]]).layer }));
+    this.faces += faces.length;
+    const steps = shapesOf(model.shot(), faces);
+    let step = steps.next();
+    while (!step.done) step = steps.next();
+    const wrong = faces.find((_, i) => !step.value[i]?.isWhole);
+    return wrong ? `face ${JSON.stringify(wrong)}` : null;
   }
 
   /** How far the nearest vertex of a layer that is shown is, by a look at all of them. */
@@ -247,15 +285,15 @@ class Run {
 }
 
 /**
- * Draws edits of a map. Answers how many were made, how often all was compared, whether the model began with the file, and
- * what differed.
- * @param {string} program
+ * Draws edits of a map. Answers how many were made, how often all was compared, how many faces there were, whether the model
+ * began with the file, and what differed.
+ * @param {{edit: string, cover: string}} programs
  * @param {string} map
  * @param {{edits: number, every: number, seed: number}} given
  */
-export async function drawEdits(program, map, given) {
-  const run = new Run(program, map, given);
+export async function drawEdits(programs, map, given) {
+  const run = new Run(programs, map, given);
   let fault = "";
   try { await run.go(); } catch (error) { fault = error.stack; }
-  return { done: run.done, compared: run.compared, isFile: run.isFile, tally: run.tally, fault };
+  return { done: run.done, compared: run.compared, faces: run.faces, isFile: run.isFile, tally: run.tally, fault };
 }

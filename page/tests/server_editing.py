@@ -224,7 +224,8 @@ def two_pages(checks):
             checks.same("the second page", (second["owner"], len(second["log"])), (first + 1, 1))
             for name, given in [("edit", {"act": 1, "lines": ["undo"]}), ("try", {"line": "move 0 0 1 1"}),
                                 ("ask", {"lines": ["count"]}),
-                                ("save", {}), ("alive", {}), ("mend", {})]:
+                                ("save", {}), ("alive", {}), ("mend", {}), ("seek", {}), ("look", {}),
+                                ("looked", {"look": 1})]:
                 status, said = page.post(name, owner=first, **given)
                 checks.same(f"{name} of the first", (status, said.get("closed")), (409, True))
             checks.same("nothing was saved", (files / "out.json").exists(), False)

@@ -30,3 +30,35 @@ def of_squares(texts):
     arcs = json.dumps(arcs, separators=(",", ":"))
     land = '{"type":"GeometryCollection","geometries":[' + shapes + "]}"
     return '{"type":"Topology","objects":{"land":' + land + '},"arcs":' + arcs + "}"
+
+
+def box(x, y, u, v):
+    """The positions of a box as a ring in a text: from its lower left corner on, with what is in it on the left."""
+    return f"{x} {y}, {u} {y}, {u} {v}, {x} {v}"
+
+
+def positions_in(text, right):
+    """The positions in a text, moved to the right."""
+    return [(int(x) + right, int(y)) for x, y in (position.split(" ") for position in text.split(", "))]
+
+
+def of_layers(layers, apart=0):
+    """A map of layers, each so far to the right of the one before. Each has a list of features, each of these its
+    polygons, each of these its rings, as texts with `;` between. Each segment is an arc, since a border stands once
+    alone."""
+    arcs, objects = {}, {}
+
+    def index_of(start, end):
+        if (end, start) in arcs:
+            return ~arcs[end, start]
+        return arcs.setdefault((start, end), len(arcs))
+
+    def ring_of(text, right):
+        ring = positions_in(text, right)
+        return [index_of(start, end) for start, end in zip(ring, ring[1:] + ring[:1])]
+
+    for place, (name, features) in enumerate(layers.items()):
+        shapes = [{"type": "MultiPolygon", "arcs": [[ring_of(ring, apart * place) for ring in polygon.split("; ")]
+                                                    for polygon in polygons]} for polygons in features]
+        objects[name] = {"type": "GeometryCollection", "geometries": shapes}
+    return json.dumps({"type": "Topology", "objects": objects, "arcs": list(arcs)}, separators=(",", ":"))

@@ -20,7 +20,7 @@ sys.path[:0] = [str(PAGE), str(PAGE / "server")]
 
 import programs
 
-NAMES = ("border_edit", "border_show", "border_mend", "border_export")
+NAMES = ("border_edit", "border_show", "border_mend", "border_export", "border_cover")
 PATHS = {name: os.path.abspath(programs.find(name)[0]) for name in NAMES}
 # Seconds that a request, or the start of a server, may take on a busy machine.
 PATIENCE = 60

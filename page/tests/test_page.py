@@ -13,6 +13,8 @@ sys.path.insert(1, str(pathlib.Path(__file__).resolve().parents[1]))
 
 from browser import By, Keys, Page, new_folder, start_browser
 from page_checks import COUNTS, act_of, document, is_map, put, same, true, verbs
+from page_covering import (COVERED, HOSTILE_PAIR, covering, test_covering, test_covering_hostile, test_covering_troubles,
+                           test_not_covering)
 from page_files import files_and_tabs, test_mending, test_not_mendable
 from page_geojson import GEOJSON, ROUNDED, exporting, test_geojson, test_geojson_mended
 from page_keys import by_keys
@@ -438,6 +440,11 @@ def run_all(driver, folder, downloads):
     with_page(driver, columbus, ["--out", folder / "keys.json"], by_keys)
     with_page(driver, put(folder, "layers.json", TWO_LAYERS), [], test_layers)
     with_page(driver, put(folder, "hostile.json", HOSTILE), [], test_hostile)
+    covered = shutil.copy(COVERED, folder / "covered.json")
+    with_page(driver, covered, [], test_covering)
+    with_page(driver, covered, [], lambda page: test_covering_troubles(page, folder), **covering(folder))
+    with_page(driver, covered, [], test_not_covering, BORDER_COVER=str(folder / "none"))
+    with_page(driver, put(folder, "pair.json", HOSTILE_PAIR), [], test_covering_hostile)
     wards = shutil.copy(EXAMPLES / "wards.json", folder / "wards.json")
     with_page(driver, wards, ["--out", mended], lambda page: test_mending(page, mended))
     with_page(driver, put(folder, "broken.json", '{"type":"Topology",'), [], test_not_mendable)

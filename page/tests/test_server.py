@@ -1,8 +1,8 @@
 #!/usr/bin/env python3
 """Tests the server of the page without a browser. A line for each check; status 1 where one failed.
 
-The programs are found as `./edit` finds them; BORDER_EDIT, BORDER_SHOW, BORDER_MEND and BORDER_EXPORT name others. Arguments are names
-of groups, to run these alone.
+The programs are found as `./edit` finds them; BORDER_EDIT, BORDER_SHOW, BORDER_MEND, BORDER_EXPORT and BORDER_COVER name others.
+Arguments are names of groups, to run these alone.
 """
 import concurrent.futures
 import signal
@@ -11,6 +11,7 @@ import time
 
 from server_check import Checks
 import server_asking
+import server_covering
 import server_dying
 import server_editing
 import server_ending
@@ -23,7 +24,7 @@ import server_starting
 
 # The groups that take longest come first.
 MODULES = [server_large, server_ending, server_socket, server_dying, server_starting, server_opening, server_saving,
-           server_geojson, server_asking, server_editing]
+           server_geojson, server_covering, server_asking, server_editing]
 # Groups that are run at once: most of the time a group waits for a server.
 AT_ONCE = 4
 

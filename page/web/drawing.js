@@ -2,21 +2,19 @@
 /** Draws a map on a canvas, in short steps so that the page stays quick: each function gives way often. */
 import { nameOf } from "./names.js";
 import { meets } from "./boxes.js";
+import { hatchFaces, numberFaces } from "./hatching.js";
 import { pieceOf } from "./pieces.js";
+import { across, down, traceWay } from "./screen.js";
 
 /** @typedef {import("./model.js").Model} Model */
 /** @typedef {import("./pieces.js").Feature} Feature */
 /** @typedef {import("./boxes.js").Box} Box */
+/** @typedef {import("./screen.js").Frame} Frame */
 /** @typedef {Generator<void, void, void>} Steps */
-/**
- * Where a picture is: the position of the grid in its middle, pixels for a unit (`ky` is below 0 where y grows downwards),
- * half its width and height, and the box that it shows.
- * @typedef {{x: number, y: number, kx: number, ky: number, halfWidth: number, halfHeight: number, box: Box}} Frame
- */
 /**
  * What is to be drawn.
  * @typedef {{model: Model, without: Set<number> | null, underlay: import("./underlay.js").Line[], showNames: boolean,
- *   colouring: import("./colours.js").Colouring | null}} Contents
+ *   colouring: import("./colours.js").Colouring | null, covered: import("./hatching.js").Covered | null}} Contents
  */
 
 export const SEA = "#e9eef1";
@@ -26,17 +24,6 @@ const MOST_FILLED = 250000, MOST_NAMES = 260, MOST_VERTICES = 5000;
 /** positions that are filled, and segments that are drawn, before it gives way; one stroke for some hundreds of segments is
  * faster than one for all */
 const FILL_STEP = 3000, STROKE_STEP = 400;
-
-/**
- * @param {Frame} frame
- * @param {number} x
- */
-const across = (frame, x) => (x - frame.x) * frame.kx + frame.halfWidth;
-/**
- * @param {Frame} frame
- * @param {number} y
- */
-const down = (frame, y) => frame.halfHeight - (y - frame.y) * frame.ky;
 
 /**
  * Draws all of a map. Answers whether vertices were few enough to be drawn.
@@ -55,10 +42,13 @@ export function* drawMap(ctx, frame, contents) {
   model.eachPiece(frame.box, (_, i) => { if (!without || !without.has(i)) pieces.push(i); });
   yield;
   yield* strokeBorders(ctx, frame, model, pieces);
+  if (contents.covered) yield* hatchFaces(ctx, frame, model, contents.covered);
   const vertices = pieces.reduce((sum, i) => sum + verticesOf(model.pieces[i]), 0), isRoom = vertices < MOST_VERTICES;
   if (isRoom) markVertices(ctx, frame, model, pieces);
   yield;
-  if (contents.showNames && seen.length <= MOST_NAMES) yield* writeNames(ctx, frame, model, seen);
+  const numbers = contents.covered ? numberFaces(ctx, frame, model, contents.covered) : [];
+  yield;
+  if (contents.showNames && seen.length <= MOST_NAMES) yield* writeNames(ctx, frame, model, seen, numbers);
   return isRoom;
 }
 
@@ -137,28 +127,6 @@ export function tracePath(ctx, frame, model, feature, step, moved) {
     ctx.closePath();
   }
   return size;
-}
-
-/**
- * Puts positions in the path of a canvas.
- * @param {CanvasRenderingContext2D} ctx
- * @param {Frame} frame
- * @param {{xy: Float64Array, from: number, to: number}} way
- * @param {number} step pixels: a position that is nearer to the last one is passed over, but the last one of all
- * @returns {number} how many segments are drawn
- */
-function traceWay(ctx, frame, { xy, from, to }, step) {
-  let lastX = across(frame, xy[from]), lastY = down(frame, xy[from + 1]), drawn = 0;
-  ctx.moveTo(lastX, lastY);
-  for (let k = from + 2; k < to; k += 2) {
-    const sx = across(frame, xy[k]), sy = down(frame, xy[k + 1]);
-    if (k + 2 < to && Math.abs(sx - lastX) < step && Math.abs(sy - lastY) < step) continue;
-    ctx.lineTo(sx, sy);
-    lastX = sx;
-    lastY = sy;
-    drawn++;
-  }
-  return drawn;
 }
 
 /**
@@ -241,9 +209,10 @@ function markVertices(ctx, frame, model, pieces) {
  * @param {Frame} frame
  * @param {Model} model
  * @param {number[]} seen
+ * @param {Box[]} taken where something stands already
  * @returns {Steps}
  */
-function* writeNames(ctx, frame, model, seen) {
+function* writeNames(ctx, frame, model, seen, taken) {
   ctx.font = "12px system-ui, sans-serif";
   ctx.textAlign = "center";
   ctx.textBaseline = "middle";
@@ -251,8 +220,6 @@ function* writeNames(ctx, frame, model, seen) {
   ctx.lineJoin = "round";
   ctx.strokeStyle = "rgba(255,255,255,0.85)";
   ctx.fillStyle = LABEL;
-  /** @type {Box[]} */
-  const taken = [];
   for (const num of seen) {
     const feature = model.features.get(num), place = feature && widestPlace(model, feature, frame.box);
     if (!place) continue;

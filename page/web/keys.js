@@ -16,7 +16,7 @@ const ARROWS = { ArrowLeft: [-1, 0], ArrowRight: [1, 0], ArrowUp: [0, -1], Arrow
 export class Keys {
   /**
    * @param {Tools} tools
-   * @param {{save: () => void, thin: () => void, discard: () => boolean}} acts
+   * @param {{save: () => void, thin: () => void, discard: () => boolean, cover: () => void}} acts
    */
   constructor(tools, acts) {
     this.tools = tools;
@@ -32,7 +32,7 @@ export class Keys {
       m: () => { if (editor.canEdit) features.merge(); },
       F2: () => { if (editor.canEdit) features.rename(); },
       t: () => { if (editor.canEdit) acts.thin(); },
-      f: () => view.fit(editor.model.extent()),
+      f: () => view.fit(editor.model.extent()), o: () => acts.cover(),
       "/": () => by("find").focus(), "?": () => showHelp(),
       "+": () => zoom(1.5), "=": () => zoom(1.5), "-": () => zoom(1 / 1.5),
       Escape: () => this.stop(),

@@ -18,6 +18,24 @@ export function splitWords(line) {
 export const isChange = answer => answer.startsWith("ok") && answer !== "ok 0";
 
 /**
+ * How many acts are between the map as it was before some lines and as it is after them: those that were made, and
+ * those from before that were taken back.
+ * @param {{line: string, answer: string, act: number}[]} log
+ */
+export function actsBetween(log) {
+  /** @type {number[]} */
+  const made = [];
+  /** @type {Set<number>} */
+  const takenBack = new Set();
+  for (const { line, answer, act } of log) {
+    if (!isChange(answer)) continue;
+    if (line !== "undo") made.push(act);
+    else if (made.pop() === undefined) takenBack.add(act);
+  }
+  return new Set(made).size + takenBack.size;
+}
+
+/**
  * The numbers of the features in the order of the text, after some lines and their answers.
  * @param {number} count how many features there are before
  * @param {[string, string][]} log

@@ -1,5 +1,6 @@
 // @ts-check
 /** Puts the parts of the page together. */
+import { Covering } from "./covering.js";
 import { isAsking, showHelp } from "./dialogs.js";
 import { by } from "./dom.js";
 import { early } from "./early.js";
@@ -61,15 +62,18 @@ async function open(began, drawn) {
   const panel = new Panel(editor, layers, units, new Measuring(editor.model, units));
   const features = new Features(editor, panel), tools = new Tools(editor, panel, features);
   const thinning = new Thinning(editor, panel), files = new Files(editor, panel, began);
+  const covering = new Covering(editor, panel);
   editor.view.layers.push(ctx => paint(ctx, tools));
   wireEdits(tools, features, thinning);
   wireView(files);
+  const showList = wireTabs();
   wireFind(panel, tools);
   const discard = () => { const { isOpen } = thinning; if (isOpen) thinning.discard(); return isOpen; };
-  new Keys(tools, { save: () => files.save(), thin: () => thinning.open(), discard });
+  const cover = () => { showList("cover"); by("look").focus(); };
+  new Keys(tools, { save: () => files.save(), thin: () => thinning.open(), discard, cover });
   talk.socket.open(began.socket);
   // for tests
-  Object.assign(window, { editor, tools });
+  Object.assign(window, { editor, tools, covering });
   panel.show();
   by("busy").hidden = true;
   by("map").focus();
@@ -124,7 +128,6 @@ function wireView(files) {
   by("down").checked = view.down;
   by("down").addEventListener("change", () => view.turn());
   by("names").addEventListener("change", () => { view.showNames = by("names").checked; view.change(); });
-  wireTabs();
 }
 
 /**
@@ -141,9 +144,9 @@ function wireFind(panel, tools) {
   });
 }
 
-/** The lists beside the map: one is shown, arrows go from tab to tab. */
+/** The lists beside the map: one is shown, arrows go from tab to tab. Answers what shows a list. */
 function wireTabs() {
-  const tabs = [["tabLayers", "layers"], ["tabEdits", "edits"]];
+  const tabs = [["tabLayers", "layers"], ["tabEdits", "edits"], ["tabCover", "cover"]];
   const show = (/** @type {number} */ at) => tabs.forEach(([tab, list], i) => {
     by(tab).setAttribute("aria-selected", String(i === at));
     by(tab).tabIndex = i === at ? 0 : -1;
@@ -152,11 +155,14 @@ function wireTabs() {
   tabs.forEach(([tab], i) => {
     by(tab).addEventListener("click", () => show(i));
     by(tab).addEventListener("keydown", (/** @type {KeyboardEvent} */ e) => {
-      if (e.key !== "ArrowLeft" && e.key !== "ArrowRight") return;
-      show(1 - i);
-      by(tabs[1 - i][0]).focus();
+      const step = { ArrowLeft: tabs.length - 1, ArrowRight: 1 }[e.key];
+      if (!step) return;
+      const next = (i + step) % tabs.length;
+      show(next);
+      by(tabs[next][0]).focus();
     });
   });
+  return (/** @type {string} */ list) => show(tabs.findIndex(each => each[1] === list));
 }
 
 setInterval(() => { if (!editor.isClosed) talk.alive().catch(fault => editor.fail(fault)); }, ALIVE);

@@ -1,8 +1,8 @@
 // @ts-check
 /** Lengths and areas in words: in the map's own unit, and in kilometres where that may be a degree. */
-import { areaOfFeature, lengthOfChain } from "./measures.js";
+import { areaOfFeature, areaOfRing, lengthOfChain } from "./measures.js";
 import { readable } from "./units.js";
-import { TEXT } from "./words.js";
+import { grouped, TEXT } from "./words.js";
 
 export class Measuring {
   /**
@@ -45,5 +45,26 @@ export class Measuring {
     const own = this.squares(this.units.areaOfTwice(Number(twice))), feature = this.model.features.get(num);
     if (!this.model.isDegrees || !feature) return own;
     return TEXT.ifDegrees(own, `${readable(areaOfFeature(this.model, feature).value)} km²`);
+  }
+
+  /**
+   * The area of a face, and its width: twice the area by the length of its border. On the grid the width is what
+   * border_cover tells, which is rounded up.
+   * @param {{area: string, width: string}} face
+   * @param {import("./faces.js").Shape | null} shape
+   */
+  face({ area, width }, shape) {
+    const { units, model } = this, own = units.areaOfTwice(Number(area));
+    const squares = this.squares(own), onGrid = grouped(width);
+    if (!shape || !units.hasUnit) return TEXT.faceOnGrid(squares, onGrid);
+    const { ways } = shape, sum = (/** @type {number[]} */ all) => all.reduce((one, other) => one + other, 0);
+    const border = sum(ways.map(way => units.length(way) + units.length([...way.slice(-2), ...way.slice(0, 2)])));
+    const ownWidth = `${readable((2 * own) / border)} ${this.unit}`;
+    if (!model.isDegrees) return TEXT.faceSize(squares, ownWidth, onGrid);
+    // islands are no part of it
+    const land = sum(ways.map((way, i) => (i ? -1 : 1) * areaOfRing(model, way).value));
+    const across = (2 * land) / sum(ways.map(way => lengthOfChain(model, way, true).value));
+    const [landText, acrossText] = [`${readable(land)} km²`, `${readable(across)} km`];
+    return TEXT.faceSize(TEXT.ifDegrees(squares, landText), TEXT.ifDegrees(ownWidth, acrossText), onGrid);
   }
 }

@@ -12,7 +12,8 @@ import { countAll, recounted } from "./counts.js";
 /** @typedef {import("./counts.js").Counts} Counts */
 /**
  * A part of a border: the positions of `xy` from `from` up to `to`. `users` has the number of a feature once for each ring
- * that takes the piece. Positions and users are never written over: a change gives the piece others.
+ * that takes the piece. Positions and users are never written over: a change of users gives the piece others, and a change of
+ * positions puts another piece in its place.
  * @typedef {{xy: Way, from: number, to: number, users: number[]}} Piece
  */
 /**
@@ -25,6 +26,7 @@ import { countAll, recounted } from "./counts.js";
  *   collection: number, layer: number, box: Box}} Feature
  */
 /** @typedef {{name: string, isShown: boolean}} Layer */
+/** @typedef {{pieces: Piece[], features: Feature[], order: number[]}} Shot */
 /**
  * How arcs are cut into pieces: the first piece of each arc, and the end of the last one; whether each arc is one piece, which then
  * has its number; and how many pieces all further rings may have.
@@ -172,6 +174,12 @@ export class Pieces {
     return feature;
   }
 
+  /**
+   * The borders as they are now, which stay so whatever is changed here.
+   * @returns {Shot}
+   */
+  shot() { return { pieces: this.pieces.slice(), features: [...this.features.values()], order: this.order }; }
+
   // ---- rings and places
 
   /**
@@ -286,7 +294,7 @@ export class Pieces {
    */
   setWay(i, xy) {
     this.notePiece(i);
-    Object.assign(this.pieces[i], { xy, from: 0, to: xy.length });
+    this.pieces[i] = { xy, from: 0, to: xy.length, users: this.pieces[i].users };
     this.index.put(i, boxOf(xy));
     this.widen(i);
   }

@@ -1,7 +1,7 @@
 // @ts-check
 /**
- * What the page asks of the server. Edits go one after the other, so that lines keep their order; no edit waits for the answer
- * to a question.
+ * What the page asks of the server. Edits go one after the other, so that lines keep their order; no edit waits for the
+ * answer to a question.
  */
 import { post } from "./early.js";
 import { Socket } from "./socket.js";
@@ -29,6 +29,19 @@ import { parsedStream } from "./topology.js";
 /**
  * `entries`: what the server put in its log. `counts`: the answer to `count` after it.
  * @typedef {{answers: string[], accepted: boolean, entries: LogEntry[], unsaved: boolean, counts: string}} Edited
+ */
+
+/**
+ * What border_cover found; numbers of features are those of the text. Areas are twice as large; they and widths are
+ * texts, since they may have more digits than a number of JavaScript. `count`: of how many features the first are
+ * named.
+ * @typedef {"overlap" | "twice" | "gap" | "lake"} Kind
+ * @typedef {{kind: Kind, features: number[], count: number, area: string, width: string, segment: number[]}} ToldFace
+ * @typedef {{feature: number, polygon: number, rings: string, even: string}} Uneven
+ * @typedef {Record<Kind, number> & {most: string}} Wide
+ * @typedef {{polygons: string, over: string, covered: string, gaps: string, within: string, layer: string}} Sums
+ * @typedef {Record<Kind | "uneven", number>} Counts
+ * @typedef {{faces: ToldFace[], uneven: Uneven[], wide: Wide[], sums: Sums[], counts: Counts}} Report
  */
 
 /** An answer of the server that is no answer to the question. */
@@ -183,6 +196,26 @@ export class Talk {
    * @returns {Promise<string>}
    */
   async picture(place) { return (await this.question("place", place)).picture; }
+
+  /**
+   * Looks for border_cover, which may have to be built. Whether that is still under way.
+   * @returns {Promise<boolean>}
+   */
+  async isBuilding() { return (await this.question("seek", {})).building; }
+
+  /**
+   * Begins to look for overlaps and gaps in the map as it is; `looked` has what is found.
+   * @param {string} width of what is found, at most; any where that is empty
+   * @returns {Promise<{look: number, missing: boolean, proved: boolean}>}
+   */
+  look(width) { return this.question("look", width === "" ? {} : { width: Number(width) }); }
+
+  /**
+   * What was found, or why nothing was.
+   * @param {number} look
+   * @returns {Promise<Report & {fault: string}>}
+   */
+  looked(look) { return this.question("looked", { look }); }
 
   alive() { return this.question("alive", {}); }
 

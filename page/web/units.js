@@ -25,7 +25,7 @@ export class Units {
     return (this.translate[axis] + this.scale[axis] * v).toFixed(Math.max(0, Math.min(9, digits)));
   }
 
-  /** @param {Way} way */
+  /** @param {ArrayLike<number>} way */
   length(way) {
     let sum = 0;
     for (let k = 2; k < way.length; k += 2) {

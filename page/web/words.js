@@ -3,7 +3,7 @@
 
 /**
  * A whole number with commas. The browser's own way takes longer at first than a small map takes to be read.
- * @param {number} n
+ * @param {number | bigint | string} n
  */
 export const grouped = n => String(n).replace(/\B(?=(\d{3})+$)/g, ",");
 
@@ -89,6 +89,19 @@ const FINDINGS = [
 ];
 
 /**
+ * Why overlaps and gaps were not looked for.
+ * @type {[RegExp, string][]}
+ */
+const COVER_FAULTS = [
+  [/^open: too large sides/, "The map has too many borders, or too many features lie upon each other."],
+  [/^open: too large bytes/, "The text of the map is larger than 64 MiB by now, and border_cover reads no more."],
+  [/^out of memory/, "There is too little memory."],
+  [/^(unswept|unlike) /, "A check of the work itself failed, which has never been seen. Please keep the map, and tell us."],
+  [/^map fault/, "The map could not be handed to border_cover."],
+  [/^no random seed/, "The system gave border_cover no random numbers."],
+];
+
+/**
  * @param {[RegExp, string][]} table
  * @param {string} text
  * @returns {string | null}
@@ -112,6 +125,44 @@ export function answerText(answer) {
 
 /** @param {string} fault */
 export const faultText = fault => fromTable(FAULTS, fault.trim().replace(/^open: /, "")) ?? fault;
+
+/** @param {string} fault */
+export const coverFaultText = fault => fromTable(COVER_FAULTS, fault.trim()) ?? faultText(fault);
+
+/**
+ * Several names, and how many more there are.
+ * @param {string[]} names
+ * @param {number} more
+ */
+function listed(names, more) {
+  if (more) return `${names.join(", ")} and ${grouped(more)} more`;
+  return names.length > 1 ? `${names.slice(0, -1).join(", ")} and ${names[names.length - 1]}` : names.join("");
+}
+
+/**
+ * What a face is.
+ * @param {import("./talk.js").Kind} kind
+ * @param {string[]} names of features
+ * @param {number} more how many features are not named
+ */
+export function faceText(kind, names, more) {
+  const features = listed(names, more);
+  switch (kind) {
+    case "overlap": return `${features} overlap`;
+    case "twice": return `${features} holds this twice`;
+    case "gap": return `Gap between ${features}`;
+    default: return `Lake in ${features}`;
+  }
+}
+
+/**
+ * Half of a whole number, exactly.
+ * @param {string} twice
+ */
+export function halved(twice) {
+  const whole = BigInt(twice), size = whole < 0n ? -whole : whole;
+  return `${whole < 0n ? "-" : ""}${grouped(size / 2n)}${size % 2n ? ".5" : ""}`;
+}
 
 /** @param {string} line */
 export const findingText = line => fromTable(FINDINGS, line.trim()) ?? line;
@@ -228,6 +279,46 @@ export const TEXT = {
   mendReason: (/** @type {string} */ reason) => sentence(reason),
   noPicture: (/** @type {string} */ reason) => `The place cannot be shown. ${sentence(reason)}`,
   mending: "Mending …",
+  coverLooking: "Looking for overlaps and gaps …",
+  coverBuilding: "border_cover is not there yet. It is built without proof, once, which takes about two minutes …",
+  coverMissing: "border_cover is not there, so overlaps and gaps cannot be looked for. An older build does not have it; " +
+    "./build proves and builds it.",
+  coverFailed: (/** @type {string} */ reason) => `Nothing was found out. ${sentence(reason)}`,
+  coverThinning: "Keep or discard the thinning first.",
+  coverWidth: "Give a whole number of grid units, from 0 to 1000000000000, or none.",
+  coverNow: "Looked at the map as it is now.",
+  coverOld: (/** @type {number} */ acts) =>
+    `Out of date: the map was looked at before the last ${acts === 1 ? "change" : `${grouped(acts)} changes`}.`,
+  coverNothing: "No overlaps and no gaps.",
+  coverNothingSo: (/** @type {string} */ width) => `No overlaps and no gaps that are at most ${grouped(width)} wide.`,
+  coverFirst: (/** @type {number} */ most) => `Of each kind the first ${grouped(most)} are listed.`,
+  coverKinds: { overlap: "Overlaps", twice: "Held twice", gap: "Gaps", lake: "Lakes" },
+  coverKindHelp: {
+    overlap: "Two or more features hold this land.",
+    twice: "Two parts of one feature hold this land.",
+    gap: "No feature holds this land, and two or more features lie around it.",
+    lake: "No feature holds this land, and one feature alone lies around it.",
+  },
+  coverKind: (/** @type {string} */ kind, /** @type {number} */ count) => `${kind} (${grouped(count)})`,
+  faceSize: (/** @type {string} */ area, /** @type {string} */ width, /** @type {string} */ grid) =>
+    `${area} · width ${width} · grid ${grid}`,
+  faceOnGrid: (/** @type {string} */ area, /** @type {string} */ width) => `${area} · width ${width} grid units`,
+  coverShown: (/** @type {number} */ number, /** @type {string} */ text) => `Shows number ${number}: ${text}`,
+  sumsUnit: "In square grid units, exactly.",
+  sumsUnits: "In square grid units, exactly; below, in square map units.",
+  sumsRows: [
+    "Areas of all features", "less what is held too often", "Land that some feature holds", "and gaps and lakes",
+    "All within the outer border",
+  ],
+  sumsClear: "The areas add up: no land is held twice, and within the outer border there is no gap.",
+  sumsOver: "Some land is held too often, so the areas of the features are more than the land.",
+  sumsGaps: "Within the outer border some land belongs to no feature.",
+  sumsNotch: "A gap that is open to the outside is none: it is not listed, and in no sum.",
+  coverUneven: (/** @type {string} */ name, /** @type {number} */ part, /** @type {string} */ rings, /** @type {string} */ even) =>
+    `${name}, part ${part}: a hole is not within its outer ring, or lies in another one. The area is ${rings} by its rings, ` +
+    `and ${even} by the rule that says what is inside.`,
+  coverWide: (/** @type {string} */ least, /** @type {string} */ most, /** @type {string} */ kinds) =>
+    `over ${least}, up to ${most}: ${kinds}`,
   mended: "Mended. Nothing is saved yet.",
 };
 
@@ -261,6 +352,7 @@ export const HELP = [
   { title: "Map and file", rows: [
     ["Thin the borders", "Thin, then the slider", "T, then arrows on the slider"],
     ["Measure", "Measure, then click along the way", "D, then Enter at each point"],
+    ["Look for overlaps and gaps", "Overlaps and gaps, at the right, then Look", "O, Enter"],
     ["Undo, redo", "Undo, Redo", "Ctrl+Z, Ctrl+Y"],
     ["Save", "Save", "Ctrl+S"],
     ["Stop what is under way", "", "Esc"],

@@ -6,10 +6,10 @@ use Rattle.ring_machine.specs.Common.{Text}
 use Rattle.layer_sides.specs.Common.{Polygon}
 use Rattle.layer_faces.specs.declared.sums.Sums.{Sums}
 use Rattle.cover_report.specs.Asked.{Wants}
-use Rattle.cover_report.specs.Counted.{counts_of}
+use Rattle.cover_report.specs.Counted.{counts_of, faces_of, uneven_of}
 use Rattle.cover_report.specs.Faces.{FaceTold}
 use Rattle.cover_report.specs.Layers.{LookedAt}
-use Rattle.cover_report.specs.Report.{face_line, findings_part, kind_word, lines}
+use Rattle.cover_report.specs.Report.{face_line, found_text, kind_word, lines, sum_line, wide_lines}
 use Rattle.cover_report.specs.declared.told.Counts.{Counts}
 use Rattle.closing_report.specs.declared.changes.PartsChange.{PartsChange}
 use Rattle.closing_report.specs.declared.changes.AreaChange.{AreaChange}
@@ -68,7 +68,8 @@ closed_counts_of faces before after = record {
 abbrev pub closed_report : Wants → List LookedAt → List DecidedTold → List (List Polygon) → List (List Polygon)
     → List (Text × Sums) → List ℕ
 closed_report wants looks faces before after now =
-    findings_part wants looks ++ (lines wants.most (λ x. closed_line x.0 x.1) (all_given faces)
+    found_text wants (faces_of looks) (uneven_of looks) ++ (wide_lines (faces_of looks) ++ (flat_map sum_line looks
+    ++ (lines wants.most (λ x. closed_line x.0 x.1) (all_given faces)
     ++ (lines wants.most left_line (all_left faces) ++ (lines wants.most parts_line (parts_from 0 before after)
     ++ (lines wants.most area_line (areas_from 0 before after) ++ (flat_map now_line now
-    ++ closed_counts_line (counts_of wants looks) (closed_counts_of faces before after))))))
+    ++ closed_counts_line (counts_of wants looks) (closed_counts_of faces before after))))))))

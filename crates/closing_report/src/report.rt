@@ -2,7 +2,10 @@
 use crate::changes::{area_changes, parts_changes};
 use crate::layers::{Closings, DecidedLayer};
 use crate::lines::{ClosedCounts, ClosedFace, LeftFace, push_all_now, push_closed_counts};
-use cover_report::{Asked, Counts, Feature, Looked, ToldFace, is_kind, push_findings, push_first};
+use cover_report::{
+    Asked, Counts, Feature, Looked, ToldFace, all_faces, all_uneven, is_kind, push_all_sums,
+    push_first, push_found, push_widths,
+};
 use face_closing::Decision;
 use layer_faces::Kind;
 use std::alloc::{AllocError, Allocator};
@@ -111,7 +114,11 @@ pub(crate) fn push_report<A: Allocator + Copy>(
     closings: &Closings<'_, A>,
 ) -> Result<Counts, AllocError> {
     let (looks, decided) = (closings.looks.as_slice(), closings.decided.as_slice());
-    let counts = push_findings(alloc, text, asked, looks)?;
+    let told = all_faces(alloc, looks)?;
+    let uneven = all_uneven(alloc, looks)?;
+    let counts = push_found(alloc, text, asked, told.as_slice(), uneven.as_slice())?;
+    push_widths(text, told.as_slice())?;
+    push_all_sums(text, looks)?;
     let faces = all_decided(alloc, looks, decided)?;
     let closed = closed_faces(alloc, faces.as_slice())?;
     push_first(text, closed.as_slice(), asked.most)?;

@@ -24,17 +24,17 @@ use topo_outline::RawLayer;
 
 /// What was found in a layer.
 #[derive(Drop)]
-pub(crate) struct Looked<'a, A: Allocator + Copy> {
+pub struct Looked<'a, A: Allocator + Copy> {
     /// The layer's name with its quotes, as it stands.
-    pub(crate) name: &'a [u8],
+    pub name: &'a [u8],
     /// What may be told of its faces.
-    pub(crate) faces: Vec<ToldFace<A>, A>,
-    pub(crate) uneven: Vec<UnevenPolygon, A>,
-    pub(crate) sums: Sums,
+    pub faces: Vec<ToldFace<A>, A>,
+    pub uneven: Vec<UnevenPolygon, A>,
+    pub sums: Sums,
 }
 
 /// What is told of a layer with this name, in which this was found.
-fn told_at<'a, A: Allocator + Copy>(
+pub fn told_at<'a, A: Allocator + Copy>(
     alloc: A,
     name: &'a [u8],
     owned: &Owned<A>,
@@ -81,6 +81,24 @@ fn look_in<'a, A: Allocator + Copy>(
     }
 }
 
+/// Looks at polygons of a layer with this name, and puts what is found behind what was found before.
+fn push_look<'a, A: Allocator + Copy>(
+    alloc: A,
+    looks: &mut Vec<Looked<'a, A>, A>,
+    name: &'a [u8],
+    owned: &Owned<A>,
+) -> Result<(), CoverFault<'a>>
+    requires owned { length owned.now.owners.items ≡ length owned.now.polygons.items }
+    requires proper { IsProperLayer (polygons_seen owned.now.polygons.items) }
+    ensures looked { OnOk result (AddsLook (owned_layer name.now owned.now)
+        (map view_looked looks.old.items) (map view_looked looks.new.items)) }
+    ensures fault { IfErr result IsLookFault }
+{
+    let looked = or_return!(look_in(alloc, name, owned));
+    looks.push(looked)?;
+    Ok(())
+}
+
 /// The layers that were looked at, and the features of those that were not come to yet.
 #[derive(Drop)]
 struct Looks<'a, A: Allocator + Copy> {
@@ -117,10 +135,10 @@ impl<'a, A: Allocator + Copy> Looks<'a, A> {
         let owned = next_polygons(alloc, &mut self.rest, self.first, count)?;
         self.first += count;
         if is_asked {
-            let looked = or_return!(look_in(alloc, layer.name, &owned));
-            self.looks.push(looked)?;
+            push_look(alloc, &mut self.looks, layer.name, &owned)
+        } else {
+            Ok(())
         }
-        Ok(())
     }
 }
 

@@ -7,12 +7,12 @@ use std::alloc::{AllocError, Allocator};
 
 /// A polygon whose area by its rings is not that by the even-odd rule, both twice as large.
 #[derive(Clone, Copy, Debug)]
-pub(crate) struct UnevenPolygon {
-    pub(crate) feature: usize,
+pub struct UnevenPolygon {
+    pub feature: usize,
     /// Its number among the polygons of the feature.
-    pub(crate) polygon: usize,
-    pub(crate) by_rings: i128,
-    pub(crate) even_odd: i128,
+    pub polygon: usize,
+    pub by_rings: i128,
+    pub even_odd: i128,
 }
 
 /// The number at a place of a list, and 0 behind its end.
@@ -22,6 +22,18 @@ fn number_or_zero(numbers: &[usize], at: usize) -> usize
     match numbers.get(at) {
         Some(number) => *number,
         None => 0,
+    }
+}
+
+/// What is told of a polygon of a layer.
+fn told_of(owners: &[usize], numbers: &[usize], uneven: &Uneven) -> UnevenPolygon
+    ensures { result ≡ uneven_told owners.now numbers.now uneven.now }
+{
+    UnevenPolygon {
+        feature: number_or_zero(owners, uneven.polygon),
+        polygon: number_or_zero(numbers, uneven.polygon),
+        by_rings: uneven.by_rings,
+        even_odd: uneven.even_odd,
     }
 }
 
@@ -37,12 +49,7 @@ pub(crate) fn uneven_told<A: Allocator + Copy>(
 {
     let mut found = Vec::new(alloc);
     for it in uneven {
-        found.push(UnevenPolygon {
-            feature: number_or_zero(owners, it.polygon),
-            polygon: number_or_zero(numbers, it.polygon),
-            by_rings: it.by_rings,
-            even_odd: it.even_odd,
-        })?;
+        found.push(told_of(owners, numbers, it))?;
     }
     Ok(found)
 }
