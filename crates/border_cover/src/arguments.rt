@@ -1,7 +1,7 @@
 //! What the arguments of the program ask for.
 ghost use Rattle.std.specs.Prelude.{◌≡◌, map, string_bytes, IfOk};
 ghost use Rattle.cover_report.specs.Common.{view_asked};
-ghost use Rattle.border_cover.specs.Asked.{wants_of};
+ghost use Rattle.border_cover.specs.Asked.{closes, wants_of};
 
 use crate::kinds::Kinds;
 use closing_report::{AskedClosing, Closing};
@@ -52,7 +52,11 @@ impl Arguments {
     }
 
     /// What is asked of a map that is closed: faces of these kinds, within the bounds.
-    pub(crate) fn asked_closing<'w>(&self, names: &'w [&'w str], kinds: Kinds) -> AskedClosing<'w> {
+    pub(crate) fn asked_closing<'w>(&self, names: &'w [&'w str], kinds: Kinds) -> AskedClosing<'w>
+        ensures report { map (λ name. name.now) names.now ≡ map string_bytes self.now.layers.items
+            → view_asked result.report ≡ wants_of self.now }
+        ensures closing { result.closing ≡ closes self.now kinds }
+    {
         AskedClosing {
             report: self.asked(names),
             closing: Closing {

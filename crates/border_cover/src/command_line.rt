@@ -1,7 +1,7 @@
 //! The arguments of the program, as clap reads them.
 ghost use Rattle.std.specs.Prelude.{◌≡◌, ◌++◌, ℕ, [], false, map, option_map, string_bytes, unwrap_or, IfOk, MatchOption};
 ghost use Rattle.clap.specs.Words.{app_of, found_of, rows_of, rule_of};
-ghost use Rattle.border_cover.specs.Asked.{AreAsked, AsksFor, IsBound, IsCount};
+ghost use Rattle.border_cover.specs.Asked.{AreAsked, AsksFor, IsBound, IsClosing, IsCount};
 ghost use Rattle.border_cover.specs.Asked.{cover_program, layer_rule, map_rule, option_rule};
 
 use crate::arguments::Arguments;
@@ -157,7 +157,10 @@ fn closing_of<'m>(
     close: Option<&'m str>,
     out: Option<&'m str>,
     is_bounded: bool,
-) -> Result<Option<(Kinds, &'m str)>, &'static str> {
+) -> Result<Option<(Kinds, &'m str)>, &'static str>
+    ensures { IfOk result (λ closing. IsClosing (option_map (λ text. text.now) close.entry)
+        (option_map (λ text. text.now) out.entry) is_bounded (option_map (λ x. (x.0, x.1.now)) closing)) }
+{
     match (close, out) {
         (None, None) => Ok(None),
         (Some(_), Some(_)) if !is_bounded => Err(BOUND),
@@ -166,6 +169,20 @@ fn closing_of<'m>(
             None => Err(CLOSE),
         },
         _ => Err(TOGETHER),
+    }
+}
+
+/// The same, with a copy of the path.
+fn with_copy(
+    alloc: Global,
+    closing: Option<(Kinds, &str)>,
+) -> Result<Option<(Kinds, String)>, AllocError>
+    ensures { IfOk result (λ copy. option_map (λ x. (x.0, string_bytes x.1)) copy
+        ≡ option_map (λ x. (x.0, x.1.now)) closing.entry) }
+{
+    match closing {
+        Some((kinds, path)) => Ok(Some((kinds, String::from_str(alloc, path)?))),
+        None => Ok(None),
     }
 }
 
@@ -178,10 +195,7 @@ fn asked(alloc: Global, matches: &ArgMatches<'_>) -> Result<Arguments, AskFault>
     let most = count_of(matches.get_str("most"))?;
     let is_bounded = width.is_some() || area.is_some();
     let closing = closing_of(matches.get_str("close"), matches.get_str("out"), is_bounded)?;
-    let closing = match closing {
-        Some((kinds, path)) => Some((kinds, String::from_str(alloc, path)?)),
-        None => None,
-    };
+    let closing = with_copy(alloc, closing)?;
     let layers = copies(alloc, matches.get_strs("layer").unwrap_or(&[]))?;
     // A parse gives MAP, since it is required.
     let map = String::from_str(alloc, matches.get_str("MAP").unwrap_or(""))?;

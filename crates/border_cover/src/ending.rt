@@ -1,7 +1,7 @@
 //! How a report ends the program: with which status, with what on standard output, and with which line.
-ghost use Rattle.std.specs.Prelude.{◌≡◌, None, Some, option_map, IfErr, OnErr, OnOk};
-ghost use Rattle.border_cover.specs.Endings.{TellsFault};
-ghost use Rattle.border_cover.specs.Status.{cover_status};
+ghost use Rattle.std.specs.Prelude.{◌≡◌, Err, None, Some, option_map, IfErr, OnErr, OnOk};
+ghost use Rattle.border_cover.specs.Endings.{TellsFault, TellsUnclosed};
+ghost use Rattle.border_cover.specs.Status.{closing_status, cover_status};
 
 use closing_report::{ClosedMap, ClosingFault};
 use cover_report::{Counts, CoverFault};
@@ -32,7 +32,11 @@ pub(crate) fn ending_of_report<'a>(
 }
 
 /// The ending where there is no report.
-fn ending_of_fault<'a>(fault: &'a CoverFault<'a>) -> Ending<'a> {
+fn ending_of_fault<'a>(fault: &'a CoverFault<'a>) -> Ending<'a>
+    ensures status { result.status ≡ cover_status (Err fault.now) }
+    ensures kept { result.file ≡ None }
+    ensures told { TellsFault fault.now result.line }
+{
     match fault {
         CoverFault::Open(OpenFault::OutOfMemory) => Ending::of_fault(3, Diagnostic::NoMemory),
         CoverFault::Open(fault) => Ending::of_fault(2, Diagnostic::Open(fault)),
@@ -48,7 +52,14 @@ fn ending_of_fault<'a>(fault: &'a CoverFault<'a>) -> Ending<'a> {
 pub(crate) fn ending_of_closing<'a>(
     outcome: &'a Result<ClosedMap, ClosingFault<'a>>,
     report: &'a [u8],
-) -> Ending<'a> {
+) -> Ending<'a>
+    ensures status { result.status ≡ closing_status outcome.now }
+    ensures printed { OnOk outcome.now
+        (option_map (λ text. text.now) result.file ≡ Some report.now) }
+    ensures silent { OnOk outcome.now (result.line ≡ None) }
+    ensures kept { OnErr outcome.now (result.file ≡ None) }
+    ensures told { IfErr outcome.now (λ fault. TellsUnclosed fault result.line) }
+{
     match outcome {
         Ok(_) => Ending {
             status: 0,

@@ -1,4 +1,6 @@
 //! The kinds of faces that are closed.
+ghost use Rattle.std.specs.Prelude.{IfSome};
+ghost use Rattle.border_cover.specs.Kinds.{IsKinds};
 
 /// The kinds of faces that are closed.
 #[derive(Clone, Copy, Debug, PartialEq, Eq)]
@@ -38,7 +40,9 @@ impl Kinds {
 }
 
 /// The kinds that words say, between which commas stand: each once, and one at least.
-pub(crate) fn kinds_of(text: &str) -> Option<Kinds> {
+pub(crate) fn kinds_of(text: &str) -> Option<Kinds>
+    ensures { IfSome result (IsKinds text.now) }
+{
     let mut kinds = Kinds::NONE;
     let mut rest = text;
     for _ in 0..3 {

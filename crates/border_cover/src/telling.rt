@@ -1,7 +1,8 @@
 //! The files of the program: what is read, what is written, and in which order.
-ghost use Rattle.std.specs.Prelude.{◌≡◌, IfErr, IfOk};
+ghost use Rattle.std.specs.Prelude.{◌≡◌, IsSome, IfErr, IfOk};
 ghost use Rattle.cover_report.specs.Common.{IsRefused, IsTold};
-ghost use Rattle.border_cover.specs.Asked.{wants_of};
+ghost use Rattle.border_cover.specs.Asked.{closes, wants_of};
+ghost use Rattle.closing_report.specs.Common.{IsClosedMap};
 
 use crate::arguments::Arguments;
 use crate::ending::{ending_of_closing, ending_of_report};
@@ -88,7 +89,10 @@ fn closed<'g>(
     given: Given<'g>,
     kinds: Kinds,
     report: &mut Vec<u8>,
-) -> Result<ClosedMap, ClosingFault<'g>> {
+) -> Result<ClosedMap, ClosingFault<'g>>
+    ensures { IfOk result (λ closed. IsClosedMap (wants_of given.entry.arguments.now) (closes given.entry.arguments.now kinds)
+        given.entry.map.now closed report.old.items report.new.items) }
+{
     let names = given.arguments.names(heap)?;
     let asked = given.arguments.asked_closing(names.as_slice(), kinds);
     close_map(heap, heap, given.seed, given.map, &asked, report)
@@ -105,7 +109,9 @@ fn say_closing_fault<E: Write>(fault: &ClosingFault<'_>, errors: &mut Errors<'_,
 }
 
 /// Writes the closed map in its file where nothing has failed before, and none after a fault.
-fn save<'a>(rt: &HostRuntime, ending: Ending<'a>, path: &str, text: &[u8]) -> Ending<'a> {
+fn save<'a>(rt: &HostRuntime, ending: Ending<'a>, path: &str, text: &[u8]) -> Ending<'a>
+    ensures { IsSome ending.entry.line → result ≡ ending.entry }
+{
     if ending.line.is_some() {
         return ending;
     }
