@@ -18,6 +18,11 @@ abbrev pub told_decided : List DecidedFace → List DecidedTold
 told_decided [] = []
 told_decided ((f, d) ∷ xs) = if is_found f.kind then (face_told f, d) ∷ told_decided xs else told_decided xs
 
+-- the decisions of those that may be told
+abbrev pub told_decisions : List DecidedFace → List Decision
+told_decisions [] = []
+told_decisions ((f, d) ∷ xs) = if is_found f.kind then d ∷ told_decisions xs else told_decisions xs
+
 -- a face that was closed, with the feature that holds it now
 abbrev pub given_of : Kind → DecidedTold → List (FaceTold × ℕ)
 given_of kind (f, Stays) = []

@@ -3,4 +3,5 @@ pub mod Decided
 pub mod Report
 pub mod Layers
 pub mod Closed
+pub mod Seen
 pub mod Common

@@ -1,4 +1,16 @@
 // The layers of a map, closed one after another.
+ghost use Rattle.std.specs.Prelude.{◌≡◌, ◌≤◌, List, length, map, IfOk};
+ghost use Rattle.std.specs.List.{zip};
+ghost use Rattle.grid_geometry.specs.Common.{Segment};
+ghost use Rattle.topo_outline.specs.Common.{leaves, view_layer};
+ghost use Rattle.topo_reader.specs.Uses.{feature_positions};
+ghost use Rattle.layer_sides.specs.Common.{IsProperLayer};
+ghost use Rattle.layer_faces.specs.Common.{faces_seen};
+ghost use Rattle.cover_report.specs.Layers.{polygons_in};
+ghost use Rattle.closing_report.specs.Decided.{told_decisions};
+ghost use Rattle.closing_report.specs.Layers.{AreClosings};
+ghost use Rattle.closing_report.specs.Seen.{closings_seen};
+
 use crate::asked::AskedClosing;
 use crate::fault::{ClosingFault, of_close};
 use cover_report::{
@@ -37,7 +49,10 @@ fn told_decisions<A: Allocator + Copy>(
     alloc: A,
     faces: &[Face<A>],
     decisions: &[Decision],
-) -> Result<Vec<Decision, A>, AllocError> {
+) -> Result<Vec<Decision, A>, AllocError>
+    ensures { IfOk result (λ told. (ss : List Segment)
+        → told.items ≡ told_decisions (zip (faces_seen ss faces.now) decisions.now)) }
+{
     let mut told = Vec::new(alloc);
     for (face, decision) in faces.iter().zip(decisions) {
         if is_found(face.kind) {
@@ -140,7 +155,13 @@ pub(crate) fn closings_of<'a, A: Allocator + Copy>(
     asked: &AskedClosing<'_>,
     layers: &[RawLayer<'a, A>],
     features: Vec<Feature<A>, A>,
-) -> Result<Closings<'a, A>, ClosingFault<'a>> {
+) -> Result<Closings<'a, A>, ClosingFault<'a>>
+    requires few { length (leaves (map view_layer layers.now)) ≤ 200000 }
+    requires proper { IsProperLayer (polygons_in (map feature_positions features.items)) }
+    ensures { IfOk result (λ closings. AreClosings (map (λ name. name.now) asked.now.report.layers.now)
+        asked.now.closing 0 (map view_layer layers.now) (map feature_positions features.items)
+        (map feature_positions closings.features.items) (closings_seen closings)) }
+{
     let mut closings = Closings {
         looks: Vec::new(alloc),
         decided: Vec::new(alloc),

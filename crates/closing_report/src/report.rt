@@ -1,4 +1,11 @@
 // The report of a map that was closed.
+ghost use Rattle.std.specs.Prelude.{◌≡◌, ◌++◌, flat_map, map, IfOk, OnOk};
+ghost use Rattle.topo_reader.specs.Uses.{feature_positions};
+ghost use Rattle.cover_report.specs.Asked.{view_asked};
+ghost use Rattle.cover_report.specs.Counted.{counts_of};
+ghost use Rattle.closing_report.specs.Report.{closed_report};
+ghost use Rattle.closing_report.specs.Seen.{closings_seen};
+
 use crate::changes::{area_changes, parts_changes};
 use crate::layers::{Closings, DecidedLayer};
 use crate::lines::{ClosedCounts, ClosedFace, LeftFace, push_all_now, push_closed_counts};
@@ -112,7 +119,14 @@ pub(crate) fn push_report<A: Allocator + Copy>(
     asked: &Asked<'_>,
     before: &[Feature<A>],
     closings: &Closings<'_, A>,
-) -> Result<Counts, AllocError> {
+) -> Result<Counts, AllocError>
+    ensures lines { OnOk result (text.new.items ≡ text.old.items ++ closed_report (view_asked asked.now)
+        (map (λ k. k.found) (closings_seen closings.now)) (flat_map (λ k. k.decided) (closings_seen closings.now))
+        (map feature_positions before.now) (map feature_positions closings.now.features.items)
+        (map (λ k. (k.found.name, k.now)) (closings_seen closings.now))) }
+    ensures counts { IfOk result (λ counts. counts
+        ≡ counts_of (view_asked asked.now) (map (λ k. k.found) (closings_seen closings.now))) }
+{
     let (looks, decided) = (closings.looks.as_slice(), closings.decided.as_slice());
     let told = all_faces(alloc, looks)?;
     let uneven = all_uneven(alloc, looks)?;
