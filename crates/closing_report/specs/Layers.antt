@@ -21,12 +21,12 @@ pub record ClosedLayer : Type 0 where
   pub now : Sums
 
 -- the faces of a layer that was looked at, which adds up to this
-pub record HasFaces (l : LayerOf) (faces : List FaceOf) (sums : Sums) : Type 0 where
+pub record HasFaces (l : LayerOf) (faces : List FaceOf) (s : Sums) : Type 0 where
   pub borders : List Bordering
   pub are_borders : AreBorders l.polygons borders
   pub are_faces : AreFaces l.polygons l.owners (map (λ b. b.segment) borders) faces
-  pub sums : AreSums l.polygons (map (λ b. b.segment) borders) faces sums
-  pub add_up : AddUp sums
+  pub sums : AreSums l.polygons (map (λ b. b.segment) borders) faces s
+  pub add_up : AddUp s
 
 -- the layer was closed to these polygons, whose features have these numbers
 pub record IsClosedTo (asked : Closing) (l after : LayerOf) (k : ClosedLayer) : Type 0 where

@@ -50,13 +50,13 @@ times_area n (features, area) = pos (count_by (λ m. m == n) features) *ℤ area
 
 -- the area of a face is added to the land of each of these features; the first place is that of the first number
 pub record AddsLand (first : ℕ) (features : List ℕ) (area : ℤ) (old new : List ℤ) : Type 0 where
-  pub length : length new ≡ length old
+  pub long : length new ≡ length old
   pub each : (k : ℕ) → k < length old
       → slice_index_or new k (pos 0) ≡ slice_index_or old k (pos 0) +ℤ times_area (first + k) (features, area)
 
 -- the areas of the land of features from a first number on, and of all land
 pub record IsLandFrom (first count : ℕ) (lands : List Held) (areas : List ℤ) (all : ℤ) : Type 0 where
-  pub length : length areas ≡ count
+  pub long : length areas ≡ count
   pub each : (k : ℕ) → k < count → slice_index_or areas k (pos 0) ≡ total (times_area (first + k)) lands
   pub all : all ≡ total (λ h. if is_any h.0 then h.1 else pos 0) lands
 

@@ -5,6 +5,6 @@ use Rattle.face_closing.proofs.land.add_land.Given as goal
 -- the face was added to the land of the features so far
 abbrev pub invariant-loop-feature : goal.invariant-loop-feature
 invariant-loop-feature l = record {
-  length : length l.areas ≡ length l.fn.areas;
+  long : length l.areas ≡ length l.fn.areas;
   added : HasAdded l.first l.area l.features l.feature-index l.fn.areas l.areas;
 }
