@@ -3,3 +3,4 @@ pub mod Making
 pub mod Placing
 pub mod Keeping
 pub mod Lands
+pub mod Hands

@@ -3,6 +3,7 @@ pub use Rattle.face_closing.specs.Asked.{asks_for, has_kind, is_area_at_most, is
 pub use Rattle.face_closing.specs.Decided.{AreDecided, DecidedFace, IsAllowed, given, if_held, land_after, land_of, land_then, stays, waits}
 pub use Rattle.face_closing.specs.Made.{AreMade}
 pub use Rattle.face_closing.specs.Held.{AreHeldSo, HasSide, IsAsDecided, IsHeldSo}
+pub use Rattle.face_closing.specs.Hands.{AllChangeHands, ChangesHands, FeatureHolds, HoldsThen}
 pub use Rattle.face_closing.specs.Remaining.{IsLeft, MayRemain, OnlyLeftRemain, was_gap}
 pub use Rattle.face_closing.specs.Areas.{AreasAgree, decided_area, decided_land, land_area}
 pub use Rattle.face_closing.specs.Kept.{HasToDo, OthersStay, gets, held, polygons_of}

@@ -2,6 +2,7 @@ pub mod Asked
 pub mod Decided
 pub mod Made
 pub mod Held
+pub mod Hands
 pub mod Remaining
 pub mod Areas
 pub mod Kept

@@ -8,6 +8,7 @@ ghost use Rattle.layer_sides.specs.Common.{IsProperLayer};
 ghost use Rattle.ring_parts.specs.Common.{polygons_seen};
 ghost use Rattle.face_closing.specs.Areas.{AreasAgree};
 ghost use Rattle.face_closing.specs.Decided.{AreDecided, IsAllowed};
+ghost use Rattle.face_closing.specs.Hands.{AllChangeHands};
 ghost use Rattle.face_closing.specs.Held.{AreHeldSo};
 ghost use Rattle.face_closing.specs.Kept.{OthersStay};
 ghost use Rattle.face_closing.specs.Layer.{IsLook, decided_in, faces_in};
@@ -141,6 +142,8 @@ pub fn close<A: Allocator + Copy>(
     ensures look { IfOk result (λ closed.
         IsLook (polygons_seen closed.polygons.items) closed.owners.items closed.look) }
     ensures held { IfOk result (λ closed. AreHeldSo (decided_in look.now closed) (faces_in closed.look)) }
+    ensures hands { IfOk result (λ closed. AllChangeHands owners.now (polygons_seen polygons.now) (decided_in look.now closed)
+        closed.owners.items (polygons_seen closed.polygons.items) (segments_seen closed.look.borders.items)) }
     ensures remains { IfOk result (λ closed.
         OnlyLeftRemain asked.now (decided_in look.now closed) (faces_in closed.look)) }
     ensures areas { IfOk result (λ closed. AreasAgree owners.now (decided_in look.now closed)
