@@ -1,5 +1,5 @@
 -- Who holds a side is who holds its face.
-use Rattle.kit_words.proofs.Common.{◌≡◌, ℕ, zero, suc, ◌<◌, ◌↔◌, refl, sym, ap, subst, ◌∙◌, arith, List, [], ◌∷◌, length, get_or, map, flat_map, Contains, All, inl, inr}
+use Rattle.kit_words.proofs.Common.{◌≡◌, ℕ, zero, suc, ◌<◌, ◌↔◌, refl, sym, ap, subst, ◌∙◌, arith, List, [], ◌∷◌, length, get_or, map, flat_map, Contains, All, inl, inr, IsPermutation-sym}
 use Rattle.std.specs.List.{zip}
 use Rattle.std.proofs.lemmas.List.Elements.{All-contains}
 use Rattle.grid_geometry.specs.Common.{Segment}
@@ -75,7 +75,9 @@ module _ (owners : List ℕ) (before : List Polygon) (made : List ℕ) (after : 
       → AllChangeHands owners before (zip faces decisions) made after borders
   change_hands ss borders faces decisions faces_after are are_after held s hand c =
       let a : Side = (s, hand) in
-      let there = in_permuted (all_sides borders) (flat_map (λ (f : FaceOf). f.sides) faces_after) are_after.all a (side_in borders s hand (contains_in borders s c)) in
+      let sides = flat_map (λ (f : FaceOf). f.sides) faces_after in
+      let there = in_permuted sides (all_sides borders) (IsPermutation-sym (all_sides borders) sides are_after.all) a
+      (side_in borders s hand (contains_in borders s c)) in
       let found = in_flat (λ (f : FaceOf). f.sides) a faces_after there in
       let f = found.0 in
       let is_after = All-contains (IsFace after made) faces_after f are_after.each (in_contains faces_after f found.1) in
