@@ -9,7 +9,7 @@ use Rattle.layer_faces.specs.declared.sums.Sums.{Sums}
 use Rattle.cover_report.specs.Faces.{all_told}
 use Rattle.cover_report.specs.Layers.{IsLookAt, LayerOf, LookedAt, layer_of}
 use Rattle.cover_report.specs.Names.{is_asked}
-use Rattle.face_closing.specs.Common.{AreDecided, AreHeldSo, AreMade, AreasAgree, DecidedFace, OnlyLeftRemain, OthersStay}
+use Rattle.face_closing.specs.Common.{AllChangeHands, AllWaitRightly, AreDecided, AreMade, AreasAgree, DecidedFace, OnlyLeftRemain, OthersStay}
 use Rattle.face_closing.specs.declared.asked.Closing.{Closing}
 use Rattle.face_closing.specs.declared.decision.Decision.{Decision}
 use Rattle.closing_report.specs.Decided.{DecidedTold, told_decided}
@@ -37,10 +37,12 @@ pub record IsClosedTo (asked : Closing) (l after : LayerOf) (k : ClosedLayer) : 
   pub decisions : List Decision
   pub are_decided : AreDecided asked faces decisions
   pub decided : k.decided ≡ told_decided (zip faces decisions)
+  pub waits : AllWaitRightly (zip faces decisions)
   pub made : AreMade l.polygons after.polygons
   pub faces_after : List FaceOf
   pub has_faces_after : HasFaces after faces_after k.now
-  pub held : AreHeldSo (zip faces decisions) faces_after
+  pub hands : AllChangeHands l.owners l.polygons (zip faces decisions) after.owners after.polygons
+      (map (λ b. b.segment) has_faces_after.borders)
   pub remains : OnlyLeftRemain asked (zip faces decisions) faces_after
   pub areas : AreasAgree l.owners (zip faces decisions) k.found.sums faces_after k.now
   pub kept : OthersStay (zip faces decisions) l.owners l.polygons after.owners after.polygons

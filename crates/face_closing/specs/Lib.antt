@@ -3,6 +3,7 @@ pub mod Decided
 pub mod Made
 pub mod Held
 pub mod Hands
+pub mod Waiting
 pub mod Remaining
 pub mod Areas
 pub mod Kept

@@ -14,6 +14,7 @@ ghost use Rattle.face_closing.specs.Kept.{OthersStay};
 ghost use Rattle.face_closing.specs.Layer.{IsLook, decided_in, faces_in};
 ghost use Rattle.face_closing.specs.Made.{AreMade};
 ghost use Rattle.face_closing.specs.Remaining.{OnlyLeftRemain};
+ghost use Rattle.face_closing.specs.Waiting.{AllWaitRightly};
 
 use crate::asked::Closing;
 use crate::decision::Decision;
@@ -25,6 +26,7 @@ use crate::land::test_land;
 use crate::remaining::test_remaining;
 use crate::rings::test_rings;
 use crate::search::{After, decisions, polygons_after};
+use crate::waiting::test_waiting;
 use grid_geometry::Pos;
 use layer_faces::{Face, Look, look_at};
 use std::alloc::{Allocator, Global};
@@ -91,6 +93,8 @@ fn tested<A: Allocator + Copy>(
     ensures proper { OnOk result (IsProperLayer (polygons_seen after.polygons.now)) }
     ensures owned { OnOk result (length after.owners.now ≡ length after.polygons.now) }
     ensures look { IfOk result (λ look. IsLook (polygons_seen after.polygons.now) after.owners.now look) }
+    ensures waits { OnOk result
+        (AllWaitRightly (zip (faces_in decided.facing.now.look.now) decided.decisions.now)) }
     ensures held { IfOk result (λ look. AreHeldSo
         (zip (faces_in decided.facing.now.look.now) decided.decisions.now) (faces_in look)) }
     ensures remains { IfOk result (λ look. OnlyLeftRemain asked.now
@@ -111,6 +115,7 @@ fn tested<A: Allocator + Copy>(
         Ok(look) => look,
         Err(fault) => return Err(of_face(fault)),
     };
+    or_return!(test_waiting(alloc, &decided));
     or_return!(test_holders(&decided, &look));
     or_return!(test_remaining(&decided, asked, &look));
     or_return!(test_land(alloc, &decided, before.owners, &look));
@@ -121,8 +126,8 @@ fn tested<A: Allocator + Copy>(
 /// Closes the overlaps and gaps of a layer, in which this was found, as it is asked. Each polygon has an owner, the number
 /// of its feature; owners ascend.
 ///
-/// Which feature gets a face comes of a search, by the longest common border; so do the rings that are made. What is made is
-/// looked at once more and compared with what was decided. Fails with `UnclosedSegment` and `UnclosedFeature` where it is not
+/// Which feature gets a face comes of a search, by the longest common border; so do the rings that are made. A face waits only
+/// where the rule gives it to nobody. What is made is looked at once more and compared with what was decided. Fails with `UnclosedSegment` and `UnclosedFeature` where it is not
 /// so, which is not known to occur; with `TooLarge`, `Unswept` and `Unlike` as `look_at` does; and on allocation failure.
 pub fn close<A: Allocator + Copy>(
     alloc: A,
@@ -136,6 +141,7 @@ pub fn close<A: Allocator + Copy>(
     requires owned { length owners.now ≡ length polygons.now }
     requires ascending { IsNonDecreasingBy (λ n. n) owners.now }
     ensures decided { IfOk result (λ closed. AreDecided asked.now (faces_in look.now) closed.decisions.items) }
+    ensures waits { IfOk result (λ closed. AllWaitRightly (decided_in look.now closed)) }
     ensures made { IfOk result (λ closed. AreMade (polygons_seen polygons.now) (polygons_seen closed.polygons.items)) }
     ensures proper { IfOk result (λ closed. IsProperLayer (polygons_seen closed.polygons.items)) }
     ensures owned { IfOk result (λ closed. length closed.owners.items ≡ length closed.polygons.items) }

@@ -1,6 +1,8 @@
 // The faces of a layer, by their sides.
-ghost use Rattle.std.specs.Prelude.{◌≡◌, ◌<◌, length, Contains, IfOk, IfSome};
+ghost use Rattle.std.specs.Prelude.{◌≡◌, ◌<◌, ◌↔◌, ◌⊎◌, [], length, Contains, IsTrue, IfOk, IfSome};
 ghost use Rattle.std.specs.List.{HoldsAt};
+ghost use Rattle.std.specs.List.Sorted.{IsStrictlySortedBy};
+ghost use Rattle.std.specs.Ordering.{nat_cmp};
 ghost use Rattle.face_closing.specs.Decided.{if_held};
 
 use layer_faces::{Face, Look};
@@ -32,6 +34,14 @@ pub(crate) fn land_of<A: Allocator + Copy>(face: &Face<A>) -> &[usize]
         [] => &[],
         _ => face.features.as_slice(),
     }
+}
+
+/// Whether a face that these features hold, which ascend, may go to a feature: any, where none holds it, else one of these.
+pub(crate) fn may_have(holders: &[usize], feature: usize) -> bool
+    ensures { IsStrictlySortedBy nat_cmp holders.now
+        → IsTrue result ↔ ((holders.now ≡ []) ⊎ Contains holders.now feature) }
+{
+    holders.is_empty() || holders.binary_search(&feature).is_ok()
 }
 
 /// Writes with these sides that their face is at this place.

@@ -27,6 +27,7 @@ mod land;
 mod remaining;
 mod rings;
 mod search;
+mod waiting;
 
 pub use asked::Closing;
 pub use closing::{Closed, close};

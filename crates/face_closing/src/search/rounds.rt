@@ -1,8 +1,8 @@
 // Which feature gets each open face: in rounds, each decided by what stood before it.
 use crate::asked::Closing;
 use crate::decision::Decision;
-use crate::facing::{Facing, land_of};
-use crate::search::shares::{Share, longest, may_have, push_shares};
+use crate::facing::{Facing, land_of, may_have};
+use crate::search::shares::{Share, longest, push_shares};
 use layer_faces::{Face, Kind, length_of};
 use std::alloc::{AllocError, Allocator};
 

@@ -1,4 +1,5 @@
 // How much of a face's border each feature has beyond it.
+use crate::facing::may_have;
 use std::alloc::{AllocError, Allocator};
 
 /// A feature with land beyond a segment of a face's border.
@@ -35,11 +36,6 @@ pub(crate) fn longest<A: Allocator>(shares: &mut Vec<Share, A>) -> Option<usize>
         }
     }
     found.map(|most| most.feature)
-}
-
-/// Whether a face that these features hold may go to a feature: any, where none holds it, else one of these.
-pub(crate) fn may_have(holders: &[usize], feature: usize) -> bool {
-    holders.is_empty() || holders.binary_search(&feature).is_ok()
 }
 
 /// Appends a share for each of these features to which a face may go that has these holders.
