@@ -1,12 +1,12 @@
 // Whether the rule gives each face that waits to nobody.
-ghost use Rattle.std.specs.Prelude.{◌≡◌, ◌↔◌, ◌⊎◌, ℕ, List, [], Contains, IsTrue, IfOk, OnOk};
+ghost use Rattle.std.specs.Prelude.{◌≡◌, ◌↔◌, ℕ, Contains, IsTrue, IfOk, OnOk};
 ghost use Rattle.std.specs.List.{zip};
 ghost use Rattle.std.specs.List.Sorted.{IsStrictlySortedBy};
 ghost use Rattle.std.specs.Ordering.{nat_cmp};
 ghost use Rattle.layer_faces.specs.Common.{face_seen, segments_seen};
 ghost use Rattle.face_closing.specs.Areas.{AreOnce};
 ghost use Rattle.face_closing.specs.Layer.{faces_in};
-ghost use Rattle.face_closing.specs.Waiting.{AllWaitRightly, HasLand, NothingBeyond, WaitsRightly, is_waiting};
+ghost use Rattle.face_closing.specs.Waiting.{AllWaitRightly, HasLand, WaitsRightly, is_waiting};
 
 use crate::decision::Decision;
 use crate::facing::{land_of, may_have, opposite};
@@ -77,45 +77,51 @@ fn may_any(holders: &[usize], features: &[usize]) -> bool {
     false
 }
 
-impl<'d, 'l, A: Allocator + Copy> Decided<'d, 'l, A> {
-    /// Whether beyond a side of a face is one that waits, or that nobody holds to whom the face may go.
-    fn is_nothing_beyond(&self, face: &Face<A>, side: u32) -> bool {
-        let Some(place) = self.facing.place_of(opposite(side)) else {
-            return false;
-        };
-        match (self.facing.face(place), self.decisions.get(place)) {
-            (Some(beyond), Some(decision)) => {
-                is_waiting(decision) || !may_any(land_of(face), land_after(beyond, decision))
-            }
-            _ => false,
+/// Whether beyond a side of a face is one that waits, or that nobody holds to whom the face may go.
+fn is_nothing_beyond<A: Allocator + Copy>(
+    decided: &Decided<'_, '_, A>,
+    face: &Face<A>,
+    side: u32,
+) -> bool {
+    let Some(place) = decided.facing.place_of(opposite(side)) else {
+        return false;
+    };
+    match (decided.facing.face(place), decided.decisions.get(place)) {
+        (Some(beyond), Some(decision)) => {
+            is_waiting(decision) || !may_any(land_of(face), land_after(beyond, decision))
         }
+        _ => false,
     }
+}
 
-    /// Whether that is so of all sides of a face.
-    fn is_nowhere(&self, face: &Face<A>) -> bool {
-        for side in face.sides.as_slice() {
-            if !self.is_nothing_beyond(face, *side) {
-                return false;
-            }
-        }
-        true
-    }
-
-    /// Whether the rule gives a face to nobody, where these features have land, ascending.
-    fn waits_rightly(&self, settled: &[usize], face: &Face<A>) -> bool
-        ensures { IsTrue result → ((n : ℕ) → Contains settled.now n
-            ↔ HasLand (zip (faces_in self.now.facing.now.look.now) self.now.decisions.now) n)
-            → WaitsRightly (zip (faces_in self.now.facing.now.look.now) self.now.decisions.now)
-            (face_seen (segments_seen self.now.facing.now.look.now.borders.items) face.now) }
-    {
-        if matches!(face.kind, Kind::Twice) {
+/// Whether that is so of all sides of a face.
+fn is_nowhere<A: Allocator + Copy>(decided: &Decided<'_, '_, A>, face: &Face<A>) -> bool {
+    for side in face.sides.as_slice() {
+        if !is_nothing_beyond(decided, face, *side) {
             return false;
         }
-        match count_poor(settled, land_of(face)) {
-            0 => self.is_nowhere(face),
-            1 => false,
-            _ => true,
-        }
+    }
+    true
+}
+
+/// Whether the rule gives a face to nobody, where these features have land, ascending.
+fn waits_rightly<A: Allocator + Copy>(
+    decided: &Decided<'_, '_, A>,
+    settled: &[usize],
+    face: &Face<A>,
+) -> bool
+    ensures { IsTrue result → ((n : ℕ) → Contains settled.now n
+        ↔ HasLand (zip (faces_in decided.now.facing.now.look.now) decided.now.decisions.now) n)
+        → WaitsRightly (zip (faces_in decided.now.facing.now.look.now) decided.now.decisions.now)
+        (face_seen (segments_seen decided.now.facing.now.look.now.borders.items) face.now) }
+{
+    if matches!(face.kind, Kind::Twice) {
+        return false;
+    }
+    match count_poor(settled, land_of(face)) {
+        0 => is_nowhere(decided, face),
+        1 => false,
+        _ => true,
     }
 }
 
@@ -131,7 +137,7 @@ pub(crate) fn test_waiting<A: Allocator + Copy>(
     let settled = settled_features(alloc, decided)?;
     let look = decided.facing.look;
     for (face, decision) in look.faces.iter().zip(decided.decisions) {
-        if is_waiting(decision) && !decided.waits_rightly(settled.as_slice(), face) {
+        if is_waiting(decision) && !waits_rightly(decided, settled.as_slice(), face) {
             return Err(unclosed_at(look, face.first));
         }
     }
