@@ -1,5 +1,5 @@
 #!/usr/bin/env python3
-"""Draws the pictures of docs/EDITING.md anew: a map with colours and a selected feature, and a refused edit."""
+"""Draws the pictures of docs/EDITING.md anew: colours and a selected feature, a refused edit, overlaps and gaps."""
 import pathlib
 import shutil
 import sys
@@ -31,18 +31,47 @@ def edit_refused(page):
     page.shot(PICTURES / "edit_refused.png")
 
 
+def mend(page):
+    """Mends a map that does not open."""
+    page.load("!document.getElementById('mending').hidden")
+    page.element("mend").click()
+    page.wait("document.getElementById('ask').open")
+    page.element("askYes").click()
+    page.settle()
+
+
+def edit_cover(page):
+    page.keys("o")
+    page.element("look").click()
+    page.wait("!covering.isLooking")
+    page.settle()
+    as_proved(page)
+    page.js("editor.view.fit([700, 740, 1460, 960]); document.activeElement.blur()")
+    page.shot(PICTURES / "edit_cover.png")
+
+
+def as_proved(page):
+    """Pictures show what a user of proved programs sees, whatever was built here."""
+    page.js("document.getElementById('unproved').hidden = true")
+
+
+def with_map(driver, folder, name, *draws):
+    """Draws pictures of the page of an example."""
+    page = Page(driver, shutil.copy(TOP / "examples" / name, folder / name))
+    try:
+        for draw in draws:
+            draw(page)
+    finally:
+        page.end()
+
+
 def main():
     folder = new_folder()
     driver = start_browser(str(folder), (1280, 887))
-    page = Page(driver, shutil.copy(TOP / "examples/columbus.json", folder / "columbus.json"))
     try:
-        page.load()
-        # pictures show what a user of proved programs sees, whatever was built here
-        page.js("document.getElementById('unproved').hidden = true")
-        edit_page(page)
-        edit_refused(page)
+        with_map(driver, folder, "columbus.json", Page.load, as_proved, edit_page, edit_refused)
+        with_map(driver, folder, "wards.json", mend, edit_cover)
     finally:
-        page.end()
         driver.quit()
         shutil.rmtree(folder, ignore_errors=True)
 

@@ -74,6 +74,18 @@ def stand_in(files):
     return program, {"BORDER_COVER": program, "REAL_BORDER_COVER": PATHS["border_cover"]}
 
 
+def is_sought(page):
+    """Whether border_cover is found, or known not to be there, after a while."""
+    return until(lambda: page.post("seek") == (200, {"building": False}))
+
+
+def awaited(page, threads, look):
+    """A request that waits for the report of a look; a second one is told that it can't."""
+    asked = [threads.submit(page.post, "looked", look=look) for _ in range(2)]
+    until(lambda: any(each.done() for each in asked))
+    return next(each for each in asked if not each.done())
+
+
 def look(page, **given):
     """A look from its begin to its end: status and answer."""
     begun = page.post("look", **given)
@@ -103,7 +115,7 @@ def found(checks):
         (files / "map.json").write_text(of_layers(layers, APART))
         with Served(files / "map.json") as page:
             page.begin()
-            checks.same("border_cover is there", page.post("seek"), (200, {"building": False}))
+            checks.same("border_cover is looked for", is_sought(page), True)
             status, said = page.post("look")
             checks.same("a look", (status, said["look"], said["missing"]), (200, 1, False))
             checks.same("what was found", page.post("looked", look=1), (200, {
@@ -158,14 +170,14 @@ def meanwhile(checks):
             wait.write_text("")
             page.post("look")
             before = set(page.children())
-            first = threads.submit(page.post, "looked", look=1)
+            first = awaited(page, threads, 1)
             checks.same("an edit meanwhile", page.edit("delete 0"), (["ok"], True))
             checks.same("a question", page.questions("count"), ["features 1 vertices 4 segments 4"])
             checks.same("it is not told yet", first.done(), False)
             page.post("look")
             checks.same("a second look ends the first", first.result(20),
                         (409, {"reason": "another look was begun", "force": False}))
-            second = threads.submit(page.post, "looked", look=2)
+            second = awaited(page, threads, 2)
             page.edit("undo")
             checks.same("the first program has ended", len(set(page.children()) & before), 1)
             wait.unlink()
@@ -191,9 +203,7 @@ def at_the_end(checks):
                 page.begin()
                 page.post("look")
                 if is_awaited:
-                    # one of them waits, and the other is told so
-                    asked = [threads.submit(page.post, "looked", look=1) for _ in range(2)]
-                    until(lambda: any(each.done() for each in asked))
+                    awaited(page, threads, 1)
                 children = page.children()
                 checks.same(f"stopped, awaited {is_awaited}", page.stop(), (0, ""))
                 checks.same("all programs have ended", until(lambda: not any(map(is_running, children)), 5), True)
@@ -235,7 +245,7 @@ def missing(checks):
         with Served(files / "map.json", BORDER_COVER=files / "none") as page:
             page.begin()
             for _ in range(2):
-                checks.same("it is looked for", page.post("seek"), (200, {"building": False}))
+                checks.same("it is looked for", is_sought(page), True)
                 checks.same("and is not there", page.post("look"), (200, {"missing": True}))
             checks.same("an edit", page.edit("move 10 10 12 12"), (["ok"], True))
     with folder() as files:
