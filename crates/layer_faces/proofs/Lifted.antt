@@ -2,6 +2,7 @@
 use Rattle.kit_words.proofs.Common.{◌≡◌, ℕ, zero, suc, ◌+◌, ◌*◌, ◌<◌, ◌≤◌, ℤ, pos, ◌*ℤ◌, ◌-◌, unsigned_abs, refl, sym, ap, ap₂, ◌∙◌, subst, arith, eqb, cond, neg_ℤ}
 use Rattle.kit_words.proofs.Common.{List, [], ◌∷◌, ◌++◌, map, length, get_or, All, All-tail, IsPermutation, length-append, length-map, map-append, sum_by-cons}
 use Rattle.std.specs.List.{count_by, flat_map, range_with_len, sum_by}
+use Rattle.std.specs.List.Sorted.{IsNonDecreasing}
 use Rattle.std.proofs.lemmas.List.{get_or-map}
 use Rattle.std.proofs.lemmas.List.FromFn.{length-range_with_len}
 use Rattle.std.proofs.lemmas.List.Elements.{All-map, All-weaker}
@@ -24,6 +25,15 @@ use Rattle.layer_faces.proofs.ByFaces.{add_up, holder_has, same_by_index, sums_a
 map_flat : {X Y Z : Type 0} (g : Y → Z) (h : X → List Y) (xs : List X) → map g (flat_map h xs) ≡ flat_map (λ x. map g (h x)) xs
 map_flat g h [] = refl
 map_flat g h (x ∷ xs) = map-append g (h x) (flat_map h xs) ∙ ap (λ zs. map g (h x) ++ zs) (map_flat g h xs)
+
+-- as many are the outside as are seen to be
+counted_seen : {A : Type 0} (ss : List Segment) (faces : List (Face A))
+    → count_by (λ (f : FaceOf). is_outside f.kind) (faces_seen ss faces) ≡ count_by (λ (f : Face _). is_outside f.kind) faces
+counted_seen ss [] = refl
+counted_seen ss (f ∷ faces) =
+    sum_by-cons (λ (f : FaceOf). cond (is_outside f.kind) 1 0) (face_seen ss f) (faces_seen ss faces)
+    ∙ ap (λ n. cond (is_outside f.kind) 1 0 + n) (counted_seen ss faces)
+    ∙ sym (sum_by-cons (λ (f : Face _). cond (is_outside f.kind) 1 0) f faces)
 
 -- the areas of faces are small together
 reach_small : {A : Type 0} (faces : List (Face A))
@@ -85,7 +95,8 @@ module _ (layer : List Polygon) (borders : List Bordering) (owners : List ℕ) (
       subst (λ ns. length ns ≤ length layer) (sym (holders_of f is ∙ holders_here a (is.within 0 0 is.some))) (numbers_few 0 (λ p. holds p (side_at segments a)) layer)
 
   module _ {A : Type 0} (faces : List (Face A)) (found : All (IsFound borders owners) faces)
-      (all : IsPermutation (range_with_len 0 (2 * length borders)) (flat_map (λ (f : Face _). f.sides.items) faces)) where
+      (all : IsPermutation (range_with_len 0 (2 * length borders)) (flat_map (λ (f : Face _). f.sides.items) faces))
+      (one : count_by (λ (f : Face _). is_outside f.kind) faces ≤ 1) where
     abbrev seen : List FaceOf
     seen = faces_seen segments faces
 
@@ -109,6 +120,7 @@ module _ (layer : List Polygon) (borders : List Bordering) (owners : List ℕ) (
           (map_flat (side_at segments) (λ (f : Face _). f.sides.items) faces ∙ sym (flat_map-map (λ (f : FaceOf). f.sides) (face_seen segments) faces))
           (IsPermutation-map (side_at segments) (range_with_len 0 (2 * length borders)) (flat_map (λ (f : Face _). f.sides.items) faces) all));
       each = All-map (IsFace layer owners) (face_seen segments) faces (λ k d l. face_is (get_or faces k d) (found k d l));
+      one_outside = subst (λ n. n ≤ 1) (sym (counted_seen segments faces)) one;
     }
 
     module _ (areas : List ℤ) (s : Sums) (count : length areas ≡ length layer)
@@ -156,6 +168,10 @@ pub numbers_of_borders : {A B : Type 0} (borders : List (Border A)) (faces : Lis
     → IsPermutation (range_with_len 0 (2 * length (borders_seen borders))) (flat_map (λ (f : Face _). f.sides.items) faces)
 numbers_of_borders borders faces all =
     subst (λ n. IsPermutation (range_with_len 0 (2 * n)) (flat_map (λ (f : Face _). f.sides.items) faces)) (sym (length-map borders border_seen)) all
+
+pub all_ascending : {A : Type 0} (borders : List Bordering) (owners : List ℕ) (faces : List (Face A)) → All (IsFound borders owners) faces
+    → All (λ (f : Face _). IsNonDecreasing f.sides.items) faces
+all_ascending borders owners faces found = λ k d l. let is = found k d l in is.ascending
 
 pub all_named : {A : Type 0} (borders : List Bordering) (owners : List ℕ) (faces : List (Face A)) → All (IsFound borders owners) faces
     → All (λ (f : Face _). get_or f.sides.items 0 0 ≡ f.first) faces

@@ -1,5 +1,5 @@
 -- Sums over the faces so far, one more; and what is told of the polygons so far.
-use Rattle.kit_words.proofs.Common.{◌≡◌, ℕ, zero, suc, ◌+◌, ◌-◌, ◌*◌, ◌<◌, ◌≤◌, ◌^◌, ℤ, pos, ◌+ℤ◌, ◌*ℤ◌, unsigned_abs, refl, sym, ap, ap₂, ◌∙◌, subst, arith, ints, cond, eqb}
+use Rattle.kit_words.proofs.Common.{◌≡◌, ℕ, zero, suc, ◌+◌, ◌-◌, ◌*◌, ◌<◌, ◌≤◌, ◌^◌, ℤ, pos, ◌+ℤ◌, ◌*ℤ◌, ◌-ℤ◌, neg_ℤ, unsigned_abs, refl, sym, ap, ap₂, ◌∙◌, subst, arith, ints, cond, eqb}
 use Rattle.kit_words.proofs.Common.{replicate, List, [], ◌∷◌, ◌++◌, map, length, get_or, take, drop, drop_all, next_drop, append-nil, append_assoc, true, false, Bool}
 use Rattle.kit_words.proofs.Common.{to_z, of_z, w128, unsigned_abs-mul}
 use Rattle.std.proofs.Math.Nat.{mul-le-mul_right}
@@ -39,6 +39,51 @@ kind_near false z y e = omega (arith, ints)
 -- the area of a face is small enough to be written and read back
 pub area_fits : (z : ℤ) → unsigned_abs z ≤ 16000000000000000000000000000000 → to_z w128 (of_z w128 z) ≡ z
 area_fits z small = to_z-of_z w128 z (fits_signed_from_abs w128 z (omega (arith, small)))
+
+both_near : (s y : ℤ) → unsigned_abs (s +ℤ y) ≤ unsigned_abs s + unsigned_abs y
+both_near s y = omega (arith, ints)
+
+less_near : (s y : ℤ) → unsigned_abs (s -ℤ y) ≤ unsigned_abs s + unsigned_abs y
+less_near s y = omega (arith, ints)
+
+taken_from : (t y : ℤ) → neg_ℤ t -ℤ y ≡ neg_ℤ (t +ℤ y)
+taken_from t y = omega (arith, ints)
+
+-- a sum of areas of faces, and one more that counts or not
+module _ (s y z : ℤ) (r : ℕ) (near : unsigned_abs y ≤ unsigned_abs z) (few : unsigned_abs s ≤ r) (small : r + unsigned_abs z ≤ 16000000000000000000000000000000) where
+  more : to_z w128 (of_z w128 (s +ℤ to_z w128 (of_z w128 y))) ≡ s +ℤ y
+  more =
+      let sum = both_near s y in
+      ap (λ v. to_z w128 (of_z w128 (s +ℤ v))) (area_fits y (omega (arith, near, small))) ∙ area_fits (s +ℤ y) (omega (arith, sum, near, few, small))
+
+  less : to_z w128 (of_z w128 (s -ℤ to_z w128 (of_z w128 y))) ≡ s -ℤ y
+  less =
+      let sum = less_near s y in
+      ap (λ v. to_z w128 (of_z w128 (s -ℤ v))) (area_fits y (omega (arith, near, small))) ∙ area_fits (s -ℤ y) (omega (arith, sum, near, few, small))
+
+  pub added : (t next : ℤ) → s ≡ t → next ≡ t +ℤ y → to_z w128 (of_z w128 (s +ℤ to_z w128 (of_z w128 y))) ≡ next
+  added t next e f = more ∙ ap (λ v. v +ℤ y) e ∙ sym f
+
+  pub added_near : (k : ℕ) → k ≡ r + unsigned_abs z → unsigned_abs (to_z w128 (of_z w128 (s +ℤ to_z w128 (of_z w128 y)))) ≤ k
+  added_near k e = let sum = both_near s y in subst (λ v. unsigned_abs v ≤ k) (sym more) (omega (arith, sum, near, few, e))
+
+  pub taken : (t next : ℤ) → s ≡ neg_ℤ t → next ≡ t +ℤ y → to_z w128 (of_z w128 (s -ℤ to_z w128 (of_z w128 y))) ≡ neg_ℤ next
+  taken t next e f = less ∙ ap (λ v. v -ℤ y) e ∙ taken_from t y ∙ ap neg_ℤ (sym f)
+
+  pub taken_near : (k : ℕ) → k ≡ r + unsigned_abs z → unsigned_abs (to_z w128 (of_z w128 (s -ℤ to_z w128 (of_z w128 y)))) ≤ k
+  taken_near k e = let sum = less_near s y in subst (λ v. unsigned_abs v ≤ k) (sym less) (omega (arith, sum, near, few, e))
+
+-- what is held too often, and what is covered with it
+pub over_fits : (z : ℤ) → unsigned_abs z ≤ 64000000000000000000000000000000000000 → to_z w128 (of_z w128 z) ≡ z
+over_fits z small = to_z-of_z w128 z (fits_signed_from_abs w128 z (omega (arith, small)))
+
+pub all_fits : (s z : ℤ) → unsigned_abs s ≤ 16000000000000000000000000000000 → unsigned_abs z ≤ 64000000000000000000000000000000000000
+    → to_z w128 (of_z w128 (s +ℤ to_z w128 (of_z w128 z))) ≡ s +ℤ to_z w128 (of_z w128 z)
+all_fits s z few small =
+    let sum = both_near s z in
+    let fits : unsigned_abs (s +ℤ z) < 2 ^ 127 = omega (arith, sum, few, small) in
+    to_z-of_z w128 (s +ℤ to_z w128 (of_z w128 z))
+    (fits_signed_from_abs w128 (s +ℤ to_z w128 (of_z w128 z)) (subst (λ v. unsigned_abs (s +ℤ v) < 2 ^ 127) (sym (over_fits z small)) fits))
 
 -- an area as often as k
 pub often_small : (k : ℕ) (z : ℤ) → k ≤ 4000000 → unsigned_abs (pos k *ℤ z) ≤ 4000000 * unsigned_abs z

@@ -1,6 +1,6 @@
 -- The faces of a layer: sides that lie in one face, who holds them, and what kind of face it is.
-use Rattle.std.specs.Prelude.{◌≡◌, ℕ, ℤ, ◌==◌, List, [], ◌∷◌, length, map, if◌then◌else◌}
-use Rattle.std.specs.List.{All, flat_map}
+use Rattle.std.specs.Prelude.{◌≡◌, ℕ, ℤ, ◌≤◌, ◌==◌, Bool, true, false, List, [], ◌∷◌, length, if◌then◌else◌}
+use Rattle.std.specs.List.{All, count_by, flat_map}
 use Rattle.std.specs.List.Sorted.{IsPermutation}
 use Rattle.grid_geometry.specs.Common.{Segment}
 use Rattle.layer_sides.specs.Common.{Polygon, Side, holders}
@@ -26,6 +26,15 @@ kind_of [] features = if length features == 1 then Lake else Gap
 kind_of (n ∷ []) features = Land
 kind_of (n ∷ m ∷ ns) features = if length features == 1 then Twice else Overlap
 
+-- it is the kind of the outside
+abbrev pub is_outside : Kind → Bool
+is_outside Outside = true
+is_outside Overlap = false
+is_outside Twice = false
+is_outside Gap = false
+is_outside Lake = false
+is_outside Land = false
+
 -- it is the outside, which no polygon holds, or of the kind that its holders say
 pub data IsKind (holders features : List ℕ) (kind : Kind) : Type 0 where
   outside : holders ≡ [] → kind ≡ Outside → IsKind holders features kind
@@ -39,8 +48,9 @@ pub record IsFace (polygons : List Polygon) (owners : List ℕ) (f : FaceOf) : T
   pub border : f.border ≡ border_length f.sides
   pub kind : IsKind f.holders f.features f.kind
 
--- the faces have all sides of the borders, each once
+-- the faces have all sides of the borders, each once; no more than one of them is the outside
 pub record AreFaces (polygons : List Polygon) (owners : List ℕ) (borders : List Segment)
     (faces : List FaceOf) : Type 0 where
   pub all : IsPermutation (all_sides borders) (flat_map (λ f. f.sides) faces)
   pub each : All (IsFace polygons owners) faces
+  pub one_outside : count_by (λ f. is_outside f.kind) faces ≤ 1

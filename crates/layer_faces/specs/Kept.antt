@@ -2,6 +2,7 @@
 use Rattle.std.specs.Prelude.{ℕ, ◌+◌, ◌-◌, ◌/◌, ◌%◌, ◌==◌, nat_lt, List, [], ◌∷◌, slice_index_or, map, if◌then◌else◌}
 use Rattle.std.specs.Prelude.{◌≡◌, ◌<◌, ◌≤◌, ◌*◌, length, slice_index, unsigned_abs}
 use Rattle.std.specs.List.{All, flat_map}
+use Rattle.std.specs.List.Sorted.{IsNonDecreasing}
 use Rattle.layer_sides.specs.Common.{Bordering}
 use Rattle.layer_faces.specs.Areas.{side_term, total}
 use Rattle.layer_faces.specs.Lengths.{border_length}
@@ -58,9 +59,10 @@ pub record IsKeptFace (borders : List Bordering) (owners numbers : List ℕ) (f 
   pub border : f.border ≡ border_length f.sides
   pub kind : IsKind f.holders f.features f.kind
 
--- the face is made of sides of these borders, and one or more; its area is small
+-- the face is made of sides of these borders, ascending, and one or more; its area is small
 pub record IsFound {A : Type 0} (borders : List Bordering) (owners : List ℕ) (f : Face A) : Type 0 where
   pub kept : IsKeptFace borders owners f.sides.items (face_seen (map (λ b. b.segment) borders) f)
+  pub ascending : IsNonDecreasing f.sides.items
   pub some : 0 < length f.sides.items
   pub named : slice_index f.sides.items 0 ≡ f.first
   pub within : All (λ a. a < 2 * length borders) f.sides.items

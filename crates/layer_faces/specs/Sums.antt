@@ -6,7 +6,7 @@ use Rattle.layer_faces.specs.declared.kind.Kind.{Kind}
 use Rattle.layer_faces.specs.declared.kind.Kind.TheVariants.{Overlap, Twice, Gap, Lake, Land, Outside}
 use Rattle.layer_faces.specs.declared.sums.Sums.{Sums}
 use Rattle.layer_faces.specs.Areas.{all_sides, area_at, side_term, total}
-use Rattle.layer_faces.specs.Faces.{FaceOf}
+use Rattle.layer_faces.specs.Faces.{FaceOf, is_outside}
 
 -- there is one or more
 abbrev pub is_any : List ℕ → Bool
@@ -25,15 +25,6 @@ is_gap Overlap = false
 is_gap Twice = false
 is_gap Land = false
 is_gap Outside = false
-
--- it is the kind of the outside
-abbrev pub is_outside : Kind → Bool
-is_outside Outside = true
-is_outside Overlap = false
-is_outside Twice = false
-is_outside Gap = false
-is_outside Lake = false
-is_outside Land = false
 
 -- twice the area of the faces of such a kind
 abbrev pub area_of_kind : (Kind → Bool) → List FaceOf → ℤ

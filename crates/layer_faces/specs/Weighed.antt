@@ -10,7 +10,8 @@ use Rattle.layer_faces.specs.declared.kind.Kind.{Kind}
 use Rattle.layer_faces.specs.declared.sums.Sums.{Sums}
 use Rattle.layer_faces.specs.declared.uneven.Uneven.{Uneven}
 use Rattle.layer_faces.specs.Areas.{total}
-use Rattle.layer_faces.specs.Sums.{is_gap, is_outside}
+use Rattle.layer_faces.specs.Faces.{is_outside}
+use Rattle.layer_faces.specs.Sums.{is_gap}
 
 -- how large the areas of the faces are together, whatever their signs
 abbrev pub reach : {A : Type 0} → List (Face A) → ℕ

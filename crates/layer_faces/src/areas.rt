@@ -35,6 +35,8 @@ pub(crate) fn areas_by_faces<A: Allocator + Copy>(
     ensures each { IfOk result (λ areas. (n : ℕ) → slice_index_or areas.items n (pos 0)
         ≡ area_of_holder faces.now n) }
     ensures sum { IfOk result (λ areas. total (λ z. z) areas.items ≡ area_of_holders faces.now) }
+    ensures small { IfOk result (λ areas.
+        All (λ z. unsigned_abs z ≤ 64000000000000000000000000000000000000) areas.items) }
 {
     let mut areas = vec![in alloc; 0; count]?;
     for face in faces {

@@ -7,9 +7,9 @@ use std::alloc::{Allocator, Global};
 /// A face of a layer.
 #[derive(Drop)]
 pub struct Face<A: Allocator + Copy = Global> {
-    /// The numbers of its sides: 2i is the left side of border i, and 2i + 1 its right side.
+    /// The numbers of its sides, ascending: 2i is the left side of border i, and 2i + 1 its right side.
     pub sides: Vec<u32, A>,
-    /// The first of them.
+    /// The first of them, by which the face is named.
     pub first: u32,
     /// The numbers of the polygons that hold it, ascending.
     pub holders: Vec<u32, A>,

@@ -1,17 +1,17 @@
 // The faces of a layer, by the labels of their sides.
-ghost use Rattle.std.specs.Prelude.{◌≡◌, ℕ, ◌*◌, ◌+◌, ◌<◌, ◌≤◌, length, map, All, IfOk, IfSome};
-ghost use Rattle.std.specs.List.{flat_map, range_with_len};
-ghost use Rattle.std.specs.List.Sorted.{IsPermutation, IsNonDecreasingBy};
+ghost use Rattle.std.specs.Prelude.{◌≡◌, ℕ, ◌*◌, ◌+◌, ◌<◌, ◌≤◌, length, map, All, IfOk, IfSome, OnOk};
+ghost use Rattle.std.specs.List.{count_by, flat_map, range_with_len};
+ghost use Rattle.std.specs.List.Sorted.{IsPermutation, IsNonDecreasing, IsNonDecreasingBy, IsSorted};
 ghost use Rattle.layer_sides.specs.Seen.{borders_seen};
-ghost use Rattle.layer_faces.specs.Faces.{IsKind};
+ghost use Rattle.layer_faces.specs.Faces.{IsKind, is_outside};
 ghost use Rattle.layer_faces.specs.Kept.{IsFound, held_at};
-ghost use Rattle.layer_faces.specs.Order.{side_of};
+ghost use Rattle.layer_faces.specs.Order.{labelled_cmp, side_of};
 
 use crate::face::Face;
 use crate::fault::FaceFault;
 use crate::features::told_by;
 use crate::holders::common_holders;
-use crate::kind::{Kind, kind_of};
+use crate::kind::{Kind, is_outside, kind_of};
 use crate::measures::{area_of, border_length};
 use crate::order::{Labelled, by_label, run_length, sides_in};
 use layer_sides::Border;
@@ -40,6 +40,7 @@ fn face_of<A: Allocator + Copy>(
     requires few { length borders.now ≤ 4000000 }
     requires few_sides { length sides.items ≤ 8000000 }
     requires some { 0 < length sides.items }
+    requires ascending { IsNonDecreasing sides.items }
     requires within { All (λ a. a < 2 * length borders.now) sides.items }
     requires owned { (a : ℕ) → a < 2 * length borders.now
         → All (λ n. n < length owners.now) (held_at (borders_seen borders.now) a) }
@@ -76,6 +77,7 @@ fn faces_in<A: Allocator + Copy>(
 ) -> Result<Vec<Face<A>, A>, FaceFault>
     requires few { length borders.now ≤ 4000000 }
     requires few_sides { length order.now ≤ 8000000 }
+    requires ascending { IsSorted labelled_cmp order.now }
     requires within { All (λ a. a < 2 * length borders.now) (map side_of order.now) }
     requires owned { (a : ℕ) → a < 2 * length borders.now
         → All (λ n. n < length owners.now) (held_at (borders_seen borders.now) a) }
@@ -95,6 +97,26 @@ fn faces_in<A: Allocator + Copy>(
     Ok(faces)
 }
 
+/// Fails with `Unlike` where more than one of the faces is the outside.
+fn test_outside<A: Allocator + Copy>(
+    borders: &[Border<A>],
+    faces: &[Face<A>],
+) -> Result<(), FaceFault>
+    requires { All (λ f. f.first < 2 * length borders.now) faces.now }
+    ensures { OnOk result (count_by (λ f. is_outside f.kind) faces.now ≤ 1) }
+{
+    let mut outsides: usize = 0;
+    for face in faces {
+        if is_outside(face.kind) {
+            outsides += 1;
+        }
+        if outsides > 1 {
+            return Err(FaceFault::Unlike(borders[face.first as usize / 2].segment));
+        }
+    }
+    Ok(())
+}
+
 /// The faces of borders, whose sides have these labels, in the order of their first sides; the last label
 /// is that of the outside.
 pub(crate) fn faces_of<A: Allocator + Copy>(
@@ -112,6 +134,7 @@ pub(crate) fn faces_of<A: Allocator + Copy>(
     ensures all { IfOk result (λ faces. IsPermutation (range_with_len 0 (2 * length borders.now))
         (flat_map (λ f. f.sides.items) faces.items)) }
     ensures in_order { IfOk result (λ faces. IsNonDecreasingBy (λ f. f.first) faces.items) }
+    ensures one_outside { IfOk result (λ faces. count_by (λ f. is_outside f.kind) faces.items ≤ 1) }
 {
     let Some((outside, of_sides)) = labels.split_last() else {
         return Ok(Vec::new(alloc));
@@ -119,5 +142,6 @@ pub(crate) fn faces_of<A: Allocator + Copy>(
     let order = by_label(alloc, of_sides)?;
     let mut faces = faces_in(alloc, borders, owners, order.as_slice(), *outside)?;
     faces.sort_unstable_by_key(|face| face.first);
+    test_outside(borders, faces.as_slice())?;
     Ok(faces)
 }

@@ -14,7 +14,7 @@ pub enum FaceFault {
     /// The segments at this vertex are not as those of a layer whose segments meet in their ends alone.
     Unswept(Pos),
     /// A side of this segment was found in one face with a side that other polygons hold, or in the
-    /// outside and is held.
+    /// outside and is held, or in a second face that is the outside.
     Unlike(Seg),
 }
 

@@ -46,7 +46,7 @@ pub(crate) fn is_gap(kind: Kind) -> bool
 
 /// Whether it is the kind of the outside.
 pub(crate) fn is_outside(kind: Kind) -> bool
-    ensures { result ≡ sums.is_outside kind }
+    ensures { result ≡ faces.is_outside kind }
 {
     match kind {
         Kind::Outside => true,

@@ -1,6 +1,6 @@
 // A look at a layer: its faces, and what the areas of its polygons add up to.
 ghost use Rattle.std.specs.Prelude.{◌≡◌, ◌+◌, ◌*◌, ◌≤◌, length, slice_index, sum_by, All, IfOk};
-ghost use Rattle.std.specs.List.Sorted.{IsNonDecreasingBy};
+ghost use Rattle.std.specs.List.Sorted.{IsNonDecreasing, IsNonDecreasingBy};
 ghost use Rattle.ring_parts.specs.Seen.{polygons_seen};
 ghost use Rattle.layer_sides.specs.Borders.{AreBorders, AreHeld, IsProperLayer};
 ghost use Rattle.layer_sides.specs.Seen.{borders_seen};
@@ -52,6 +52,8 @@ fn found_in<A: Allocator + Copy>(
     ensures faces { IfOk result (λ found. AreFaces (polygons_seen polygons.now) owners.now
         (segments_seen borders.now) (faces_seen (segments_seen borders.now) found.0.items)) }
     ensures in_order { IfOk result (λ found. IsNonDecreasingBy (λ f. f.first) found.0.items) }
+    ensures ascending { IfOk result
+        (λ found. All (λ f. IsNonDecreasing f.sides.items) found.0.items) }
     ensures named { IfOk result
         (λ found. All (λ f. slice_index f.sides.items 0 ≡ f.first) found.0.items) }
     ensures uneven { IfOk result (λ found. found.1.items
@@ -86,6 +88,8 @@ pub fn look_at<A: Allocator + Copy>(
     ensures faces { IfOk result (λ look. AreFaces (polygons_seen polygons.now) owners.now
         (segments_seen look.borders.items) (faces_seen (segments_seen look.borders.items) look.faces.items)) }
     ensures in_order { IfOk result (λ look. IsNonDecreasingBy (λ f. f.first) look.faces.items) }
+    ensures ascending { IfOk result
+        (λ look. All (λ f. IsNonDecreasing f.sides.items) look.faces.items) }
     ensures named { IfOk result
         (λ look. All (λ f. slice_index f.sides.items 0 ≡ f.first) look.faces.items) }
     ensures uneven { IfOk result (λ look. look.uneven.items

@@ -1,8 +1,8 @@
 // The sides of borders in the order of their faces.
-ghost use Rattle.std.specs.Prelude.{◌≡◌, ◌≤◌, ◌<◌, length, map, IfOk, OnOk};
+ghost use Rattle.std.specs.Prelude.{◌≡◌, ◌≤◌, ◌<◌, length, map, take, IfOk};
 ghost use Rattle.std.specs.List.{range_with_len};
-ghost use Rattle.std.specs.List.Sorted.{IsPermutation};
-ghost use Rattle.layer_faces.specs.Order.{side_of};
+ghost use Rattle.std.specs.List.Sorted.{IsPermutation, IsSorted};
+ghost use Rattle.layer_faces.specs.Order.{HaveOneLabel, labelled_cmp, side_of};
 
 use std::alloc::{AllocError, Allocator};
 
@@ -38,8 +38,9 @@ pub(crate) fn by_label<A: Allocator + Copy>(
     labels: &[u32],
 ) -> Result<Vec<Labelled, A>, AllocError>
     requires { length labels.now ≤ 8000000 }
-    ensures { IfOk result (λ order.
+    ensures all { IfOk result (λ order.
         IsPermutation (range_with_len 0 (length labels.now)) (map side_of order.items)) }
+    ensures ascending { IfOk result (λ order. IsSorted labelled_cmp order.items) }
 {
     let mut order = with_labels(alloc, labels)?;
     order.sort_unstable();
@@ -50,6 +51,7 @@ pub(crate) fn by_label<A: Allocator + Copy>(
 pub(crate) fn run_length(order: &[Labelled]) -> usize
     ensures within { result ≤ length order.now }
     ensures some { 0 < length order.now → 0 < result }
+    ensures same { HaveOneLabel (take result order.now) }
 {
     let [first, rest @ ..] = order else {
         return 0;

@@ -1,5 +1,5 @@
 // The polygons whose area by their rings is not that by the even-odd rule.
-ghost use Rattle.std.specs.Prelude.{◌≡◌, ◌≤◌, ◌++◌, length, sum_by, IfOk, OnOk};
+ghost use Rattle.std.specs.Prelude.{◌≡◌, ◌≤◌, ◌++◌, unsigned_abs, length, sum_by, All, IfOk, OnOk};
 ghost use Rattle.ring_parts.specs.Seen.{polygons_seen};
 ghost use Rattle.layer_faces.specs.Weighed.{told_beside_all, told_if};
 
@@ -40,6 +40,7 @@ pub(crate) fn uneven_in<A: Allocator + Copy>(
 ) -> Result<Vec<Uneven, A>, AllocError>
     requires same { length areas.now ≡ length polygons.now }
     requires few { sum_by (sum_by length) (polygons_seen polygons.now) ≤ 4000000 }
+    requires small { All (λ z. unsigned_abs z ≤ 64000000000000000000000000000000000000) areas.now }
     ensures { IfOk result
         (λ found. found.items ≡ told_beside_all 0 (polygons_seen polygons.now) areas.now) }
 {

@@ -6,7 +6,7 @@ use Rattle.layer_faces.proofs.sums.over_of.Goals as goal
 
 pub over_in-over-requires : goal.over_in-over-requires
 over_in-over-requires g c =
-    subst (λ f. length f.holders.items ≤ 4000000) (sym c.face-item.is) (c.requires.few c.loop-face.face-index c.face-item.result c.loop-face-test.true)
+    record { few = subst (λ f. length f.holders.items ≤ 4000000) (sym c.face-item.is) (c.requires.few c.loop-face.face-index c.face-item.result c.loop-face-test.true) }
 
 pub overflow_add-over : goal.overflow_add-over
 overflow_add-over g c =

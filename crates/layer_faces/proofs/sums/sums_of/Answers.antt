@@ -1,9 +1,10 @@
-use Rattle.kit_words.proofs.Common.{pos, ◌≤◌, unsigned_abs, neg_ℤ, arith, ints, sym, ap, ◌∙◌, take_all}
+use Rattle.kit_words.proofs.Common.{pos, List, ◌+◌, ◌+ℤ◌, ◌≤◌, unsigned_abs, neg_ℤ, arith, ints, sym, ap, ◌∙◌, take, take_all}
 use Rattle.std.proofs.lemmas.List.Sums.{sum_by-take-le}
 use Rattle.layer_faces.specs.declared.face.Face.{Face}
-use Rattle.layer_faces.specs.Sums.{is_gap, is_outside}
+use Rattle.layer_faces.specs.Faces.{is_outside}
+use Rattle.layer_faces.specs.Sums.{is_gap}
 use Rattle.layer_faces.specs.Weighed.{area_of_kinds, is_land, reach}
-use Rattle.layer_faces.proofs.Weighing.{kind_near, kinds_more, more_reach, reach_within}
+use Rattle.layer_faces.proofs.Weighing.{added, all_fits, over_fits, added_near, taken, taken_near, kind_near, kinds_more, more_reach, reach_within}
 use Rattle.layer_faces.proofs.sums.sums_of.Goals as goal
 
 pub overflow_add-covered : goal.overflow_add-covered
@@ -32,28 +33,26 @@ loop-face-preserved g c =
     let faces = c.args.faces.now in
     let i = c.loop-face.face-index in
     let f = c.face-item.result in
+    let r = reach (take i faces) in
+    let z = f.twice_area in
     let within = reach_within faces i f c.loop-face-test.true c.face-item.is in
+    let small : r + unsigned_abs z ≤ 16000000000000000000000000000000 = omega (arith, within, c.requires.small) in
     let reached = more_reach faces i f c.loop-face-test.true c.face-item.is in
-    let land = kinds_more faces i f c.loop-face-test.true c.face-item.is is_land c.is_land.result (sym c.is_land.ensures) in
-    let gap = kinds_more faces i f c.loop-face-test.true c.face-item.is is_gap c.is_gap.result (sym c.is_gap.ensures) in
-    let outside = kinds_more faces i f c.loop-face-test.true c.face-item.is is_outside c.is_outside.result (sym c.is_outside.ensures) in
-    let near_land = kind_near c.is_land.result f.twice_area c.area_if-covered.result c.area_if-covered.ensures in
-    let near_gap = kind_near c.is_gap.result f.twice_area c.area_if-gaps.result c.area_if-gaps.ensures in
-    let near_outside = kind_near c.is_outside.result f.twice_area c.area_if-within.result c.area_if-within.ensures in
+    let land = kinds_more faces i f c.loop-face-test.true c.face-item.is is_land c.is_land.result (sym c.is_land.ensures) ∙ ap (λ v. area_of_kinds is_land (take i faces) +ℤ v) (sym c.area_if-covered.ensures) in
+    let gap = kinds_more faces i f c.loop-face-test.true c.face-item.is is_gap c.is_gap.result (sym c.is_gap.ensures) ∙ ap (λ v. area_of_kinds is_gap (take i faces) +ℤ v) (sym c.area_if-gaps.ensures) in
+    let outside = kinds_more faces i f c.loop-face-test.true c.face-item.is is_outside c.is_outside.result (sym c.is_outside.ensures) ∙ ap (λ v. area_of_kinds is_outside (take i faces) +ℤ v) (sym c.area_if-within.ensures) in
+    let near_land = kind_near c.is_land.result z c.area_if-covered.result c.area_if-covered.ensures in
+    let near_gap = kind_near c.is_gap.result z c.area_if-gaps.result c.area_if-gaps.ensures in
+    let near_outside = kind_near c.is_outside.result z c.area_if-within.result c.area_if-within.ensures in
     let inv = c.loop-face.invariant in
     record {
-      covered = omega (arith, ints, land, c.area_if-covered.ensures, inv.covered, near_land, inv.covered_bound, within, c.requires.small);
-      gaps = omega (arith, ints, gap, c.area_if-gaps.ensures, inv.gaps, near_gap, inv.gaps_bound, within, c.requires.small);
-      within = omega (arith, ints, outside, c.area_if-within.ensures, inv.within, near_outside, inv.within_bound, within, c.requires.small);
-      covered_bound = omega (arith, ints, reached, near_land, inv.covered_bound, within, c.requires.small);
-      gaps_bound = omega (arith, ints, reached, near_gap, inv.gaps_bound, within, c.requires.small);
-      within_bound = omega (arith, ints, reached, near_outside, inv.within_bound, within, c.requires.small);
+      covered = added _ c.area_if-covered.result z r near_land inv.covered_bound small _ _ inv.covered land;
+      gaps = added _ c.area_if-gaps.result z r near_gap inv.gaps_bound small _ _ inv.gaps gap;
+      within = taken _ c.area_if-within.result z r near_outside inv.within_bound small _ _ inv.within outside;
+      covered_bound = added_near _ c.area_if-covered.result z r near_land inv.covered_bound small _ reached;
+      gaps_bound = added_near _ c.area_if-gaps.result z r near_gap inv.gaps_bound small _ reached;
+      within_bound = taken_near _ c.area_if-within.result z r near_outside inv.within_bound small _ reached;
     }
-
-pub overflow_add-polygons : goal.overflow_add-polygons
-overflow_add-polygons g c =
-    let front = sum_by-take-le (λ (f : Face _). unsigned_abs f.twice_area) c.args.faces.now c.loop-face.face-index in
-    omega (arith, ints, front, c.requires.small, c.loop-face.invariant.covered_bound, c.over_of-over.ensures.bound)
 
 pub returns : goal.returns
 returns g c =
@@ -61,9 +60,9 @@ returns g c =
     let front = sum_by-take-le (λ (f : Face _). unsigned_abs f.twice_area) c.args.faces.now c.loop-face.face-index in
     let inv = c.loop-face.invariant in
     record {
-      polygons = omega (arith, ints, front, c.requires.small, inv.covered_bound, c.over_of-over.ensures.bound);
-      over = omega (arith, ints, c.over_of-over.ensures.value, c.over_of-over.ensures.bound);
-      covered = omega (arith, ints, front, c.requires.small, inv.covered_bound, inv.covered, ap (area_of_kinds is_land) all);
-      gaps = omega (arith, ints, front, c.requires.small, inv.gaps_bound, inv.gaps, ap (area_of_kinds is_gap) all);
-      within = omega (arith, ints, front, c.requires.small, inv.within_bound, inv.within, ap (area_of_kinds is_outside) all);
+      polygons = all_fits _ c.over_of-over.result (omega (arith, front, inv.covered_bound, c.requires.small)) c.over_of-over.ensures.bound;
+      over = over_fits c.over_of-over.result c.over_of-over.ensures.bound ∙ c.over_of-over.ensures.value;
+      covered = inv.covered ∙ ap (area_of_kinds is_land) all;
+      gaps = inv.gaps ∙ ap (area_of_kinds is_gap) all;
+      within = inv.within ∙ ap (λ (fs : List (Face _)). neg_ℤ (area_of_kinds is_outside fs)) all;
     }

@@ -1,5 +1,6 @@
 use Rattle.kit_words.proofs.Common.{◌≡◌, ◌≤◌, neg_ℤ, unsigned_abs, take}
-use Rattle.layer_faces.specs.Sums.{is_gap, is_outside}
+use Rattle.layer_faces.specs.Faces.{is_outside}
+use Rattle.layer_faces.specs.Sums.{is_gap}
 use Rattle.layer_faces.specs.Weighed.{area_of_kinds, is_land, reach}
 use Rattle.layer_faces.proofs.sums.sums_of.Given as goal
 

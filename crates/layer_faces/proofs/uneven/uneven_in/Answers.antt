@@ -5,7 +5,7 @@ use Rattle.ring_machine.specs.Common.{polygon_area}
 use Rattle.layer_faces.specs.Weighed.{told_if}
 use Rattle.layer_faces.proofs.Counting.{polygon_positions, positions_of}
 use Rattle.layer_faces.proofs.Summing.{sum_at}
-use Rattle.layer_faces.proofs.Weighing.{told_all, told_next, told_same}
+use Rattle.layer_faces.proofs.Weighing.{over_fits, told_all, told_next, told_same}
 use Rattle.layer_faces.proofs.uneven.uneven_in.Goals as goal
 
 pub polygon_area-requires : goal.polygon_area-requires
@@ -23,7 +23,8 @@ loop-polygon-preserved g c =
     let b = to_z w128 (of_z w128 z) in
     let whole : a ≡ c.polygon_area.result = omega (arith, ints) in
     let by_rings : a ≡ polygon_area (polygon_positions p) = whole ∙ c.polygon_area.ensures.value ∙ ap (λ ps. polygon_area (map positions_of ps)) c.as_slice.ensures.value in
-    let even_odd : b ≡ z = ? in
+    let near = c.requires.small i (pos 0) within in
+    let even_odd : b ≡ z = over_fits z near in
     told_next polygon_positions c.loop-polygon.found.items c.push_uneven.new.found.items c.args.polygons.now c.args.areas.now i p z _
     c.loop-polygon-test.true c.index-polygons-polygon.is within (get_or_default c.args.areas.now i (pos 0) z within)
     (told_same c.loop-polygon.found.items c.push_uneven.new.found.items i (polygon_positions p) a b z by_rings even_odd c.in_ok-push_uneven.ensures)
