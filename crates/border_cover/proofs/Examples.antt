@@ -3,7 +3,7 @@ use Rattle.kit_words.proofs.Common.{◌≡◌, refl, true, [], ◌∷◌, ℕ, L
 use Rattle.clap.specs.Words.{Text, all_of, first_of, is_simple, matches_of}
 use Rattle.clap.proofs.OnLiterals.{clap_on_literals}
 use Rattle.topo_outline.specs.declared.fault.OpenFault.TheVariants as map_fault
-use Rattle.cover_report.specs.Common.{Counts}
+use Rattle.cover_report.specs.declared.told.Counts.{Counts}
 use Rattle.cover_report.specs.declared.fault.CoverFault.{CoverFault}
 use Rattle.cover_report.specs.declared.fault.CoverFault.TheVariants as fault
 use Rattle.border_cover.specs.Asked.{cover_program}

@@ -1,7 +1,8 @@
 -- The status that a report ends the program with.
 use Rattle.std.specs.Prelude.{ℕ, Result, Ok, Err, if◌then◌else◌}
 use Rattle.topo_outline.specs.declared.fault.OpenFault.TheVariants.{OutOfMemory}
-use Rattle.cover_report.specs.Common.{Counts, is_clear}
+use Rattle.cover_report.specs.Common.{is_clear}
+use Rattle.cover_report.specs.declared.told.Counts.{Counts}
 use Rattle.cover_report.specs.declared.fault.CoverFault.{CoverFault}
 use Rattle.cover_report.specs.declared.fault.CoverFault.TheVariants.{Open}
 

@@ -1,6 +1,7 @@
 -- The features of layers, and numbers, counted one after another.
-use Rattle.kit_words.proofs.Common.{◌≡◌, ℕ, zero, suc, ◌+◌, ◌<◌, ◌++◌, ◌∙◌, ◌∷◌, [], Bool, cond, List, Option, Some, None, is_some}
-use Rattle.kit_words.proofs.Common.{length, map, take, get_or, ap, sym, refl, arith, append_assoc, append-nil, length-append, map-append, take_more}
+use Rattle.kit_words.proofs.Common.{◌≡◌, ℕ, ◌+◌, ◌<◌, ◌++◌, ◌∙◌, ◌∷◌, [], cond, List, Option, Some, None, is_some}
+use Rattle.kit_words.proofs.Common.{length, map, take, get_or, ap, sym, refl, append_assoc, append-nil, length-append, map-append, map-id, take_more}
+use Rattle.std.proofs.lemmas.List.FromFn.{map-range_with_len_more}
 use Rattle.std.specs.List.{range_with_len}
 use Rattle.json_spans.specs.Common.{Node}
 use Rattle.ring_machine.specs.Common.{Form}
@@ -30,6 +31,7 @@ leaves_more items i d lt =
     ∙ ap (λ n. length (leaves_in (map view_item (take i items))) + n) (leaves-one (view_item (get_or items i d)))
 
 -- one number more
-pub range_more : (a n : ℕ) → range_with_len a (n + 1) ≡ range_with_len a n ++ (a + n) ∷ []
-range_more a zero = ap (λ (k : ℕ). k ∷ []) (omega arith)
-range_more a (suc n) = ap (λ (z : List ℕ). a ∷ z) (range_more (a + 1) n ∙ ap (λ (k : ℕ). range_with_len (a + 1) n ++ k ∷ []) (omega arith))
+pub range_more : (a n k : ℕ) → a + n ≡ k → range_with_len a (n + 1) ≡ range_with_len a n ++ k ∷ []
+range_more a n k e =
+    sym (map-id (range_with_len a (n + 1))) ∙ map-range_with_len_more (λ (x : ℕ). x) a n k e
+    ∙ ap (λ (z : List ℕ). z ++ k ∷ []) (map-id (range_with_len a n))

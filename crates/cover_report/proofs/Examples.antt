@@ -1,9 +1,8 @@
 -- Worked examples: the lines of a report, bounds, and the layers that are looked at.
-use Rattle.kit_words.proofs.Common.{◌≡◌, ℕ, ℤ, pos, negsuc, refl, true, false, [], ◌∷◌, List, Some, None, codes, digits}
+use Rattle.kit_words.proofs.Common.{◌≡◌, ℕ, pos, negsuc, refl, true, false, [], ◌∷◌, Some, None, codes, digits}
 use Rattle.grid_geometry.specs.Common.{Position, position}
 use Rattle.layer_sides.specs.Common.{Left, Right, Polygon}
-use Rattle.layer_faces.specs.declared.kind.Kind.{Kind}
-use Rattle.layer_faces.specs.declared.kind.Kind.TheVariants.{Overlap, Twice, Gap, Lake}
+use Rattle.layer_faces.specs.declared.kind.Kind.TheVariants.{Overlap, Gap, Lake}
 use Rattle.cover_report.specs.Asked.{Wants}
 use Rattle.cover_report.specs.Counted.{is_told}
 use Rattle.cover_report.specs.Faces.{FaceTold, first_ends}

@@ -1,6 +1,6 @@
 -- Names one after another, as a loop meets them.
 use Rattle.kit_words.proofs.Common.{◌≡◌, ◌+◌, ◌<◌, ◌≤◌, ℕ, List, [], ◌∷◌, ◌||◌, ◌&&◌, true, false, length, get_or, drop, map, refl, ap, Option, None}
-use Rattle.kit_words.proofs.Common.{list_any, list_all, bytes_eq, drop-cons, drop_all, add-one, Bor}
+use Rattle.kit_words.proofs.Common.{list_any, bytes_eq, drop-cons, drop_all, add-one, Bor}
 use Rattle.topo_outline.specs.Common.{LayerText, view_layer}
 use Rattle.topo_outline.specs.declared.document.RawLayer.{RawLayer}
 use Rattle.cover_report.specs.Names.{are_there, has_name, is_one_of, is_text_of}

@@ -1,11 +1,13 @@
 -- The polygons of a document whose segments do not conflict are those of a proper layer, and so are some of them.
 use Rattle.kit_words.proofs.Common.{◌≡◌, ◌∙◌, ℕ, Bool, true, List, [], ◌∷◌, ◌++◌, ◌&&◌, ap, ap₂, sym, subst, refl, arith, length, take, drop}
-use Rattle.kit_words.proofs.Common.{Contains, flat_map, list_all, flat_map-append, list_all-append, take_all, take-append-drop, and_parts}
+use Rattle.kit_words.proofs.Common.{None, false, false≢true, false_from_ne_true, Contains, flat_map, list_all, flat_map-append, list_all-append, take_all, take-append-drop, and_parts}
 use Rattle.kit_words.proofs.Common.{Contains-append_left, Contains-append_right}
-use Rattle.grid_geometry.specs.Common.{Position, Segment, conflict}
-use Rattle.ring_machine.specs.Common.{Proper, all_segments, first_pair, is_ring, rings, segments}
+use Rattle.grid_geometry.specs.Common.{Position, Segment, conflict, segment_lt}
+use Rattle.ring_machine.specs.Common.{Proper, all_segments, first_pair, is_ring, least_conflict, rings, segments}
 use Rattle.ring_machine.proofs.Common.{contains_in}
-use Rattle.arc_store.proofs.Indexed.{none_conflict}
+use Rattle.ring_machine.proofs.Fewer.{none_bad}
+use Rattle.ring_machine.proofs.Common.{In, segment_ordered}
+use Rattle.grid_geometry.proofs.Common.{conflict-comm, conflict-same}
 use Rattle.topo_outline.specs.Common.{leaves}
 use Rattle.topo_reader.specs.Common.{IsOfRings, Opened, document_of}
 use Rattle.topo_reader.proofs.Common.{rings_document, rings_within}
@@ -45,17 +47,28 @@ rings_read o is =
     rings_document o.polygons o.layers
     ∙ ap (λ (fs : List (List Polygon)). flat_map rings_within fs) (take_all (length (leaves o.layers)) o.polygons (omega (arith, is.counted)))
 
+-- the segments of the document are those of all polygons
+pub all_read : (o : Opened) → IsOfRings o → all_segments (document_of o) ≡ segments_in (polygons_in o.polygons)
+all_read o is =
+    ap (λ (z : List (List Position)). flat_map segments z) (rings_read o is) ∙ sym (segments_within o.polygons)
+
+pub all_rings : (o : Opened) → IsOfRings o → list_all (list_all is_ring) (polygons_in o.polygons) ≡ true
+all_rings o is = all_within is_ring o.polygons ∙ ap (list_all is_ring) (sym (rings_read o is)) ∙ is.are_rings
+
+none_conflict : (ss : List Segment) → least_conflict ss ≡ None → (s t : Segment) → In s ss → In t ss → conflict s t ≡ false
+none_conflict ss h s t i j = false_from_ne_true _ (λ e.
+    let f : segment_lt s t ≡ false = false_from_ne_true _ (λ f. none_bad ss h (s, t) (record { order = f; left = i; right = j; meet = e })) in
+    let g : segment_lt t s ≡ false = false_from_ne_true _ (λ g. none_bad ss h (t, s) (record { order = g; left = j; right = i; meet = conflict-comm t s ∙ e })) in
+    false≢true (sym (ap (conflict s) (sym (segment_ordered.total s t f g)) ∙ conflict-same s) ∙ e))
+
 pub proper_layer : (o : Opened) → IsOfRings o → Proper (document_of o) → IsProperLayer (polygons_in o.polygons)
 unfolding first_pair
 proper_layer o is proper =
-    let there : (s : Segment) → Contains (segments_in (polygons_in o.polygons)) s → Contains (all_segments (document_of o)) s =
-    λ s h. subst (λ (z : List Segment). Contains z s)
-    (segments_within o.polygons ∙ ap (λ (z : List (List Position)). flat_map segments z) (sym (rings_read o is))) h in
+    let there : (s : Segment) → Contains (segments_in (polygons_in o.polygons)) s → In s (all_segments (document_of o)) =
+    λ s h. contains_in (all_segments (document_of o)) s (subst (λ (z : List Segment). Contains z s) (sym (all_read o is)) h) in
     record {
-      are_rings = all_within is_ring o.polygons ∙ ap (list_all is_ring) (sym (rings_read o is)) ∙ is.are_rings;
-      apart = λ s t i j.
-          none_conflict (all_segments (document_of o)) proper.apart s t
-          (contains_in (all_segments (document_of o)) s (there s i)) (contains_in (all_segments (document_of o)) t (there t j));
+      are_rings = all_rings o is;
+      apart = λ s t i j. none_conflict (all_segments (document_of o)) proper.apart s t (there s i) (there t j);
     }
 
 -- ---- some of the polygons

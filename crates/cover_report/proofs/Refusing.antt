@@ -3,7 +3,6 @@ use Rattle.kit_words.proofs.Common.{◌≡◌, ℕ, true, List, subst, sym}
 use Rattle.ring_machine.specs.Common.{Text}
 use Rattle.topo_outline.specs.Common.{LayerText}
 use Rattle.topo_outline.specs.declared.fault.OpenFault.{OpenFault}
-use Rattle.topo_outline.specs.declared.fault.OpenFault.TheVariants as open_fault
 use Rattle.topo_reader.specs.Common.{IsFault, Opened}
 use Rattle.cover_report.specs.Asked.{Wants}
 use Rattle.cover_report.specs.Faults.{IsLookFault, IsRefused, IsUnlooked, OpensProper}

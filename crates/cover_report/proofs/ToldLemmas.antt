@@ -1,8 +1,8 @@
 -- What is told, one after another.
-use Rattle.kit_words.proofs.Common.{◌≡◌, ◌∙◌, ℕ, ◌+◌, ◌<◌, ◌++◌, ◌∷◌, [], Bool, true, false, cond, List, ap, ap₂, sym, refl, length, map, take, filter, flat_map, get_or}
-use Rattle.kit_words.proofs.Common.{append_assoc, append-nil, filter-append, map-append, flat_map-append, mapped_more}
+use Rattle.kit_words.proofs.Common.{◌≡◌, ◌∙◌, ℕ, ◌+◌, ◌<◌, ◌++◌, ◌∷◌, [], Bool, true, false, cond, List, ap, sym, refl, length, map, take, filter, get_or}
+use Rattle.kit_words.proofs.Common.{append_assoc, filter-append, map-append, mapped_more}
 use Rattle.layer_faces.specs.Common.{FaceOf}
-use Rattle.cover_report.specs.Faces.{FaceTold, all_told, face_told, is_found}
+use Rattle.cover_report.specs.Faces.{all_told, face_told, is_found}
 
 -- ---- faces
 

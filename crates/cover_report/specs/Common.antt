@@ -7,5 +7,3 @@ pub use Rattle.cover_report.specs.Names.{are_there}
 unfoldable pub use Rattle.cover_report.specs.Layers.{asked_layers}
 pub use Rattle.cover_report.specs.Report.{report_text}
 pub use Rattle.cover_report.specs.Told.{IsTold}
-pub use Rattle.cover_report.specs.declared.told.Counts.{Counts}
-pub use Rattle.cover_report.specs.declared.fault.CoverFault.{CoverFault}

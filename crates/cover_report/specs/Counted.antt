@@ -43,19 +43,19 @@ uneven_of looks = flat_map (λ k. k.uneven) looks
 abbrev pub told : Wants → Kind → List FaceTold → List FaceTold
 told wants kind faces = filter (is_told wants kind) faces
 
--- how many faces of a kind are told
-abbrev pub count_told : Wants → Kind → List LookedAt → ℕ
-count_told wants kind looks = length (told wants kind (faces_of looks))
-
--- how much is told of each kind
-abbrev pub counts_of : Wants → List LookedAt → Counts
-counts_of wants looks = record {
-  overlaps = count_told wants Overlap looks;
-  twices = count_told wants Twice looks;
-  gaps = count_told wants Gap looks;
-  lakes = count_told wants Lake looks;
-  uneven = length (uneven_of looks);
+-- how much is told of each kind, of these faces and uneven polygons
+abbrev pub counts_among : Wants → List FaceTold → List UnevenPolygon → Counts
+counts_among wants faces uneven = record {
+  overlaps = length (told wants Overlap faces);
+  twices = length (told wants Twice faces);
+  gaps = length (told wants Gap faces);
+  lakes = length (told wants Lake faces);
+  uneven = length uneven;
 }
+
+-- and of all that was found in layers
+abbrev pub counts_of : Wants → List LookedAt → Counts
+counts_of wants looks = counts_among wants (faces_of looks) (uneven_of looks)
 
 -- nothing but lakes is told
 abbrev pub is_clear : Counts → Bool

@@ -1,23 +1,15 @@
 -- Why there is no report.
 use Rattle.std.specs.Prelude.{◌≡◌, false, true, ℕ, List}
-use Rattle.arc_store.specs.declared.fault.BuildFault.{BuildFault}
-use Rattle.arc_store.specs.declared.fault.BuildFault.TheVariants as build
 use Rattle.layer_faces.specs.declared.fault.FaceFault.{FaceFault}
 use Rattle.layer_faces.specs.declared.fault.FaceFault.TheVariants as face
-use Rattle.ring_machine.specs.Common.{Document, Proper, Text}
+use Rattle.ring_machine.specs.Common.{Proper, Text}
 use Rattle.topo_outline.specs.Common.{LayerText}
-use Rattle.topo_outline.specs.declared.fault.OpenFault.{OpenFault}
 use Rattle.topo_outline.specs.declared.fault.OpenFault.TheVariants as open_fault
-use Rattle.topo_reader.specs.Common.{IsFault, Opened, Opens, Reads, document_of}
+use Rattle.topo_reader.specs.Common.{IsFault, Opened, Opens, document_of}
 use Rattle.cover_report.specs.Asked.{Wants}
 use Rattle.cover_report.specs.Names.{are_there}
 use Rattle.cover_report.specs.declared.fault.CoverFault.{CoverFault}
 use Rattle.cover_report.specs.declared.fault.CoverFault.TheVariants.{Open, NoLayer, TooLarge, Unswept, Unlike}
-
--- the fault of a map that is not built
-abbrev pub unbuilt : BuildFault → OpenFault
-unbuilt (build.Conflict s t) = open_fault.Conflict s t
-unbuilt build.OutOfMemory = open_fault.OutOfMemory
 
 -- why a layer was not looked at
 abbrev pub of_face : FaceFault → CoverFault
@@ -46,10 +38,6 @@ IsUnlooked names layers (Unlike s) = are_there names layers ≡ true
 pub record OpensProper (bytes : List ℕ) (map : Opened) : Type 0 where
   pub opens : Opens bytes map
   pub proper : Proper (document_of map)
-
--- the bytes mean a document whose segments do not conflict
-abbrev pub HasOpened : List ℕ → Type 0
-HasOpened bytes = (d : Document) × Reads bytes d × Proper d
 
 -- the map opens, and has no layer of some name that is asked for
 abbrev pub LacksLayer : Wants → List ℕ → Type 0

@@ -1,7 +1,6 @@
 -- The layers that are looked at, each with its polygons.
 use Rattle.std.specs.Prelude.{◌≡◌, ℕ, suc, ◌+◌, List, map, [], ◌∷◌, ◌++◌, length, replicate, take, drop, flat_map, if◌then◌else◌}
 use Rattle.std.specs.List.{range_with_len}
-use Rattle.grid_geometry.specs.Common.{Position}
 use Rattle.ring_machine.specs.Common.{Text}
 use Rattle.topo_outline.specs.Common.{LayerText, leaves_in}
 use Rattle.layer_sides.specs.Common.{AreBorders, Bordering, Polygon}

@@ -4,6 +4,7 @@ pub mod Faces
 pub mod Uneven
 pub mod Layers
 pub mod Owned
+pub mod Filling
 pub mod Faults
 pub mod Counted
 pub mod Report

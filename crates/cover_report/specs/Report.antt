@@ -1,5 +1,5 @@
 -- The report of the overlaps and gaps of layers: a line for each fact.
-use Rattle.std.specs.Prelude.{ℕ, suc, zero, ◌*◌, ◌^◌, ◌==◌, ◌&&◌, List, [], ◌++◌, codes, decimal, flat_map, length, take, if◌then◌else◌}
+use Rattle.std.specs.Prelude.{ℕ, suc, zero, ◌*◌, ◌^◌, ◌==◌, ◌&&◌, List, [], ◌++◌, codes, decimal, flat_map, take, if◌then◌else◌}
 use Rattle.std.specs.Fmt.{signed_decimal}
 use Rattle.grid_geometry.specs.Common.{position_text}
 use Rattle.layer_faces.specs.declared.kind.Kind.{Kind}

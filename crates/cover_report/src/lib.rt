@@ -30,6 +30,7 @@ macro_rules! append {
 }
 
 mod asked;
+mod conflict;
 mod faces;
 mod fault;
 mod layers;

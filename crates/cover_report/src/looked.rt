@@ -81,6 +81,24 @@ fn look_in<'a, A: Allocator + Copy>(
     }
 }
 
+/// Looks at polygons of a layer with this name, and puts what is found behind what was found before.
+fn push_look<'a, A: Allocator + Copy>(
+    alloc: A,
+    looks: &mut Vec<Looked<'a, A>, A>,
+    name: &'a [u8],
+    owned: &Owned<A>,
+) -> Result<(), CoverFault<'a>>
+    requires owned { length owned.now.owners.items ≡ length owned.now.polygons.items }
+    requires proper { IsProperLayer (polygons_seen owned.now.polygons.items) }
+    ensures looked { OnOk result (AddsLook (owned_layer name.now owned.now)
+        (map view_looked looks.old.items) (map view_looked looks.new.items)) }
+    ensures fault { IfErr result IsLookFault }
+{
+    let looked = or_return!(look_in(alloc, name, owned));
+    looks.push(looked)?;
+    Ok(())
+}
+
 /// The layers that were looked at, and the features of those that were not come to yet.
 #[derive(Drop)]
 struct Looks<'a, A: Allocator + Copy> {
@@ -117,10 +135,10 @@ impl<'a, A: Allocator + Copy> Looks<'a, A> {
         let owned = next_polygons(alloc, &mut self.rest, self.first, count)?;
         self.first += count;
         if is_asked {
-            let looked = or_return!(look_in(alloc, layer.name, &owned));
-            self.looks.push(looked)?;
+            push_look(alloc, &mut self.looks, layer.name, &owned)
+        } else {
+            Ok(())
         }
-        Ok(())
     }
 }
 

@@ -2,13 +2,13 @@
 ghost use Rattle.std.specs.Prelude.{◌≡◌, ◌++◌, true, length, map, IfErr, IfOk, OnOk};
 ghost use Rattle.cover_report.specs.Faces.{view_told};
 ghost use Rattle.cover_report.specs.Asked.{view_asked};
-ghost use Rattle.cover_report.specs.Counted.{counts_of, told};
+ghost use Rattle.cover_report.specs.Counted.{counts_among, counts_of, told};
 ghost use Rattle.topo_reader.specs.Common.{document_of, IsOfRings, view_raw};
 ghost use Rattle.ring_machine.specs.Common.{Proper};
 ghost use Rattle.cover_report.specs.Faults.{IsRefused, IsUnlooked};
 ghost use Rattle.cover_report.specs.Layers.{AreLooks, asked_layers, view_looked};
 ghost use Rattle.cover_report.specs.Names.{are_there};
-ghost use Rattle.cover_report.specs.Report.{report_text, told_lines};
+ghost use Rattle.cover_report.specs.Report.{found_text, report_text, told_lines};
 ghost use Rattle.cover_report.specs.Told.{IsTold};
 
 use crate::asked::Asked;
@@ -19,6 +19,7 @@ use crate::looked::{Looked, looks_of};
 use crate::names::are_there;
 use crate::opening::proper_map;
 use crate::told::{Counts, all_faces, all_uneven, told_faces};
+use crate::uneven::UnevenPolygon;
 use layer_faces::Kind;
 use std::alloc::{AllocError, Allocator, Global};
 use std::hash::RandomState;
@@ -42,6 +43,33 @@ fn push_kind<A: Allocator + Copy>(
     Ok(told.len())
 }
 
+/// Appends the lines of what is told of these faces and uneven polygons, and answers how much there is of each kind.
+fn push_found<A: Allocator + Copy>(
+    alloc: A,
+    text: &mut Vec<u8, A>,
+    asked: &Asked<'_>,
+    faces: &[&ToldFace<A>],
+    uneven: &[UnevenPolygon],
+) -> Result<Counts, AllocError>
+    ensures lines { OnOk result (text.new.items ≡ text.old.items
+        ++ found_text (view_asked asked.now) (map (λ f. view_told f.now) faces.now) uneven.now) }
+    ensures counts { IfOk result (λ counts. counts
+        ≡ counts_among (view_asked asked.now) (map (λ f. view_told f.now) faces.now) uneven.now) }
+{
+    let overlaps = push_kind(alloc, text, asked, Kind::Overlap, faces)?;
+    let twices = push_kind(alloc, text, asked, Kind::Twice, faces)?;
+    let gaps = push_kind(alloc, text, asked, Kind::Gap, faces)?;
+    let lakes = push_kind(alloc, text, asked, Kind::Lake, faces)?;
+    push_first(text, uneven, asked.most)?;
+    Ok(Counts {
+        overlaps,
+        twices,
+        gaps,
+        lakes,
+        uneven: uneven.len(),
+    })
+}
+
 /// Appends the report of the layers that were looked at, and answers how much is told of each kind.
 fn push_report<A: Allocator + Copy>(
     alloc: A,
@@ -55,21 +83,10 @@ fn push_report<A: Allocator + Copy>(
         ≡ counts_of (view_asked asked.now) (map view_looked looks.now)) }
 {
     let faces = all_faces(alloc, looks)?;
-    let overlaps = push_kind(alloc, text, asked, Kind::Overlap, faces.as_slice())?;
-    let twices = push_kind(alloc, text, asked, Kind::Twice, faces.as_slice())?;
-    let gaps = push_kind(alloc, text, asked, Kind::Gap, faces.as_slice())?;
-    let lakes = push_kind(alloc, text, asked, Kind::Lake, faces.as_slice())?;
     let uneven = all_uneven(alloc, looks)?;
-    push_first(text, uneven.as_slice(), asked.most)?;
+    let counts = push_found(alloc, text, asked, faces.as_slice(), uneven.as_slice())?;
     push_widths(text, faces.as_slice())?;
     push_all_sums(text, looks)?;
-    let counts = Counts {
-        overlaps,
-        twices,
-        gaps,
-        lakes,
-        uneven: uneven.len(),
-    };
     push_counts(text, counts)?;
     Ok(counts)
 }

@@ -25,6 +25,18 @@ fn number_or_zero(numbers: &[usize], at: usize) -> usize
     }
 }
 
+/// What is told of a polygon of a layer.
+fn told_of(owners: &[usize], numbers: &[usize], uneven: &Uneven) -> UnevenPolygon
+    ensures { result ≡ uneven_told owners.now numbers.now uneven.now }
+{
+    UnevenPolygon {
+        feature: number_or_zero(owners, uneven.polygon),
+        polygon: number_or_zero(numbers, uneven.polygon),
+        by_rings: uneven.by_rings,
+        even_odd: uneven.even_odd,
+    }
+}
+
 /// What is told of polygons of a layer, each of which has the number of its feature, and its own among the polygons of it.
 pub(crate) fn uneven_told<A: Allocator + Copy>(
     alloc: A,
@@ -37,12 +49,7 @@ pub(crate) fn uneven_told<A: Allocator + Copy>(
 {
     let mut found = Vec::new(alloc);
     for it in uneven {
-        found.push(UnevenPolygon {
-            feature: number_or_zero(owners, it.polygon),
-            polygon: number_or_zero(numbers, it.polygon),
-            by_rings: it.by_rings,
-            even_odd: it.even_odd,
-        })?;
+        found.push(told_of(owners, numbers, it))?;
     }
     Ok(found)
 }

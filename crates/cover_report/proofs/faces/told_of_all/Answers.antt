@@ -1,4 +1,4 @@
-use Rattle.kit_words.proofs.Common.{◌++◌, ◌∷◌, [], ◌∙◌, sym, ap, append_assoc, append-nil, into_iter_items, into_iter_len, map, nothing_left, refl}
+use Rattle.kit_words.proofs.Common.{◌++◌, ◌∷◌, [], ◌∙◌, sym, ap, append-nil, into_iter_items, into_iter_len, map, nothing_left}
 use Rattle.layer_faces.specs.Common.{face_seen, faces_seen, segments_seen}
 use Rattle.cover_report.specs.Faces.{all_told, view_told}
 use Rattle.cover_report.proofs.Taken.{joined}

@@ -1,4 +1,4 @@
-use Rattle.kit_words.proofs.Common.{◌≡◌, ◌∙◌, ℕ, ap, arith, cond, is_some, refl, sym}
+use Rattle.kit_words.proofs.Common.{◌∙◌, ℕ, ap, arith, cond, is_some, refl, sym}
 use Rattle.topo_outline.specs.Common.{leaf_of, view_item}
 use Rattle.topo_outline.specs.Layers.{leaves_in}
 use Rattle.cover_report.proofs.Counted.{leaves_more}

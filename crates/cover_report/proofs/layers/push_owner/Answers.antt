@@ -1,5 +1,5 @@
-use Rattle.kit_words.proofs.Common.{◌≡◌, ◌∙◌, ◌++◌, ◌∷◌, [], ap, append-nil, sym}
-use Rattle.std.proofs.Common.{replicate_more}
+use Rattle.kit_words.proofs.Common.{◌∷◌, [], append-nil, sym}
+use Rattle.std.proofs.lemmas.List.{replicate_more}
 use Rattle.cover_report.proofs.ToldLemmas.{longer}
 use Rattle.cover_report.proofs.layers.push_owner.Goals as goal
 

@@ -1,4 +1,4 @@
-use Rattle.kit_words.proofs.Common.{◌≡◌, ◌∙◌, ◌++◌, ap, append-nil, flat_mapped_more, map, sym, take_all}
+use Rattle.kit_words.proofs.Common.{◌∙◌, ◌++◌, ap, append-nil, flat_mapped_more, map, sym, take_all}
 use Rattle.std.specs.Prelude.{flat_map}
 use Rattle.cover_report.specs.Layers.{view_looked}
 use Rattle.cover_report.specs.Report.{sum_line}

@@ -1,4 +1,4 @@
-use Rattle.kit_words.proofs.Common.{◌≡◌, ◌∙◌, ◌++◌, ap, codes, rules, FitsSigned, w128, signed_decimal, to_z-of_z}
+use Rattle.kit_words.proofs.Common.{◌∙◌, ◌++◌, ap, codes, rules, FitsSigned, w128, signed_decimal, to_z-of_z}
 use Rattle.cover_report.proofs.Appending.{thirteen}
 use Rattle.cover_report.proofs.lines.push_sums.Goals as goal
 

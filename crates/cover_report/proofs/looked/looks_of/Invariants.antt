@@ -1,4 +1,4 @@
-use Rattle.kit_words.proofs.Common.{◌≡◌, ◌≤◌, ◌+◌, ◌++◌, drop, into_iter_items, length, List, map}
+use Rattle.kit_words.proofs.Common.{◌≤◌, ◌+◌, ◌++◌, drop, into_iter_items, length, List, map}
 use Rattle.layer_sides.specs.Common.{IsProperLayer}
 use Rattle.topo_outline.specs.Common.{leaves, view_layer}
 use Rattle.topo_reader.specs.Common.{feature_positions}

@@ -1,4 +1,4 @@
-use Rattle.kit_words.proofs.Common.{◌≡◌, ◌∙◌, ◌++◌, ap, length, length-map, map, sym}
+use Rattle.kit_words.proofs.Common.{◌∙◌, ◌++◌, ap, length, length-map, sym}
 use Rattle.cover_report.specs.Faces.{view_told}
 use Rattle.cover_report.specs.Report.{face_line}
 use Rattle.cover_report.proofs.LineLemmas.{lines_of}

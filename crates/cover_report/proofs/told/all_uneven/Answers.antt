@@ -1,4 +1,4 @@
-use Rattle.kit_words.proofs.Common.{◌≡◌, ◌∙◌, ◌++◌, ap, flat_mapped_more, map, sym, take_all}
+use Rattle.kit_words.proofs.Common.{◌∙◌, ◌++◌, ap, flat_mapped_more, map, sym, take, take_all}
 use Rattle.cover_report.specs.Counted.{uneven_of}
 use Rattle.cover_report.specs.Layers.{LookedAt, view_looked}
 use Rattle.cover_report.proofs.told.all_uneven.Goals as goal
@@ -7,7 +7,7 @@ pub loop-looked-preserved : goal.loop-looked-preserved
 loop-looked-preserved g c =
     c.in_ok-extend_from_slice.ensures.items
     ∙ ap (λ z. z ++ c.as_slice.result.now) c.loop-looked.invariant
-    ∙ ap (λ z. uneven_of (map view_looked _) ++ z) c.as_slice.ensures.value
+    ∙ ap (λ z. uneven_of (map view_looked (take c.loop-looked.looked-index c.args.looks.now)) ++ z) c.as_slice.ensures.value
     ∙ sym (flat_mapped_more (λ (k : LookedAt). k.uneven) view_looked c.args.looks.now c.loop-looked.looked-index c.looked-item.result c.loop-looked-test.true c.looked-item.is)
 
 pub returns : goal.returns

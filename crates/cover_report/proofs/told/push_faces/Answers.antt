@@ -1,4 +1,4 @@
-use Rattle.kit_words.proofs.Common.{◌≡◌, ◌∙◌, ◌++◌, ◌∷◌, [], ap, append-nil, map, map_push, mapped_more, sym, take_all}
+use Rattle.kit_words.proofs.Common.{◌∙◌, ◌++◌, ◌∷◌, [], ap, append-nil, map, map_push, mapped_more, sym, take_all}
 use Rattle.cover_report.specs.Faces.{view_told}
 use Rattle.cover_report.proofs.ToldLemmas.{longer}
 use Rattle.cover_report.proofs.told.push_faces.Goals as goal

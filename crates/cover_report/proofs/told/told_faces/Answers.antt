@@ -1,4 +1,4 @@
-use Rattle.kit_words.proofs.Common.{◌≡◌, ◌∙◌, ◌++◌, ◌∷◌, [], ap, ap₂, cond, map, sym, take_all}
+use Rattle.kit_words.proofs.Common.{◌∙◌, ◌++◌, ◌∷◌, [], ap, ap₂, cond, map, sym, take_all}
 use Rattle.cover_report.specs.Asked.{view_asked}
 use Rattle.cover_report.specs.Counted.{is_told, told}
 use Rattle.cover_report.specs.Faces.{view_told}
