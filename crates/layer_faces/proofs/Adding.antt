@@ -1,9 +1,9 @@
 -- Adding areas to those of polygons by their numbers.
-use Rattle.kit_words.proofs.Common.{◌≡◌, ℕ, zero, suc, ◌+◌, ◌*◌, ◌<◌, ◌≤◌, ◌^◌, ℤ, pos, ◌+ℤ◌, ◌*ℤ◌, unsigned_abs, refl, sym, ap, ap₂, ◌∙◌, subst, arith, ints, cond, eqb, Bool, true, false}
-use Rattle.kit_words.proofs.Common.{List, [], ◌∷◌, length, get_or, set, take, inl, inr, cases_eq, eq-eqb, ne_eqb, get_or-set_same, get_or-set_other, unsigned_abs-mul}
+use Rattle.kit_words.proofs.Common.{◌≡◌, ℕ, zero, suc, ◌+◌, ◌*◌, ◌<◌, ◌≤◌, ◌^◌, ℤ, pos, ◌+ℤ◌, ◌*ℤ◌, unsigned_abs, refl, sym, ap, ◌∙◌, subst, arith, ints, cond, eqb, true, false}
+use Rattle.kit_words.proofs.Common.{List, length, get_or, set, take, inl, inr, cases_eq, eq-eqb, ne_eqb, get_or-set_same, get_or-set_other, unsigned_abs-mul}
 use Rattle.std.proofs.lemmas.List.{length-take}
-use Rattle.std.specs.List.{count_by, sum_by}
-use Rattle.std.proofs.Math.IntN.{+ℤ_comm, suc_ℤ-*ℤ}
+use Rattle.std.specs.List.{count_by}
+use Rattle.std.proofs.Math.IntN.{suc_ℤ-*ℤ}
 use Rattle.std.proofs.Math.Nat.{mul-le-mul_right}
 use Rattle.std.proofs.lemmas.List.Sums.{count_by-le-length, sum_by_more}
 use Rattle.layer_faces.specs.Areas.{total}

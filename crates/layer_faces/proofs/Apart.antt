@@ -3,7 +3,7 @@ use Rattle.kit_words.proofs.Common.{◌≡◌, ℕ, suc, ◌<◌, Bool, true, fa
 use Rattle.std.proofs.Common.{rules, tests, ◌≢◌}
 use Rattle.std.specs.List.{prefix_len}
 use Rattle.std.proofs.lemmas.List.Sums.{prefix_len_is}
-use Rattle.kit_words.proofs.Common.{◌+◌, ◌-◌, ◌≤◌, zero, sym, ap₂, length, get_or, append_assoc, take_all}
+use Rattle.kit_words.proofs.Common.{◌+◌, ◌-◌, ◌≤◌, sym, ap₂, length, get_or, append_assoc, take_all}
 use Rattle.grid_geometry.specs.Common.{xor}
 use Rattle.layer_sides.specs.Common.{Polygon, numbers_from}
 use Rattle.layer_faces.specs.Kept.{apart, merge_one}

@@ -1,6 +1,6 @@
 -- Sums over faces are sums over their sides, and those over all sides are 0.
-use Rattle.kit_words.proofs.Common.{◌≡◌, ℕ, zero, suc, ◌+◌, ◌-◌, ◌<◌, ℤ, pos, ◌+ℤ◌, ◌*ℤ◌, neg_ℤ, Bool, true, false, refl, sym, ap, ap₂, ◌∙◌, subst, arith, ints, cond, eqb}
-use Rattle.kit_words.proofs.Common.{List, [], ◌∷◌, ◌++◌, map, length, get_or, All}
+use Rattle.kit_words.proofs.Common.{◌≡◌, ℕ, suc, ◌-◌, ◌<◌, ℤ, pos, ◌+ℤ◌, ◌*ℤ◌, neg_ℤ, Bool, true, false, refl, sym, ap, ap₂, ◌∙◌, arith, ints, cond, eqb}
+use Rattle.kit_words.proofs.Common.{List, [], ◌∷◌, ◌++◌, map, length, get_or}
 use Rattle.std.proofs.Math.IntN.{*ℤ_comm, *ℤ-one, zero-*ℤ, +ℤ_comm, suc_ℤ-*ℤ}
 use Rattle.std.specs.List.{count_by, flat_map}
 use Rattle.grid_geometry.specs.Common.{Position, Segment, area_term}
@@ -9,7 +9,7 @@ use Rattle.layer_faces.specs.declared.kind.Kind.{Kind}
 use Rattle.layer_faces.specs.declared.kind.Kind.TheVariants.{Overlap, Twice, Gap, Lake, Land, Outside}
 use Rattle.layer_faces.specs.declared.sums.Sums.{Sums}
 use Rattle.layer_faces.specs.declared.uneven.Uneven.{Uneven}
-use Rattle.layer_faces.specs.Common.{all_sides, area_at, side_term, total, AreFaces, FaceOf, IsFace, IsKind, by_holders, kind_of, outside}
+use Rattle.layer_faces.specs.Common.{all_sides, area_at, side_term, total, AreFaces, FaceOf, IsFace, IsKind, by_holders, outside}
 use Rattle.layer_faces.specs.Common.{AddUp, AreSums, area_of_kind, is_any, is_gap, is_held, is_outside, uneven_from, uneven_of}
 use Rattle.layer_faces.specs.Weighed.{is_land, told_beside_all}
 use Rattle.layer_faces.proofs.Totals.{total-map, total-flat_map, total_permuted, total_same, total_alike, total_both, total_times}

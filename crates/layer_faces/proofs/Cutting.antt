@@ -1,5 +1,5 @@
 -- Cutting a list of sides into faces.
-use Rattle.kit_words.proofs.Common.{◌≡◌, ℕ, zero, suc, ◌+◌, refl, sym, ap, ap₂, ◌∙◌, subst, arith, List, [], ◌∷◌, ◌++◌, map, take, drop, append_assoc, append-nil, map-append, take-append-drop, length, get_or, All}
+use Rattle.kit_words.proofs.Common.{◌≡◌, ℕ, ◌+◌, sym, ap, ap₂, ◌∙◌, subst, arith, List, [], ◌∷◌, ◌++◌, map, take, drop, append_assoc, append-nil, map-append, length, get_or, All}
 use Rattle.kit_words.proofs.Common.{◌<◌, take_more, mapped_more}
 use Rattle.kit_words.proofs.Common.{IsPermutation}
 use Rattle.std.proofs.lemmas.List.Sorted.{IsPermutation-map}

@@ -1,10 +1,9 @@
 -- Worked examples: small layers, their faces and sums.
 use Rattle.kit_words.proofs.Common.{◌≡◌, ℕ, ℤ, refl, pos, neg_ℤ, ◌-◌, ◌*◌, ◌^◌, ◌*ℤ◌, List, [], ◌∷◌, map, length}
-use Rattle.std.specs.Prelude.{if◌then◌else◌, filter, fold, flat_map}
+use Rattle.std.specs.Prelude.{if◌then◌else◌, filter, fold}
 use Rattle.grid_geometry.specs.Common.{Position, position, Segment, segment, segment_eq, segment_lt, orientation}
 use Rattle.ring_machine.specs.Common.{polygon_area}
 use Rattle.layer_sides.specs.Common.{Polygon, Side, Left, Right, holds, holders, is_border, segments_in}
-use Rattle.layer_faces.specs.declared.kind.Kind.{Kind}
 use Rattle.layer_faces.specs.declared.kind.Kind.TheVariants.{Overlap, Twice, Gap, Lake, Land}
 use Rattle.layer_faces.specs.Common.{all_sides, area_at, side_ends, side_term, total, border_length, root, width_of}
 use Rattle.layer_faces.specs.Common.{beside, is_held, kind_of}

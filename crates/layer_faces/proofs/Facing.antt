@@ -1,5 +1,5 @@
 -- A face that was made of sides.
-use Rattle.kit_words.proofs.Common.{◌≡◌, ℕ, ◌+◌, ◌*◌, ◌<◌, ◌≤◌, unsigned_abs, refl, sym, ap, ◌∙◌, subst, List, map, length, get_or, All}
+use Rattle.kit_words.proofs.Common.{◌≡◌, ℕ, ◌*◌, ◌<◌, ◌≤◌, unsigned_abs, refl, sym, ap, ◌∙◌, subst, List, map, length, get_or, All}
 use Rattle.std.specs.List.Sorted.{IsNonDecreasing}
 use Rattle.layer_sides.specs.Common.{Bordering}
 use Rattle.layer_faces.specs.declared.face.Face.{Face}

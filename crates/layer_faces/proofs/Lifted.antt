@@ -1,7 +1,7 @@
 -- From what the borders keep to what the polygons of the layer hold.
-use Rattle.kit_words.proofs.Common.{◌≡◌, ℕ, zero, suc, ◌+◌, ◌*◌, ◌<◌, ◌≤◌, ℤ, pos, ◌*ℤ◌, ◌-◌, unsigned_abs, refl, sym, ap, ap₂, ◌∙◌, subst, arith, eqb, cond, neg_ℤ}
+use Rattle.kit_words.proofs.Common.{◌≡◌, ℕ, ◌+◌, ◌*◌, ◌<◌, ◌≤◌, ℤ, pos, ◌*ℤ◌, ◌-◌, unsigned_abs, refl, sym, ap, ap₂, ◌∙◌, subst, arith, eqb, cond, neg_ℤ}
 use Rattle.kit_words.proofs.Common.{List, [], ◌∷◌, ◌++◌, map, length, get_or, All, All-tail, IsPermutation, length-append, length-map, map-append, sum_by-cons}
-use Rattle.std.specs.List.{count_by, flat_map, range_with_len, sum_by}
+use Rattle.std.specs.List.{count_by, flat_map, range_with_len}
 use Rattle.std.specs.List.Sorted.{IsNonDecreasing}
 use Rattle.std.proofs.lemmas.List.{get_or-map}
 use Rattle.std.proofs.lemmas.List.FromFn.{length-range_with_len}
@@ -14,7 +14,7 @@ use Rattle.layer_sides.specs.Seen.{border_seen, borders_seen}
 use Rattle.layer_sides.specs.declared.border.Border.{Border}
 use Rattle.layer_faces.specs.declared.face.Face.{Face}
 use Rattle.layer_faces.specs.declared.sums.Sums.{Sums}
-use Rattle.layer_faces.specs.Common.{AddUp, AreFaces, AreSums, FaceOf, IsFace, IsOnce, all_sides, area_at, beside, features_of, told_by}
+use Rattle.layer_faces.specs.Common.{AddUp, AreFaces, AreSums, FaceOf, IsFace, IsOnce, area_at, beside, features_of, told_by}
 use Rattle.layer_faces.specs.Common.{face_seen, faces_seen, is_gap, is_outside, side_at, total, uneven_from}
 use Rattle.layer_faces.specs.Kept.{IsFound, beside_numbers, held_at, opposite_number, told_numbers}
 use Rattle.layer_faces.specs.Weighed.{AreFaceSums, area_of_holder, area_of_holders, is_land, reach, told_beside_all}

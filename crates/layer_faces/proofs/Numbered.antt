@@ -1,6 +1,6 @@
 -- Sides by their numbers, and polygons by theirs.
-use Rattle.kit_words.proofs.Common.{◌≡◌, ℕ, zero, suc, ◌+◌, ◌-◌, ◌*◌, ◌/◌, ◌%◌, ◌<◌, ◌≤◌, Bool, true, false, refl, sym, ap, ap₂, ◌∙◌, arith, cond, eqb, subst}
-use Rattle.kit_words.proofs.Common.{List, [], ◌∷◌, map, length, get_or, All, Contains, eqb-true, eqb-false, get_or-map}
+use Rattle.kit_words.proofs.Common.{◌≡◌, ℕ, zero, suc, ◌+◌, ◌-◌, ◌*◌, ◌/◌, ◌%◌, ◌<◌, ◌≤◌, Bool, true, false, refl, ap, ap₂, ◌∙◌, arith, cond, eqb, subst}
+use Rattle.kit_words.proofs.Common.{List, [], ◌∷◌, map, length, get_or, All, eqb-true, eqb-false, get_or-map}
 use Rattle.std.proofs.Common.{rules, tests, ◌≢◌}
 use Rattle.std.specs.List.{count_by, range_with_len}
 use Rattle.std.proofs.lemmas.List.Sums.{sum_by-cons}
@@ -9,7 +9,7 @@ use Rattle.grid_geometry.specs.Common.{Segment}
 use Rattle.layer_sides.specs.Common.{Polygon, Side, Left, Right, AreBorders, AreHeld, Bordering, bounded, holders, holds, is_bounding, numbers_from}
 use Rattle.layer_faces.specs.Areas.{all_sides}
 use Rattle.layer_faces.specs.Holders.{opposite}
-use Rattle.layer_faces.specs.Kept.{apart, border_at, held_at, no_border, opposite_number}
+use Rattle.layer_faces.specs.Kept.{apart, held_at, no_border, opposite_number}
 use Rattle.layer_faces.specs.Seen.{nowhere, side_at}
 use Rattle.layer_faces.proofs.Apart.{apart_numbers}
 

@@ -1,5 +1,5 @@
 -- Numbers that were sorted and rid of equal neighbours.
-use Rattle.kit_words.proofs.Common.{ℕ, sym, subst, List, [], IsPermutation, IsStrictlySortedBy, IsFiltered, DiffersFromLast, dedup}
+use Rattle.kit_words.proofs.Common.{ℕ, sym, subst, List, [], IsPermutation, IsFiltered, DiffersFromLast, dedup}
 use Rattle.kit_words.proofs.Common.{nat_cmp, nat_eq, nat_cmp_total, unsigned_tied, dedup_is, IsStrictlySortedBy-dedup, IsPermutation-sym}
 use Rattle.std.proofs.lemmas.Bool.{eqb-true}
 use Rattle.std.specs.List.Sorted as sorting

@@ -1,11 +1,10 @@
 -- A border that is read, and the ends of its sides.
-use Rattle.kit_words.proofs.Common.{◌≡◌, ℕ, ◌+◌, ◌*◌, ◌/◌, ◌%◌, ◌<◌, ◌≤◌, ◌≢◌, ◌^◌, ℤ, pos, ◌+ℤ◌, unsigned_abs, Bool, true, false, refl, sym, ap, ap₂, ◌∙◌, subst, arith, ints, cond, eqb, eqb-true}
-use Rattle.kit_words.proofs.Common.{List, [], ◌∷◌, map, length, get_or, take, All, length-map, mapped_more, eq-eqb, ne_eqb}
-use Rattle.std.specs.List.{sum_by}
+use Rattle.kit_words.proofs.Common.{◌≡◌, ℕ, ◌+◌, ◌/◌, ◌%◌, ◌<◌, ℤ, ◌+ℤ◌, true, false, refl, sym, ap, ap₂, ◌∙◌, arith, eqb}
+use Rattle.kit_words.proofs.Common.{List, map, length, get_or, take, length-map, mapped_more, eq-eqb, ne_eqb}
 use Rattle.std.proofs.lemmas.List.{get_or-map}
 use Rattle.std.proofs.lemmas.List.Sums.{sum_by_push}
 use Rattle.grid_geometry.specs.Common.{Edge, Position, Segment, area_term}
-use Rattle.layer_sides.specs.Common.{Bordering, Left, Right, Side, bottom, top}
+use Rattle.layer_sides.specs.Common.{Bordering, Side, bottom, top}
 use Rattle.layer_sides.specs.Seen.{border_seen, borders_seen}
 use Rattle.layer_sides.specs.declared.border.Border.{Border}
 use Rattle.layer_faces.specs.Areas.{side_ends, side_term, total}

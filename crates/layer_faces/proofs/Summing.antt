@@ -1,5 +1,5 @@
 -- Sums over the prefix of a list, an element at a time.
-use Rattle.kit_words.proofs.Common.{◌≡◌, ℕ, zero, suc, ◌+◌, ◌-◌, ◌≤◌, ◌<◌, ap, ◌∙◌, List, [], ◌∷◌, map, take, get_or}
+use Rattle.kit_words.proofs.Common.{◌≡◌, ℕ, zero, suc, ◌+◌, ◌≤◌, ◌<◌, ap, ◌∙◌, List, [], ◌∷◌, map, take, get_or}
 use Rattle.kit_words.proofs.Common.{length, arith, fold, sum_by-cons, sum_by_push, fold_push, mapped_more}
 use Rattle.std.specs.Prelude.{sum_by}
 

@@ -1,6 +1,6 @@
 -- Sums over the faces so far, one more; and what is told of the polygons so far.
-use Rattle.kit_words.proofs.Common.{◌≡◌, ℕ, zero, suc, ◌+◌, ◌-◌, ◌*◌, ◌<◌, ◌≤◌, ◌^◌, ℤ, pos, ◌+ℤ◌, ◌*ℤ◌, ◌-ℤ◌, neg_ℤ, unsigned_abs, refl, sym, ap, ap₂, ◌∙◌, subst, arith, ints, cond, eqb}
-use Rattle.kit_words.proofs.Common.{replicate, List, [], ◌∷◌, ◌++◌, map, length, get_or, take, drop, drop_all, next_drop, append-nil, append_assoc, true, false, Bool}
+use Rattle.kit_words.proofs.Common.{◌≡◌, ℕ, zero, suc, ◌+◌, ◌*◌, ◌<◌, ◌≤◌, ◌^◌, ℤ, pos, ◌+ℤ◌, ◌*ℤ◌, ◌-ℤ◌, neg_ℤ, unsigned_abs, refl, sym, ap, ap₂, ◌∙◌, subst, arith, ints, cond}
+use Rattle.kit_words.proofs.Common.{replicate, List, ◌++◌, map, length, get_or, take, drop, drop_all, next_drop, append-nil, append_assoc, true, false, Bool}
 use Rattle.kit_words.proofs.Common.{to_z, of_z, w128, unsigned_abs-mul}
 use Rattle.std.proofs.Math.Nat.{mul-le-mul_right}
 use Rattle.std.proofs.lemmas.Int.{fits_signed_from_abs, to_z-of_z}

@@ -1,5 +1,5 @@
 -- A quotient that is rounded up is at most w where the number is at most w times the divisor.
-use Rattle.kit_words.proofs.Common.{ℕ, ◌+◌, ◌-◌, ◌*◌, ◌/◌, ◌<◌, ◌≤◌, ◌↔◌, ◌≡◌, ℤ, pos, negsuc, ◌*ℤ◌, ◌≤ℤ◌, inl, inr, arith, ints, cases_lt, mul-le-mul_left}
+use Rattle.kit_words.proofs.Common.{ℕ, ◌+◌, ◌-◌, ◌*◌, ◌/◌, ◌<◌, ◌≤◌, ◌↔◌, ℤ, pos, negsuc, ◌*ℤ◌, ◌≤ℤ◌, inl, inr, arith, ints, cases_lt, mul-le-mul_left}
 use Rattle.layer_faces.specs.Lengths.{width_of}
 
 rounded_up : (a l w : ℕ) → 0 < l → ((a + (l - 1)) / l ≤ w) ↔ (a ≤ w * l)

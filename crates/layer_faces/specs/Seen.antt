@@ -1,5 +1,5 @@
 -- What the code holds, seen as faces.
-use Rattle.std.specs.Prelude.{ℕ, pos, ◌/◌, ◌%◌, ◌==◌, List, [], map, slice_index_or, if◌then◌else◌}
+use Rattle.std.specs.Prelude.{ℕ, pos, ◌/◌, ◌%◌, ◌==◌, List, map, slice_index_or, if◌then◌else◌}
 use Rattle.grid_geometry.specs.Common.{Segment, position}
 use Rattle.layer_sides.specs.Common.{Side, Left, Right}
 use Rattle.layer_sides.specs.Seen.{borders_seen}

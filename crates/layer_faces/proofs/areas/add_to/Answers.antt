@@ -1,4 +1,4 @@
-use Rattle.kit_words.proofs.Common.{◌≡◌, ℕ, pos, ◌+ℤ◌, ◌*ℤ◌, ◌+◌, ◌*◌, ◌<◌, ◌≤◌, ◌^◌, unsigned_abs, sym, ap, ◌∙◌, subst, arith, ints, to_z, of_z, w128, eqb, get_or, length, take, length-set, FitsSigned}
+use Rattle.kit_words.proofs.Common.{◌≡◌, pos, ◌+ℤ◌, ◌+◌, ◌*◌, ◌<◌, ◌^◌, unsigned_abs, sym, ap, ◌∙◌, subst, arith, ints, to_z, of_z, w128, eqb, get_or, length, take, length-set, FitsSigned}
 use Rattle.std.specs.List.{count_by}
 use Rattle.std.proofs.lemmas.Int.{fits_signed_from_abs, to_z-of_z}
 use Rattle.std.proofs.lemmas.List.{get_or_default}

@@ -1,4 +1,4 @@
-use Rattle.kit_words.proofs.Common.{◌≡◌, ℕ, pos, ◌+ℤ◌, ◌*ℤ◌, ◌+◌, ◌*◌, ◌≤◌, unsigned_abs, eqb, get_or, length, take}
+use Rattle.kit_words.proofs.Common.{◌≡◌, ℕ, pos, ◌+ℤ◌, ◌*ℤ◌, eqb, get_or, length, take}
 use Rattle.std.specs.List.{count_by}
 use Rattle.layer_faces.specs.Areas.{total}
 use Rattle.layer_faces.proofs.areas.add_to.Given as goal

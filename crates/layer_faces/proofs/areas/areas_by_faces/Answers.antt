@@ -1,12 +1,11 @@
-use Rattle.kit_words.proofs.Common.{◌≡◌, ℕ, pos, ◌+ℤ◌, ◌*ℤ◌, ◌+◌, ◌*◌, ◌<◌, ◌≤◌, ◌^◌, unsigned_abs, sym, ap, ◌∙◌, subst, arith, ints, eqb, get_or, length, take, All, replicate, with_items_is, length-replicate}
+use Rattle.kit_words.proofs.Common.{◌≡◌, ℕ, pos, ◌+ℤ◌, ◌*ℤ◌, ◌+◌, ◌*◌, ◌<◌, ◌≤◌, unsigned_abs, sym, ap, ◌∙◌, subst, arith, eqb, get_or, length, take, All, replicate, with_items_is, length-replicate}
 use Rattle.std.specs.List.{count_by}
-use Rattle.std.proofs.lemmas.Int.{to_z-of_z}
 use Rattle.std.proofs.lemmas.List.{get_or_default}
 use Rattle.std.proofs.lemmas.List.Sums.{count_by-le-length, sum_by-take-le}
 use Rattle.kit_words.proofs.Common.{to_z, of_z, w128}
 use Rattle.layer_faces.specs.Areas.{total}
 use Rattle.layer_faces.specs.declared.face.Face.{Face}
-use Rattle.layer_faces.specs.Weighed.{area_of_holder, area_of_holders, reach}
+use Rattle.layer_faces.specs.Weighed.{reach}
 use Rattle.layer_faces.proofs.Weighing.{area_fits, zeros_at, zeros_total}
 use Rattle.layer_faces.proofs.Spreading.{spread_bound, spread_each, spread_room, spread_sum}
 use Rattle.layer_faces.proofs.areas.areas_by_faces.Goals as goal

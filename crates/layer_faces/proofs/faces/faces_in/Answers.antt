@@ -1,5 +1,4 @@
-use Rattle.kit_words.proofs.Common.{◌≡◌, ◌+◌, ◌*◌, ◌<◌, ◌≤◌, ◌++◌, sym, ap, ap₂, ◌∙◌, subst, arith, length, map, take, drop, All, All-push, take-append-drop, length-map, is_lt}
-use Rattle.std.specs.List.{flat_map}
+use Rattle.kit_words.proofs.Common.{◌*◌, ◌<◌, ◌++◌, sym, ap, ap₂, ◌∙◌, subst, arith, length, All, All-push, take-append-drop, length-map, is_lt}
 use Rattle.layer_sides.specs.Seen.{borders_seen}
 use Rattle.layer_faces.specs.Kept.{IsFound}
 use Rattle.layer_faces.specs.Order.{labelled_cmp, side_of}

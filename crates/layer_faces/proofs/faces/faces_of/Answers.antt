@@ -1,4 +1,4 @@
-use Rattle.kit_words.proofs.Common.{◌≡◌, ℕ, List, ◌+◌, ◌*◌, ◌<◌, ◌≤◌, sym, ap, ◌∙◌, subst, arith, length, map, get_or, All, All-permutation, IsPermutation, length-map, length_permutation, rules}
+use Rattle.kit_words.proofs.Common.{◌≡◌, ℕ, List, ◌*◌, ◌<◌, sym, subst, arith, length, map, get_or, All, All-permutation, IsPermutation, length-map, length_permutation, rules}
 use Rattle.std.specs.List.{range_with_len}
 use Rattle.std.proofs.lemmas.List.FromFn.{length-range_with_len}
 use Rattle.std.proofs.lemmas.List.Sorted.{IsNonDecreasingBy-from_sort_by_key}

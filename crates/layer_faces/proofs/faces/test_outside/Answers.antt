@@ -1,4 +1,4 @@
-use Rattle.kit_words.proofs.Common.{◌≡◌, ◌+◌, ap, ◌∙◌, sym, true, false, get_or}
+use Rattle.kit_words.proofs.Common.{◌≡◌, ◌+◌, ap, ◌∙◌, sym, get_or}
 use Rattle.std.proofs.lemmas.List.Sums.{count_by_more_no, count_by_more_yes}
 use Rattle.layer_faces.specs.declared.face.Face.{Face}
 use Rattle.layer_faces.specs.Faces.{is_outside}

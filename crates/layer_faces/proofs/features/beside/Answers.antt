@@ -1,4 +1,4 @@
-use Rattle.kit_words.proofs.Common.{ℕ, ◌+◌, ◌*◌, ◌<◌, ◌++◌, sym, ap, ◌∙◌, subst, arith, length, get_or, take, All, take_all}
+use Rattle.kit_words.proofs.Common.{◌*◌, ◌<◌, ◌++◌, sym, ap, ◌∙◌, subst, arith, length, get_or, All, take_all}
 use Rattle.std.proofs.lemmas.List.{get_or_default}
 use Rattle.layer_sides.specs.Seen.{borders_seen}
 use Rattle.layer_faces.specs.Holders.{features_of}

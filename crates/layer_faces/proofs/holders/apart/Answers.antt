@@ -1,4 +1,4 @@
-use Rattle.kit_words.proofs.Common.{◌≡◌, ◌+◌, ◌++◌, [], sym, ap, ◌∙◌, arith, drop, get_or, next_drop, drop_of_length-le}
+use Rattle.kit_words.proofs.Common.{◌+◌, ◌++◌, sym, ap, ◌∙◌, drop, get_or, next_drop, drop_of_length-le}
 use Rattle.std.proofs.lemmas.List.{get_or_default}
 use Rattle.layer_faces.specs.Kept.{apart}
 use Rattle.layer_faces.proofs.holders.apart.Goals as goal

@@ -1,4 +1,4 @@
-use Rattle.kit_words.proofs.Common.{◌*◌, ◌<◌, ◌≤◌, unsigned_abs, sym, ap, ◌∙◌, arith, ints, length, get_or, take, take_all, map}
+use Rattle.kit_words.proofs.Common.{ap, ◌∙◌, arith, ints, get_or, take_all, map}
 use Rattle.std.proofs.lemmas.List.{get_or_default}
 use Rattle.layer_faces.specs.Common.{segments_seen, side_at, side_term, total}
 use Rattle.layer_faces.proofs.Reading.{area_more}

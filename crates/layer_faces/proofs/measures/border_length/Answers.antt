@@ -1,4 +1,4 @@
-use Rattle.kit_words.proofs.Common.{◌/◌, ◌*◌, ◌^◌, ◌<◌, ◌≤◌, sym, ap, ◌∙◌, arith, length, get_or, take, take_all, map}
+use Rattle.kit_words.proofs.Common.{◌/◌, ◌<◌, ap, ◌∙◌, arith, length, get_or, take_all, map}
 use Rattle.std.proofs.lemmas.List.{get_or_default}
 use Rattle.layer_faces.specs.Common.{border_length, segments_seen, side_at}
 use Rattle.layer_faces.proofs.Reading.{length_more, segment_at}

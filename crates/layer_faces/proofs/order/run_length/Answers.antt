@@ -1,4 +1,4 @@
-use Rattle.kit_words.proofs.Common.{◌≡◌, ◌+◌, ◌-◌, ◌∷◌, ap, ◌∙◌, sym, arith, length, get_or, take, drop, All, All-more, get_or_default, list_is}
+use Rattle.kit_words.proofs.Common.{◌≡◌, ◌-◌, arith, length, get_or, take, drop, All-more, get_or_default, list_is}
 use Rattle.layer_faces.specs.declared.order.Labelled.{Labelled}
 use Rattle.layer_faces.proofs.Ascending.{run_same}
 use Rattle.layer_faces.proofs.order.run_length.Goals as goal

@@ -1,4 +1,4 @@
-use Rattle.kit_words.proofs.Common.{pos, ◌*ℤ◌, ◌*◌, ◌-◌, ◌≤◌, unsigned_abs, length, arith, ints, sym, ap, ◌∙◌, subst, take_all}
+use Rattle.kit_words.proofs.Common.{pos, ◌*ℤ◌, ◌-◌, ◌≤◌, length, arith, ints, sym, ap, ◌∙◌, subst, take_all}
 use Rattle.layer_faces.specs.Areas.{total}
 use Rattle.layer_faces.specs.Weighed.{reach}
 use Rattle.layer_faces.proofs.Weighing.{more_weight, more_reach, reach_within}

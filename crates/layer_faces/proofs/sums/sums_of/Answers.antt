@@ -1,4 +1,4 @@
-use Rattle.kit_words.proofs.Common.{pos, List, ◌+◌, ◌+ℤ◌, ◌≤◌, unsigned_abs, neg_ℤ, arith, ints, sym, ap, ◌∙◌, take, take_all}
+use Rattle.kit_words.proofs.Common.{List, ◌+◌, ◌+ℤ◌, ◌≤◌, unsigned_abs, neg_ℤ, arith, ints, sym, ap, ◌∙◌, take, take_all}
 use Rattle.std.proofs.lemmas.List.Sums.{sum_by-take-le}
 use Rattle.layer_faces.specs.declared.face.Face.{Face}
 use Rattle.layer_faces.specs.Faces.{is_outside}

@@ -1,8 +1,7 @@
-use Rattle.kit_words.proofs.Common.{◌≡◌, ◌<◌, ◌≤◌, ◌++◌, ℤ, pos, sym, ap, ap₂, ◌∙◌, subst, arith, ints, map, length, get_or, to_z, of_z, w128}
+use Rattle.kit_words.proofs.Common.{◌≡◌, ◌<◌, ◌≤◌, pos, sym, ap, ◌∙◌, subst, arith, ints, map, length, get_or, to_z, of_z, w128}
 use Rattle.std.specs.Prelude.{sum_by}
 use Rattle.std.proofs.lemmas.List.{get_or_default}
 use Rattle.ring_machine.specs.Common.{polygon_area}
-use Rattle.layer_faces.specs.Weighed.{told_if}
 use Rattle.layer_faces.proofs.Counting.{polygon_positions, positions_of}
 use Rattle.layer_faces.proofs.Summing.{sum_at}
 use Rattle.layer_faces.proofs.Weighing.{over_fits, told_all, told_next, told_same}
