@@ -1,0 +1,74 @@
+-- Texts and numbers, one after another.
+use Rattle.kit_words.proofs.Common.{◌≡◌, ◌∙◌, ℕ, suc, ◌+◌, ◌<◌, ◌++◌, ◌∷◌, [], List, ap, ap₂, sym, refl, arith, length, map, take, get_or, codes, nat_lt}
+use Rattle.kit_words.proofs.Common.{append_assoc, append-nil, flat_map, flat_map-append, length-append, length-map, mapped_more}
+use Rattle.ring_machine.specs.Common.{Text}
+use Rattle.map_text.specs.Common.{comma_if, commas}
+use Rattle.walk_faults.proofs.Walking.{each_at-append}
+use Rattle.place_text.proofs.Listed.{commas_next}
+use Rattle.place_text.proofs.Numbered.{so_many}
+use Rattle.cover_report.specs.Common.{FaceTold}
+use Rattle.cover_places.specs.Places.{PlaceOf, numbered, place_of}
+use Rattle.cover_places.specs.Text.{border_text, borders_text, sides_of}
+
+-- one text more after those so far, which are i; a comma before it, where something stands before
+pub text_step : (ts next : List Text) (t : Text) (i : ℕ) → next ≡ ts ++ t ∷ [] → length ts ≡ i
+    → (old now mid new : Text) → now ≡ old ++ commas ts → mid ≡ now ++ comma_if (nat_lt 0 i) → new ≡ mid ++ t → new ≡ old ++ commas next
+text_step ts next t i e n old now mid new p q r =
+    r ∙ ap (λ z. z ++ t) (q ∙ ap (λ z. z ++ comma_if (nat_lt 0 i)) p)
+    ∙ append_assoc (old ++ commas ts) (comma_if (nat_lt 0 i)) t ∙ append_assoc old (commas ts) (comma_if (nat_lt 0 i) ++ t)
+    ∙ ap (λ k. old ++ (commas ts ++ (comma_if (nat_lt 0 k) ++ t))) (sym n)
+    ∙ ap (λ z. old ++ z) (sym (commas_next ts t)) ∙ ap (λ z. old ++ commas z) (sym e)
+
+-- ---- what is seen of the first elements of a list, of which there is one more
+
+module _ {X Y : Type 0} (of : X → Y) (xs : List X) (i : ℕ) (x : X) (l : i < length xs) (e : x ≡ get_or xs i x) where
+  pub seen_length : length (map of (take i xs)) ≡ i
+  seen_length = length-map (take i xs) of ∙ so_many xs i l
+
+  -- as a function tells them
+  pub told_more : {Z : Type 0} (f : Y → Z) → map f (map of (take (i + 1) xs)) ≡ map f (map of (take i xs)) ++ f (of x) ∷ []
+  told_more f = ap (map f) (mapped_more of xs i x l e) ∙ mapped_end (map of (take i xs))
+    where
+      mapped_end : (ys : List Y) → map f (ys ++ of x ∷ []) ≡ map f ys ++ f (of x) ∷ []
+      mapped_end [] = refl
+      mapped_end (y ∷ ys) = ap (λ z. f y ∷ z) (mapped_end ys)
+
+-- ---- faces with their numbers
+
+pub numbered_more : {X : Type 0} (of : X → FaceTold) (xs : List X) (i : ℕ) (x : X) → i < length xs → x ≡ get_or xs i x
+    → numbered (map of (take (i + 1) xs)) ≡ numbered (map of (take i xs)) ++ place_of i (of x) ∷ []
+numbered_more of xs i x l e =
+    let so_far : List FaceTold = map of (take i xs) in
+    let number : 0 + length so_far ≡ i = seen_length of xs i x l e in
+    ap numbered (mapped_more of xs i x l e)
+    ∙ each_at-append (λ (n : ℕ) (f : FaceTold). place_of n f ∷ []) 0 so_far (of x ∷ [])
+    ∙ ap (λ n. numbered so_far ++ place_of n (of x) ∷ []) number
+
+-- ---- borders, each with the arcs behind those before
+
+borders_end : (n : ℕ) (ps : List PlaceOf) (p : PlaceOf) → borders_text n (ps ++ p ∷ []) ≡ borders_text n ps ++ border_text (n + length (sides_of ps)) p ∷ []
+borders_end n [] p = ap (λ k. border_text k p ∷ []) (omega arith)
+borders_end n (q ∷ ps) p =
+    ap (λ z. border_text n q ∷ z) (borders_end (n + length q.face.sides) ps p
+    ∙ ap (λ k. borders_text (n + length q.face.sides) ps ++ border_text k p ∷ [])
+    (omega (arith, length-append q.face.sides (sides_of ps))))
+
+borders_length : (n : ℕ) (ps : List PlaceOf) → length (borders_text n ps) ≡ length ps
+borders_length n [] = refl
+borders_length n (p ∷ ps) = ap suc (borders_length (n + length p.face.sides) ps)
+
+module _ {X : Type 0} (of : X → PlaceOf) (xs : List X) (i : ℕ) (x : X) (l : i < length xs) (e : x ≡ get_or xs i x) where
+  pub so_many_borders : length (borders_text 0 (map of (take i xs))) ≡ i
+  so_many_borders = borders_length 0 (map of (take i xs)) ∙ seen_length of xs i x l e
+
+  -- the sides so far tell the index of the first arc of the next border
+  pub borders_more : (n : ℕ) → n ≡ length (sides_of (map of (take i xs)))
+      → borders_text 0 (map of (take (i + 1) xs)) ≡ borders_text 0 (map of (take i xs)) ++ border_text n (of x) ∷ []
+  borders_more n is =
+      ap (borders_text 0) (mapped_more of xs i x l e) ∙ borders_end 0 (map of (take i xs)) (of x)
+      ∙ ap (λ k. borders_text 0 (map of (take i xs)) ++ border_text k (of x) ∷ []) (sym is)
+
+  pub sides_more : sides_of (map of (take (i + 1) xs)) ≡ sides_of (map of (take i xs)) ++ (of x).face.sides
+  sides_more =
+      ap sides_of (mapped_more of xs i x l e) ∙ flat_map-append (λ (p : PlaceOf). p.face.sides) (map of (take i xs)) (of x ∷ [])
+      ∙ ap (λ z. sides_of (map of (take i xs)) ++ z) (append-nil (of x).face.sides)
