@@ -24,7 +24,10 @@ fn push_faces<'l, A: Allocator + Copy>(
         ++ numbered (map (λ f. view_told f.now) faces.now)) }
 {
     for (number, face) in faces.iter().enumerate() {
-        places.push(Place { number, face: *face })?;
+        places.push(Place {
+            number,
+            face: *face,
+        })?;
     }
     Ok(())
 }

@@ -16,16 +16,17 @@ loop-index-preserved g c =
     let place = c.index-places-index.result in
     let is = c.index-places-index.is in
     let there = c.loop-index-test.true in
-    let count = c.len.result in
-    (text_step (borders_text 0 (map place_seen (take i places))) (borders_text 0 (map place_seen (take (i + 1) places))) (border_text count (place_seen place)) i
-    (borders_more place_seen places i place there is count (c.len.ensures ∙ ap length c.loop-index.invariant.1))
-    (so_many_borders place_seen places i place there is)
-    c.args.text.now.items c.loop-index.text.items c.push_comma.new.text.items c.push_border.new.text.items
-    c.loop-index.invariant.0 c.in_ok-push_comma.ensures c.in_ok-push_border.ensures,
-    c.in_ok-extend_from_slice.ensures.items
-    ∙ ap (λ z. z ++ c.as_slice.result.now) c.loop-index.invariant.1
-    ∙ ap (λ z. sides_of (map place_seen (take i places)) ++ z) c.as_slice.ensures.value
-    ∙ sym (sides_more place_seen places i place there is))
+    let count = c.len.result in (
+      text_step (borders_text 0 (map place_seen (take i places))) (borders_text 0 (map place_seen (take (i + 1) places))) (border_text count (place_seen place)) i
+          (borders_more place_seen places i place there is count (c.len.ensures ∙ ap length c.loop-index.invariant.1))
+          (so_many_borders place_seen places i place there is)
+          c.args.text.now.items c.loop-index.text.items c.push_comma.new.text.items c.push_border.new.text.items
+          c.loop-index.invariant.0 c.in_ok-push_comma.ensures c.in_ok-push_border.ensures,
+      c.in_ok-extend_from_slice.ensures.items
+          ∙ ap (λ z. z ++ c.as_slice.result.now) c.loop-index.invariant.1
+          ∙ ap (λ z. sides_of (map place_seen (take i places)) ++ z) c.as_slice.ensures.value
+          ∙ sym (sides_more place_seen places i place there is),
+    )
 
 pub returns-clause-text : goal.returns-clause-text
 returns-clause-text g c =
