@@ -150,7 +150,8 @@ pub fn look_at_map<'a, A: Allocator + Copy>(
         Ok(raw) => raw,
         Err(fault) => return Err(CoverFault::Open(fault)),
     };
-    looks_at(alloc, heap, asked.layers, raw)
+    let looked = or_return!(looks_at(alloc, heap, asked.layers, raw));
+    Ok(looked)
 }
 
 /// Looks at a map that opens, and appends the report of its overlaps and gaps to a text. Answers how much is told of each
