@@ -1,13 +1,11 @@
--- Texts and numbers, one after another.
-use Rattle.kit_words.proofs.Common.{◌≡◌, ◌∙◌, ℕ, suc, ◌+◌, ◌<◌, ◌++◌, ◌∷◌, [], List, ap, ap₂, sym, refl, arith, length, map, take, get_or, codes, nat_lt}
-use Rattle.kit_words.proofs.Common.{append_assoc, append-nil, flat_map, flat_map-append, length-append, length-map, mapped_more}
+-- Texts, and the borders of faces, one after another.
+use Rattle.kit_words.proofs.Common.{◌≡◌, ◌∙◌, ℕ, suc, ◌+◌, ◌<◌, ◌++◌, ◌∷◌, [], List, ap, sym, refl, arith, length, map, take, get_or, nat_lt}
+use Rattle.kit_words.proofs.Common.{append_assoc, flat_mapped_more, length-append, length-map, map-append, mapped_more}
 use Rattle.ring_machine.specs.Common.{Text}
 use Rattle.map_text.specs.Common.{comma_if, commas}
-use Rattle.walk_faults.proofs.Walking.{each_at-append}
 use Rattle.place_text.proofs.Listed.{commas_next}
 use Rattle.place_text.proofs.Numbered.{so_many}
-use Rattle.cover_report.specs.Common.{FaceTold}
-use Rattle.cover_places.specs.Places.{PlaceOf, numbered, place_of}
+use Rattle.cover_places.specs.Places.{PlaceOf}
 use Rattle.cover_places.specs.Text.{border_text, borders_text, sides_of}
 
 -- one text more after those so far, which are i; a comma before it, where something stands before
@@ -19,6 +17,22 @@ text_step ts next t i e n old now mid new p q r =
     ∙ ap (λ k. old ++ (commas ts ++ (comma_if (nat_lt 0 k) ++ t))) (sym n)
     ∙ ap (λ z. old ++ z) (sym (commas_next ts t)) ∙ ap (λ z. old ++ commas z) (sym e)
 
+-- ---- borders, each with the arcs behind those before
+
+borders_end : (n : ℕ) (ps : List PlaceOf) (p : PlaceOf) → borders_text n (ps ++ p ∷ []) ≡ borders_text n ps ++ border_text (n + length (sides_of ps)) p ∷ []
+borders_end n [] p =
+    let e : n ≡ n + 0 = omega arith in
+    ap (λ (k : ℕ). border_text k p ∷ []) e
+borders_end n (q ∷ ps) p =
+    let next = n + length q.face.sides in
+    let e : next + length (sides_of ps) ≡ n + length (q.face.sides ++ sides_of ps) = omega (arith, length-append q.face.sides (sides_of ps)) in
+    ap (λ (z : List Text). border_text n q ∷ z)
+    (borders_end next ps p ∙ ap (λ (k : ℕ). borders_text next ps ++ border_text k p ∷ []) e)
+
+borders_length : (n : ℕ) (ps : List PlaceOf) → length (borders_text n ps) ≡ length ps
+borders_length n [] = refl
+borders_length n (p ∷ ps) = ap suc (borders_length (n + length p.face.sides) ps)
+
 -- ---- what is seen of the first elements of a list, of which there is one more
 
 module _ {X Y : Type 0} (of : X → Y) (xs : List X) (i : ℕ) (x : X) (l : i < length xs) (e : x ≡ get_or xs i x) where
@@ -26,36 +40,11 @@ module _ {X Y : Type 0} (of : X → Y) (xs : List X) (i : ℕ) (x : X) (l : i < 
   seen_length = length-map (take i xs) of ∙ so_many xs i l
 
   -- as a function tells them
-  pub told_more : {Z : Type 0} (f : Y → Z) → map f (map of (take (i + 1) xs)) ≡ map f (map of (take i xs)) ++ f (of x) ∷ []
-  told_more f = ap (map f) (mapped_more of xs i x l e) ∙ mapped_end (map of (take i xs))
-    where
-      mapped_end : (ys : List Y) → map f (ys ++ of x ∷ []) ≡ map f ys ++ f (of x) ∷ []
-      mapped_end [] = refl
-      mapped_end (y ∷ ys) = ap (λ z. f y ∷ z) (mapped_end ys)
+  pub told_length : (f : Y → Text) → length (map f (map of (take i xs))) ≡ i
+  told_length f = length-map (map of (take i xs)) f ∙ seen_length
 
--- ---- faces with their numbers
-
-pub numbered_more : {X : Type 0} (of : X → FaceTold) (xs : List X) (i : ℕ) (x : X) → i < length xs → x ≡ get_or xs i x
-    → numbered (map of (take (i + 1) xs)) ≡ numbered (map of (take i xs)) ++ place_of i (of x) ∷ []
-numbered_more of xs i x l e =
-    let so_far : List FaceTold = map of (take i xs) in
-    let number : 0 + length so_far ≡ i = seen_length of xs i x l e in
-    ap numbered (mapped_more of xs i x l e)
-    ∙ each_at-append (λ (n : ℕ) (f : FaceTold). place_of n f ∷ []) 0 so_far (of x ∷ [])
-    ∙ ap (λ n. numbered so_far ++ place_of n (of x) ∷ []) number
-
--- ---- borders, each with the arcs behind those before
-
-borders_end : (n : ℕ) (ps : List PlaceOf) (p : PlaceOf) → borders_text n (ps ++ p ∷ []) ≡ borders_text n ps ++ border_text (n + length (sides_of ps)) p ∷ []
-borders_end n [] p = ap (λ k. border_text k p ∷ []) (omega arith)
-borders_end n (q ∷ ps) p =
-    ap (λ z. border_text n q ∷ z) (borders_end (n + length q.face.sides) ps p
-    ∙ ap (λ k. borders_text (n + length q.face.sides) ps ++ border_text k p ∷ [])
-    (omega (arith, length-append q.face.sides (sides_of ps))))
-
-borders_length : (n : ℕ) (ps : List PlaceOf) → length (borders_text n ps) ≡ length ps
-borders_length n [] = refl
-borders_length n (p ∷ ps) = ap suc (borders_length (n + length p.face.sides) ps)
+  pub told_more : (f : Y → Text) → map f (map of (take (i + 1) xs)) ≡ map f (map of (take i xs)) ++ f (of x) ∷ []
+  told_more f = ap (map f) (mapped_more of xs i x l e) ∙ map-append f (map of (take i xs)) (of x ∷ [])
 
 module _ {X : Type 0} (of : X → PlaceOf) (xs : List X) (i : ℕ) (x : X) (l : i < length xs) (e : x ≡ get_or xs i x) where
   pub so_many_borders : length (borders_text 0 (map of (take i xs))) ≡ i
@@ -66,9 +55,7 @@ module _ {X : Type 0} (of : X → PlaceOf) (xs : List X) (i : ℕ) (x : X) (l : 
       → borders_text 0 (map of (take (i + 1) xs)) ≡ borders_text 0 (map of (take i xs)) ++ border_text n (of x) ∷ []
   borders_more n is =
       ap (borders_text 0) (mapped_more of xs i x l e) ∙ borders_end 0 (map of (take i xs)) (of x)
-      ∙ ap (λ k. borders_text 0 (map of (take i xs)) ++ border_text k (of x) ∷ []) (sym is)
+      ∙ ap (λ (k : ℕ). borders_text 0 (map of (take i xs)) ++ border_text k (of x) ∷ []) (sym is)
 
   pub sides_more : sides_of (map of (take (i + 1) xs)) ≡ sides_of (map of (take i xs)) ++ (of x).face.sides
-  sides_more =
-      ap sides_of (mapped_more of xs i x l e) ∙ flat_map-append (λ (p : PlaceOf). p.face.sides) (map of (take i xs)) (of x ∷ [])
-      ∙ ap (λ z. sides_of (map of (take i xs)) ++ z) (append-nil (of x).face.sides)
+  sides_more = flat_mapped_more (λ (p : PlaceOf). p.face.sides) of xs i x l e

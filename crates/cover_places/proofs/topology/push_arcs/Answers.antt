@@ -1,8 +1,8 @@
-use Rattle.kit_words.proofs.Common.{arith, refl, sym, ap, ◌∙◌, ◌+◌, ◌++◌, map, take, take_all, codes, appended_three, length-map}
+use Rattle.kit_words.proofs.Common.{arith, refl, sym, ap, ◌∙◌, ◌+◌, ◌++◌, map, take, take_all, codes, appended_three}
 use Rattle.std.proofs.Common.{append-nil}
 use Rattle.map_text.specs.Common.{arc_text, commas}
 use Rattle.cover_places.specs.Text.{side_positions}
-use Rattle.cover_places.proofs.Listed.{seen_length, text_step, told_more}
+use Rattle.cover_places.proofs.Listed.{text_step, told_length, told_more}
 use Rattle.cover_places.proofs.topology.push_arcs.Goals as goal
 
 pub loop-index-init : goal.loop-index-init
@@ -16,7 +16,7 @@ loop-index-preserved g c =
     let arc = arc_text c.args.delta in
     text_step (map arc (map side_positions (take i sides))) (map arc (map side_positions (take (i + 1) sides))) (arc (side_positions side)) i
     (told_more side_positions sides i side c.loop-index-test.true c.index-sides-index.is arc)
-    (length-map (map side_positions (take i sides)) arc ∙ seen_length side_positions sides i side c.loop-index-test.true c.index-sides-index.is)
+    (told_length side_positions sides i side c.loop-index-test.true c.index-sides-index.is arc)
     (c.args.text.now.items ++ codes "[") c.loop-index.text.items c.push_comma.new.text.items c.push_arc.new.text.items
     c.loop-index.invariant c.in_ok-push_comma.ensures c.in_ok-push_arc.ensures
 
