@@ -11,5 +11,5 @@ returns g c =
     c.extend_from_slice.new.self.items c.push_properties.new.text.items c.extend_from_slice-2.new.self.items c.push_lines.new.text.items
     c.extend_from_slice-3.new.self.items
     c.in_ok-extend_from_slice.ensures.items c.in_ok-push_properties.ensures c.in_ok-extend_from_slice-2.ensures.items
-    (c.in_ok-push_lines.ensures ∙ ap (λ n. c.extend_from_slice-2.new.self.items ++ lines_text c.args.first n) c.len.ensures)
+    (c.in_ok-push_lines.ensures ∙ ap (λ n. c.extend_from_slice-2.new.self.items ++ lines_text c.args.first n) (c.len.ensures ∙ c.args.place.now.face.now.sides.ok.0))
     c.in_ok-extend_from_slice-3.ensures.items

@@ -18,7 +18,7 @@ loop-index-preserved g c =
     let there = c.loop-index-test.true in
     let count = c.len.result in (
       text_step (borders_text 0 (map place_seen (take i places))) (borders_text 0 (map place_seen (take (i + 1) places))) (border_text count (place_seen place)) i
-          (borders_more place_seen places i place there is count (c.len.ensures ∙ ap length c.loop-index.invariant.1))
+          (borders_more place_seen places i place there is count (c.len.ensures ∙ c.loop-index.sides.ok.0 ∙ ap length c.loop-index.invariant.1))
           (so_many_borders place_seen places i place there is)
           c.args.text.now.items c.loop-index.text.items c.push_comma.new.text.items c.push_border.new.text.items
           c.loop-index.invariant.0 c.in_ok-push_comma.ensures c.in_ok-push_border.ensures,
