@@ -1,7 +1,8 @@
 -- A map that is told, with its places.
 use Rattle.kit_words.proofs.Common.{◌≡◌, ℕ, true, false, Bool, not, List, ◌++◌, ap, ◌∙◌, subst, sym, Option, Some, None, IfSome, Vec, is_some, false≢true}
 use Rattle.ring_machine.specs.Common.{Text}
-use Rattle.cover_report.specs.Common.{Counts, IsLookedAt, LookedAt, Wants, counts_of, faces_of, report_text}
+use Rattle.cover_report.specs.Common.{IsLookedAt, LookedAt, Wants, counts_of, faces_of, report_text}
+use Rattle.cover_report.specs.declared.told.Counts.{Counts}
 use Rattle.cover_places.specs.Places.{places_of}
 use Rattle.cover_places.specs.Text.{topology_text}
 use Rattle.cover_places.specs.Told.{IsToldWithPlaces}

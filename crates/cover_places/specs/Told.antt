@@ -1,8 +1,9 @@
 -- What is told of a map in a report, and in the text of its places.
 use Rattle.std.specs.Prelude.{◌≡◌, true, ℕ, List, ◌++◌, Option, IfSome, Vec}
 use Rattle.topo_reader.specs.Common.{Opened}
-use Rattle.cover_report.specs.Common.{AreLooks, Counts, LookedAt, OpensProper, Wants, are_there, asked_layers}
+use Rattle.cover_report.specs.Common.{AreLooks, LookedAt, OpensProper, Wants, are_there, asked_layers}
 use Rattle.cover_report.specs.Common.{counts_of, faces_of, report_text}
+use Rattle.cover_report.specs.declared.told.Counts.{Counts}
 use Rattle.cover_places.specs.Places.{places_of}
 use Rattle.cover_places.specs.Text.{topology_text}
 
