@@ -1,6 +1,5 @@
 -- The faces that are told, as a report has them.
 use Rattle.std.specs.Prelude.{ℕ, List, [], ◌∷◌, ◌++◌}
-use Rattle.grid_geometry.specs.Common.{Edge}
 use Rattle.walk_faults.specs.Common.{flat_map_at}
 use Rattle.layer_faces.specs.declared.kind.Kind.{Kind}
 use Rattle.layer_faces.specs.declared.kind.Kind.TheVariants.{Overlap, Twice, Gap, Lake}
