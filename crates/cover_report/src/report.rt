@@ -91,34 +91,22 @@ pub fn push_report<A: Allocator + Copy>(
     Ok(counts)
 }
 
-/// A map that was looked at.
-#[derive(Drop)]
-pub struct LookedMap<'a, A: Allocator + Copy = Global> {
-    /// The text of its transform.
-    pub transform: Option<&'a [u8]>,
-    /// What was found in the layers that are asked for, in their order.
-    pub looks: Vec<Looked<'a, A>, A>,
-}
-
 /// What is found in the layers of a map with these names, or in all where there is no name.
 fn looks_at<'a, A: Allocator + Copy>(
     alloc: A,
     heap: Global,
     names: &[&str],
     raw: RawDoc<'a, A>,
-) -> Result<LookedMap<'a, A>, CoverFault<'a>>
+) -> Result<Vec<Looked<'a, A>, A>, CoverFault<'a>>
     requires rings { IsOfRings (view_raw raw) }
     requires proper { Proper (document_of (view_raw raw)) }
     ensures there { OnOk result
         (are_there (map (λ name. name.now) names.now) (view_raw raw.entry).layers ≡ true) }
-    ensures found { IfOk result (λ l. AreLooks (asked_layers (map (λ name. name.now) names.now) 0
-        (view_raw raw.entry).polygons (view_raw raw.entry).layers) (map view_looked l.looks.items)) }
-    ensures under { IfOk result (λ l.
-        option_map (λ t. t.now) l.transform ≡ (view_raw raw.entry).transform) }
+    ensures found { IfOk result (λ looks. AreLooks (asked_layers (map (λ name. name.now) names.now) 0
+        (view_raw raw.entry).polygons (view_raw raw.entry).layers) (map view_looked looks.items)) }
     ensures fault { IfErr result (IsUnlooked (map (λ name. name.now) names.now) (view_raw raw.entry).layers) }
 {
     let RawDoc {
-        transform,
         layers,
         polygons,
         ..
@@ -127,8 +115,16 @@ fn looks_at<'a, A: Allocator + Copy>(
     if !are_there(heap, layers.as_slice(), names)? {
         return Err(CoverFault::NoLayer);
     }
-    let looks = or_return!(looks_of(alloc, heap, names, layers.as_slice(), polygons));
-    Ok(LookedMap { transform, looks })
+    looks_of(alloc, heap, names, layers.as_slice(), polygons)
+}
+
+/// A map that was looked at.
+#[derive(Drop)]
+pub struct LookedMap<'a, A: Allocator + Copy = Global> {
+    /// The text of its transform.
+    pub transform: Option<&'a [u8]>,
+    /// What was found in the layers that are asked for, in their order.
+    pub looks: Vec<Looked<'a, A>, A>,
 }
 
 /// Looks at the layers of a map that opens: those that are asked for.
@@ -150,8 +146,9 @@ pub fn look_at_map<'a, A: Allocator + Copy>(
         Ok(raw) => raw,
         Err(fault) => return Err(CoverFault::Open(fault)),
     };
-    let looked = or_return!(looks_at(alloc, heap, asked.layers, raw));
-    Ok(looked)
+    let transform = raw.transform;
+    let looks = or_return!(looks_at(alloc, heap, asked.layers, raw));
+    Ok(LookedMap { transform, looks })
 }
 
 /// Looks at a map that opens, and appends the report of its overlaps and gaps to a text. Answers how much is told of each

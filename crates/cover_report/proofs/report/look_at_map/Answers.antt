@@ -1,7 +1,5 @@
-use Rattle.kit_words.proofs.Common.{map}
+use Rattle.kit_words.proofs.Common.{refl}
 use Rattle.topo_reader.specs.Common.{view_raw}
-use Rattle.cover_report.specs.Asked.{view_asked}
-use Rattle.cover_report.proofs.Refusing.{refused}
 use Rattle.cover_report.proofs.report.look_at_map.Goals as goal
 
 pub returns-clause-looked : goal.returns-clause-looked
@@ -10,5 +8,5 @@ returns-clause-looked g c = record {
   opens = record { opens = c.in-Ok.ensures.opens; proper = c.in-Ok.ensures.proper };
   there = c.in-Ok-2.ensures.there;
   found = c.in-Ok-2.ensures.found;
-  under = c.in-Ok-2.ensures.under;
+  under = refl;
 }
