@@ -1,17 +1,59 @@
 // The paths of rings and of lines.
 ghost use Rattle.std.specs.Prelude.{◌≡◌, ◌++◌, OnOk, map};
-ghost use Rattle.map_drawing.specs.Paths.{point_path, points_of, ring_path, rings_path, line_path};
+ghost use Rattle.map_drawing.specs.Paths.{next_text, points_of, start_path, step_path, steps_path, ring_path, rings_path, line_path};
 
 use crate::points::Point;
 use std::alloc::{AllocError, Allocator};
-use svg_text::push_pair;
+use svg_text::{push_number, push_pair};
 
-/// Appends a space and a point.
-fn push_point<A: Allocator>(text: &mut Vec<u8, A>, point: Point) -> Result<(), AllocError>
-    ensures { OnOk result (text.new.items ≡ text.old.items ++ point_path point) }
+/// Appends a number behind another one: a minus sign tells them apart as a space does (SVG 1.1, 8.3.9).
+fn push_next<A: Allocator>(text: &mut Vec<u8, A>, number: i64) -> Result<(), AllocError>
+    ensures { OnOk result (text.new.items ≡ text.old.items ++ next_text number) }
 {
-    text.extend_from_slice(b" ")?;
-    push_pair(text, point.x, point.y)?;
+    if 0 <= number {
+        text.extend_from_slice(b" ")?;
+    }
+    push_number(text, number)
+}
+
+/// Appends a move to a point.
+fn push_start<A: Allocator>(text: &mut Vec<u8, A>, point: Point) -> Result<(), AllocError>
+    ensures { OnOk result (text.new.items ≡ text.old.items ++ start_path point) }
+{
+    text.extend_from_slice(b"M")?;
+    push_pair(text, point.x, point.y)
+}
+
+/// Appends the line from a point to another one: along, down or both.
+fn push_step<A: Allocator>(text: &mut Vec<u8, A>, from: Point, to: Point) -> Result<(), AllocError>
+    ensures { OnOk result (text.new.items ≡ text.old.items ++ step_path from to) }
+{
+    if from.x == to.x {
+        text.extend_from_slice(b"v")?;
+        push_number(text, to.y - from.y)
+    } else if from.y == to.y {
+        text.extend_from_slice(b"h")?;
+        push_number(text, to.x - from.x)
+    } else {
+        text.extend_from_slice(b"l")?;
+        push_number(text, to.x - from.x)?;
+        push_next(text, to.y - from.y)
+    }
+}
+
+/// Appends the lines from a point to each of others in turn.
+fn push_steps<A: Allocator>(
+    text: &mut Vec<u8, A>,
+    start: Point,
+    points: &[Point],
+) -> Result<(), AllocError>
+    ensures { OnOk result (text.new.items ≡ text.old.items ++ steps_path start points.now) }
+{
+    let mut from = start;
+    for to in points {
+        push_step(text, from, *to)?;
+        from = *to;
+    }
     Ok(())
 }
 
@@ -19,12 +61,12 @@ fn push_point<A: Allocator>(text: &mut Vec<u8, A>, point: Point) -> Result<(), A
 fn push_ring<A: Allocator>(text: &mut Vec<u8, A>, ring: &[Point]) -> Result<(), AllocError>
     ensures { OnOk result (text.new.items ≡ text.old.items ++ ring_path ring.now) }
 {
-    text.extend_from_slice(b"M")?;
-    for point in ring {
-        push_point(text, *point)?;
-    }
-    text.extend_from_slice(b"z")?;
-    Ok(())
+    let [start, rest @ ..] = ring else {
+        return Ok(());
+    };
+    push_start(text, *start)?;
+    push_steps(text, *start, rest)?;
+    text.extend_from_slice(b"z")
 }
 
 /// Appends rings.
@@ -40,7 +82,7 @@ pub(crate) fn push_rings<A: Allocator, B: Allocator + Copy>(
     Ok(())
 }
 
-/// Appends a line.
+/// Appends a line, unless it ends where it begins.
 pub(crate) fn push_line<A: Allocator>(
     text: &mut Vec<u8, A>,
     from: Point,
@@ -48,8 +90,9 @@ pub(crate) fn push_line<A: Allocator>(
 ) -> Result<(), AllocError>
     ensures { OnOk result (text.new.items ≡ text.old.items ++ line_path from to) }
 {
-    text.extend_from_slice(b"M")?;
-    push_point(text, from)?;
-    push_point(text, to)?;
-    Ok(())
+    if from.x == to.x && from.y == to.y {
+        return Ok(());
+    }
+    push_start(text, from)?;
+    push_step(text, from, to)
 }

@@ -1,0 +1,50 @@
+// How fine a picture is.
+ghost use Rattle.std.specs.Prelude.{◌≡◌, ◌≤ℤ◌, pos};
+ghost use Rattle.map_drawing.specs.Fineness.{parts_for};
+
+use grid_geometry::Pos;
+use map_features::{Shape, Window};
+use std::alloc::Allocator;
+
+/// The most parts that a pixel has.
+pub(crate) const MOST_PARTS: i64 = 100;
+
+/// The least.
+const LEAST_PARTS: i64 = 2;
+
+/// With how many parts of a pixel for all positions together a picture is large enough.
+const ENOUGH: usize = 4_000_000;
+
+/// How many parts a pixel has in a picture of so many positions.
+pub(crate) fn parts_for(positions: usize) -> i64
+    ensures parts { result ≡ parts_for positions }
+    ensures some { (pos 2 ≤ℤ result) × (result ≤ℤ pos 100) }
+{
+    let parts = ENOUGH.checked_div(positions).unwrap_or(ENOUGH);
+    i64::try_from(parts)
+        .unwrap_or(MOST_PARTS)
+        .clamp(LEAST_PARTS, MOST_PARTS)
+}
+
+/// How many positions of a ring a part of the grid has.
+fn count_in(window: &Window, ring: &[Pos]) -> usize {
+    ring.iter().filter(|pos| window.has(**pos)).count()
+}
+
+/// How many positions of the rings of a feature it has.
+fn count_of<A: Allocator + Copy>(window: &Window, shape: &Shape<'_, A>) -> usize {
+    let mut count: usize = 0;
+    for ring in shape.polygons.iter().flatten() {
+        count = count.saturating_add(count_in(window, ring.as_slice()));
+    }
+    count
+}
+
+/// How many positions of the rings of features a part of the grid has.
+pub(crate) fn positions_in<A: Allocator + Copy>(window: &Window, shapes: &[Shape<'_, A>]) -> usize {
+    let mut count: usize = 0;
+    for shape in shapes {
+        count = count.saturating_add(count_of(window, shape));
+    }
+    count
+}
