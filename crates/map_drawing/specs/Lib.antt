@@ -1,3 +1,4 @@
+pub mod Points
 pub mod Paths
 pub mod Corners
 pub mod Fineness

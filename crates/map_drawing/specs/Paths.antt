@@ -1,9 +1,10 @@
 -- The paths of rings and of lines (SVG 1.1, 8.3): points in parts of a pixel from the upper left corner of the map, each
 -- but the first of a ring or a line as a step from the one before it.
-use Rattle.std.specs.Prelude.{ℕ, ℤ, pos, ◌-ℤ◌, ◌&&◌, List, [], ◌∷◌, ◌++◌, codes, flat_map, Vec, if◌then◌else◌, int_le}
+use Rattle.std.specs.Prelude.{ℕ, ℤ, pos, ◌-ℤ◌, List, [], ◌∷◌, ◌++◌, codes, flat_map, Vec, if◌then◌else◌, int_le}
 use Rattle.std.specs.Fmt.{signed_decimal}
 use Rattle.std.specs.Ordering.{int_eq}
 use Rattle.svg_text.specs.Common.{number_pair_text}
+use Rattle.map_drawing.specs.Points.{is_same}
 use Rattle.map_drawing.specs.declared.points.Point.{Point}
 
 -- a number behind another one
@@ -41,4 +42,4 @@ rings_path rings = flat_map ring_path rings
 
 -- a line between two points, nothing if it ends where it begins
 abbrev pub line_path : Point → Point → List ℕ
-line_path from to = if int_eq from.x to.x && int_eq from.y to.y then [] else (start_path from ++ step_path from to)
+line_path from to = if is_same from to then [] else (start_path from ++ step_path from to)

@@ -1,9 +1,44 @@
-// What is left out of a ring or a line where it is drawn.
-ghost use Rattle.std.specs.Prelude.{◌≡◌, IfOk};
-ghost use Rattle.map_drawing.specs.Corners.{corners, is_amid, is_level};
+// What is left out of a ring where it is drawn: points that add nothing.
+ghost use Rattle.std.specs.Prelude.{◌≡◌, ◌∷◌, IfOk};
+ghost use Rattle.map_drawing.specs.Corners.{apart, corners, is_amid, is_level, IsSeen};
 
-use crate::points::Point;
+use crate::points::{Point, is_same};
 use std::alloc::{AllocError, Allocator};
+
+/// The points of a ring without those at the point of the one before.
+fn apart<A: Allocator + Copy>(alloc: A, ring: &[Point]) -> Result<Vec<Point, A>, AllocError>
+    ensures { IfOk result (λ kept. kept.items ≡ apart ring.now) }
+{
+    let mut kept = Vec::new(alloc);
+    let [first, rest @ ..] = ring else {
+        return Ok(kept);
+    };
+    kept.push(*first)?;
+    let mut last = *first;
+    for to in rest {
+        if !is_same(last, *to) {
+            kept.push(*to)?;
+        }
+        last = *to;
+    }
+    Ok(kept)
+}
+
+/// The points at which a ring is drawn, without those at the point of the one before. A ring that is at one point
+/// goes on to the next one on the right, so that it is seen: there is no line at a point (SVG 1.1, 11.4).
+pub(crate) fn seen<A: Allocator + Copy>(
+    alloc: A,
+    ring: &[Point],
+) -> Result<Vec<Point, A>, AllocError>
+    ensures { IfOk result (λ kept. IsSeen (apart ring.now) kept.items) }
+{
+    let mut kept = apart(alloc, ring)?;
+    if let [point] = kept.as_slice() {
+        let next = point.beside();
+        kept.push(next)?;
+    }
+    Ok(kept)
+}
 
 /// Whether a number is one of two others or between them.
 fn is_amid(from: i64, at: i64, to: i64) -> bool
@@ -20,26 +55,39 @@ fn is_level(from: Point, at: Point, to: Point) -> bool
         || (from.x == at.x && at.x == to.x && is_amid(from.y, at.y, to.y))
 }
 
-/// The points of a ring without those that are on a way straight along or straight down.
+/// A first point, and of those after it the ones that are on no way straight along or straight down, and the last.
+fn corners_after<A: Allocator + Copy>(
+    alloc: A,
+    first: Point,
+    others: &[Point],
+) -> Result<Vec<Point, A>, AllocError>
+    ensures { IfOk result (λ kept. kept.items ≡ corners (first ∷ others.now)) }
+{
+    let mut kept = Vec::new(alloc);
+    kept.push(first)?;
+    let [second, rest @ ..] = others else {
+        return Ok(kept);
+    };
+    let (mut from, mut at) = (first, *second);
+    for to in rest {
+        if !is_level(from, at, *to) {
+            kept.push(at)?;
+        }
+        (from, at) = (at, *to);
+    }
+    kept.push(at)?;
+    Ok(kept)
+}
+
+/// The points of a ring without those on a way straight along or straight down; the first and the last stay.
 pub(crate) fn corners<A: Allocator + Copy>(
     alloc: A,
     ring: &[Point],
 ) -> Result<Vec<Point, A>, AllocError>
-    ensures { IfOk result (λ ring_corners. ring_corners.items ≡ corners ring.now) }
+    ensures { IfOk result (λ kept. kept.items ≡ corners ring.now) }
 {
-    let mut corners = Vec::new(alloc);
-    let [first, second, rest @ ..] = ring else {
-        corners.extend_from_slice(ring)?;
-        return Ok(corners);
-    };
-    corners.push(*first)?;
-    let (mut from, mut at) = (*first, *second);
-    for to in rest {
-        if !is_level(from, at, *to) {
-            corners.push(at)?;
-        }
-        (from, at) = (at, *to);
+    match ring {
+        [first, others @ ..] => corners_after(alloc, *first, others),
+        [] => Ok(Vec::new(alloc)),
     }
-    corners.push(at)?;
-    Ok(corners)
 }

@@ -7,10 +7,10 @@ use map_features::{Shape, Window};
 use std::alloc::Allocator;
 
 /// The most parts that a pixel has.
-pub(crate) const MOST_PARTS: i64 = 100;
+const MOST_PARTS: usize = 100;
 
 /// The least.
-const LEAST_PARTS: i64 = 2;
+const LEAST_PARTS: usize = 2;
 
 /// With how many parts of a pixel for all positions together a picture is large enough.
 const ENOUGH: usize = 4_000_000;
@@ -20,10 +20,8 @@ pub(crate) fn parts_for(positions: usize) -> i64
     ensures parts { result ≡ parts_for positions }
     ensures some { (pos 2 ≤ℤ result) × (result ≤ℤ pos 100) }
 {
-    let parts = ENOUGH.checked_div(positions).unwrap_or(ENOUGH);
-    i64::try_from(parts)
-        .unwrap_or(MOST_PARTS)
-        .clamp(LEAST_PARTS, MOST_PARTS)
+    let parts = ENOUGH / positions.max(1);
+    parts.clamp(LEAST_PARTS, MOST_PARTS) as i64
 }
 
 /// How many positions of a ring a part of the grid has.

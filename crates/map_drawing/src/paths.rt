@@ -2,7 +2,7 @@
 ghost use Rattle.std.specs.Prelude.{◌≡◌, ◌++◌, OnOk, map};
 ghost use Rattle.map_drawing.specs.Paths.{next_text, points_of, start_path, step_path, steps_path, ring_path, rings_path, line_path};
 
-use crate::points::Point;
+use crate::points::{Point, is_same};
 use std::alloc::{AllocError, Allocator};
 use svg_text::{push_number, push_pair};
 
@@ -12,8 +12,10 @@ fn push_next<A: Allocator>(text: &mut Vec<u8, A>, number: i64) -> Result<(), All
 {
     if 0 <= number {
         text.extend_from_slice(b" ")?;
+        push_number(text, number)
+    } else {
+        push_number(text, number)
     }
-    push_number(text, number)
 }
 
 /// Appends a move to a point.
@@ -90,9 +92,10 @@ pub(crate) fn push_line<A: Allocator>(
 ) -> Result<(), AllocError>
     ensures { OnOk result (text.new.items ≡ text.old.items ++ line_path from to) }
 {
-    if from.x == to.x && from.y == to.y {
-        return Ok(());
+    if is_same(from, to) {
+        Ok(())
+    } else {
+        push_start(text, from)?;
+        push_step(text, from, to)
     }
-    push_start(text, from)?;
-    push_step(text, from, to)
 }

@@ -1,11 +1,12 @@
 // Points of the picture of a map.
-ghost use Rattle.std.specs.Prelude.{◌≤◌, unsigned_abs};
+ghost use Rattle.std.specs.Prelude.{◌≡◌, ◌≤◌, unsigned_abs};
+ghost use Rattle.map_drawing.specs.Points.{is_same};
 
 /// How far a point is from the corner of the map at most.
 const MOST: i64 = 1_000_000_000_000_000_000;
 
 /// A point of the picture of a map, in parts of a pixel from its upper left corner.
-#[derive(Clone, Copy, PartialEq, Eq)]
+#[derive(Clone, Copy)]
 pub(crate) struct Point {
     /// How far from the left it is.
     pub(crate) x: i64,
@@ -16,6 +17,8 @@ pub(crate) struct Point {
 }
 
 impl Point {
+    ghost use Rattle.map_drawing.specs.Points.{IsBeside};
+
     /// The point so far from the left and from the top, or the nearest one that there is.
     pub(crate) fn near(x: i64, y: i64) -> Point {
         Point {
@@ -23,6 +26,23 @@ impl Point {
             y: y.clamp(-MOST, MOST),
         }
     }
+
+    /// The next point on the right, where there is one.
+    pub(crate) fn beside(self) -> Point
+        ensures { IsBeside self result }
+    {
+        Point {
+            x: (self.x + 1).min(MOST),
+            y: self.y,
+        }
+    }
+}
+
+/// Whether two points are one.
+pub(crate) fn is_same(one: Point, other: Point) -> bool
+    ensures { result ≡ is_same one other }
+{
+    one.x == other.x && one.y == other.y
 }
 
 /// The number that lies between two as a part lies between 0 and a whole, rounded toward the first.
