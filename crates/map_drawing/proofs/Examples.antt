@@ -1,5 +1,5 @@
 -- The words that name a conflict, how wide labels are, and how rings are drawn, worked out.
-use Rattle.kit_words.proofs.Common.{◌≡◌, ◌++◌, [], ◌∷◌, refl, ℤ, pos, codes, digits}
+use Rattle.kit_words.proofs.Common.{◌≡◌, ◌++◌, [], ◌∷◌, refl, arith, ℕ, ◌≤◌, pos, codes, digits}
 use Rattle.grid_geometry.specs.Common.{position}
 use Rattle.map_drawing.specs.Labels.{drawn_text, label_width}
 use Rattle.map_drawing.specs.Corners.{apart, corners}
@@ -38,39 +38,55 @@ escapes = refl
 
 -- ---- rings, as they are drawn
 
-at : ℤ → ℤ → Point
-at x y = record { x = x; y = y }
+at : (x y : ℕ) → x ≤ 1000000000000000000 → y ≤ 1000000000000000000 → Point
+at x y h k = record { x = pos x; y = pos y; across = h; down = k }
 
--- twice at one point, and on the way along from 0 to 9
-plainer : apart (at (pos 0) (pos 0) ∷ at (pos 0) (pos 0) ∷ at (pos 5) (pos 0) ∷ []) ≡ at (pos 0) (pos 0) ∷ at (pos 5) (pos 0) ∷ []
-plainer = refl
+corner : Point
+corner = at 0 0 (omega arith) (omega arith)
 
-along : corners (at (pos 0) (pos 0) ∷ at (pos 5) (pos 0) ∷ at (pos 9) (pos 0) ∷ at (pos 9) (pos 4) ∷ [])
-    ≡ at (pos 0) (pos 0) ∷ at (pos 9) (pos 0) ∷ at (pos 9) (pos 4) ∷ []
+three : Point
+three = at 3 0 (omega arith) (omega arith)
+
+nine : Point
+nine = at 9 0 (omega arith) (omega arith)
+
+below : Point
+below = at 9 4 (omega arith) (omega arith)
+
+aslant : Point
+aslant = at 8 3 (omega arith) (omega arith)
+
+left : Point
+left = at 0 6 (omega arith) (omega arith)
+
+-- twice at one point
+once : apart (corner ∷ corner ∷ three ∷ nine ∷ nine ∷ corner ∷ []) ≡ corner ∷ three ∷ nine ∷ corner ∷ []
+once = refl
+
+-- on the way straight along
+along : corners (corner ∷ three ∷ nine ∷ below ∷ []) ≡ corner ∷ nine ∷ below ∷ []
 along = refl
 
 -- a point that a ring goes to and comes back from stays
-spike : corners (at (pos 0) (pos 0) ∷ at (pos 5) (pos 0) ∷ at (pos 3) (pos 0) ∷ at (pos 3) (pos 4) ∷ [])
-    ≡ at (pos 0) (pos 0) ∷ at (pos 5) (pos 0) ∷ at (pos 3) (pos 0) ∷ at (pos 3) (pos 4) ∷ []
+spike : corners (corner ∷ nine ∷ three ∷ below ∷ []) ≡ corner ∷ nine ∷ three ∷ below ∷ []
 spike = refl
 
-path_of : ring_path (at (pos 3) (pos 4) ∷ at (pos 13) (pos 4) ∷ at (pos 13) (pos 9) ∷ at (pos 12) (pos 8) ∷ at (pos 3) (pos 10) ∷ [])
-    ≡ codes "M3 4h10v5l-1-1l-9 2z"
+path_of : ring_path (corner ∷ nine ∷ below ∷ aslant ∷ left ∷ []) ≡ codes "M0 0h9v4l-1-1l-8 3z"
 unfolding digits
 path_of = refl
 
--- up to 40,000 positions hundredths, of two million and more halves
-fine : parts_for 40000 ≡ pos 100
-fine = refl
+-- up to 40,000 positions in hundredths, two million and more in halves
+hundredths : parts_for 40000 ≡ pos 100
+hundredths = refl
 
-less_fine : parts_for 97932 ≡ pos 40
-less_fine = refl
+fewer : parts_for 97932 ≡ pos 40
+fewer = refl
 
-coarse : parts_for 2000000 ≡ pos 2
-coarse = refl
+halves : parts_for 2000000 ≡ pos 2
+halves = refl
 
-coarsest : parts_for 4000000 ≡ pos 2
-coarsest = refl
+no_fewer : parts_for 4000000 ≡ pos 2
+no_fewer = refl
 
-none : parts_for 0 ≡ pos 100
-none = refl
+no_position : parts_for 0 ≡ pos 100
+no_position = refl
