@@ -1,9 +1,17 @@
 // What is left out of a ring where it is drawn: points that add nothing.
 ghost use Rattle.std.specs.Prelude.{◌≡◌, ◌∷◌, IfOk};
 ghost use Rattle.map_drawing.specs.Corners.{apart, corners, is_amid, is_level, IsSeen};
+ghost use Rattle.map_drawing.specs.Points.{is_same};
 
-use crate::points::{Point, is_same};
+use crate::points::Point;
 use std::alloc::{AllocError, Allocator};
+
+/// Whether two points are one.
+pub(crate) fn is_same(one: Point, other: Point) -> bool
+    ensures { result ≡ is_same one other }
+{
+    one.x == other.x && one.y == other.y
+}
 
 /// The points of a ring without those at the point of the one before.
 fn apart<A: Allocator + Copy>(alloc: A, ring: &[Point]) -> Result<Vec<Point, A>, AllocError>

@@ -2,7 +2,8 @@
 ghost use Rattle.std.specs.Prelude.{◌≡◌, ◌++◌, OnOk, map};
 ghost use Rattle.map_drawing.specs.Paths.{next_text, points_of, start_path, step_path, steps_path, ring_path, rings_path, line_path};
 
-use crate::points::{Point, is_same};
+use crate::corners::is_same;
+use crate::points::Point;
 use std::alloc::{AllocError, Allocator};
 use svg_text::{push_number, push_pair};
 

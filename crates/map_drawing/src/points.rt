@@ -1,6 +1,5 @@
 // Points of the picture of a map.
-ghost use Rattle.std.specs.Prelude.{◌≡◌, ◌≤◌, unsigned_abs};
-ghost use Rattle.map_drawing.specs.Points.{is_same};
+ghost use Rattle.std.specs.Prelude.{◌≤◌, unsigned_abs};
 
 /// How far a point is from the corner of the map at most.
 const MOST: i64 = 1_000_000_000_000_000_000;
@@ -36,13 +35,6 @@ impl Point {
             y: self.y,
         }
     }
-}
-
-/// Whether two points are one.
-pub(crate) fn is_same(one: Point, other: Point) -> bool
-    ensures { result ≡ is_same one other }
-{
-    one.x == other.x && one.y == other.y
 }
 
 /// The number that lies between two as a part lies between 0 and a whole, rounded toward the first.
