@@ -230,7 +230,9 @@ pub fn draw_change<A: Allocator + Copy>(
     let new = shapes_of(alloc, after, new_regions.as_slice())?;
     let bounds = bounds_of(bounds_of(None, old.as_slice()), new.as_slice());
     let units = Units::of(after.transform, bounds, view.part);
-    let picture = Picture::of_part(alloc, heap, view.part, bounds, &units);
-    let picture = picture.fine_for(old.as_slice(), new.as_slice());
+    let mut picture = Picture::of_part(alloc, heap, view.part, bounds, &units);
+    let positions = picture.positions(old.as_slice());
+    let positions = positions.max(picture.positions(new.as_slice()));
+    picture.draw_for(positions);
     picture.with_features(view, &units, title, old.as_slice(), new.as_slice())
 }

@@ -103,14 +103,14 @@ impl<A: Allocator + Copy> Picture<A> {
         }
     }
 
-    /// The same, as fine as the larger of two maps may be drawn.
-    pub(crate) fn fine_for(self, one: &[Shape<'_, A>], other: &[Shape<'_, A>]) -> Picture<A> {
-        let window = self.layout.window;
-        let positions = positions_in(&window, one).max(positions_in(&window, other));
-        Picture {
-            drawn: self.layout.with_parts(parts_for(positions)),
-            ..self
-        }
+    /// How many positions of features are drawn.
+    pub(crate) fn positions(&self, shapes: &[Shape<'_, A>]) -> usize {
+        positions_in(&self.layout.window, shapes)
+    }
+
+    /// Draws features and borders as fine as so many positions may be drawn.
+    pub(crate) fn draw_for(&mut self, positions: usize) {
+        self.drawn = self.layout.with_parts(parts_for(positions));
     }
 
     /// Begins the picture, with a title and a bar of length above the map and so many lines of a list below.
@@ -350,7 +350,8 @@ pub fn draw_map<A: Allocator + Copy>(
     let shapes = shapes_of(alloc, map, map.polygons.as_slice())?;
     let bounds = bounds_of(None, shapes.as_slice());
     let units = Units::of(map.transform, bounds, view.part);
-    let picture = Picture::of_part(alloc, heap, view.part, bounds, &units);
-    let picture = picture.fine_for(shapes.as_slice(), &[]);
+    let mut picture = Picture::of_part(alloc, heap, view.part, bounds, &units);
+    let positions = picture.positions(shapes.as_slice());
+    picture.draw_for(positions);
     picture.with_map(view, &units, title, shapes.as_slice())
 }
