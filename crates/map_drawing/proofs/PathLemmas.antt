@@ -1,10 +1,10 @@
 -- Rings and their steps, a point at a time.
 use Rattle.kit_words.proofs.Common.{◌≡◌, ◌++◌, ◌∙◌, ap, sym, refl, ℕ, ◌<◌, ◌≤◌, ◌+◌, ◌-◌, List, [], ◌∷◌, length, take, drop, get_or}
 use Rattle.kit_words.proofs.Common.{append-nil, append_assoc, next_drop, take_rest, drop_of_length-le, true, false, if◌then◌else◌}
-use Rattle.kit_words.proofs.Common.{Bool, codes, appended_three}
+use Rattle.kit_words.proofs.Common.{Bool, codes, appended_three, arith, ◌≢◌}
 use Rattle.map_drawing.specs.Common.{ring_path, start_path, step_path, steps_path}
-use Rattle.map_drawing.specs.Corners.{apart_from, corners_from, is_level}
-use Rattle.map_drawing.specs.Points.{is_same}
+use Rattle.map_drawing.specs.Corners.{apart_from, corners_from, is_level, IsSeen}
+use Rattle.map_drawing.specs.Points.{IsBeside, is_same}
 use Rattle.map_drawing.specs.declared.points.Point.{Point}
 
 -- a list is its first element and the rest
@@ -70,3 +70,14 @@ other_kept kept more whole a b ps i h e same is so_far =
 pub all_apart : (kept whole : List Point) (a : Point) (ps : List Point) (i : ℕ) → length ps ≤ i → kept ++ apart_from a (drop i ps) ≡ whole → kept ≡ whole
 all_apart kept whole a ps i h so_far =
     sym (append-nil kept) ∙ ap (λ l. kept ++ apart_from a l) (sym (drop_of_length-le ps h)) ∙ so_far
+
+-- a ring at one point goes on
+pub dotted : (kept drawn : List Point) (first q : Point) (others : List Point) → kept ≡ first ∷ others → length kept ≡ 1 → IsBeside first q
+    → drawn ≡ kept ++ q ∷ [] → IsSeen (first ∷ others) drawn
+dotted kept drawn first q [] e l b is = (q, (b, is ∙ ap (λ k. k ++ q ∷ []) e))
+dotted kept drawn first q (x ∷ others) e l b is = absurd (omega (arith, ap length e, l))
+
+-- and any other does not
+pub undotted : (kept : List Point) (first : Point) (others : List Point) → kept ≡ first ∷ others → length kept ≢ 1 → IsSeen (first ∷ others) kept
+undotted kept first [] e l = absurd (l (ap length e))
+undotted kept first (x ∷ others) e l = e

@@ -13,9 +13,13 @@ pub(crate) fn is_same(one: Point, other: Point) -> bool
     one.x == other.x && one.y == other.y
 }
 
-/// The points of a ring without those at the point of the one before.
-fn apart<A: Allocator + Copy>(alloc: A, ring: &[Point]) -> Result<Vec<Point, A>, AllocError>
-    ensures { IfOk result (λ kept. kept.items ≡ apart ring.now) }
+/// The points at which a ring is drawn, without those at the point of the one before. A ring that is at one point
+/// goes on to the next one on the right, so that it is seen: there is no line at a point (SVG 1.1, 11.4).
+pub(crate) fn seen<A: Allocator + Copy>(
+    alloc: A,
+    ring: &[Point],
+) -> Result<Vec<Point, A>, AllocError>
+    ensures { IfOk result (λ kept. IsSeen (apart ring.now) kept.items) }
 {
     let mut kept = Vec::new(alloc);
     let [first, rest @ ..] = ring else {
@@ -29,21 +33,8 @@ fn apart<A: Allocator + Copy>(alloc: A, ring: &[Point]) -> Result<Vec<Point, A>,
         }
         last = *to;
     }
-    Ok(kept)
-}
-
-/// The points at which a ring is drawn, without those at the point of the one before. A ring that is at one point
-/// goes on to the next one on the right, so that it is seen: there is no line at a point (SVG 1.1, 11.4).
-pub(crate) fn seen<A: Allocator + Copy>(
-    alloc: A,
-    ring: &[Point],
-) -> Result<Vec<Point, A>, AllocError>
-    ensures { IfOk result (λ kept. IsSeen (apart ring.now) kept.items) }
-{
-    let mut kept = apart(alloc, ring)?;
-    if let [point] = kept.as_slice() {
-        let next = point.beside();
-        kept.push(next)?;
+    if kept.len() == 1 {
+        kept.push(first.beside())?;
     }
     Ok(kept)
 }
