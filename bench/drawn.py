@@ -17,7 +17,7 @@ from second_opinion import conflict_text, do_conflict, segments_of
 WIDTH, MARGIN, ROW, ACROSS, DOWN = 1000, 20, 20, 960, 720
 LABEL, RISE, LETTER, PIXEL, BEYOND, RADIUS, MOST_PAIRED = 1300, 1000, 720, 100, 10, 14, 1500
 # The least and the most parts of a pixel, and how many of them there are for all positions together.
-COARSE, FINE_PARTS, ALL_PARTS = 2, 100, 4_000_000
+COARSE, FINE_PARTS, ALL_PARTS = 2, 100, 2_000_000
 # How many of the finest parts a unit of the map has, how many ten-thousandths a whole; how many bytes of a name and of a
 # title are shown.
 FINE, RATIO, MOST_BYTES, MOST_TITLE = 10**24, 10_000, 48, 76

@@ -75,14 +75,14 @@ path_of : ring_path (corner ∷ nine ∷ below ∷ aslant ∷ left ∷ []) ≡ c
 unfolding digits
 path_of = refl
 
--- up to 40,000 positions in hundredths, two million and more in halves
-hundredths : parts_for 40000 ≡ pos 100
+-- up to 20,000 positions in hundredths, a million and more in halves
+hundredths : parts_for 20000 ≡ pos 100
 hundredths = refl
 
-fewer : parts_for 97932 ≡ pos 40
+fewer : parts_for 97932 ≡ pos 20
 fewer = refl
 
-halves : parts_for 2000000 ≡ pos 2
+halves : parts_for 1000000 ≡ pos 2
 halves = refl
 
 no_fewer : parts_for 4000000 ≡ pos 2

@@ -13,7 +13,7 @@ const MOST_PARTS: usize = 100;
 const LEAST_PARTS: usize = 2;
 
 /// With how many parts of a pixel for all positions together a picture is large enough.
-const ENOUGH: usize = 4_000_000;
+const ENOUGH: usize = 2_000_000;
 
 /// How many parts a pixel has in a picture of so many positions.
 pub(crate) fn parts_for(positions: usize) -> i64
