@@ -26,7 +26,13 @@ pub(crate) fn parts_for(positions: usize) -> i64
 
 /// How many positions of a ring a part of the grid has.
 fn count_in(window: &Window, ring: &[Pos]) -> usize {
-    ring.iter().filter(|pos| window.has(**pos)).count()
+    let mut count: usize = 0;
+    for pos in ring {
+        if window.has(*pos) {
+            count = count.saturating_add(1);
+        }
+    }
+    count
 }
 
 /// How many positions of the rings of a feature it has.
