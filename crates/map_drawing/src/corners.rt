@@ -1,6 +1,6 @@
 // What is left out of a ring where it is drawn: points that add nothing.
-ghost use Rattle.std.specs.Prelude.{◌≡◌, ◌∷◌, IfOk};
-ghost use Rattle.map_drawing.specs.Corners.{apart, corners, is_amid, is_level, IsSeen};
+ghost use Rattle.std.specs.Prelude.{◌≡◌, ◌∷◌, ◌++◌, IfOk, OnOk};
+ghost use Rattle.map_drawing.specs.Corners.{apart, corner_of, corners, is_amid, is_level, other_point, IsSecond, IsSeen};
 ghost use Rattle.map_drawing.specs.Points.{is_same};
 
 use crate::points::Point;
@@ -13,30 +13,65 @@ pub(crate) fn is_same(one: Point, other: Point) -> bool
     one.x == other.x && one.y == other.y
 }
 
-/// The points at which a ring is drawn, without those at the point of the one before. A ring that is at one point
-/// goes on to the next one on the right, so that it is seen: there is no line at a point (SVG 1.1, 11.4).
-pub(crate) fn seen<A: Allocator + Copy>(
-    alloc: A,
-    ring: &[Point],
-) -> Result<Vec<Point, A>, AllocError>
-    ensures { IfOk result (λ kept. IsSeen (apart ring.now) kept.items) }
+/// Appends a point, unless it is the one before it.
+fn push_apart<A: Allocator>(
+    kept: &mut Vec<Point, A>,
+    before: Point,
+    point: Point,
+) -> Result<(), AllocError>
+    ensures { OnOk result (kept.new.items ≡ kept.old.items ++ other_point before point) }
+{
+    if is_same(before, point) {
+        Ok(())
+    } else {
+        kept.push(point)?;
+        Ok(())
+    }
+}
+
+/// The points of a ring without those at the point of the one before.
+fn apart<A: Allocator + Copy>(alloc: A, ring: &[Point]) -> Result<Vec<Point, A>, AllocError>
+    ensures { IfOk result (λ kept. kept.items ≡ apart ring.now) }
 {
     let mut kept = Vec::new(alloc);
     let [first, rest @ ..] = ring else {
         return Ok(kept);
     };
     kept.push(*first)?;
-    let mut last = *first;
-    for to in rest {
-        if !is_same(last, *to) {
-            kept.push(*to)?;
-        }
-        last = *to;
-    }
-    if kept.len() == 1 {
-        kept.push(first.beside())?;
+    let mut before = *first;
+    for point in rest {
+        push_apart(&mut kept, before, *point)?;
+        before = *point;
     }
     Ok(kept)
+}
+
+/// The second point of a ring that is at one point: the next one on the right.
+fn second_point(ring: &[Point]) -> Option<Point>
+    ensures { IsSecond ring.now result }
+{
+    match ring {
+        [point] => Some(point.beside()),
+        _ => None,
+    }
+}
+
+/// The points at which a ring is drawn, without those at the point of the one before. A ring that is at one point
+/// goes on to the next one, so that it is seen: there is no line at a point (SVG 1.1, 11.4).
+pub(crate) fn seen<A: Allocator + Copy>(
+    alloc: A,
+    ring: &[Point],
+) -> Result<Vec<Point, A>, AllocError>
+    ensures { IfOk result (λ kept. IsSeen (apart ring.now) kept.items) }
+{
+    let mut kept = apart(alloc, ring)?;
+    match second_point(kept.as_slice()) {
+        Some(second) => {
+            kept.push(second)?;
+            Ok(kept)
+        }
+        None => Ok(kept),
+    }
 }
 
 /// Whether a number is one of two others or between them.
@@ -54,7 +89,24 @@ fn is_level(from: Point, at: Point, to: Point) -> bool
         || (from.x == at.x && at.x == to.x && is_amid(from.y, at.y, to.y))
 }
 
-/// A first point, and of those after it the ones that are on no way straight along or straight down, and the last.
+/// Appends a point, unless it is on the way from the one before it straight along or down to the one after it.
+fn push_corner<A: Allocator>(
+    kept: &mut Vec<Point, A>,
+    from: Point,
+    at: Point,
+    to: Point,
+) -> Result<(), AllocError>
+    ensures { OnOk result (kept.new.items ≡ kept.old.items ++ corner_of from at to) }
+{
+    if is_level(from, at, to) {
+        Ok(())
+    } else {
+        kept.push(at)?;
+        Ok(())
+    }
+}
+
+/// A first point, and of those after it the corners and the last.
 fn corners_after<A: Allocator + Copy>(
     alloc: A,
     first: Point,
@@ -69,9 +121,7 @@ fn corners_after<A: Allocator + Copy>(
     };
     let (mut from, mut at) = (first, *second);
     for to in rest {
-        if !is_level(from, at, *to) {
-            kept.push(at)?;
-        }
+        push_corner(&mut kept, from, at, *to)?;
         (from, at) = (at, *to);
     }
     kept.push(at)?;
