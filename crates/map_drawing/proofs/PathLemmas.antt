@@ -1,8 +1,10 @@
 -- Rings and their steps, a point at a time.
 use Rattle.kit_words.proofs.Common.{◌≡◌, ◌++◌, ◌∙◌, ap, sym, refl, ℕ, ◌<◌, ◌≤◌, ◌+◌, ◌-◌, List, [], ◌∷◌, length, take, drop, get_or}
-use Rattle.kit_words.proofs.Common.{append-nil, append_assoc, next_drop, take_rest, drop_of_length-le, codes, appended_three, Option, Some, None}
+use Rattle.kit_words.proofs.Common.{append-nil, append_assoc, next_drop, take_rest, drop_of_length-le, codes, appended_three}
+use Rattle.kit_words.proofs.Common.{Option, Some, None, is_some, subst, true≢false}
 use Rattle.map_drawing.specs.Common.{ring_path, start_path, step_path, steps_path}
 use Rattle.map_drawing.specs.Corners.{apart_from, corner_of, corners_from, IsSecond, IsSeen, other_point}
+use Rattle.map_drawing.specs.Points.{IsBeside}
 use Rattle.map_drawing.specs.declared.points.Point.{Point}
 
 -- a list is its first element and the rest
@@ -43,18 +45,25 @@ pub all_apart : (kept whole : List Point) (p : Point) (ps : List Point) (i : ℕ
 all_apart kept whole p ps i h so_far =
     sym (append-nil kept) ∙ ap (λ l. kept ++ apart_from p l) (sym (drop_of_length-le ps h)) ∙ so_far
 
-some_same : {X : Type 0} (x y : X) → Some x ≡ Some y → x ≡ y
-some_same x y e = ap (λ (o : Option X). elim o [ | Some z ↦ z | None ↦ x ]) e
+held : {X : Type 0} → X → Option X → X
+held x (Some y) = y
+held x None = x
+
+no_second : (q : Point) → Some q ≡ None → ⊥
+no_second q e = true≢false (ap is_some e)
 
 -- a ring at one point goes on
 pub goes_on : (ring kept drawn : List Point) (q : Point) → kept ≡ ring → IsSecond kept (Some q) → drawn ≡ kept ++ q ∷ [] → IsSeen ring drawn
-goes_on ring [] drawn q e () is
-goes_on ring (p ∷ []) drawn q e (r, b, same) is = rw (sym e) (q, rw (sym (some_same q r same)) b, is)
+goes_on ring [] drawn q e none is = absurd (no_second q none)
+goes_on ring (p ∷ []) drawn q e (r, (b, same)) is =
+    subst (λ z. IsSeen z drawn) e (q, (subst (IsBeside p) (sym (ap (held q) same)) b, is))
+goes_on ring (p ∷ o ∷ ps) drawn q e none is = absurd (no_second q none)
 
 -- any other does not
 pub stays : (ring kept : List Point) → kept ≡ ring → IsSecond kept None → IsSeen ring kept
-stays ring [] e none = rw (sym e) refl
-stays ring (p ∷ q ∷ ps) e none = rw (sym e) refl
+stays ring [] e none = subst (λ z. IsSeen z []) e refl
+stays ring (p ∷ []) e (q, (b, some)) = absurd (no_second q (sym some))
+stays ring (p ∷ q ∷ ps) e none = subst (λ z. IsSeen z (p ∷ q ∷ ps)) e refl
 
 -- ---- corners
 
