@@ -1,4 +1,4 @@
-"""A second drawing of maps, written from docs/FORMATS.md and the constants of the picture: what `border_show` has to write
+"""A second drawing of maps, written from docs/PICTURES.md and the constants of the picture: what `border_show` has to write
 for a map, or for what an edit did to it, byte for byte.
 
 Numbers are Python's, so nothing overflows. What a conflict is it takes from the model of second_opinion.py; a map of more
