@@ -232,8 +232,8 @@ class Layout:
 
     def fine_for(self, *maps):
         """The same, as fine as the map with the most positions here may be drawn."""
-        most = max(sum(self.has(position) for feature in features for rings in feature.polygons for ring in rings for position in ring)
-                   for features in maps)
+        rings = ([ring for feature in features for rings in feature.polygons for ring in rings] for features in maps)
+        most = max(sum(self.has(position) for ring in each for position in ring) for each in rings)
         return Layout(self.part, self.units, max(COARSE, min(FINE_PARTS, ALL_PARTS // max(1, most))))
 
     def point(self, position):
