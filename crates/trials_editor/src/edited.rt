@@ -1,11 +1,10 @@
 //! What a map of a few squares tells, also after an edit: counts, ids, and how many pairs of segments
 //! were tested.
 use crate::answers::Wanted;
-use crate::maps::{GridMap, Heap};
+use crate::maps::GridMap;
 use crate::stage::{Stage, Step};
 use arc_store::Spot;
 use grid_geometry::{Pos, Seg};
-use point_queries::at;
 
 /// 64 squares in a row, each of side 10, every 100
 pub(crate) const ROW: &str =
@@ -55,14 +54,6 @@ fn is_used(map: &GridMap<'_>, p: Pos, q: Pos, rings: usize) -> bool {
     }
 }
 
-/// Whether these features hold the position, and these have it on their borders, found without boxes.
-fn is_at<'h>(calm: Heap<'h>, map: &GridMap<'h>, p: Pos, inside: &[u32], border: &[u32]) -> bool {
-    match at(calm, map, p) {
-        Ok(at) => at.inside.0.as_slice() == inside && at.border.0.as_slice() == border,
-        Err(_) => false,
-    }
-}
-
 /// Two squares have these counts.
 fn has_counts(map: &GridMap<'_>) -> bool {
     let counts = [
@@ -90,14 +81,11 @@ fn are_spots(map: &GridMap<'_>, corner: Pos, right: Pos, end: Pos) -> bool {
 }
 
 /// What a map of two squares tells; within one of them no vertex stands.
-pub(crate) fn sees_squares(stage: &Stage<'_>) -> bool {
-    let (calm, map) = (stage.calm, stage.editor.map());
+pub(crate) fn sees_squares(map: &GridMap<'_>) -> bool {
     let (corner, right) = (Pos::new(0, 0).unwrap(), Pos::new(10, 0).unwrap());
     let (end, within) = (Pos::new(10, 10).unwrap(), Pos::new(5, 5).unwrap());
-    let is_so = are_sides(map, corner, right, end) & are_spots(map, corner, right, end);
-    let is_inside = is_at(calm, map, within, &[0], &[]);
-    let is_border = is_at(calm, map, end, &[], &[0, 1]);
-    has_counts(map) & is_so & map.spot(within).is_none() & is_inside & is_border
+    let are_so = are_sides(map, corner, right, end) & are_spots(map, corner, right, end);
+    has_counts(map) & are_so & map.spot(within).is_none()
 }
 
 /// A line with an id, each character that JSON lets one escape in another form than serde_json's.

@@ -52,9 +52,10 @@ fn is_as_before<'h>(alloc: Global, calm: Heap<'h>, map: &GridMap<'h>, usuals: &[
     }
 }
 
-/// The same of the map of an editor.
+/// The same of the map of an editor, for which no allocation was refused.
 fn opens(stage: &Stage<'_>, usuals: &[Usual]) -> bool {
-    is_as_before(stage.alloc, stage.calm, stage.editor.map(), usuals)
+    let was_refused = stage.heap.was_refused();
+    is_as_before(stage.alloc, stage.calm, stage.editor.map(), usuals) & !was_refused
 }
 
 /// Does the job.
@@ -65,7 +66,7 @@ fn work(stage: &mut Stage<'_>, job: Job, usuals: &mut Vec<Usual>) -> Option<Tall
         Job::Lines => there_and_back(stage, usuals.as_slice()),
         Job::Copies => copy_again(stage, usuals.as_slice()),
         Job::MoveACorner => none_refused(moves_a_corner(stage)),
-        Job::SeeSquares => none_refused(sees_squares(stage)),
+        Job::SeeSquares => none_refused(sees_squares(stage.editor.map())),
         Job::GiveAnId => none_refused(gives_an_id(stage)),
     }
 }

@@ -8,6 +8,7 @@ use crate::answers::{Said, Wanted};
 use crate::jobs::{Came, Job, on_editor};
 use crate::stage::{Stage, State, Step};
 use std::alloc::Global;
+use std::slice;
 
 /// More than the allocations of any run below.
 const MANY: u64 = 4000;
@@ -140,15 +141,11 @@ fn go(stage: &mut Stage<'_>, usual: &Usual, tally: &mut Tally) -> bool {
     count_line(tally, outcome) & is_after
 }
 
-/// Whether the map is as before the line; a thinning that was made in part, and then to its end, is two
-/// changes, of which the first is taken back here.
-fn is_back(stage: &mut Stage<'_>, usual: &Usual) -> bool {
-    if stage.is_in(&usual.before) {
-        return true;
-    }
-    let is_undone = stage.take(&Step::Undo).is_wanted();
-    let is_back = stage.is_in(&usual.before);
-    is_undone & is_back
+/// Whether the map is as before the line. A thinning that was made in part, and then to its end, is two
+/// changes, and the first of them is taken back here.
+fn is_back(stage: &mut Stage<'_>, usual: &Usual, is_in_part: bool) -> bool {
+    let is_whole = !is_in_part || stage.take(&Step::Undo).is_wanted();
+    stage.is_in(&usual.before) & is_whole
 }
 
 /// Takes a change back; whether the map is then as before it. An undo tests nothing.
@@ -156,9 +153,10 @@ fn come_back(stage: &mut Stage<'_>, usual: &Usual, tally: &mut Tally) -> bool {
     if !usual.is_change() {
         return true;
     }
+    let [_, parts, _] = *tally;
     let outcome = take_twice(stage, &Step::Undo, &usual.after);
     let is_untested = stage.editor.map().tests() == 0;
-    let is_back = is_back(stage, usual);
+    let is_back = is_back(stage, usual, 0 < parts);
     count_undo(tally, outcome) & is_untested & is_back
 }
 
@@ -277,17 +275,42 @@ fn are_enough(tally: Tally, least: Tally) -> bool {
     is_enough(calls, least_calls) && is_enough(parts, least_parts) && is_enough(undos, least_undos)
 }
 
-/// How many allocations are refused where each of opening the text and of the job is refused in turn;
-/// `None` where something is not as it should be.
-fn refused(alloc: Global, text: &'static str, rows: &'static [Row], job: Job) -> Option<Tally> {
-    let usuals = &mut Vec::new(alloc);
-    match on_editor(alloc, text, 0, Job::Learn(rows), usuals) {
-        (Came::Done(Some(_)), false) => {
-            let first = first_growth(alloc, text, usuals)?;
-            refuse_each(alloc, text, job, usuals, first)
-        }
+/// What the lines make of the map of the text where there is memory; `None` where one is answered
+/// otherwise than is wanted.
+fn learnt(alloc: Global, text: &'static str, rows: &'static [Row]) -> Option<Vec<Usual>> {
+    let mut usuals = Vec::new(alloc);
+    match on_editor(alloc, text, 0, Job::Learn(rows), &mut usuals) {
+        (Came::Done(Some(_)), false) => Some(usuals),
         _ => None,
     }
+}
+
+/// Whether a job is as it should be with these lines, where each allocation from this one on is refused
+/// in turn.
+fn is_right(
+    alloc: Global,
+    text: &'static str,
+    rows: &'static [Row],
+    job: Job,
+    first: u64,
+) -> bool {
+    let Some(row) = rows.first() else {
+        return false;
+    };
+    let Some(mut usuals) = learnt(alloc, text, rows) else {
+        return false;
+    };
+    match refuse_each(alloc, text, job, &mut usuals, first) {
+        Some(tally) => are_enough(tally, row.2),
+        None => false,
+    }
+}
+
+/// The number of the first allocation after the editor of the text is there, by the first of these
+/// lines.
+fn opening(alloc: Global, text: &'static str, rows: &'static [Row]) -> Option<u64> {
+    let mut usuals = learnt(alloc, text, slice::from_ref(rows.first()?))?;
+    first_growth(alloc, text, &mut usuals)
 }
 
 /// The first line of the first of these histories, of so many lines each, with which something is not as
@@ -301,11 +324,12 @@ pub(crate) fn first_wrong(
 ) -> Option<&'static str>
     requires { 1 ≤ size }
 {
+    let Some(first) = opening(alloc, text, rows) else {
+        return Some("opening");
+    };
     for history in rows.chunks(size) {
-        let first = history.first()?;
-        match refused(alloc, text, history, job) {
-            Some(tally) if are_enough(tally, first.2) => (),
-            _ => return Some(first.0),
+        if !is_right(alloc, text, history, job, first) {
+            return Some(history.first()?.0);
         }
     }
     None

@@ -5,12 +5,18 @@
 #[cfg(test)]
 mod boxes;
 #[cfg(test)]
+mod frames;
+#[cfg(test)]
 mod given;
 #[cfg(test)]
 mod joining;
 #[cfg(test)]
 mod laid;
 #[cfg(test)]
+mod maps;
+#[cfg(test)]
 mod parts;
+#[cfg(test)]
+mod places;
 #[cfg(test)]
 mod turned;
