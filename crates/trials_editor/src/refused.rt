@@ -215,16 +215,15 @@ pub(crate) fn there_and_back(stage: &mut Stage<'_>, usuals: &[Usual]) -> Option<
 
 // ---- each in turn
 
-/// The number of the first allocation after the editor of the text is there; its map is then as before
-/// the usual lines (that one may be refused to its writing). Each one before is refused in turn, the last
-/// of them to the history. `None` where it is not so.
+/// The number of the first allocation after the editor of the text is there. Each one before is refused
+/// in turn, the last of them to the history, and then there is none. `None` where it is not so.
 fn first_growth(alloc: Global, text: &'static str, usuals: &mut Vec<Usual>) -> Option<u64> {
     let mut was_handed_back = false;
     for nth in 1..MANY {
         match on_editor(alloc, text, nth, Job::Open, usuals) {
             (Came::NoMap, true) if !was_handed_back => (),
             (Came::HandedBack(true), true) if !was_handed_back => was_handed_back = true,
-            (Came::Done(Some(_)), _) if was_handed_back => return Some(nth),
+            (Came::Done(Some(_)), false) if was_handed_back => return Some(nth),
             _ => return None,
         }
     }
@@ -285,23 +284,26 @@ fn learnt(alloc: Global, text: &'static str, rows: &'static [Row]) -> Option<Vec
     }
 }
 
-/// Whether a job is as it should be with these lines, where each allocation from this one on is refused
-/// in turn.
-fn is_right(
-    alloc: Global,
-    text: &'static str,
-    rows: &'static [Row],
-    job: Job,
-    first: u64,
-) -> bool {
+/// Whether the job goes as usual where no allocation is refused.
+fn goes_as_usual(alloc: Global, text: &'static str, job: Job, usuals: &mut Vec<Usual>) -> bool {
+    match on_editor(alloc, text, 0, job, usuals) {
+        (Came::Done(Some(tally)), false) => tally == [0u32; 3],
+        _ => false,
+    }
+}
+
+/// Whether a job is as it should be with these lines, where no allocation is refused, and where each from
+/// this one on is in turn.
+fn is_right(alloc: Global, text: &'static str, rows: &'static [Row], job: Job, first: u64) -> bool {
     let Some(row) = rows.first() else {
         return false;
     };
     let Some(mut usuals) = learnt(alloc, text, rows) else {
         return false;
     };
+    let is_usual = goes_as_usual(alloc, text, job, &mut usuals);
     match refuse_each(alloc, text, job, &mut usuals, first) {
-        Some(tally) => are_enough(tally, row.2),
+        Some(tally) => are_enough(tally, row.2) & is_usual,
         None => false,
     }
 }

@@ -34,6 +34,9 @@ pub(crate) struct Stage<'h> {
     pub(crate) heap: Heap<'h>,
     pub(crate) calm: Heap<'h>,
     pub(crate) editor: GridEditor<'h>,
+    /// Whether none is refused. Where one is, the map is as where none is until then, and is looked at
+    /// from then on: so no look takes the memory that is refused.
+    pub(crate) is_calm: bool,
 }
 
 /// What an editor is asked to do.
@@ -69,9 +72,13 @@ impl<'h> Stage<'h> {
         state_of(self.alloc, self.calm, self.editor.map())
     }
 
-    /// Whether this is the state of the editor's map.
+    /// Whether this is the state of the editor's map, where it is looked at.
     pub(crate) fn is_in(&self, state: &State) -> bool {
-        is_in(self.alloc, self.calm, self.editor.map(), state)
+        if self.is_calm || self.heap.was_refused() {
+            is_in(self.alloc, self.calm, self.editor.map(), state)
+        } else {
+            true
+        }
     }
 }
 
@@ -113,21 +120,12 @@ pub(crate) fn counts_of(map: &GridMap<'_>) -> Counts {
     )
 }
 
-/// The text of the map, where there is memory for it.
-fn written<'h>(alloc: Global, calm: Heap<'h>, map: &GridMap<'h>) -> Option<Vec<u8>> {
+/// The text of the map; empty where there is no memory for it.
+fn text_of<'h>(alloc: Global, calm: Heap<'h>, map: &GridMap<'h>) -> Vec<u8> {
     let mut out = ToWriter::new(Vec::new(alloc));
     match write(calm, map, &mut out) {
-        Ok(()) => Some(out.writer),
-        Err(_) => None,
-    }
-}
-
-/// The text of the map. Its own heap may refuse an allocation once; then it is written again. Empty where
-/// there is no memory for it.
-fn text_of<'h>(alloc: Global, calm: Heap<'h>, map: &GridMap<'h>) -> Vec<u8> {
-    match written(alloc, calm, map) {
-        Some(text) => text,
-        None => written(alloc, calm, map).unwrap_or(Vec::new(alloc)),
+        Ok(()) => out.writer,
+        Err(_) => Vec::new(alloc),
     }
 }
 

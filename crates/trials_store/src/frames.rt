@@ -46,7 +46,8 @@ fn numbered(
     ensures { IfOk result (λ numbers. map (λ f. length f.items) numbers.items
         ≡ map (λ f. length f.items) features.now) }
 {
-    let (mut numbers, mut next) = (Vec::new(alloc), 0usize);
+    let mut numbers = Vec::new(alloc);
+    let mut next = 0usize;
     for polygons in features {
         numbers.push(numbered_polygons(alloc, polygons.as_slice(), &mut next)?)?;
     }
@@ -81,7 +82,8 @@ fn frame_of(alloc: Global, raw: RawDoc<'static>) -> Option<Frame<'static>>
 
 /// The frame of a text that opens, where there is memory.
 fn opened(alloc: Global, text: &'static str) -> Option<Frame<'static>> {
-    match read(alloc, alloc, fixed_seed()?, text.as_bytes()) {
+    let seed = fixed_seed()?;
+    match read(alloc, alloc, seed, text.as_bytes()) {
         Ok(raw) => frame_of(alloc, raw),
         Err(_) => None,
     }
@@ -115,7 +117,12 @@ fn are_named(frame: &Frame<'_>, names: &[(u32, usize, usize)]) -> bool {
 }
 
 /// Whether the frame of a text has so many features, and rings of these names.
-fn is_frame(alloc: Global, text: &'static str, count: usize, names: &[(u32, usize, usize)]) -> bool {
+fn is_frame(
+    alloc: Global,
+    text: &'static str,
+    count: usize,
+    names: &[(u32, usize, usize)],
+) -> bool {
     match opened(alloc, text) {
         Some(frame) => {
             let is_so = are_named(&frame, names) & (frame.feature_count() == count);
@@ -129,6 +136,6 @@ fn is_frame(alloc: Global, text: &'static str, count: usize, names: &[(u32, usiz
 #[test]
 fn rings_have_names(rt: HostRuntime) {
     for (text, count, names) in FRAMES {
-        assert!(rt; is_frame(rt.alloc(), text, *count, names), "{text}");
+        assert!(rt; is_frame(rt.alloc(), *text, *count, *names), "{text}");
     }
 }

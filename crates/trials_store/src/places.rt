@@ -147,7 +147,8 @@ fn are_found(found: Result<At, AllocError>, row: &Row) -> bool {
 fn is_right(alloc: Global, map: &TreeMap, boxes: &RingBoxes, row: &Row) -> bool
     requires { CoversRings boxes.now (rings map.now.doc) }
 {
-    let Some(p) = Pos::new(row.0.0, row.0.1) else {
+    let (x, y) = row.0;
+    let Some(p) = Pos::new(x, y) else {
         return false;
     };
     let is_near = are_found(at_near(alloc, map, boxes, p), row);
@@ -191,7 +192,7 @@ fn right_on(alloc: Global, text: &'static str, rows: &[Row]) -> usize {
 #[test]
 fn features_at_positions(rt: HostRuntime) {
     for (text, rows) in MAPS {
-        let count = right_on(rt.alloc(), text, rows);
+        let count = right_on(rt.alloc(), *text, *rows);
         assert!(rt; count == rows.len(), "row {count} of {text}");
     }
 }
