@@ -1,5 +1,5 @@
-//! Tests of rings and of what stores them: parts of polygons and joined rings, rings laid in tables, and
-//! how far boxes of rings reach.
+//! Tests of rings and of what stores them: parts of polygons and joined rings, rings laid in tables, the
+//! numbers of rings in frames, how far boxes of rings reach, and features at positions.
 #![tactic(auto)]
 
 #[cfg(test)]
