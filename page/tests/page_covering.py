@@ -221,7 +221,7 @@ def test_out_of_date(page):
 
 
 def test_order_of_text(page):
-    """A part that is split off stands behind its feature in the text, and has the greatest number."""
+    """After a split the new feature comes right after the old one in the file, but gets the highest number."""
     page.later("""editor.edit('split 0 "east" 180 200 0 0')""")
     page.settle()
     same("a part of a split", page.js("return editor.model.order.slice(0, 3)"), [0, 32, 1])
