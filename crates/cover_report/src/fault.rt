@@ -18,9 +18,9 @@ pub enum CoverFault<'a> {
     NoLayer,
     /// The sides of a layer are too many, or held by too many polygons.
     TooLarge,
-    /// A check of the sweep over a layer failed at this vertex. It was never seen.
+    /// A check of the sweep over a layer failed at this vertex. No map is known where it does.
     Unswept(Pos),
-    /// A check of its faces failed at this segment. It was never seen.
+    /// A check of its faces failed at this segment. No map is known where it does.
     Unlike(Seg),
 }
 

@@ -15,10 +15,15 @@ use std::alloc::{AllocError, Allocator};
 /// How much is told of each kind, whatever the most lines are.
 #[derive(Clone, Copy, Debug, PartialEq, Eq)]
 pub struct Counts {
+    /// The faces that several features hold.
     pub overlaps: usize,
+    /// The faces that several polygons of one feature hold, and no other feature.
     pub twices: usize,
+    /// The faces that no polygon holds, with several features beside them.
     pub gaps: usize,
+    /// The faces that no polygon holds, with one feature beside them.
     pub lakes: usize,
+    /// The polygons whose area by rings is not their area by the even-odd rule.
     pub uneven: usize,
 }
 

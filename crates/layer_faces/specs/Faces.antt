@@ -10,7 +10,7 @@ use Rattle.layer_faces.specs.Areas.{all_sides, side_term, total}
 use Rattle.layer_faces.specs.Lengths.{border_length}
 use Rattle.layer_faces.specs.Holders.{IsOnce, features_of, told_by}
 
--- a face: its sides, the numbers of the polygons that hold it, the features that it is told by,
+-- a face: its sides, the numbers of the polygons that hold it, the features that are reported for it,
 -- twice its area, the length of its borders in 65,536ths of a unit, and its kind
 pub record FaceOf : Type 0 where
   pub sides : List Side
@@ -20,7 +20,7 @@ pub record FaceOf : Type 0 where
   pub border : ℕ
   pub kind : Kind
 
--- the kind of a face by the polygons that hold it and the features that it is told by
+-- the kind of a face, from the polygons that hold it and the features that are reported for it
 abbrev pub kind_of : List ℕ → List ℕ → Kind
 kind_of [] features = if length features == 1 then Lake else Gap
 kind_of (n ∷ []) features = Land

@@ -14,7 +14,7 @@ opposite (s, Right) = (s, Left)
 abbrev pub beside : List Polygon → List Side → List ℕ
 beside polygons sides = flat_map (λ a. holders polygons (opposite a)) sides
 
--- the polygons that a face is told by: those that hold it, or where none does, those beside it
+-- the polygons that are reported for a face: those that hold it or, if none does, those beside it
 abbrev pub told_by : List Polygon → List ℕ → List Side → List ℕ
 told_by polygons [] sides = beside polygons sides
 told_by polygons (n ∷ ns) sides = n ∷ ns

@@ -45,7 +45,7 @@ opposite_number a = if a % 2 == 0 then a + 1 else a - 1
 abbrev pub beside_numbers : List Bordering → List ℕ → List ℕ
 beside_numbers borders sides = flat_map (λ a. held_at borders (opposite_number a)) sides
 
--- the polygons that a face is told by: those that hold it, or where none does, those beside it
+-- the polygons that are reported for a face: those that hold it or, if none does, those beside it
 abbrev pub told_numbers : List Bordering → List ℕ → List ℕ → List ℕ
 told_numbers borders [] sides = beside_numbers borders sides
 told_numbers borders (n ∷ ns) sides = n ∷ ns

@@ -1,4 +1,4 @@
-// The features that a face is told by.
+// The features that are reported for a face: those that hold it or, if none does, those beside it.
 ghost use Rattle.std.specs.Prelude.{◌≡◌, ℕ, ◌++◌, ◌*◌, ◌<◌, ◌≤◌, length, All, IfOk, OnOk};
 ghost use Rattle.layer_sides.specs.Seen.{borders_seen};
 ghost use Rattle.layer_faces.specs.Holders.{IsOnce, features_of};

@@ -21,7 +21,7 @@ pub enum Kind {
     Outside,
 }
 
-/// The kind of a face that these polygons hold, and that is told by these features.
+/// The kind of a face, from the polygons that hold it and the features that are reported for it.
 pub(crate) fn kind_of(holders: &[u32], features: &[usize]) -> Kind
     ensures { result ≡ faces.kind_of holders.now features.now }
 {

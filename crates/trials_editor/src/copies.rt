@@ -1,117 +1,100 @@
 //! Copies of a map: an edit of one leaves the map as it was, and so does a copy in which an allocation
 //! fails, each in turn.
-use crate::commands::{Call, is_made};
-use crate::maps::{GridEditor, GridMap, Heap, MANY, SQUARES, editor_of, first_growth};
-use crate::written::{counts_of, is_written, written};
-use std::alloc::Global;
-use std::process::Abort;
-use test_aids::Refusing;
+use crate::answers::Said;
+use crate::jobs::DEPTH;
+use crate::maps::{GridEditor, GridMap};
+use crate::refused::{Tally, Usual};
+use crate::stage::Stage;
 use undo_ring::Editor;
 
-/// How many changes an editor keeps.
-const DEPTH: usize = 2;
+/// Whether the editor of a copy edits it, and the map stays.
+fn stands_alone(stage: &Stage<'_>, other: &mut Stage<'_>, edit: &Usual) -> bool {
+    let is_copy = other.is_in(&edit.before);
+    let is_made = other.take(&edit.step()).is_wanted();
+    let is_edited = other.is_in(&edit.after);
+    let stays = stage.is_in(&edit.before);
+    is_copy & is_made & is_edited & stays
+}
 
-/// The edit of the map, and then that of the copy.
-const MOVE: Call = Call::Move((10, 0), (11, 1));
+/// The same of this editor.
+fn is_edited_alone<'h>(stage: &Stage<'h>, editor: GridEditor<'h>, edit: &Usual) -> bool {
+    let mut other = Stage {
+        alloc: stage.alloc,
+        heap: stage.heap,
+        calm: stage.calm,
+        editor,
+        is_calm: stage.is_calm,
+    };
+    let is_alone = stands_alone(stage, &mut other, edit);
+    drop(other);
+    is_alone
+}
 
-const REMOVE: Call = Call::Remove((10, 5));
-
-/// How the map is written after some edits.
-fn text_after<R: Abort>(rt: &R, alloc: Global, calls: &[Call]) -> Vec<u8> {
-    let calm = Refusing::new(alloc, 0);
-    let mut editor = editor_of(&calm, alloc, SQUARES, DEPTH).expect(rt, "the text opens");
-    let mut are_made = true;
-    for call in calls {
-        are_made &= is_made(rt, alloc, &mut editor, *call);
+/// The same of an editor of this map.
+fn has_editor<'h>(stage: &Stage<'h>, copy: GridMap<'h>, edit: &Usual) -> bool {
+    match Editor::new(stage.calm, copy, DEPTH) {
+        Ok(editor) => is_edited_alone(stage, editor, edit),
+        Err(copy) => {
+            drop(copy);
+            false
+        }
     }
-    let text = written(rt, alloc, &calm, editor.map());
-    drop(editor);
-    assert!(rt; are_made);
-    text
+}
+
+/// Whether a copy has the counts of the map.
+fn is_alike(map: &GridMap<'_>, copy: &GridMap<'_>) -> bool {
+    let (tests, next) = (map.tests(), map.next_number());
+    (copy.tests() == tests) & (copy.next_number() == next)
+}
+
+/// Whether a copy is as the map, and stands for itself.
+fn is_copy<'h>(stage: &Stage<'h>, copy: GridMap<'h>, edit: &Usual) -> bool {
+    let is_same = is_alike(stage.editor.map(), &copy);
+    has_editor(stage, copy, edit) & is_same
+}
+
+/// Whether the map can be copied, and the copy is as the map and stands for itself.
+fn is_copied_well(stage: &Stage<'_>, edit: &Usual) -> bool {
+    match stage.editor.map().copy() {
+        Ok(copy) => is_copy(stage, copy, edit),
+        Err(_) => false,
+    }
 }
 
 /// Whether there is memory for a copy.
-fn is_copied(map: &GridMap<'_, '_>) -> bool {
-    let copy = map.copy();
-    let is_copied = copy.is_ok();
-    drop(copy);
-    is_copied
-}
-
-/// Whether the editor of a copy edits it, and the map stays.
-fn stands_alone<'h, R: Abort>(
-    rt: &R,
-    alloc: Global,
-    calm: Heap<'h>,
-    map: &GridMap<'_, 'h>,
-    editor: &mut GridEditor<'_, 'h>,
-    texts: &[Vec<u8>; 2],
-) -> bool {
-    let [before, after] = texts;
-    let is_same = counts_of(editor.map()) == counts_of(map)
-        && is_written(rt, alloc, calm, editor.map(), before.as_slice());
-    is_same
-        && is_made(rt, alloc, editor, REMOVE)
-        && is_written(rt, alloc, calm, editor.map(), after.as_slice())
-        && is_written(rt, alloc, calm, map, before.as_slice())
-}
-
-/// A map that is copied again, where an allocation failed, and the copy is edited.
-fn copy_again<'h, R: Abort>(
-    rt: &R,
-    alloc: Global,
-    calm: Heap<'h>,
-    map: &GridMap<'_, 'h>,
-    texts: &[Vec<u8>; 2],
-) {
-    let is_kept = is_written(rt, alloc, calm, map, texts[0].as_slice());
-    let copy = map.copy().expect(rt, "there is memory");
-    let is_same = copy.tests() == map.tests() && copy.next_number() == map.next_number();
-    let is_alone = match Editor::new(calm, copy, DEPTH) {
-        Ok(mut editor) => stands_alone(rt, alloc, calm, map, &mut editor, texts),
-        Err(_) => false,
-    };
-    assert!(rt; is_kept && is_same && is_alone);
-}
-
-/// What came of an edit and of a copy where the allocation of this number is refused: whether one was,
-/// and whether it was one of the copy.
-fn refuse<R: Abort>(rt: &R, alloc: Global, texts: &[Vec<u8>; 2], nth: u64) -> (bool, bool) {
-    let (heap, calm) = (Refusing::new(alloc, nth), Refusing::new(alloc, 0));
-    let mut editor = editor_of(&heap, alloc, SQUARES, DEPTH).expect(
-        rt,
-        "it opens before that growth",
-    );
-    let is_refused = is_made(rt, alloc, &mut editor, MOVE) && !is_copied(editor.map());
-    if is_refused {
-        copy_again(rt, alloc, &calm, editor.map(), texts);
-    }
-    drop(editor);
-    (heap.was_refused(), is_refused)
-}
-
-/// Copies of the map, with each allocation after the opening refused in turn. Gives how many of a copy
-/// were.
-fn refuse_each<R: Abort>(rt: &R, alloc: Global, texts: &[Vec<u8>; 2]) -> u32 {
-    let first = first_growth(rt, alloc, SQUARES);
-    let mut count = 0u32;
-    for after in 0..MANY {
-        let (is_one, is_refused) = refuse(rt, alloc, texts, first.saturating_add(after));
-        if !is_one {
-            return count;
+fn is_copied(map: &GridMap<'_>) -> bool {
+    match map.copy() {
+        Ok(copy) => {
+            drop(copy);
+            true
         }
-        count = count.wrapping_add(u32::from(is_refused));
+        Err(_) => false,
     }
-    panic!(rt; "the copy ends");
 }
 
-#[test]
-fn a_copy_stands_for_itself(rt: HostRuntime) {
-    let texts = [
-        text_after(&rt, rt.alloc(), &[MOVE]),
-        text_after(&rt, rt.alloc(), &[MOVE, REMOVE]),
-    ];
-    let count = refuse_each(&rt, rt.alloc(), &texts);
-    drop(texts);
-    assert!(rt; 10 < count);
+/// Copies the map; whether it is as before where an allocation failed, and a copy is made then.
+fn copy_twice(stage: &Stage<'_>, edit: &Usual) -> Option<Tally> {
+    if is_copied(stage.editor.map()) {
+        return Some([0, 0, 0]);
+    }
+    let was_same = stage.is_in(&edit.before);
+    let is_copy = is_copied_well(stage, edit);
+    if was_same & is_copy {
+        Some([1, 0, 0])
+    } else {
+        None
+    }
+}
+
+/// Gives the first of two lines to the editor, and the second to that of a copy of its map, where the
+/// copy was refused an allocation. Counts that.
+pub(crate) fn copy_again(stage: &mut Stage<'_>, usuals: &[Usual]) -> Option<Tally> {
+    let [first, edit] = usuals else {
+        return None;
+    };
+    match stage.take(&first.step()) {
+        Said::Wanted => copy_twice(stage, edit),
+        Said::NoMemory => Some([0, 0, 0]),
+        Said::Other => None,
+    }
 }

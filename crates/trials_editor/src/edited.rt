@@ -1,15 +1,14 @@
 //! What a map of a few squares tells, also after an edit: counts, ids, and how many pairs of segments
 //! were tested.
-use crate::commands::{Call, Said, at, say};
-use crate::maps::{GridEditor, GridMap, editor_of, map_of};
+use crate::answers::Wanted;
+use crate::maps::GridMap;
+use crate::stage::{Stage, Step};
 use arc_store::Spot;
-use grid_geometry::Seg;
-use std::alloc::Global;
-use std::process::Abort;
-use test_aids::{Refusing, TWO_SQUARES};
+use grid_geometry::{Pos, Seg};
 
-// 64 squares in a row, each of side 10, every 100
-const ROW: &str = r#"{"type":"Topology","objects":{"m":{"type":"GeometryCollection","geometries":[
+/// 64 squares in a row, each of side 10, every 100
+pub(crate) const ROW: &str =
+    r#"{"type":"Topology","objects":{"m":{"type":"GeometryCollection","geometries":[
 {"type":"Polygon","arcs":[[0]]},{"type":"Polygon","arcs":[[1]]},{"type":"Polygon","arcs":[[2]]},{"type":"Polygon","arcs":[[3]]},{"type":"Polygon","arcs":[[4]]},{"type":"Polygon","arcs":[[5]]},{"type":"Polygon","arcs":[[6]]},{"type":"Polygon","arcs":[[7]]},
 {"type":"Polygon","arcs":[[8]]},{"type":"Polygon","arcs":[[9]]},{"type":"Polygon","arcs":[[10]]},{"type":"Polygon","arcs":[[11]]},{"type":"Polygon","arcs":[[12]]},{"type":"Polygon","arcs":[[13]]},{"type":"Polygon","arcs":[[14]]},{"type":"Polygon","arcs":[[15]]},
 {"type":"Polygon","arcs":[[16]]},{"type":"Polygon","arcs":[[17]]},{"type":"Polygon","arcs":[[18]]},{"type":"Polygon","arcs":[[19]]},{"type":"Polygon","arcs":[[20]]},{"type":"Polygon","arcs":[[21]]},{"type":"Polygon","arcs":[[22]]},{"type":"Polygon","arcs":[[23]]},
@@ -27,77 +26,80 @@ const ROW: &str = r#"{"type":"Topology","objects":{"m":{"type":"GeometryCollecti
 [[4800,0],[4810,0],[4810,10],[4800,10],[4800,0]],[[4900,0],[4910,0],[4910,10],[4900,10],[4900,0]],[[5000,0],[5010,0],[5010,10],[5000,10],[5000,0]],[[5100,0],[5110,0],[5110,10],[5100,10],[5100,0]],[[5200,0],[5210,0],[5210,10],[5200,10],[5200,0]],[[5300,0],[5310,0],[5310,10],[5300,10],[5300,0]],[[5400,0],[5410,0],[5410,10],[5400,10],[5400,0]],[[5500,0],[5510,0],[5510,10],[5500,10],[5500,0]],
 [[5600,0],[5610,0],[5610,10],[5600,10],[5600,0]],[[5700,0],[5710,0],[5710,10],[5700,10],[5700,0]],[[5800,0],[5810,0],[5810,10],[5800,10],[5800,0]],[[5900,0],[5910,0],[5910,10],[5900,10],[5900,0]],[[6000,0],[6010,0],[6010,10],[6000,10],[6000,0]],[[6100,0],[6110,0],[6110,10],[6100,10],[6100,0]],[[6200,0],[6210,0],[6210,10],[6200,10],[6200,0]],[[6300,0],[6310,0],[6310,10],[6300,10],[6300,0]]]}"#;
 
+/// Gives a line to the editor; whether it is answered as is wanted, with so many tests.
+fn is_tested(stage: &mut Stage<'_>, line: &str, wanted: &Wanted, tests: u64) -> bool {
+    let is_wanted = stage.take(&Step::Say(line, wanted)).is_wanted();
+    is_wanted & (stage.editor.map().tests() == tests)
+}
+
 /// A corner of the first square moves, and then none is found where it was. In cells of 99 by 1 the
 /// first square stands alone in a column. Its right and upper sides leave. The new right side is
 /// tested against the lower side, and the new upper side against the left side, once each, though
 /// these two have two cells in common; the boxes of the others do not meet. The two new sides are
 /// tested against each other. No side that stays has its box at the way of the corner.
-fn move_a_corner<R: Abort>(rt: &R, alloc: Global, editor: &mut GridEditor<'_, '_>) {
-    assert_eq!(rt;
-        (editor.map().segment_count(), editor.map().tests()),
-        (256, 0)
-    );
-    let moved = say(rt, alloc, editor, Call::Move((10, 10), (9, 9)), "done");
-    assert_eq!(rt; (moved, editor.map().tests()), (Said::Wanted, 1 + 1 + 1));
-    let removed = say(rt, alloc, editor, Call::Remove((10, 10)), "NoVertex");
-    assert_eq!(rt; (removed, editor.map().tests()), (Said::Wanted, 0));
-}
-
-#[test]
-fn few_pairs_are_tested(rt: HostRuntime) {
-    let calm = Refusing::new(rt.alloc(), 0);
-    let mut editor = editor_of(&calm, rt.alloc(), ROW, 1).expect(&rt, "the text opens");
-    move_a_corner(&rt, rt.alloc(), &mut editor);
-    drop(editor);
+pub(crate) fn moves_a_corner(stage: &mut Stage<'_>) -> bool {
+    let count = stage.editor.map().segment_count();
+    let tests = stage.editor.map().tests();
+    let is_moved = is_tested(stage, "move 10 10 9 9", &Wanted::Done, 1 + 1 + 1);
+    let none = Wanted::Refused("no vertex");
+    let is_gone = is_tested(stage, "remove 10 10", &none, 0);
+    (count == 256) & (tests == 0) & is_moved & is_gone
 }
 
 /// So many rings have the segment.
-fn is_used<R: Abort>(
-    rt: &R,
-    map: &GridMap<'_, '_>,
-    p: (i64, i64),
-    q: (i64, i64),
-    rings: usize,
-) -> bool {
-    let s = Seg::new(at(rt, p), at(rt, q)).expect(rt, "two positions");
-    map.uses(s) == rings
+fn is_used(map: &GridMap<'_>, p: Pos, q: Pos, rings: usize) -> bool {
+    match Seg::new(p, q) {
+        Some(s) => map.uses(s) == rings,
+        None => false,
+    }
 }
 
-/// The common side is in both squares, borders meet at its end, and a corner of one square stands
-/// between two others of its ring of four.
-fn see_squares<R: Abort>(rt: &R, map: &GridMap<'_, '_>) {
-    let between = Spot::Between(at(rt, (0, 10)), at(rt, (10, 0)), 4);
-    assert_eq!(rt; (map.feature_count(), map.vertex_count()), (2, 6));
-    assert_eq!(rt; (map.segment_count(), map.position_count()), (7, 8));
-    assert!(rt; is_used(rt, map, (10, 0), (10, 10), 2) && is_used(rt, map, (0, 0), (10, 0), 1));
-    assert!(rt; map.spot(at(rt, (10, 10))) == Some(Spot::Junction));
-    assert!(rt; map.spot(at(rt, (0, 0))) == Some(between) && map.spot(at(rt, (5, 5))).is_none());
+/// Two squares have these counts.
+fn has_counts(map: &GridMap<'_>) -> bool {
+    let counts = [
+        map.feature_count(),
+        map.vertex_count(),
+        map.segment_count(),
+        map.position_count(),
+    ];
+    counts == [2, 6, 7, 8]
 }
 
-#[test]
-fn two_squares(rt: HostRuntime) {
-    let calm = Refusing::new(rt.alloc(), 0);
-    let map = map_of(&calm, rt.alloc(), TWO_SQUARES.as_bytes()).expect(&rt, "the text opens");
-    see_squares(&rt, &map);
-    drop(map);
+/// The common side is in both squares, another one in one, and the diagonal in none.
+fn are_sides(map: &GridMap<'_>, corner: Pos, right: Pos, end: Pos) -> bool {
+    let is_common = is_used(map, right, end, 2);
+    let is_own = is_used(map, corner, right, 1);
+    is_common & is_own & is_used(map, corner, end, 0)
 }
 
-/// An id, and the text that serde_json 1.0 writes of it.
-const ID: &str = "a\"/\\\n\t\u{8}\u{c}\r\u{1}\u{1f}\u{7f}\u{e9}\u{20ac}\u{1f5fa}";
+/// Borders meet at the end of the common side, and a corner of one square stands between two others of
+/// its ring of four.
+fn are_spots(map: &GridMap<'_>, corner: Pos, right: Pos, end: Pos) -> bool {
+    let between = Some(Spot::Between(Pos::new(0, 10).unwrap(), right, 4));
+    let is_junction = map.spot(end) == Some(Spot::Junction);
+    is_junction & (map.spot(corner) == between)
+}
 
+/// What a map of two squares tells; within one of them no vertex stands.
+pub(crate) fn sees_squares(map: &GridMap<'_>) -> bool {
+    let (corner, right) = (Pos::new(0, 0).unwrap(), Pos::new(10, 0).unwrap());
+    let (end, within) = (Pos::new(10, 10).unwrap(), Pos::new(5, 5).unwrap());
+    let are_so = are_sides(map, corner, right, end) & are_spots(map, corner, right, end);
+    has_counts(map) & are_so & map.spot(within).is_none()
+}
+
+/// A line with an id, each character that JSON lets one escape in another form than serde_json's.
+const RENAME: &str =
+    "rename 1 \"a\\u0022\\/\\u005C\\u000a\\u0009\\u0008\\u000C\\u000D\\u0001\\u001F\u{7f}\\u00E9\\u20ac\\ud83d\\uDDFA\"";
+
+/// What serde_json 1.0 writes of the id.
 const ESCAPED: &str = "\"a\\\"/\\\\\\n\\t\\b\\f\\r\\u0001\\u001f\u{7f}\u{e9}\u{20ac}\u{1f5fa}\"";
 
 /// The second square has the id that it is given.
-fn give_an_id<R: Abort>(rt: &R, alloc: Global, editor: &mut GridEditor<'_, '_>) {
-    let said = say(rt, alloc, editor, Call::Rename(1, ID), "done");
-    let feature = editor.map().feature(1).expect(rt, "a feature");
-    assert!(rt; said == Said::Wanted && feature.id() == Some(ESCAPED.as_bytes()));
-}
-
-#[test]
-fn an_id_is_escaped(rt: HostRuntime) {
-    let calm = Refusing::new(rt.alloc(), 0);
-    let mut editor = editor_of(&calm, rt.alloc(), TWO_SQUARES, 1).expect(&rt, "the text opens");
-    give_an_id(&rt, rt.alloc(), &mut editor);
-    drop(editor);
+pub(crate) fn gives_an_id(stage: &mut Stage<'_>) -> bool {
+    let is_renamed = stage.take(&Step::Say(RENAME, &Wanted::Done)).is_wanted();
+    match stage.editor.map().feature(1) {
+        Some(feature) => is_renamed & (feature.id() == Some(ESCAPED.as_bytes())),
+        None => false,
+    }
 }

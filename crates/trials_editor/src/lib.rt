@@ -3,14 +3,18 @@
 #![tactic(auto)]
 
 #[cfg(test)]
-mod commands;
+mod answers;
 #[cfg(test)]
 mod copies;
 #[cfg(test)]
 mod edited;
 #[cfg(test)]
+mod jobs;
+#[cfg(test)]
 mod maps;
 #[cfg(test)]
 mod refused;
 #[cfg(test)]
-mod written;
+mod stage;
+#[cfg(test)]
+mod tests;

@@ -1,5 +1,4 @@
 //! Maps, and editors of them in a heap that may refuse an allocation.
-ghost use Rattle.std.specs.Prelude.{◌≤◌};
 ghost use Rattle.topo_reader.specs.Document.{IsOfRings};
 ghost use Rattle.topo_reader.specs.DocumentView.{view_raw};
 
@@ -7,7 +6,6 @@ use arc_store::Map;
 use segment_index::GridIndex;
 use std::alloc::Global;
 use std::hash::RandomState;
-use std::process::Abort;
 use test_aids::{Refusing, fixed_seed};
 use topo_reader::{RawDoc, read};
 use undo_ring::Editor;
@@ -16,13 +14,10 @@ use undo_ring::Editor;
 pub(crate) type Heap<'h> = &'h Refusing<Global>;
 
 /// A map in such a heap, with a grid.
-pub(crate) type GridMap<'a, 'h> = Map<'a, GridIndex<Heap<'h>>, Heap<'h>>;
+pub(crate) type GridMap<'h> = Map<'static, GridIndex<Heap<'h>>, Heap<'h>>;
 
 /// An editor of such a map.
-pub(crate) type GridEditor<'a, 'h> = Editor<'a, GridIndex<Heap<'h>>, Heap<'h>>;
-
-/// More than the allocations of any run below.
-pub(crate) const MANY: u64 = 4000;
+pub(crate) type GridEditor<'h> = Editor<'static, GridIndex<Heap<'h>>, Heap<'h>>;
 
 /// A square with a hole, its neighbours to the right and below, an object without a geometry, a point,
 /// a collection in the collection, and a square that is itself a layer. Five vertices of the border to
@@ -43,12 +38,12 @@ pub(crate) const ACROSS: &str =
     r#"{"type":"Topology","objects":{"m":{"type":"GeometryCollection","geometries":[{"type":"Polygon","arcs":[[0]]},{"type":"Polygon","arcs":[[1]]}]}},"arcs":[[[0,0],[30,0],[30,30],[0,30],[0,0]],[[10,12],[20,20],[10,14],[10,12]]]}"#;
 
 /// The map of what was read, in a grid; `None` where an allocation failed.
-fn built<'a, 'h>(
+fn built<'h>(
     heap: Heap<'h>,
     alloc: Global,
     seed: RandomState,
-    raw: RawDoc<'a, Heap<'h>>,
-) -> Option<GridMap<'a, 'h>>
+    raw: RawDoc<'static, Heap<'h>>,
+) -> Option<GridMap<'h>>
     requires rings { IsOfRings (view_raw raw) }
 {
     match GridIndex::new(heap, raw.extent()) {
@@ -61,58 +56,10 @@ fn built<'a, 'h>(
 }
 
 /// The map of the text, in a heap that may refuse an allocation; `None` where it did.
-pub(crate) fn map_of<'a, 'h>(
-    heap: Heap<'h>,
-    alloc: Global,
-    text: &'a [u8],
-) -> Option<GridMap<'a, 'h>> {
+pub(crate) fn map_of<'h>(heap: Heap<'h>, alloc: Global, text: &'static str) -> Option<GridMap<'h>> {
     let seed = fixed_seed()?;
-    match read(heap, alloc, seed, text) {
+    match read(heap, alloc, seed, text.as_bytes()) {
         Ok(raw) => built(heap, alloc, seed, raw),
         Err(_) => None,
     }
-}
-
-/// An editor of the map of the text, in a heap that may refuse an allocation; `None` where it did.
-pub(crate) fn editor_of<'a, 'h>(
-    heap: Heap<'h>,
-    alloc: Global,
-    text: &'a str,
-    depth: usize,
-) -> Option<GridEditor<'a, 'h>>
-    requires least { 1 ≤ depth }
-    requires most { depth ≤ 1000 }
-{
-    let Some(map) = map_of(heap, alloc, text.as_bytes()) else {
-        return None;
-    };
-    match Editor::new(heap, map, depth) {
-        Ok(editor) => Some(editor),
-        Err(map) => {
-            drop(map);
-            None
-        }
-    }
-}
-
-/// Whether there is an editor of the text in this heap.
-fn is_begun(heap: Heap<'_>, alloc: Global, text: &str) -> bool {
-    let editor = editor_of(heap, alloc, text, 9);
-    let is_there = editor.is_some();
-    drop(editor);
-    is_there
-}
-
-/// The number of the first allocation after the editor of the text is there. Each one before is refused
-/// in turn, and then there is none.
-pub(crate) fn first_growth<R: Abort>(rt: &R, alloc: Global, text: &str) -> u64 {
-    for nth in 1..MANY {
-        let heap = Refusing::new(alloc, nth);
-        let is_there = is_begun(&heap, alloc, text);
-        assert!(rt; is_there != heap.was_refused(), "growth {nth}");
-        if is_there {
-            return nth;
-        }
-    }
-    panic!(rt; "the opening ends");
 }

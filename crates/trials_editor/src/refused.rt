@@ -1,68 +1,78 @@
 //! Growths that are refused in turn: those of opening, of each command and of its undo. A command that
 //! was refused one has changed nothing, or is a thinning that left some out, which is one change; an
-//! undo that was refused one has changed nothing. Made again, each has its usual answer.
-use crate::commands::{Call, EACH_KIND, Said, is_made, say};
-use crate::maps::{
-    ACROSS, GridEditor, GridMap, Heap, INSIDE, MANY, SQUARES, THREE, editor_of, first_growth,
-    map_of,
-};
-use crate::written::{Counts, counts_of, is_written, written};
+//! undo that was refused one has changed nothing. Made again, each has its usual answer. A map of which
+//! the history was refused one is handed back.
+ghost use Rattle.std.specs.Prelude.{◌≤◌};
+
+use crate::answers::{Said, Wanted};
+use crate::jobs::{Came, Job, on_editor};
+use crate::stage::{Stage, State, Step};
 use std::alloc::Global;
-use std::process::Abort;
-use test_aids::{Refusing, TWO_SQUARES};
-use undo_ring::{Editor, UndoFault};
+use std::slice;
 
-/// How many changes an editor keeps.
-const DEPTH: usize = 9;
+/// More than the allocations of any run below.
+const MANY: u64 = 4000;
 
-/// A call, its answer where there is memory, and how many allocations are refused at least: of the
-/// call, of a thinning that was made in part, and of the undo. None is where none is to be.
-type Row = (Call, &'static str, [u32; 3]);
+/// A line, what is wanted of it where there is memory, and how many allocations are refused at least: of
+/// the call, of a thinning that was made in part, and of the undo. None is where none is to be. The
+/// first line of a history has the numbers of all of it.
+pub(crate) type Row = (&'static str, Wanted, Tally);
 
-/// How a map is written, and its counts.
+/// How many calls, calls that were made in part, and undos were refused an allocation.
+pub(crate) type Tally = [u32; 3];
+
+/// A line, what was said of it where there was memory, and the map before and after it.
 #[derive(Drop)]
-struct State {
-    text: Vec<u8>,
-    counts: Counts,
-}
-
-/// The state of the map.
-fn state_of<'h, R: Abort>(rt: &R, alloc: Global, calm: Heap<'h>, map: &GridMap<'_, 'h>) -> State {
-    State {
-        text: written(rt, alloc, calm, map),
-        counts: counts_of(map),
-    }
-}
-
-/// Whether this is the state of the map.
-fn stands<'h, R: Abort>(
-    rt: &R,
-    alloc: Global,
-    calm: Heap<'h>,
-    map: &GridMap<'_, 'h>,
-    state: &State,
-) -> bool {
-    counts_of(map) == state.counts && is_written(rt, alloc, calm, map, state.text.as_slice())
-}
-
-/// A call, its answer where there is memory, and the map before and after it.
-#[derive(Drop)]
-struct Usual {
-    call: Call,
-    answer: &'static str,
-    before: State,
-    after: State,
+pub(crate) struct Usual {
+    row: &'static Row,
+    said: Said,
+    pub(crate) before: State,
+    pub(crate) after: State,
 }
 
 impl Usual {
-    /// Whether the call changes the map.
+    /// The line, as a step.
+    pub(crate) fn step(&self) -> Step<'_> {
+        Step::Say(self.row.0, &self.row.1)
+    }
+
+    /// Whether the line changes the map.
     fn is_change(&self) -> bool {
         self.before.text.as_slice() != self.after.text.as_slice()
     }
 }
 
-/// What came of a call where an allocation may be refused.
-#[derive(Clone, Copy, PartialEq, Eq)]
+// ---- where there is memory
+
+/// Gives the line of a row to the editor; what it makes of the map.
+fn usual_of(stage: &mut Stage<'_>, row: &'static Row) -> Usual {
+    let before = stage.state();
+    let said = stage.take(&Step::Say(row.0, &row.1));
+    let after = stage.state();
+    Usual {
+        row,
+        said,
+        before,
+        after,
+    }
+}
+
+/// Gives the lines of the rows to the editor, and appends what they make of the map; whether each is
+/// answered as is wanted.
+pub(crate) fn learn(stage: &mut Stage<'_>, rows: &'static [Row], usuals: &mut Vec<Usual>) -> bool {
+    let mut are_so = true;
+    for row in rows {
+        let usual = usual_of(stage, row);
+        are_so &= usual.said.is_wanted();
+        are_so &= usuals.push(usual).is_ok();
+    }
+    are_so
+}
+
+// ---- where an allocation is refused
+
+/// What came of a step where an allocation may be refused.
+#[derive(Clone, Copy)]
 enum Outcome {
     /// It had its answer.
     Usual,
@@ -70,452 +80,259 @@ enum Outcome {
     Refused,
     /// It was refused one, and was made in part.
     Part,
+    Wrong,
 }
 
-/// Makes a call, again where it was refused memory. Until then the map was as before, with this next
-/// number, or a thinning was made in part.
-fn make_again<'h, R: Abort>(
-    rt: &R,
-    alloc: Global,
-    calm: Heap<'h>,
-    editor: &mut GridEditor<'_, 'h>,
-    usual: &Usual,
-    next: u32,
-) -> Outcome {
-    let is_same = stands(rt, alloc, calm, editor.map(), &usual.before)
-        && editor.map().next_number() == next;
-    let said = say(rt, alloc, editor, usual.call, usual.answer);
-    if is_same && said == Said::Wanted {
-        Outcome::Refused
-    } else {
-        let is_part = said == Said::Other && matches!(usual.call, Call::Thin(_));
-        assert!(rt; is_part, "{:?}: {said:?}", usual.call);
-        Outcome::Part
+/// What came of a step that was refused memory, and of the same step again.
+fn outcome_of(step: &Step<'_>, was_same: bool, again: Said) -> Outcome {
+    match (again, step) {
+        (Said::Wanted, _) if was_same => Outcome::Refused,
+        (Said::Other, Step::Say(_, Wanted::Thinned(_))) => Outcome::Part,
+        _ => Outcome::Wrong,
     }
 }
 
-/// Makes a call, twice where it was refused memory.
-fn make_twice<'h, R: Abort>(
-    rt: &R,
-    alloc: Global,
-    calm: Heap<'h>,
-    editor: &mut GridEditor<'_, 'h>,
-    usual: &Usual,
-) -> Outcome {
-    let next = editor.map().next_number();
-    match say(rt, alloc, editor, usual.call, usual.answer) {
+/// Takes a step again that was refused memory, where the map was in this state, with this next number.
+fn take_again(stage: &mut Stage<'_>, step: &Step<'_>, here: &State, next: u32) -> Outcome {
+    let was_same = stage.is_in(here);
+    let is_next = stage.editor.map().next_number() == next;
+    let again = stage.take(step);
+    outcome_of(step, was_same & is_next, again)
+}
+
+/// Takes a step, again where it was refused memory. Until then the map was in this state, with the same
+/// next number.
+fn take_twice(stage: &mut Stage<'_>, step: &Step<'_>, here: &State) -> Outcome {
+    let next = stage.editor.map().next_number();
+    match stage.take(step) {
         Said::Wanted => Outcome::Usual,
-        Said::NoMemory => make_again(rt, alloc, calm, editor, usual, next),
-        Said::Other => panic!(rt; "{:?} is answered otherwise", usual.call),
+        Said::Other => Outcome::Wrong,
+        Said::NoMemory => take_again(stage, step, here, next),
     }
 }
 
-/// Takes the newest change back, twice where that was refused memory; whether it was. Until then the
-/// map was as after the change. An undo tests nothing.
-fn undo_twice<'h, R: Abort>(
-    rt: &R,
-    alloc: Global,
-    calm: Heap<'h>,
-    editor: &mut GridEditor<'_, 'h>,
-    usual: &Usual,
-) -> bool {
-    let next = editor.map().next_number();
-    let is_refused = editor.undo().is_err();
-    if is_refused {
-        let is_same = stands(rt, alloc, calm, editor.map(), &usual.after);
-        assert!(rt;
-            is_same && editor.map().next_number() == next,
-            "{:?}",
-            usual.call
-        );
-        assert_eq!(rt; editor.undo(), Ok(()));
-    }
-    assert_eq!(rt; editor.map().tests(), 0);
-    is_refused
-}
-
-/// A change is made once more and taken back, after the allocation that was refused.
-fn goes_again<'h, R: Abort>(
-    rt: &R,
-    alloc: Global,
-    calm: Heap<'h>,
-    editor: &mut GridEditor<'_, 'h>,
-    usual: &Usual,
-) -> bool {
-    let said = say(rt, alloc, editor, usual.call, usual.answer);
-    let is_made = said != Said::NoMemory && stands(rt, alloc, calm, editor.map(), &usual.after);
-    is_made && editor.undo() == Ok(()) && stands(rt, alloc, calm, editor.map(), &usual.before)
-}
-
-/// Makes a call and takes it back, where an allocation may be refused. Gives what came of it, and
-/// whether the undo was refused memory.
-fn make_and_undo<'h, R: Abort>(
-    rt: &R,
-    alloc: Global,
-    refusing: Heap<'_>,
-    calm: Heap<'h>,
-    editor: &mut GridEditor<'_, 'h>,
-    usual: &Usual,
-) -> (Outcome, bool) {
-    let outcome = make_twice(rt, alloc, calm, editor, usual);
-    let is_made = stands(rt, alloc, calm, editor.map(), &usual.after);
-    let is_refused = usual.is_change() && undo_twice(rt, alloc, calm, editor, usual);
-    let is_whole = outcome != Outcome::Part || editor.undo() == Ok(());
-    let is_back = stands(rt, alloc, calm, editor.map(), &usual.before);
-    assert!(rt; is_made && is_whole && is_back, "{:?}", usual.call);
-    if refusing.was_refused() {
-        let is_again = !usual.is_change() || goes_again(rt, alloc, calm, editor, usual);
-        assert!(rt; is_again, "{:?} again", usual.call);
-    } else {
-        assert!(rt;
-            outcome == Outcome::Usual && !is_refused,
-            "{:?}",
-            usual.call
-        );
-    }
-    assert_eq!(rt; editor.undo(), Err(UndoFault::NothingToUndo));
-    (outcome, is_refused)
-}
-
-/// Counts a call and its undo.
-fn count(tally: &mut [u32; 3], (outcome, is_refused): (Outcome, bool)) {
+/// Counts what came of a line; whether it is one that may come.
+fn count_line(tally: &mut Tally, outcome: Outcome) -> bool {
     let [calls, parts, undos] = *tally;
-    *tally = [
-        calls.wrapping_add(u32::from(outcome == Outcome::Refused)),
-        parts.wrapping_add(u32::from(outcome == Outcome::Part)),
-        undos.wrapping_add(u32::from(is_refused)),
-    ];
+    match outcome {
+        Outcome::Usual => (),
+        Outcome::Refused => *tally = [calls.wrapping_add(1), parts, undos],
+        Outcome::Part => *tally = [calls, parts.wrapping_add(1), undos],
+        Outcome::Wrong => return false,
+    }
+    true
 }
 
-/// A call and its undo where the allocation of this number is refused; whether there was one.
-fn refuse<R: Abort>(
-    rt: &R,
-    alloc: Global,
-    text: &str,
-    usual: &Usual,
-    nth: u64,
-    tally: &mut [u32; 3],
-) -> bool {
-    let (heap, calm) = (Refusing::new(alloc, nth), Refusing::new(alloc, 0));
-    let mut editor = editor_of(&heap, alloc, text, DEPTH).expect(rt, "it opens before that growth");
-    let outcome = make_and_undo(rt, alloc, &heap, &calm, &mut editor, usual);
-    drop(editor);
-    count(tally, outcome);
-    heap.was_refused()
+/// Counts what came of an undo; whether it is one that may come.
+fn count_undo(tally: &mut Tally, outcome: Outcome) -> bool {
+    let [calls, parts, undos] = *tally;
+    match outcome {
+        Outcome::Usual => (),
+        Outcome::Refused => *tally = [calls, parts, undos.wrapping_add(1)],
+        _ => return false,
+    }
+    true
 }
 
-/// A call and its undo, with each allocation from this one on refused in turn.
-fn refuse_each<R: Abort>(rt: &R, alloc: Global, text: &str, usual: &Usual, first: u64) -> [u32; 3] {
+/// Gives a line to the editor; whether the map is then as it usually is.
+fn go(stage: &mut Stage<'_>, usual: &Usual, tally: &mut Tally) -> bool {
+    let outcome = take_twice(stage, &usual.step(), &usual.before);
+    let is_after = stage.is_in(&usual.after);
+    count_line(tally, outcome) & is_after
+}
+
+/// Whether the map is as before the line. A thinning that was made in part, and then to its end, is two
+/// changes, and the first of them is taken back here.
+fn is_back(stage: &mut Stage<'_>, usual: &Usual, is_in_part: bool) -> bool {
+    let is_whole = !is_in_part || stage.take(&Step::Undo).is_wanted();
+    stage.is_in(&usual.before) & is_whole
+}
+
+/// Takes a change back; whether the map is then as before it. An undo tests nothing.
+fn come_back(stage: &mut Stage<'_>, usual: &Usual, tally: &mut Tally) -> bool {
+    if !usual.is_change() {
+        return true;
+    }
+    let [_, parts, _] = *tally;
+    let outcome = take_twice(stage, &Step::Undo, &usual.after);
+    let is_untested = stage.editor.map().tests() == 0;
+    let is_back = is_back(stage, usual, 0 < parts);
+    count_undo(tally, outcome) & is_untested & is_back
+}
+
+/// Gives a line to the editor once more, and takes it back. The number of a new feature is another one.
+fn goes_again(stage: &mut Stage<'_>, usual: &Usual) -> bool {
+    if !usual.is_change() {
+        return true;
+    }
+    let said = stage.take(&usual.step());
+    let is_after = stage.is_in(&usual.after);
+    let is_undone = stage.take(&Step::Undo).is_wanted();
+    let is_back = stage.is_in(&usual.before);
+    !matches!(said, Said::NoMemory) & is_after & is_undone & is_back
+}
+
+/// Gives the lines to the editor.
+fn go_all(stage: &mut Stage<'_>, usuals: &[Usual], tally: &mut Tally) -> bool {
+    let mut are_so = true;
+    for usual in usuals {
+        are_so &= go(stage, usual, tally);
+    }
+    are_so
+}
+
+/// Takes all changes back, the newest first.
+fn come_back_all(stage: &mut Stage<'_>, usuals: &[Usual], tally: &mut Tally) -> bool {
+    let mut are_so = true;
+    for usual in usuals.iter().rev() {
+        are_so &= come_back(stage, usual, tally);
+    }
+    are_so
+}
+
+/// A single line is given to the editor once more where an allocation was refused by then.
+fn goes_on(stage: &mut Stage<'_>, usuals: &[Usual]) -> bool {
+    match usuals {
+        [usual] if stage.heap.was_refused() => goes_again(stage, usual),
+        _ => true,
+    }
+}
+
+/// Gives the lines to the editor and takes all changes back; a single line once more where an allocation
+/// was refused by then. No other change is kept.
+pub(crate) fn there_and_back(stage: &mut Stage<'_>, usuals: &[Usual]) -> Option<Tally> {
     let mut tally = [0u32; 3];
-    for after in 0..MANY {
-        if !refuse(
-            rt,
-            alloc,
-            text,
-            usual,
-            first.saturating_add(after),
-            &mut tally,
-        ) {
-            return tally;
-        }
-    }
-    panic!(rt; "the call ends");
-}
-
-/// What a call makes of the map of the text where there is memory.
-fn usual_of<R: Abort>(
-    rt: &R,
-    alloc: Global,
-    text: &str,
-    call: Call,
-    answer: &'static str,
-) -> Usual {
-    let calm = Refusing::new(alloc, 0);
-    let mut editor = editor_of(&calm, alloc, text, DEPTH).expect(rt, "the text opens");
-    let before = state_of(rt, alloc, &calm, editor.map());
-    let said = say(rt, alloc, &mut editor, call, answer);
-    let after = state_of(rt, alloc, &calm, editor.map());
-    drop(editor);
-    assert!(rt; said == Said::Wanted, "{call:?}: {said:?}");
-    Usual {
-        call,
-        answer,
-        before,
-        after,
-    }
-}
-
-/// Whether there were at least so many, and none where there are to be none.
-fn are_enough(tally: &[u32; 3], least: &[u32; 3]) -> bool {
-    tally.iter().zip(least).all(|(count, least)| *least <= *count && (0 < *least || *count == 0))
-}
-
-/// Each row of the map of this text, with each allocation of opening, of the call and of its undo
-/// refused in turn.
-fn refuse_rows<R: Abort>(rt: &R, alloc: Global, text: &str, rows: &[Row]) {
-    let first = first_growth(rt, alloc, text);
-    for (call, answer, least) in rows {
-        let usual = usual_of(rt, alloc, text, *call, *answer);
-        let tally = refuse_each(rt, alloc, text, &usual, first);
-        drop(usual);
-        assert!(rt; are_enough(&tally, least), "{call:?} {tally:?}");
-    }
-}
-
-/// Past the hole, from corner to corner.
-const PAST_THE_HOLE: &[(i64, i64)] = &[(0, 0), (3, 7), (10, 10)];
-
-/// Of the thinning, five vertices of a border are left out; its undo puts back all of them or none.
-const VERTICES: &[Row] = &[
-    (Call::Move((10, 0), (11, 1)), "done", [4, 0, 1]),
-    (Call::Insert((10, 0), (20, 0), (15, 1)), "done", [4, 0, 1]),
-    (Call::Remove((10, 5)), "done", [3, 0, 1]),
-    (Call::Thin(0), "thinned 5", [4, 4, 4]),
-];
-
-#[test]
-fn vertices(rt: HostRuntime) {
-    refuse_rows(&rt, rt.alloc(), SQUARES, VERTICES);
-}
-
-const CUTS: &[Row] = &[
-    (Call::Split(0, PAST_THE_HOLE), "made 5", [4, 0, 4]),
-    (
-        Call::Split(1, &[(10, 5), (15, 6), (20, 10)]),
-        "made 5",
-        [4, 0, 4],
-    ),
-    (
-        Call::Split(0, &[(0, 0), (-5, 5), (0, 10)]),
-        "WrongSide",
-        [4, 0, 0],
-    ),
-    (Call::Split(4, PAST_THE_HOLE), "NoCollection", [1, 0, 0]),
-];
-
-#[test]
-fn cuts(rt: HostRuntime) {
-    refuse_rows(&rt, rt.alloc(), SQUARES, CUTS);
-}
-
-const JOINS: &[Row] = &[
-    (Call::Merge(0, 1), "done", [4, 0, 4]),
-    (Call::Merge(1, 0), "done", [4, 0, 4]),
-    (Call::Merge(3, 0), "done", [4, 0, 4]),
-    (Call::Merge(1, 2), "NotOnePolygon", [1, 0, 0]),
-    (Call::Merge(1, 4), "NotNeighbours", [1, 0, 0]),
-];
-
-#[test]
-fn joins(rt: HostRuntime) {
-    refuse_rows(&rt, rt.alloc(), SQUARES, JOINS);
-}
-
-/// An id needs memory, and the one before it none.
-const FEATURES: &[Row] = &[
-    (Call::Delete(0), "done", [4, 0, 4]),
-    (Call::Delete(1), "done", [4, 0, 4]),
-    (Call::Delete(3), "done", [4, 0, 4]),
-    (Call::Delete(4), "done", [4, 0, 4]),
-    (Call::Rename(0, "C\n"), "done", [1, 0, 0]),
-    (Call::Rename(1, "Z"), "done", [1, 0, 0]),
-    (Call::Rename(2, "D"), "done", [1, 0, 0]),
-    (Call::Rename(3, "Z"), "done", [1, 0, 0]),
-];
-
-#[test]
-fn features(rt: HostRuntime) {
-    refuse_rows(&rt, rt.alloc(), SQUARES, FEATURES);
-}
-
-const QUESTIONS: &[Row] = &[
-    (Call::Area(0), "area 192", [0, 0, 0]),
-    (Call::At((2, 2)), "inside [0] border []", [1, 0, 0]),
-    (Call::At((10, 5)), "inside [] border [0, 1]", [1, 0, 0]),
-    (Call::Neighbours(0), "neighbours [1, 3]", [1, 0, 0]),
-    (Call::Neighbours(9), "NoFeature", [0, 0, 0]),
-];
-
-#[test]
-fn questions(rt: HostRuntime) {
-    refuse_rows(&rt, rt.alloc(), SQUARES, QUESTIONS);
-}
-
-/// At a junction of three borders.
-const JUNCTIONS: &[Row] = &[
-    (Call::Move((10, 0), (12, 2)), "done", [4, 0, 1]),
-    (Call::Insert((10, 0), (10, 5), (12, 2)), "done", [4, 0, 1]),
-    (Call::Remove((10, 5)), "done", [4, 0, 1]),
-    (Call::Thin(0), "thinned 1", [4, 0, 1]),
-];
-
-#[test]
-fn junctions(rt: HostRuntime) {
-    refuse_rows(&rt, rt.alloc(), THREE, JUNCTIONS);
-}
-
-/// Of a thinning one corner of each square is left out; before that none may be by then, or one.
-const CORNERS: &[Row] = &[
-    (Call::Thin(99), "thinned 0", [1, 0, 0]),
-    (Call::Thin(100), "thinned 2", [1, 1, 1]),
-    (
-        Call::Move((10, 10), (10, -5)),
-        "conflict 0 0 10 0 / 0 10 10 -5",
-        [1, 0, 0],
-    ),
-    (
-        Call::Split(0, &[(0, 0), (15, 5), (10, 10)]),
-        "conflict 0 0 15 5 / 10 0 10 10",
-        [1, 0, 0],
-    ),
-];
-
-#[test]
-fn corners(rt: HostRuntime) {
-    refuse_rows(&rt, rt.alloc(), TWO_SQUARES, CORNERS);
-}
-
-/// Edits that would sweep over a corner of a triangle, or bring its side into conflict.
-const SWEEPS: &[Row] = &[
-    (Call::Move((0, 0), (9, 20)), "Sweeps", [1, 0, 0]),
-    (Call::Insert((0, 0), (0, 30), (10, 12)), "Sweeps", [1, 0, 0]),
-    (Call::Remove((0, 0)), "Sweeps", [1, 0, 0]),
-    (Call::Remove((3, 8)), "RingShort", [0, 0, 0]),
-    (
-        Call::Insert((0, 30), (0, 0), (4, 9)),
-        "conflict 0 0 4 9 / 3 8 5 8",
-        [1, 0, 0],
-    ),
-];
-
-#[test]
-fn sweeps(rt: HostRuntime) {
-    refuse_rows(&rt, rt.alloc(), INSIDE, SWEEPS);
-    let row = (
-        Call::Remove((0, 0)),
-        "conflict 0 30 30 0 / 10 12 20 20",
-        [1, 0, 0],
-    );
-    refuse_rows(&rt, rt.alloc(), ACROSS, &[row]);
-}
-
-// ---- a whole history
-
-/// Makes one edit of each kind, once more where it was refused memory.
-fn make_all<R: Abort>(rt: &R, alloc: Global, editor: &mut GridEditor<'_, '_>) {
-    for edit in EACH_KIND {
-        if !is_made(rt, alloc, editor, *edit) {
-            assert!(rt; is_made(rt, alloc, editor, *edit), "{edit:?}");
-        }
-    }
-}
-
-/// Takes the newest change back; whether there was memory for it.
-fn is_undone<R: Abort>(rt: &R, editor: &mut GridEditor<'_, '_>) -> bool {
-    let undone = editor.undo();
-    assert!(rt; undone != Err(UndoFault::NothingToUndo));
-    undone.is_ok()
-}
-
-/// Takes so many changes back, each once more where it was refused memory. Gives how many undos were
-/// refused.
-fn undo_all<R: Abort>(rt: &R, editor: &mut GridEditor<'_, '_>, count: usize) -> u32 {
-    let mut refused = 0u32;
-    for _ in 0..count {
-        if !is_undone(rt, editor) {
-            refused = refused.wrapping_add(1);
-            assert!(rt; is_undone(rt, editor));
-        }
-    }
-    assert_eq!(rt; editor.undo(), Err(UndoFault::NothingToUndo));
-    refused
-}
-
-/// Makes one edit of each kind and takes all back, where an allocation may be refused once. Gives how
-/// many undos were refused.
-fn make_and_undo_all<'h, R: Abort>(
-    rt: &R,
-    alloc: Global,
-    calm: Heap<'h>,
-    editor: &mut GridEditor<'_, 'h>,
-) -> u32 {
-    let before = written(rt, alloc, calm, editor.map());
-    make_all(rt, alloc, editor);
-    let refused = undo_all(rt, editor, EACH_KIND.len());
-    let is_same = is_written(rt, alloc, calm, editor.map(), before.as_slice());
-    drop(before);
-    assert!(rt; is_same);
-    refused
-}
-
-/// The same, where the allocation of this number is refused. Gives how many undos were refused, and
-/// `None` where no growth was.
-fn refuse_one<R: Abort>(rt: &R, alloc: Global, nth: u64) -> Option<u32> {
-    let (heap, calm) = (Refusing::new(alloc, nth), Refusing::new(alloc, 0));
-    let mut editor = editor_of(&heap, alloc, TWO_SQUARES, DEPTH).expect(
-        rt,
-        "it opens before that growth",
-    );
-    let undos = make_and_undo_all(rt, alloc, &calm, &mut editor);
-    drop(editor);
-    if heap.was_refused() {
-        Some(undos)
+    let is_there = go_all(stage, usuals, &mut tally);
+    let is_back = come_back_all(stage, usuals, &mut tally);
+    let is_again = goes_on(stage, usuals);
+    let no_other = matches!(stage.take(&Step::Undo), Said::Other);
+    if is_there & is_back & is_again & no_other {
+        Some(tally)
     } else {
         None
     }
 }
 
-/// A whole history, with each allocation refused in turn.
-#[test]
-fn one_edit_of_each_kind(rt: HostRuntime) {
-    let first = first_growth(&rt, rt.alloc(), TWO_SQUARES);
-    let mut undos = 0u32;
-    for count in 0..MANY {
-        match refuse_one(&rt, rt.alloc(), first.saturating_add(count)) {
-            Some(refused) => undos = undos.wrapping_add(refused),
-            None => break,
+// ---- each in turn
+
+/// The number of the first allocation after the editor of the text is there. Each one before is refused
+/// in turn, the last of them to the history, and then there is none. `None` where it is not so.
+fn first_growth(alloc: Global, text: &'static str, usuals: &mut Vec<Usual>) -> Option<u64> {
+    let mut was_handed_back = false;
+    for nth in 1..MANY {
+        match on_editor(alloc, text, nth, Job::Open, usuals) {
+            (Came::NoMap, true) if !was_handed_back => (),
+            (Came::HandedBack(true), true) if !was_handed_back => was_handed_back = true,
+            (Came::Done(Some(_)), false) if was_handed_back => return Some(nth),
+            _ => return None,
         }
     }
-    assert!(rt; 20 < undos, "{undos}");
+    None
 }
 
-/// Whether there is memory for the history of the map; where there is none, the map is handed back as
-/// it was.
-fn is_begun<'h, R: Abort>(
-    rt: &R,
+/// Adds what was refused.
+fn add(sum: &mut Tally, tally: Tally) {
+    let ([calls, parts, undos], [more_calls, more_parts, more_undos]) = (*sum, tally);
+    *sum = [
+        calls.wrapping_add(more_calls),
+        parts.wrapping_add(more_parts),
+        undos.wrapping_add(more_undos),
+    ];
+}
+
+/// Does the job with each allocation from this one on refused in turn; how many were. `None` where
+/// something is not as it should be, also where memory was wanting and no allocation was refused.
+fn refuse_each(
     alloc: Global,
-    heap: Heap<'h>,
-    calm: Heap<'h>,
-    map: GridMap<'_, 'h>,
-    text: &[u8],
-) -> bool {
-    let (is_begun, is_same) = match Editor::new(heap, map, DEPTH) {
-        Ok(editor) => (true, is_written(rt, alloc, calm, editor.map(), text)),
-        Err(map) => (false, is_written(rt, alloc, calm, &map, text)),
+    text: &'static str,
+    job: Job,
+    usuals: &mut Vec<Usual>,
+    first: u64,
+) -> Option<Tally> {
+    let mut sum = [0u32; 3];
+    for after in 0..MANY {
+        let (came, was_refused) = on_editor(alloc, text, first.saturating_add(after), job, usuals);
+        let Came::Done(Some(tally)) = came else {
+            return None;
+        };
+        if !was_refused {
+            return if tally == [0u32; 3] { Some(sum) } else { None };
+        }
+        add(&mut sum, tally);
+    }
+    None
+}
+
+/// Whether there were at least so many, and none where there are to be none.
+fn is_enough(count: u32, least: u32) -> bool {
+    least <= count && (0 < least || count == 0)
+}
+
+/// The same of each number.
+fn are_enough(tally: Tally, least: Tally) -> bool {
+    let ([calls, parts, undos], [least_calls, least_parts, least_undos]) = (tally, least);
+    is_enough(calls, least_calls) && is_enough(parts, least_parts) && is_enough(undos, least_undos)
+}
+
+/// What the lines make of the map of the text where there is memory; `None` where one is answered
+/// otherwise than is wanted.
+fn learnt(alloc: Global, text: &'static str, rows: &'static [Row]) -> Option<Vec<Usual>> {
+    let mut usuals = Vec::new(alloc);
+    match on_editor(alloc, text, 0, Job::Learn(rows), &mut usuals) {
+        (Came::Done(Some(_)), false) => Some(usuals),
+        _ => None,
+    }
+}
+
+/// Whether the job goes as usual where no allocation is refused.
+fn goes_as_usual(alloc: Global, text: &'static str, job: Job, usuals: &mut Vec<Usual>) -> bool {
+    match on_editor(alloc, text, 0, job, usuals) {
+        (Came::Done(Some(tally)), false) => tally == [0u32; 3],
+        _ => false,
+    }
+}
+
+/// Whether a job is as it should be with these lines, where no allocation is refused, and where each from
+/// this one on is in turn.
+fn is_right(alloc: Global, text: &'static str, rows: &'static [Row], job: Job, first: u64) -> bool {
+    let Some(row) = rows.first() else {
+        return false;
     };
-    assert!(rt; is_same);
-    is_begun
+    let Some(mut usuals) = learnt(alloc, text, rows) else {
+        return false;
+    };
+    let is_usual = goes_as_usual(alloc, text, job, &mut usuals);
+    match refuse_each(alloc, text, job, &mut usuals, first) {
+        Some(tally) => are_enough(tally, row.2) & is_usual,
+        None => false,
+    }
 }
 
-/// Whether there is memory for the history of the map of the squares, which opens.
-fn opened<'h, R: Abort>(rt: &R, alloc: Global, heap: Heap<'h>, calm: Heap<'h>) -> bool {
-    let other = map_of(calm, alloc, SQUARES.as_bytes()).expect(rt, "the text opens");
-    let text = written(rt, alloc, calm, &other);
-    drop(other);
-    let map = map_of(heap, alloc, SQUARES.as_bytes()).expect(rt, "it opens before that growth");
-    let is_begun = is_begun(rt, alloc, heap, calm, map, text.as_slice());
-    drop(text);
-    is_begun
+/// The number of the first allocation after the editor of the text is there, by the first of these
+/// lines.
+fn opening(alloc: Global, text: &'static str, rows: &'static [Row]) -> Option<u64> {
+    let mut usuals = learnt(alloc, text, slice::from_ref(rows.first()?))?;
+    first_growth(alloc, text, &mut usuals)
 }
 
-/// The first allocation that does not belong to the opening is the one of the history; the map is
-/// handed back where it is refused.
-#[test]
-fn a_map_is_handed_back(rt: HostRuntime) {
-    let alloc = rt.alloc();
-    let last = first_growth(&rt, alloc, SQUARES).wrapping_sub(1);
-    let (heap, calm) = (Refusing::new(alloc, last), Refusing::new(alloc, 0));
-    assert!(rt; !opened(&rt, alloc, &heap, &calm));
-    let heap = Refusing::new(alloc, last.wrapping_add(1));
-    assert!(rt; opened(&rt, alloc, &heap, &calm));
+/// The first line of the first of these histories, of so many lines each, with which something is not as
+/// it should be.
+pub(crate) fn first_wrong(
+    alloc: Global,
+    text: &'static str,
+    rows: &'static [Row],
+    size: usize,
+    job: Job,
+) -> Option<&'static str>
+    requires { 1 ≤ size }
+{
+    let Some(first) = opening(alloc, text, rows) else {
+        return Some("opening");
+    };
+    for history in rows.chunks(size) {
+        if !is_right(alloc, text, history, job, first) {
+            return Some(history.first()?.0);
+        }
+    }
+    None
 }
