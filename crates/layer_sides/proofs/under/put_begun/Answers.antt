@@ -1,4 +1,4 @@
-use Rattle.kit_words.proofs.Common.{◌≡◌, ◌≤◌, ◌+◌, ◌++◌, ℕ, refl, sym, ap, ap₂, ◌∙◌, arith, length, take, drop, on_ok_weaker, take-append-drop}
+use Rattle.kit_words.proofs.Common.{◌≡◌, ◌≤◌, ◌+◌, ◌++◌, sym, ap, ap₂, ◌∙◌, arith, length, take, drop, on_ok_weaker, take-append-drop}
 use Rattle.layer_sides.proofs.Cutting.{written_over}
 use Rattle.layer_sides.proofs.under.put_begun.Goals as goal
 
