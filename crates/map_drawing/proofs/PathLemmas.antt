@@ -66,6 +66,7 @@ no_second q e = true≢false (ap is_some e)
 
 -- a ring at one point goes on
 pub goes_on : (ring kept drawn : List Point) (q : Point) → kept ≡ ring → IsSecond kept (Some q) → drawn ≡ kept ++ q ∷ [] → IsVisible ring drawn
+unfolding held
 goes_on ring [] drawn q e none is = absurd (no_second q none)
 goes_on ring (p ∷ []) drawn q e (r, b, same) is =
     subst (λ z. IsVisible z drawn) e (q, subst (IsBeside p) (sym (ap (held q) same)) b, is)

@@ -43,7 +43,7 @@ small_fits z most k h i = fits_signed_from_abs w64 z (omega (arith, small_abs z 
 -- what the code's product of them is
 pub size_in_parts : (size parts : ℤ) (most : ℕ) → most ≤ 960 → (pos 1 ≤ℤ size) × (size ≤ℤ pos most) → (pos 1 ≤ℤ parts) × (parts ≤ℤ pos 100)
     → (pos 1 ≤ℤ to_z w64 (of_z w64 (to_z w64 (of_z w64 size) *ℤ to_z w64 (of_z w64 parts))))
-        × (to_z w64 (of_z w64 (to_z w64 (of_z w64 size) *ℤ to_z w64 (of_z w64 parts))) ≤ℤ pos (most * 100))
+    × (to_z w64 (of_z w64 (to_z w64 (of_z w64 size) *ℤ to_z w64 (of_z w64 parts))) ≤ℤ pos (most * 100))
 size_in_parts size parts most small (h, i) (j, l) =
     let wide : unsigned_abs size ≤ 9000000000000 = omega (arith, small_abs size most h i, small) in
     let fine : unsigned_abs parts ≤ 96000 = omega (arith, small_abs parts 100 j l) in

@@ -38,10 +38,17 @@ IsVisible (p ∷ q ∷ ps) drawn = drawn ≡ p ∷ q ∷ ps
 abbrev pub is_amid : ℤ → ℤ → ℤ → Bool
 is_amid from at to = (int_le from at && int_le at to) || (int_le to at && int_le at from)
 
--- on the way between two points that goes straight along or straight down
+-- on the way straight along between two points
+abbrev pub is_along : Point → Point → Point → Bool
+is_along a b c = (int_eq a.y b.y && int_eq b.y c.y) && is_amid a.x b.x c.x
+
+-- on the way straight down between two points
+abbrev pub is_down : Point → Point → Point → Bool
+is_down a b c = (int_eq a.x b.x && int_eq b.x c.x) && is_amid a.y b.y c.y
+
+-- on one of these ways
 abbrev pub is_level : Point → Point → Point → Bool
-is_level a b c =
-    (int_eq a.y b.y && int_eq b.y c.y && is_amid a.x b.x c.x) || (int_eq a.x b.x && int_eq b.x c.x && is_amid a.y b.y c.y)
+is_level a b c = is_along a b c || is_down a b c
 
 -- a point between two others, unless it is on such a way
 abbrev pub corner_of : Point → Point → Point → List Point

@@ -58,7 +58,7 @@ fn push_way<A: Allocator>(text: &mut Vec<u8, A>, right: i64, down: i64) -> Resul
 fn push_step<A: Allocator>(text: &mut Vec<u8, A>, from: Point, to: Point) -> Result<(), AllocError>
     ensures { OnOk result (text.new.items ≡ text.old.items ++ step_path from to) }
 {
-    push_way(text, to.x - from.x, to.y - from.y)
+    push_way(text, from.right_to(to), from.down_to(to))
 }
 
 /// Appends the lines from a point to each of others in turn.

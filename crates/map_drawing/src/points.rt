@@ -1,5 +1,5 @@
 // Points of the picture of a map.
-ghost use Rattle.std.specs.Prelude.{◌≤◌, unsigned_abs};
+ghost use Rattle.std.specs.Prelude.{◌≡◌, ◌≤◌, ◌-ℤ◌, unsigned_abs};
 
 /// How far a point is from the corner of the map at most.
 const MOST: i64 = 1_000_000_000_000_000_000;
@@ -24,6 +24,20 @@ impl Point {
             x: x.clamp(-MOST, MOST),
             y: y.clamp(-MOST, MOST),
         }
+    }
+
+    /// How far to the right of it another one is.
+    pub(crate) fn right_to(self, other: Point) -> i64
+        ensures { result ≡ other.x -ℤ self.x }
+    {
+        other.x - self.x
+    }
+
+    /// How far below it another one is.
+    pub(crate) fn down_to(self, other: Point) -> i64
+        ensures { result ≡ other.y -ℤ self.y }
+    {
+        other.y - self.y
     }
 
     /// The next point on the right, where there is one.
