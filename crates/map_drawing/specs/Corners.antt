@@ -38,13 +38,17 @@ IsVisible (p ∷ q ∷ ps) drawn = drawn ≡ p ∷ q ∷ ps
 abbrev pub is_amid : ℤ → ℤ → ℤ → Bool
 is_amid from at to = (int_le from at && int_le at to) || (int_le to at && int_le at from)
 
+-- three numbers are one
+abbrev pub are_equal : ℤ → ℤ → ℤ → Bool
+are_equal from at to = int_eq from at && int_eq at to
+
 -- on the way straight along between two points
 abbrev pub is_along : Point → Point → Point → Bool
-is_along a b c = (int_eq a.y b.y && int_eq b.y c.y) && is_amid a.x b.x c.x
+is_along a b c = are_equal a.y b.y c.y && is_amid a.x b.x c.x
 
 -- on the way straight down between two points
 abbrev pub is_down : Point → Point → Point → Bool
-is_down a b c = (int_eq a.x b.x && int_eq b.x c.x) && is_amid a.y b.y c.y
+is_down a b c = are_equal a.x b.x c.x && is_amid a.y b.y c.y
 
 -- on one of these ways
 abbrev pub is_level : Point → Point → Point → Bool

@@ -1,5 +1,5 @@
 -- Points of the picture of a map.
-use Rattle.std.specs.Prelude.{◌≡◌, ℤ, pos, Bool, ◌+ℤ◌, ◌&&◌}
+use Rattle.std.specs.Prelude.{◌≡◌, pos, Bool, ◌+ℤ◌, ◌&&◌}
 use Rattle.std.specs.Int.{int_min}
 use Rattle.std.specs.Ordering.{int_eq}
 use Rattle.map_drawing.specs.declared.points.Point.{Point}

@@ -1,6 +1,6 @@
 // What is left out of a ring where it is drawn: points that add nothing.
 ghost use Rattle.std.specs.Prelude.{◌≡◌, ◌∷◌, ◌++◌, IfOk, OnOk};
-ghost use Rattle.map_drawing.specs.Corners.{apart, corner_of, corners, is_along, is_amid, is_down, is_level, other_point, IsSecond, IsVisible};
+ghost use Rattle.map_drawing.specs.Corners.{apart, are_equal, corner_of, corners, is_along, is_amid, is_down, is_level, other_point, IsSecond, IsVisible};
 ghost use Rattle.map_drawing.specs.Points.{is_same};
 
 use crate::points::Point;
@@ -81,20 +81,29 @@ fn is_amid(from: i64, at: i64, to: i64) -> bool
     (from <= at && at <= to) || (to <= at && at <= from)
 }
 
+/// Whether three numbers are one.
+fn are_equal(from: i64, at: i64, to: i64) -> bool
+    ensures { result ≡ are_equal from at to }
+{
+    from == at && at == to
+}
+
 /// Whether a point is on the way straight along between two others.
 fn is_along(from: Point, at: Point, to: Point) -> bool
     ensures { result ≡ is_along from at to }
 {
+    let is_level = are_equal(from.y, at.y, to.y);
     let is_between = is_amid(from.x, at.x, to.x);
-    from.y == at.y && at.y == to.y && is_between
+    is_level && is_between
 }
 
 /// Whether a point is on the way straight down between two others.
 fn is_down(from: Point, at: Point, to: Point) -> bool
     ensures { result ≡ is_down from at to }
 {
+    let is_upright = are_equal(from.x, at.x, to.x);
     let is_between = is_amid(from.y, at.y, to.y);
-    from.x == at.x && at.x == to.x && is_between
+    is_upright && is_between
 }
 
 /// Whether a point is on one of these ways.
