@@ -49,7 +49,7 @@ fn face_of<A: Allocator + Copy>(
 {
     let numbers = sides.as_slice();
     let first = numbers[0];
-    // first, since it waits for no border that is not yet near before it asks for the next one
+    // (the length first: it needs each border alone, so that the memory is asked for several at a time)
     let border = border_length(borders, numbers);
     let holders = common_holders(alloc, borders, numbers)?;
     let features = told_by(alloc, borders, owners, numbers, holders.as_slice())?;
