@@ -24,13 +24,14 @@ use topo_outline::RawLayer;
 
 /// What was found in a layer.
 #[derive(Drop)]
-pub(crate) struct Looked<'a, A: Allocator + Copy> {
+pub struct Looked<'a, A: Allocator + Copy = Global> {
     /// The layer's name with its quotes, as it stands.
-    pub(crate) name: &'a [u8],
+    pub name: &'a [u8],
     /// What may be told of its faces.
-    pub(crate) faces: Vec<ToldFace<A>, A>,
+    pub faces: Vec<ToldFace<A>, A>,
     pub(crate) uneven: Vec<UnevenPolygon, A>,
-    pub(crate) sums: Sums,
+    /// What its areas add up to.
+    pub sums: Sums,
 }
 
 /// What is told of a layer with this name, in which this was found.

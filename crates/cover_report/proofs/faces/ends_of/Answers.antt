@@ -1,0 +1,23 @@
+use Rattle.kit_words.proofs.Common.{◌≡◌, ◌∙◌, ◌+◌, ◌++◌, ◌∷◌, [], ap, ap₂, List, map, map-append, mapped_more, sym, take, take_all}
+use Rattle.layer_sides.specs.Common.{Side}
+use Rattle.layer_faces.specs.Common.{segments_seen, side_at, side_ends}
+use Rattle.cover_report.proofs.faces.ends_of.Goals as goal
+
+pub loop-side-init : goal.loop-side-init
+loop-side-init g c = c.new-ends.ensures.items
+
+pub loop-side-preserved : goal.loop-side-preserved
+loop-side-preserved g c =
+    let ss = segments_seen c.args.borders.now in
+    let i = c.loop-side.side-index in
+    let sides = c.args.sides.now in
+    let side = c.side-item.result in
+    c.in_ok-push.ensures.items
+    ∙ ap₂ (λ z e. z ++ e ∷ []) c.loop-side.invariant c.ends_at.ensures
+    ∙ sym (ap (map side_ends) (mapped_more (side_at ss) sides i side c.loop-side-test.true c.side-item.is)
+    ∙ map-append side_ends (map (side_at ss) (take i sides)) (side_at ss side ∷ []))
+
+pub returns : goal.returns
+returns g c =
+    c.loop-side.invariant
+    ∙ ap (λ z. map side_ends (map (side_at (segments_seen c.args.borders.now)) z)) (take_all c.loop-side.side-index c.args.sides.now c.loop-side-test.false)

@@ -1,0 +1,12 @@
+use Rattle.kit_words.proofs.Common.{refl}
+use Rattle.topo_reader.specs.Common.{view_raw}
+use Rattle.cover_report.proofs.report.look_at_map.Goals as goal
+
+pub returns-clause-looked : goal.returns-clause-looked
+returns-clause-looked g c = record {
+  map = view_raw c.in-Ok.raw;
+  opens = record { opens = c.in-Ok.ensures.opens; proper = c.in-Ok.ensures.proper };
+  there = c.in-Ok-2.ensures.there;
+  found = c.in-Ok-2.ensures.found;
+  under = refl;
+}
