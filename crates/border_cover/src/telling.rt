@@ -1,6 +1,6 @@
 //! The files of the program: what is read, what is written, and in which order.
 ghost use Rattle.std.specs.Prelude.{◌≡◌, None, is_some, IfErr, IfOk, IsSome, OnOk};
-ghost use Rattle.cover_places.specs.Common.{IsToldWithPlaces};
+ghost use Rattle.cover_places.specs.Common.{IsTold};
 ghost use Rattle.cover_report.specs.Common.{IsRefused};
 ghost use Rattle.border_cover.specs.Asked.{wants_of};
 
@@ -87,7 +87,7 @@ fn reported<'a>(
     arguments: &Arguments,
     texts: &mut Texts,
 ) -> Result<Counts, CoverFault<'a>>
-    ensures told { IfOk result (λ counts. IsToldWithPlaces (wants_of arguments.now) bytes.now counts
+    ensures told { IfOk result (λ counts. IsTold (wants_of arguments.now) bytes.now counts
         texts.old.report.items texts.new.report.items texts.new.places) }
     ensures asked { OnOk result (is_some texts.new.places ≡ is_some texts.old.places) }
     ensures refused { IfErr result (IsRefused (wants_of arguments.now) bytes.now) }

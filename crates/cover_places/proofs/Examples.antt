@@ -21,6 +21,7 @@ strip = record {
   sides = (at 9 10, at 9 0) ∷ (at 9 0, at 10 0) ∷ (at 10 10, at 9 10) ∷ (at 10 0, at 10 10) ∷ [];
 }
 
+-- a square hole is not filled
 abbrev lake : FaceTold
 lake = record {
   kind = Lake;
@@ -29,7 +30,7 @@ lake = record {
   width = 3;
   from = at 5 10;
   to = at 5 5;
-  sides = (at 5 10, at 5 5) ∷ (at 5 5, at 10 10) ∷ (at 10 10, at 5 10) ∷ [];
+  sides = (at 5 10, at 5 5) ∷ (at 5 5, at 10 5) ∷ (at 10 10, at 5 10) ∷ (at 10 5, at 10 10) ∷ [];
 }
 
 point : point_text (place_of 0 strip)
@@ -39,7 +40,7 @@ point = refl
 
 -- the arcs of the lake come behind the four of the strip
 border : border_text 4 (place_of 0 lake)
-    ≡ codes "{\"type\":\"MultiLineString\",\"properties\":{\"kind\":\"lake\",\"number\":0,\"features\":[3],\"area\":50,\"width\":3},\"arcs\":[[4],[5],[6]]}"
+    ≡ codes "{\"type\":\"MultiLineString\",\"properties\":{\"kind\":\"lake\",\"number\":0,\"features\":[3],\"area\":50,\"width\":3},\"arcs\":[[4],[5],[6],[7]]}"
 unfolding digits
 border = refl
 
@@ -53,14 +54,14 @@ in_order = refl
 -- the whole text of a lake, and under a transform the differences of its arcs
 abbrev lake_objects : List ℕ
 lake_objects =
-    codes ",\"objects\":{\"places\":{\"type\":\"GeometryCollection\",\"geometries\":[{\"type\":\"Point\",\"properties\":{\"kind\":\"lake\",\"number\":0,\"features\":[3],\"area\":50,\"width\":3},\"coordinates\":[5,10]}]},\"borders\":{\"type\":\"GeometryCollection\",\"geometries\":[{\"type\":\"MultiLineString\",\"properties\":{\"kind\":\"lake\",\"number\":0,\"features\":[3],\"area\":50,\"width\":3},\"arcs\":[[0],[1],[2]]}]}}"
+    codes ",\"objects\":{\"places\":{\"type\":\"GeometryCollection\",\"geometries\":[{\"type\":\"Point\",\"properties\":{\"kind\":\"lake\",\"number\":0,\"features\":[3],\"area\":50,\"width\":3},\"coordinates\":[5,10]}]},\"borders\":{\"type\":\"GeometryCollection\",\"geometries\":[{\"type\":\"MultiLineString\",\"properties\":{\"kind\":\"lake\",\"number\":0,\"features\":[3],\"area\":50,\"width\":3},\"arcs\":[[0],[1],[2],[3]]}]}}"
 
 whole : topology_text None (place_of 0 lake ∷ [])
-    ≡ codes "{\"type\":\"Topology\"" ++ (lake_objects ++ codes ",\"arcs\":[[[5,10],[5,5]],[[5,5],[10,10]],[[10,10],[5,10]]]}")
+    ≡ codes "{\"type\":\"Topology\"" ++ (lake_objects ++ codes ",\"arcs\":[[[5,10],[5,5]],[[5,5],[10,5]],[[10,10],[5,10]],[[10,5],[10,10]]]}")
 unfolding digits
 whole = refl
 
 under : topology_text (Some (codes "{}")) (place_of 0 lake ∷ [])
-    ≡ codes "{\"type\":\"Topology\",\"transform\":{}" ++ (lake_objects ++ codes ",\"arcs\":[[[5,10],[0,-5]],[[5,5],[5,5]],[[10,10],[-5,0]]]}")
+    ≡ codes "{\"type\":\"Topology\",\"transform\":{}" ++ (lake_objects ++ codes ",\"arcs\":[[[5,10],[0,-5]],[[5,5],[5,0]],[[10,10],[-5,0]],[[10,5],[0,5]]]}")
 unfolding digits
 under = refl

@@ -9,4 +9,3 @@ mod report;
 mod topology;
 
 pub use report::{Texts, tell_map};
-pub use topology::text_of_places;

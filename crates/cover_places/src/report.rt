@@ -3,7 +3,7 @@ ghost use Rattle.std.specs.Prelude.{◌≡◌, [], is_some, map, option_map, IfE
 ghost use Rattle.cover_report.specs.Common.{IsRefused, faces_of, view_asked, view_looked};
 ghost use Rattle.cover_places.specs.Places.{places_of};
 ghost use Rattle.cover_places.specs.Text.{topology_text};
-ghost use Rattle.cover_places.specs.Told.{IsToldWithPlaces};
+ghost use Rattle.cover_places.specs.Told.{IsTold};
 
 use crate::topology::text_of_places;
 use cover_report::{Asked, Counts, CoverFault, LookedMap, look_at_map, push_report};
@@ -55,6 +55,11 @@ fn put_places<A: Allocator + Copy>(
 /// Looks at a map that opens, appends the report of its overlaps and gaps to `texts.report`, and puts their places into
 /// `texts.places`, where they are asked for. Answers how much is told of each kind, whatever the most lines are.
 ///
+/// The places are the text of a topology (TopoJSON 1.0) with the positions of the map, and with its transform. Its layer
+/// `places` has a point for each face within the bounds, at the first position of its name, and its layer `borders` the
+/// segments of its border, each with the face on its left. `kind` and `number` say which line of the report each belongs to,
+/// where this has them all; `features`, `area` and `width` are those of the line.
+///
 /// Fails as `look_at_map` does; then `texts` may have a part of a report.
 pub fn tell_map<'a, A: Allocator + Copy>(
     alloc: A,
@@ -64,7 +69,7 @@ pub fn tell_map<'a, A: Allocator + Copy>(
     asked: &Asked<'_>,
     texts: &mut Texts<A>,
 ) -> Result<Counts, CoverFault<'a>>
-    ensures told { IfOk result (λ counts. IsToldWithPlaces (view_asked asked.now) bytes.now counts
+    ensures told { IfOk result (λ counts. IsTold (view_asked asked.now) bytes.now counts
         texts.old.report.items texts.new.report.items texts.new.places) }
     ensures asked { OnOk result (is_some texts.new.places ≡ is_some texts.old.places) }
     ensures refused { IfErr result (IsRefused (view_asked asked.now) bytes.now) }

@@ -121,11 +121,7 @@ fn push_topology<A: Allocator, B: Allocator + Copy>(
 
 /// The text of the places of what is told of the layers of a map that were looked at: a topology (TopoJSON 1.0) with the
 /// positions of the map, and with its transform, whose text is given.
-///
-/// Its layer `places` has a point for each face within the bounds, at the first position of its name, and its layer `borders`
-/// the segments of its border, each led along with the face on its left. `kind` and `number` say which line of the report each
-/// belongs to, where this has them all; `features`, `area` and `width` are those of the line.
-pub fn text_of_places<A: Allocator + Copy>(
+pub(crate) fn text_of_places<A: Allocator + Copy>(
     alloc: A,
     transform: Option<&[u8]>,
     asked: &Asked<'_>,

@@ -21,10 +21,11 @@ pub struct ToldFace<A: Allocator + Copy = Global> {
     pub area: i128,
     /// Its width in units, rounded up.
     pub width: u128,
-    /// The ends of the first segment of its border, which has the face on its left.
+    /// Where the first segment of its border begins, which has the face on its left.
     pub from: Pos,
+    /// Where that segment ends.
     pub to: Pos,
-    /// The ends of each segment of its border, which has the face on its left.
+    /// Where each segment of its border begins and ends, which has the face on its left.
     pub sides: Vec<(Pos, Pos), A>,
 }
 

@@ -47,5 +47,5 @@ pub use asked::Asked;
 pub use faces::ToldFace;
 pub use fault::CoverFault;
 pub use looked::Looked;
-pub use report::{LookedMap, look_at_map, push_report, report_map};
+pub use report::{LookedMap, look_at_map, push_report};
 pub use told::{Counts, all_faces, told_faces};

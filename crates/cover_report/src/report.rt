@@ -9,7 +9,7 @@ ghost use Rattle.cover_report.specs.Faults.{IsRefused, IsUnlooked};
 ghost use Rattle.cover_report.specs.Layers.{AreLooks, asked_layers, view_looked};
 ghost use Rattle.cover_report.specs.Names.{are_there};
 ghost use Rattle.cover_report.specs.Report.{found_text, report_text, told_lines};
-ghost use Rattle.cover_report.specs.Told.{IsLookedAt, IsTold};
+ghost use Rattle.cover_report.specs.Found.{IsLookedAt};
 
 use crate::asked::Asked;
 use crate::faces::ToldFace;
@@ -70,7 +70,10 @@ fn push_found<A: Allocator + Copy>(
     })
 }
 
-/// Appends the report of the layers that were looked at, and answers how much is told of each kind.
+/// Appends the report of the layers that were looked at, and answers how much is told of each kind, whatever the most lines
+/// are.
+///
+/// Fails on allocation failure; then the text may have a part of a report.
 pub fn push_report<A: Allocator + Copy>(
     alloc: A,
     text: &mut Vec<u8, A>,
@@ -130,7 +133,8 @@ pub struct LookedMap<'a, A: Allocator + Copy = Global> {
 /// Looks at the layers of a map that opens: those that are asked for.
 ///
 /// Fails where the map does not open, with `NoLayer` where a name that is asked for is none of a layer, with `TooLarge`
-/// where a layer has more sides than can be looked at, and on allocation failure.
+/// where a layer has more sides than can be looked at, with `Unswept` or `Unlike` where a check of the work failed, and on
+/// allocation failure.
 pub fn look_at_map<'a, A: Allocator + Copy>(
     alloc: A,
     heap: Global,
@@ -138,8 +142,8 @@ pub fn look_at_map<'a, A: Allocator + Copy>(
     bytes: &'a [u8],
     asked: &Asked<'_>,
 ) -> Result<LookedMap<'a, A>, CoverFault<'a>>
-    ensures looked { IfOk result (λ l. IsLookedAt (view_asked asked.now).layers bytes.now
-        (option_map (λ t. t.now) l.transform) (map view_looked l.looks.items)) }
+    ensures found { IfOk result (λ looked. IsLookedAt (view_asked asked.now) bytes.now
+        (option_map (λ t. t.now) looked.transform) (map view_looked looked.looks.items)) }
     ensures refused { IfErr result (IsRefused (view_asked asked.now) bytes.now) }
 {
     let raw = match proper_map(alloc, heap, seed, bytes) {
@@ -149,25 +153,4 @@ pub fn look_at_map<'a, A: Allocator + Copy>(
     let transform = raw.transform;
     let looks = or_return!(looks_at(alloc, heap, asked.layers, raw));
     Ok(LookedMap { transform, looks })
-}
-
-/// Looks at a map that opens, and appends the report of its overlaps and gaps to a text. Answers how much is told of each
-/// kind, whatever the most lines are.
-///
-/// Fails as `look_at_map` does; then the text may have a part of a report.
-pub fn report_map<'a, A: Allocator + Copy>(
-    alloc: A,
-    heap: Global,
-    seed: RandomState,
-    bytes: &'a [u8],
-    asked: &Asked<'_>,
-    text: &mut Vec<u8, A>,
-) -> Result<Counts, CoverFault<'a>>
-    ensures told { IfOk result (λ counts. IsTold (view_asked asked.now) bytes.now counts
-        text.old.items text.new.items) }
-    ensures refused { IfErr result (IsRefused (view_asked asked.now) bytes.now) }
-{
-    let looked = or_return!(look_at_map(alloc, heap, seed, bytes, asked));
-    let counts = push_report(alloc, text, asked, looked.looks.as_slice())?;
-    Ok(counts)
 }

@@ -1,6 +1,5 @@
 use Rattle.kit_words.proofs.Common.{◌∙◌, ◌++◌, ap, map, option_map}
 use Rattle.cover_report.specs.Common.{counts_of, report_text, view_asked, view_looked}
-use Rattle.cover_places.proofs.Placed.{told_with}
 use Rattle.cover_places.proofs.report.tell_map.Goals as goal
 
 pub returns-clause-told : goal.returns-clause-told
@@ -8,8 +7,11 @@ returns-clause-told g c =
     let wants = view_asked c.args.asked.now in
     let looked = c.in-Ok.looked in
     let seen = ap (map view_looked) c.as_slice.ensures.value in
-    told_with wants c.args.bytes.now c.in_ok-counts.counts c.args.texts.now.report.items _ c.put_places.new.places (option_map (λ t. t.now) looked.transform)
-    (map view_looked looked.looks.items) c.in-Ok.ensures.looked
-    (c.in_ok-counts.ensures.lines ∙ ap (λ z. c.args.texts.now.report.items ++ report_text wants z) seen)
-    (c.in_ok-counts.ensures.counts ∙ ap (counts_of wants) seen)
-    c.in_ok-put_places.ensures.placed
+    record {
+      transform = option_map (λ t. t.now) looked.transform;
+      looks = map view_looked looked.looks.items;
+      found = c.in-Ok.ensures.found;
+      told = c.in_ok-counts.ensures.lines ∙ ap (λ z. c.args.texts.now.report.items ++ report_text wants z) seen;
+      counted = c.in_ok-counts.ensures.counts ∙ ap (counts_of wants) seen;
+      placed = c.in_ok-put_places.ensures.placed;
+    }
