@@ -1,6 +1,6 @@
 -- Texts, and the borders of faces, one after another.
 use Rattle.kit_words.proofs.Common.{◌≡◌, ◌∙◌, ℕ, suc, ◌+◌, ◌<◌, ◌++◌, ◌∷◌, [], List, ap, sym, refl, arith, length, map, take, get_or, nat_lt}
-use Rattle.kit_words.proofs.Common.{append_assoc, appended_five, flat_mapped_more, length-append, length-map, map-append, mapped_more}
+use Rattle.kit_words.proofs.Common.{append_assoc, flat_mapped_more, length-append, length-map, map-append, mapped_more}
 use Rattle.ring_machine.specs.Common.{Text}
 use Rattle.map_text.specs.Common.{comma_if, commas}
 use Rattle.place_text.proofs.Listed.{commas_next}
@@ -22,14 +22,6 @@ pub four : {X : Type 0} (a b c d p q r new : List X) → p ≡ a → q ≡ p ++ 
 four a b c d p q r new e f g h =
     h ∙ ap (λ z. z ++ d) (g ∙ ap (λ z. z ++ c) (f ∙ ap (λ z. z ++ b) e))
     ∙ append_assoc (a ++ b) c d ∙ append_assoc a b (c ++ d)
-
--- nine texts, one behind another
-pub nine : (old a b c d e f g h k t1 t2 t3 t4 t5 t6 t7 t8 new : Text)
-    → t1 ≡ old ++ a → t2 ≡ t1 ++ b → t3 ≡ t2 ++ c → t4 ≡ t3 ++ d → t5 ≡ t4 ++ e → t6 ≡ t5 ++ f → t7 ≡ t6 ++ g → t8 ≡ t7 ++ h → new ≡ t8 ++ k
-    → new ≡ old ++ (a ++ (b ++ (c ++ (d ++ (e ++ (f ++ (g ++ (h ++ k))))))))
-nine old a b c d e f g h k t1 t2 t3 t4 t5 t6 t7 t8 new p1 p2 p3 p4 p5 p6 p7 p8 p9 =
-    appended_five old a b c d (e ++ (f ++ (g ++ (h ++ k)))) t1 t2 t3 t4 new p1 p2 p3 p4
-    (appended_five t4 e f g h k t5 t6 t7 t8 new p5 p6 p7 p8 p9)
 
 -- ---- borders, each with the arcs behind those before
 

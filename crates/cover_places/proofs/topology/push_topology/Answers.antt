@@ -2,9 +2,9 @@ use Rattle.kit_words.proofs.Common.{ap₂, ◌∙◌, ◌++◌, map, codes, is_s
 use Rattle.map_text.specs.Common.{arcs_text}
 use Rattle.place_text.specs.Common.{collection_text, transform_member}
 use Rattle.place_text.proofs.Assembled.{some_there}
+use Rattle.cover_report.proofs.Appending.{nine}
 use Rattle.cover_places.specs.Places.{place_seen}
 use Rattle.cover_places.specs.Text.{borders_text, point_text, side_positions, sides_of}
-use Rattle.cover_places.proofs.Listed.{nine}
 use Rattle.cover_places.proofs.topology.push_topology.Goals as goal
 
 pub returns : goal.returns

@@ -1,5 +1,4 @@
-use Rattle.kit_words.proofs.Common.{◌≡◌, ◌∙◌, ◌+◌, ◌++◌, ◌∷◌, [], ap, ap₂, List, map, map-append, mapped_more, sym, take, take_all}
-use Rattle.layer_sides.specs.Common.{Side}
+use Rattle.kit_words.proofs.Common.{◌∙◌, ◌+◌, ◌++◌, ◌∷◌, [], ap, ap₂, get_or, get_or_default, map, map-append, mapped_more, sym, take, take_all}
 use Rattle.layer_faces.specs.Common.{segments_seen, side_at, side_ends}
 use Rattle.cover_report.proofs.faces.ends_of.Goals as goal
 
@@ -11,10 +10,10 @@ loop-side-preserved g c =
     let ss = segments_seen c.args.borders.now in
     let i = c.loop-side.side-index in
     let sides = c.args.sides.now in
-    let side = c.side-item.result in
+    let side = get_or sides i 0 in
     c.in_ok-push.ensures.items
     ∙ ap₂ (λ z e. z ++ e ∷ []) c.loop-side.invariant c.ends_at.ensures
-    ∙ sym (ap (map side_ends) (mapped_more (side_at ss) sides i side c.loop-side-test.true c.side-item.is)
+    ∙ sym (ap (map side_ends) (mapped_more (side_at ss) sides i side c.loop-side-test.true (get_or_default sides i 0 side c.loop-side-test.true))
     ∙ map-append side_ends (map (side_at ss) (take i sides)) (side_at ss side ∷ []))
 
 pub returns : goal.returns
