@@ -26,12 +26,11 @@ use topo_outline::RawLayer;
 #[derive(Drop)]
 pub struct Looked<'a, A: Allocator + Copy = Global> {
     /// The layer's name with its quotes, as it stands.
-    pub name: &'a [u8],
+    pub(crate) name: &'a [u8],
     /// What may be told of its faces.
-    pub faces: Vec<ToldFace<A>, A>,
+    pub(crate) faces: Vec<ToldFace<A>, A>,
     pub(crate) uneven: Vec<UnevenPolygon, A>,
-    /// What its areas add up to.
-    pub sums: Sums,
+    pub(crate) sums: Sums,
 }
 
 /// What is told of a layer with this name, in which this was found.
