@@ -1,6 +1,6 @@
 -- Texts, and the borders of faces, one after another.
 use Rattle.kit_words.proofs.Common.{◌≡◌, ◌∙◌, ℕ, suc, ◌+◌, ◌<◌, ◌++◌, ◌∷◌, [], List, ap, sym, refl, arith, length, map, take, get_or, nat_lt}
-use Rattle.kit_words.proofs.Common.{append_assoc, flat_mapped_more, length-append, length-map, map-append, mapped_more}
+use Rattle.kit_words.proofs.Common.{append_assoc, flat_mapped_more, length-append, length-map, mapped_more}
 use Rattle.ring_machine.specs.Common.{Text}
 use Rattle.map_text.specs.Common.{comma_if, commas}
 use Rattle.place_text.proofs.Listed.{commas_next}
@@ -48,9 +48,6 @@ module _ {X Y : Type 0} (of : X → Y) (xs : List X) (i : ℕ) (x : X) (l : i < 
   -- as a function tells them
   pub told_length : (f : Y → Text) → length (map f (map of (take i xs))) ≡ i
   told_length f = length-map (map of (take i xs)) f ∙ seen_length
-
-  pub told_more : (f : Y → Text) → map f (map of (take (i + 1) xs)) ≡ map f (map of (take i xs)) ++ f (of x) ∷ []
-  told_more f = ap (map f) (mapped_more of xs i x l e) ∙ map-append f (map of (take i xs)) (of x ∷ [])
 
 module _ {X : Type 0} (of : X → PlaceOf) (xs : List X) (i : ℕ) (x : X) (l : i < length xs) (e : x ≡ get_or xs i x) where
   pub so_many_borders : length (borders_text 0 (map of (take i xs))) ≡ i

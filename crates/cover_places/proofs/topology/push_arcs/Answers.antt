@@ -2,7 +2,8 @@ use Rattle.kit_words.proofs.Common.{arith, refl, sym, ap, ◌∙◌, ◌+◌, �
 use Rattle.std.proofs.Common.{append-nil}
 use Rattle.map_text.specs.Common.{arc_text, commas}
 use Rattle.cover_places.specs.Text.{side_positions}
-use Rattle.cover_places.proofs.Listed.{text_step, told_length, told_more}
+use Rattle.cover_report.proofs.ToldLemmas.{told_more}
+use Rattle.cover_places.proofs.Listed.{text_step, told_length}
 use Rattle.cover_places.proofs.topology.push_arcs.Goals as goal
 
 pub loop-index-init : goal.loop-index-init
@@ -15,7 +16,7 @@ loop-index-preserved g c =
     let side = c.index-sides-index.result in
     let arc = arc_text c.args.delta in
     text_step (map arc (map side_positions (take i sides))) (map arc (map side_positions (take (i + 1) sides))) (arc (side_positions side)) i
-    (told_more side_positions sides i side c.loop-index-test.true c.index-sides-index.is arc)
+    (told_more arc side_positions sides i side c.loop-index-test.true c.index-sides-index.is)
     (told_length side_positions sides i side c.loop-index-test.true c.index-sides-index.is arc)
     (c.args.text.now.items ++ codes "[") c.loop-index.text.items c.push_comma.new.text.items c.push_arc.new.text.items
     c.loop-index.invariant c.in_ok-push_comma.ensures c.in_ok-push_arc.ensures

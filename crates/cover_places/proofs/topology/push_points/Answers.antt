@@ -3,7 +3,8 @@ use Rattle.std.proofs.Common.{append-nil}
 use Rattle.map_text.specs.Common.{commas}
 use Rattle.cover_places.specs.Places.{place_seen}
 use Rattle.cover_places.specs.Text.{point_text}
-use Rattle.cover_places.proofs.Listed.{text_step, told_length, told_more}
+use Rattle.cover_report.proofs.ToldLemmas.{told_more}
+use Rattle.cover_places.proofs.Listed.{text_step, told_length}
 use Rattle.cover_places.proofs.topology.push_points.Goals as goal
 
 pub loop-index-init : goal.loop-index-init
@@ -15,7 +16,7 @@ loop-index-preserved g c =
     let i = c.loop-index.index in
     let place = c.index-places-index.result in
     text_step (map point_text (map place_seen (take i places))) (map point_text (map place_seen (take (i + 1) places))) (point_text (place_seen place)) i
-    (told_more place_seen places i place c.loop-index-test.true c.index-places-index.is point_text)
+    (told_more point_text place_seen places i place c.loop-index-test.true c.index-places-index.is)
     (told_length place_seen places i place c.loop-index-test.true c.index-places-index.is point_text)
     (c.args.text.now.items ++ codes "{\"type\":\"GeometryCollection\",\"geometries\":[") c.loop-index.text.items c.push_comma.new.text.items c.push_point.new.text.items
     c.loop-index.invariant c.in_ok-push_comma.ensures c.in_ok-push_point.ensures

@@ -1,5 +1,6 @@
-use Rattle.kit_words.proofs.Common.{◌∙◌, ◌+◌, ◌++◌, ◌∷◌, [], ap, ap₂, get_or, get_or_default, map, map-append, mapped_more, sym, take, take_all}
+use Rattle.kit_words.proofs.Common.{◌∙◌, ap, get_or, get_or_default, map, take_all}
 use Rattle.layer_faces.specs.Common.{segments_seen, side_at, side_ends}
+use Rattle.cover_report.proofs.ToldLemmas.{told_pushed}
 use Rattle.cover_report.proofs.faces.ends_of.Goals as goal
 
 pub loop-side-init : goal.loop-side-init
@@ -11,10 +12,8 @@ loop-side-preserved g c =
     let i = c.loop-side.side-index in
     let sides = c.args.sides.now in
     let side = get_or sides i 0 in
-    c.in_ok-push.ensures.items
-    ∙ ap₂ (λ z e. z ++ e ∷ []) c.loop-side.invariant c.ends_at.ensures
-    ∙ sym (ap (map side_ends) (mapped_more (side_at ss) sides i side c.loop-side-test.true (get_or_default sides i 0 side c.loop-side-test.true))
-    ∙ map-append side_ends (map (side_at ss) (take i sides)) (side_at ss side ∷ []))
+    told_pushed side_ends (side_at ss) sides i side c.loop-side-test.true (get_or_default sides i 0 side c.loop-side-test.true)
+    c.loop-side.ends.items c.push.new.self.items c.ends_at.result c.loop-side.invariant c.in_ok-push.ensures.items c.ends_at.ensures
 
 pub returns : goal.returns
 returns g c =
