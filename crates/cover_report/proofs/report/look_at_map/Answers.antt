@@ -7,6 +7,6 @@ returns-clause-found g c = record {
   map = view_raw c.in-Ok.raw;
   opens = record { opens = c.in-Ok.ensures.opens; proper = c.in-Ok.ensures.proper };
   under = refl;
-  there = c.in-Ok-2.ensures.there;
-  found = c.in-Ok-2.ensures.found;
+  there = c.in-Ok-looks_at.ensures.there;
+  found = c.in-Ok-looks_at.ensures.found;
 }
