@@ -127,13 +127,13 @@ fn tell_map<W: Write, E: Write>(
 ) -> Result<u8, Stop> {
     let seed = seed_asked(rt, words)?;
     let map = map_bytes(rt, words.map.as_str())?;
-    if let Some(told) = told_as_is(rt.alloc(), words, seed, map.as_slice())? {
-        return Ok(end_told(rt, words, &told, output, errors));
-    }
     let source = match made_of(rt.alloc(), map.as_slice()) {
         Ok(source) => source,
         Err(fault) => return Ok(end_unmade(words, &fault, errors)),
     };
+    if let Some(told) = told_as_is(rt.alloc(), words, seed, &source, map.as_slice())? {
+        return Ok(end_told(rt, words, &told, output, errors));
+    }
     let looking = looking_at(rt, words, seed, map, source)?;
     Ok(tell_looking(rt, words, &looking, output, errors))
 }

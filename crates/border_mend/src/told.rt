@@ -1,9 +1,10 @@
 //! What is told of a map.
-ghost use Rattle.std.specs.Prelude.{◌≡◌, IfOk, IfSome};
+ghost use Rattle.std.specs.Prelude.{[], IfOk, IfSome};
 ghost use Rattle.border_mend.specs.Told.{TellsAsIs};
 
 use crate::asked::Words;
 use crate::ending::{ending_of_mending, ending_of_report};
+use crate::geojson::Source;
 use crate::looking::{Looking, mended, reported};
 use mend_report::{LookFault, Remade, RepairFault, Report, Texts, mend_as_is, report_as_is};
 use program_ends::Ending;
@@ -82,16 +83,21 @@ fn outcome_as_is(
     }
 }
 
-/// The same with its report, which has nothing before it.
+/// The same of a map with this source, with its report, which has nothing before it. A GeoJSON object does
+/// not open as it is.
 pub(crate) fn told_as_is(
     alloc: Global,
     words: &Words,
     seed: RandomState,
+    source: &Source,
     map: &[u8],
 ) -> Result<Option<Told<'static>>, AllocError>
     ensures { IfOk result (λ found. IfSome found (λ told.
         TellsAsIs words.now.asked map.now [] told.texts.report.items told.outcome)) }
 {
+    if source.is_geojson() {
+        return Ok(None);
+    }
     let mut texts = Texts::new(alloc, false);
     match outcome_as_is(alloc, words, seed, map, &mut texts.report)? {
         Some(outcome) => Ok(Some(Told {

@@ -1,5 +1,5 @@
 -- What a map that opens in the editor as it is comes to.
-use Rattle.kit_words.proofs.Common.{◌≡◌, ℕ, List, [], ◌++◌, map, sym, ap, ◌∙◌, subst, Ok, flat_map, list_all, arith}
+use Rattle.kit_words.proofs.Common.{◌≡◌, ◌≢◌, refl, ℕ, List, [], ◌++◌, map, sym, ap, ◌∙◌, subst, Ok, flat_map, list_all, arith}
 use Rattle.ring_machine.specs.Common.{Document, Proper, rings, in_rings, canonical, least_conflict, first_pair, segments}
 use Rattle.map_text.specs.Common.{Saved, text_of}
 use Rattle.topo_reader.specs.Common.{Opened, document_of, is_simple, root_of, IsOfWalks, OpensWalks, Reads}
@@ -14,12 +14,15 @@ use Rattle.map_mending.specs.Common.{NeedsNoMending, MendedBy, Mended, TellsPart
 use Rattle.map_mending.proofs.Kept.{vertices_stay, all_stay_near}
 use Rattle.map_mending.proofs.Whole.{polygons_read}
 use Rattle.mend_report.specs.Common.{EditorOpens, OpensOn, HasOpened, OpensAgain, IsRemade, KeepsAsIs, IsKeptAsIs, TellsKept}
-use Rattle.mend_report.specs.Common.{TellsNothing, whole_grid, Asked, Report, Remade}
+use Rattle.mend_report.specs.Common.{TellsNothing, whole_grid, Asked, Report, Remade, IsUnsaved}
 use Rattle.mend_report.specs.Opens.{OpensTo}
+use Rattle.mend_report.specs.declared.save_fault.SaveFault.{SaveFault}
+use Rattle.mend_report.specs.declared.save_fault.SaveFault.TheVariants.{Conflict, Unopened, OutOfMemory}
 use Rattle.mend_report.specs.Report.{report_of, mended_report}
 use Rattle.mend_report.proofs.EditorOpens.{rings_of_walks, rings_open}
+use Rattle.mend_report.proofs.Reopened.{in_conflict}
 use Rattle.mend_report.proofs.NothingFound.{found_nothing}
-use Rattle.mend_report.proofs.NothingMended.{by_no_paths, mended_as_is, parted_as_is, changes_as_is}
+use Rattle.map_mending.proofs.Unmended.{by_no_paths, mended_as_is, parted_as_is, changes_as_is}
 
 -- the walks of the map, of which its rings are made
 record AsWalks (bytes : List ℕ) (d : Document) : Type 0 where
@@ -117,8 +120,15 @@ tells_kept asked bytes report remade before after finer k paths parted areas gri
 pub unread_unkept : (bytes : List ℕ) → ¬ HasOpened bytes → ¬ IsKeptAsIs bytes
 unread_unkept bytes n k = n ((k.1).document, (k.1).opens)
 
-pub unopened_unkept : (bytes : List ℕ) (d : Document) → Reads bytes d → ¬ HasOpened (text_of d) → ¬ IsKeptAsIs bytes
+unopened_unkept : (bytes : List ℕ) (d : Document) → Reads bytes d → ¬ HasOpened (text_of d) → ¬ IsKeptAsIs bytes
 unopened_unkept bytes d reads n k =
     let same = one_reading bytes (k.1).document d (k.1).opens.reads reads in
     let again = (k.1).again in
     n (subst HasOpened ((k.1).is ∙ ap text_of same) (again.0, again.1))
+
+pub unsaved_unkept : (bytes : List ℕ) (d : Document) (fault : SaveFault) → Reads bytes d → IsUnsaved d fault → fault ≢ OutOfMemory
+    → ¬ IsKeptAsIs bytes
+unsaved_unkept bytes d (Conflict s t) reads u ne =
+    unread_unkept bytes (in_conflict bytes d (s, t) (λ e again. one_reading bytes e d again reads) u)
+unsaved_unkept bytes d Unopened reads u ne = unopened_unkept bytes d reads u
+unsaved_unkept bytes d OutOfMemory reads u ne = absurd (ne refl)

@@ -8,7 +8,6 @@ pub mod AreaLemmas
 pub mod CopiedWalks
 pub mod EditorOpens
 pub mod NothingFound
-pub mod NothingMended
 pub mod AsIsLemmas
 pub mod MendEnds
 mod Examples

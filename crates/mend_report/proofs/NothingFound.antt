@@ -8,7 +8,9 @@ use Rattle.ring_machine.specs.Common.{least_conflict, is_distinct, segments, pai
 use Rattle.ring_machine.proofs.Common.{In, least_conflict_is, Bad, IsLeast, contains_in, in_contains, in_mapped, in_flat}
 use Rattle.ring_machine.proofs.Common.{in-map, in-flat_map, in-filter, all_in, segment_ordered}
 use Rattle.walk_faults.specs.declared.findings.Findings.{Findings}
-use Rattle.walk_faults.specs.Common.{Touch, Crossing, Placed, walks_of, is_short_walk, short_walks, repeated, repeat_at}
+use Rattle.walk_faults.specs.declared.findings.Touch.{Touch}
+use Rattle.walk_faults.specs.declared.findings.Crossing.{Crossing}
+use Rattle.walk_faults.specs.Common.{Placed, walks_of, is_short_walk, short_walks, repeated, repeat_at}
 use Rattle.walk_faults.specs.Common.{all_repeats, all_positions, segments_of_walks, walk_segments, IsTouch, IsCrossing}
 use Rattle.walk_faults.specs.Common.{Found, is_closed_ring, all_walks, Opens, IsNothing, ListsAll, touch_cmp, crossing_cmp}
 use Rattle.walk_faults.proofs.Neighbours.{in_repeated}

@@ -3,7 +3,8 @@ use Rattle.kit_words.proofs.Common.{◌≡◌, ℕ, List, [], ◌++◌, sym, ap,
 use Rattle.kit_words.proofs.Common.{IfErr, Appends, flat_map, flat_map-map, list_all}
 use Rattle.grid_geometry.specs.Common.{Segment}
 use Rattle.ring_machine.specs.Common.{Document, Feature, features, rings, rings_of, segments, is_ring, least_conflict}
-use Rattle.ring_machine.specs.Common.{first_pair, Proper, Same, without_numbers}
+use Rattle.ring_machine.specs.Common.{first_pair, Proper, Same}
+use Rattle.ring_machine.specs.WellFormed.{without_numbers}
 use Rattle.ring_machine.proofs.Common.{features-in_features}
 use Rattle.map_text.specs.Common.{Saved, text_of}
 use Rattle.topo_reader.specs.Common.{Reads, Fits}

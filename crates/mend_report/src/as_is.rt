@@ -30,8 +30,12 @@ fn opens<A: Allocator + Copy>(
 {
     let raw = match read(alloc, heap, seed, bytes) {
         Ok(raw) => raw,
-        Err(OpenFault::OutOfMemory) => return Err(AllocError),
-        Err(_) => return Ok(false),
+        Err(fault) => {
+            return match fault {
+                OpenFault::OutOfMemory => Err(AllocError),
+                _ => Ok(false),
+            };
+        }
     };
     let index = TreeIndex::new(heap, raw.extent());
     match Map::build(alloc, heap, seed, raw, index) {
@@ -80,11 +84,12 @@ pub fn report_as_is<A: Allocator + Copy>(
     report: &mut Vec<u8, A>,
 ) -> Result<Option<Report<A>>, AllocError>
     requires { asked.grid.finer ≡ 0 }
-    ensures told { IfOk result (λ found. MatchOption found
+    ensures { IfOk result (λ found. MatchOption found
         ((¬ HasOpened bytes.now) × (report.new.items ≡ report.old.items))
         (λ told. TellsNothing asked bytes.now told report.old.items report.new.items)) }
 {
-    if !opens(alloc, heap, seed, bytes)? {
+    let is_open = opens(alloc, heap, seed, bytes)?;
+    if !is_open {
         return Ok(None);
     }
     let told = nothing(alloc, asked.dropped);
@@ -105,13 +110,20 @@ fn text_as_is<A: Allocator + Copy>(
 {
     let raw = match read(alloc, heap, seed, bytes) {
         Ok(raw) => raw,
-        Err(OpenFault::OutOfMemory) => return Err(AllocError),
-        Err(_) => return Ok(None),
+        Err(fault) => {
+            return match fault {
+                OpenFault::OutOfMemory => Err(AllocError),
+                _ => Ok(None),
+            };
+        }
     };
     match saved_text(alloc, heap, seed, raw) {
         Ok(text) => Ok(Some(text)),
-        Err(SaveFault::Conflict { .. } | SaveFault::Unopened) => Ok(None),
-        Err(SaveFault::OutOfMemory) => Err(AllocError),
+        Err(fault) => match fault {
+            SaveFault::OutOfMemory => Err(AllocError),
+            // Two segments conflict, or the text is over a limit.
+            _ => Ok(None),
+        },
     }
 }
 
@@ -128,7 +140,7 @@ pub fn mend_as_is<A: Allocator + Copy>(
     report: &mut Vec<u8, A>,
 ) -> Result<Option<Remade<A>>, AllocError>
     requires { asked.grid.finer ≡ 0 }
-    ensures told { IfOk result (λ found. MatchOption found
+    ensures { IfOk result (λ found. MatchOption found
         ((¬ IsKeptAsIs bytes.now) × (report.new.items ≡ report.old.items))
         (λ remade. TellsKept asked bytes.now remade report.old.items report.new.items)) }
 {

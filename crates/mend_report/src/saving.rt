@@ -67,8 +67,10 @@ fn read_again<A: Allocator + Copy>(
             drop(raw);
             Ok(())
         }
-        Err(OpenFault::OutOfMemory) => Err(SaveFault::OutOfMemory),
-        Err(_) => Err(SaveFault::Unopened),
+        Err(fault) => match fault {
+            OpenFault::OutOfMemory => Err(SaveFault::OutOfMemory),
+            _ => Err(SaveFault::Unopened),
+        },
     }
 }
 

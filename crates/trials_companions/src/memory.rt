@@ -33,8 +33,7 @@ const MENDED: &str =
 
 const OPENED: &str = "opens\ncounts short 0 repeats 0 on 0 cross 0\n";
 
-const KEPT: &str =
-    "opens\ncounts short 0 repeats 0 on 0 cross 0 paths 0 parts 0 areas 0\n";
+const KEPT: &str = "opens\ncounts short 0 repeats 0 on 0 cross 0 paths 0 parts 0 areas 0\n";
 
 const COVERED: &str = "counts overlap 1 twice 1 gap 1 lake 1 uneven 1\n";
 
@@ -109,8 +108,8 @@ fn mend_nothing<A: Allocator + Copy>(alloc: Global, heap: A) -> End {
     let asked = Asked::with_most(0);
     match mend_as_is(heap, alloc, seed, SQUARE.as_bytes(), asked, &mut report) {
         Ok(Some(kept))
-            if report.as_slice() == KEPT.as_bytes()
-                && kept.text.as_slice() == SQUARE.as_bytes() => End::Told,
+            if report.as_slice() == KEPT.as_bytes() && kept.text.as_slice() == SQUARE.as_bytes() =>
+            End::Told,
         Err(AllocError) => End::OutOfMemory,
         Ok(_) => End::Otherwise,
     }

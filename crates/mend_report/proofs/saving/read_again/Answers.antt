@@ -1,9 +1,5 @@
-use Rattle.topo_reader.specs.Common.{document_of, view_raw}
 use Rattle.mend_report.proofs.Reopened.{never_read}
 use Rattle.mend_report.proofs.saving.read_again.Goals as goal
-
-pub returns-in-Ok-clause-read : goal.returns-in-Ok-clause-read
-returns-in-Ok-clause-read g c = (document_of (view_raw c.in-Ok.raw), c.in-Ok.ensures.reads)
 
 pub returns-in_default : goal.returns-in_default
 returns-in_default g c = record {

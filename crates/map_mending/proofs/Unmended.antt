@@ -1,23 +1,23 @@
 -- A map of rings, each begun anywhere, no two of whose segments conflict is mended by no paths: to itself, with each
 -- ring begun at its least position.
 use Rattle.kit_words.proofs.Common.{◌≡◌, ℕ, suc, List, [], ◌∷◌, ◌++◌, map, refl, sym, ap, ap₂, ◌∙◌, subst, cond, ℤ, pos}
-use Rattle.kit_words.proofs.Common.{◌+ℤ◌, ◌-ℤ◌, ◌+◌, ◌&&◌, ◌==◌, T, true, Bool, AllZip, AllByRecursion, All-nil, IsTrue}
+use Rattle.kit_words.proofs.Common.{◌+ℤ◌, ◌-ℤ◌, ◌+◌, ◌&&◌, ◌==◌, T, true, false, Bool, AllZip, AllByRecursion, All-nil, IsTrue}
 use Rattle.kit_words.proofs.Common.{IsStrictlySortedBy, IsStrictlySortedBy-filter, Ordering, Less, Equal, Greater, is_lt}
 use Rattle.kit_words.proofs.Common.{below_all, is_sorted, filter, flat_map, fold, list_all, list_all-append, and_parts}
-use Rattle.kit_words.proofs.Common.{sum_by-cons, Decides-int_eq, int_eq}
-use Rattle.std.specs.FinMap as table
-use Rattle.std.specs.FinSet as set
+use Rattle.kit_words.proofs.Common.{sum_by-cons, Decides-int_eq, int_eq, inl, inr}
+use Rattle.kit_words.proofs.Common.{false≢true, is_some, Some}
+use Rattle.std.specs.FinMap.Entries.{put, find, is_some-find, is_sorted-put, find-put}
 use Rattle.std.specs.Prelude.{sum_by}
-use Rattle.grid_geometry.specs.Common.{Position, Segment, segment_cmp, Edge, edges, links}
-use Rattle.ring_machine.specs.Common.{canonical, segment_of, absolute_area, polygon_area, Feature, Document, features, rings}
+use Rattle.grid_geometry.specs.Common.{Position, Segment, segment_cmp, Edge, edges}
+use Rattle.ring_machine.specs.Common.{canonical, segment_of, absolute_area, polygon_area, Feature, Document, features}
 use Rattle.ring_machine.specs.Common.{all_segments, in_feature, in_rings}
-use Rattle.ring_machine.proofs.Common.{In, contains_in, in_contains, any_in, in_any, in-filter, filter-in, features-in_rings}
+use Rattle.ring_machine.proofs.Common.{In, contains_in, in_contains, any_in, in-filter, filter-in, features-in_rings}
 use Rattle.ring_machine.proofs.SplitAreas.{absolute_area-canonical}
 use Rattle.segment_index.specs.Common.{segment_is}
 use Rattle.segment_index.proofs.Common.{segment_total, same_segment, is-itself}
 use Rattle.topo_reader.specs.Common.{Polygons, Opened, document_of, is_simple, IsOfWalks}
 use Rattle.walk_faults.specs.Common.{all_walks}
-use Rattle.walk_mending.specs.Common.{laid, IsMended, stays}
+use Rattle.walk_mending.specs.Common.{IsMended, stays}
 use Rattle.map_mending.specs.Common.{MendsPolygon, Mended, polygons_of_parts, MendedBy, NeedsNoMending, bounds_in, TellsParted}
 use Rattle.map_mending.specs.Common.{polygons_by_feature, changes_from, with_mended}
 use Rattle.map_mending.specs.Areas.{area_in, change_of, told_if}
@@ -25,7 +25,7 @@ use Rattle.map_mending.specs.Told.{told_of, told_from, told_in}
 use Rattle.map_mending.specs.Swept.{swept_by, swept_walks, swept_of}
 use Rattle.map_mending.proofs.Beside.{no_triangle}
 use Rattle.map_mending.proofs.Pieces.{document_mended}
-use Rattle.map_mending.proofs.Stays.{bounding_in, laid_plain, mended_stays}
+use Rattle.map_mending.proofs.Stays.{bounding_in, all_plain, mended_stays}
 
 -- ---- the segments that bound, ascending
 
@@ -43,7 +43,7 @@ is_less Equal p = absurd p
 is_less Greater p = absurd p
 
 -- the keys of a set ascend
-module _ {K X : Type 0} {R : K → K → Ordering} where
+module _ {K X : Type 0} (R : K → K → Ordering) where
   rest_above : (k : K) (es : List (K × X)) → T (below_all R k es) → AllByRecursion (λ y. R k y ≡ Less) (map (λ e. e.0) es)
   rest_above k [] h = tt
   rest_above k (e ∷ es) h =
@@ -56,17 +56,33 @@ module _ {K X : Type 0} {R : K → K → Ordering} where
       (rest_above e.0 es (first_of_two (below_all R e.0 es) (is_sorted R es) h), keys_rise es (second_of_two (below_all R e.0 es) (is_sorted R es) h))
 
 -- the segments, ascending, each once
-in_order : List Segment → List Segment
-in_order ss = set.items (set.from_list {R = segment_cmp} ss)
+abbrev entries_of : List Segment → List (Segment × Unit {0})
+entries_of [] = []
+entries_of (s ∷ ss) = put segment_cmp s tt (entries_of ss)
+
+abbrev in_order : List Segment → List Segment
+in_order ss = map (λ e. e.0) (entries_of ss)
+
+entries-sorted : (ss : List Segment) → T (is_sorted segment_cmp (entries_of ss))
+entries-sorted [] = tt
+entries-sorted (s ∷ ss) = is_sorted-put segment_cmp segment_total s tt (entries_of ss) (entries-sorted ss)
 
 in_order-rises : (ss : List Segment) → IsStrictlySortedBy segment_cmp (in_order ss)
-in_order-rises ss = keys_rise (table.entries (set.from_list {R = segment_cmp} ss)) (table.entries_sorted (set.from_list {R = segment_cmp} ss))
+in_order-rises ss = keys_rise segment_cmp (entries_of ss) (entries-sorted ss)
+
+among-entries : (ss : List Segment) (s : Segment) → In s ss → is_some (find segment_cmp s (entries_of ss)) ≡ true
+among-entries [] s i = absurd i
+among-entries (t ∷ ss) s i = ap is_some (find-put segment_cmp segment_total s t tt (entries_of ss)) ∙ by (segment_is s t) refl i (among-entries ss s)
+  where
+    by : (b : Bool) → segment_is s t ≡ b → In s (t ∷ ss) → (In s ss → is_some (find segment_cmp s (entries_of ss)) ≡ true)
+        → is_some (cond b (Some tt) (find segment_cmp s (entries_of ss))) ≡ true
+    by true e j rest = refl
+    by false e (inl same) rest = absurd (false≢true (sym e ∙ ap (segment_is s) same ∙ is-itself s))
+    by false e (inr j) rest = rest j
 
 in-in_order : (ss : List Segment) (s : Segment) → In s ss → In s (in_order ss)
 in-in_order ss s i =
-    let held = sym (set.contains-items (set.from_list {R = segment_cmp} ss) s) ∙ set.contains-from_list segment_total ss s
-    ∙ in_any (segment_is s) s ss i (is-itself s) in
-    let t = any_in (segment_is s) (in_order ss) held in
+    let t = any_in (segment_is s) (in_order ss) (sym (is_some-find segment_cmp s (entries_of ss)) ∙ among-entries ss s i) in
     subst (λ z. In z (in_order ss)) (sym (same_segment s t.0 t.2)) t.1
 
 -- a document that needs no mending is mended by no paths
@@ -82,7 +98,7 @@ by_no_paths d n = record {
           (filter-in (bounds_in d) s (in_order (all_segments d)) (in-in_order (all_segments d) s (bounding_in d n s b)) b),
     );
   };
-  are_paths = record { ascending = tt; among = All-nil; ways = All-nil; known = All-nil };
+  are_paths = record { ascending = tt; among = All-nil _; ways = All-nil _; known = All-nil _ };
   needed = λ h. refl;
 }
 
@@ -92,12 +108,8 @@ by_no_paths d n = record {
 abbrev pub turned : Polygons → Polygons
 turned ps = map (map canonical) ps
 
-part_of : List (List Position) → Polygons
+abbrev part_of : List (List Position) → Polygons
 part_of walks = map canonical walks ∷ []
-
-all_plain : (walks : List (List Position)) → map (laid []) walks ≡ walks
-all_plain [] = refl
-all_plain (w ∷ walks) = ap₂ (λ (y : List Position) (z : List (List Position)). y ∷ z) (laid_plain w) (all_plain walks)
 
 both_simple : (xs ys : List (List Position)) → list_all is_simple (xs ++ ys) ≡ true → (list_all is_simple xs ≡ true) × (list_all is_simple ys ≡ true)
 both_simple xs ys h = and_parts (list_all is_simple xs) (list_all is_simple ys) (sym (list_all-append is_simple xs ys) ∙ h)
@@ -172,7 +184,7 @@ all_none f h [] = refl
 all_none f h (x ∷ xs) = sum_by-cons f x xs ∙ ap₂ (λ m n. m + n) (h x) (all_none f h xs)
 
 nothing_by : (e : Edge) → swept_by [] e ≡ 0
-nothing_by e = ap (λ n. n + 0) (no_triangle (segment_of e).lo (segment_of e).hi)
+nothing_by e = ap (λ n. 0 + n) (no_triangle (segment_of e).lo (segment_of e).hi)
 
 nothing_swept : (ps : Polygons) → swept_of [] ps ≡ 0
 nothing_swept ps =
@@ -199,7 +211,7 @@ polygons_turned d = ap (map (λ (f : Feature). f.polygons)) (features-in_rings c
 
 module _ (o : Opened) (w : IsOfWalks o) (n : NeedsNoMending (document_of o)) (same : polygons_by_feature (document_of o) ≡ o.polygons)
     (simple : list_all is_simple (all_walks o.polygons) ≡ true) where
-  d : Document
+  abbrev d : Document
   d = document_of o
 
   -- it is mended to itself
