@@ -109,9 +109,11 @@ tells_kept asked bytes report remade before after finer k paths parted areas gri
         report.grid,
         on,
         subst (IsTold asked.grid bytes) (sym grid) (whole_is_told asked.grid bytes o finer w.walks),
-        report.findings,
-        found_nothing o.polygons report.findings nothing w.clear,
-        told ∙ ap (λ (n : ℕ). before ++ mended_report asked.most report.grid n report.findings (paths_seen remade.paths.items) remade.parted.items remade.areas.items) dropped,
+        (
+          report.findings,
+          found_nothing o.polygons report.findings nothing w.clear,
+          told ∙ ap (λ (n : ℕ). before ++ mended_report asked.most report.grid n report.findings (paths_seen remade.paths.items) remade.parted.items remade.areas.items) dropped,
+        ),
       );
     }
 
