@@ -10,6 +10,10 @@ RUNNING = set()
 # Lines of a report on a file of GeoJSON of which a map is made without any change. Where a point is rounded, there are
 # more decimals than are kept.
 SOUND = re.compile(r"geojson|decimals ([0-9]+) digits \1 rounded 0|counts short 0 repeats 0 on 0 cross 0")
+# How the lines begin that tell what was done about a map.
+DONE = ("path ", "parts ", "area ")
+# The fault of a map that is GeoJSON, or no map at all.
+NOT_TOPOLOGY = "not a topology"
 
 
 def run(program, *arguments):
@@ -40,6 +44,20 @@ def findings(border_mend, map_path):
     """All that stops a map from opening, and whether border_mend can read the map."""
     status, report, _ = run(border_mend, map_path)
     return lines_of(report), status in (0, 1)
+
+
+def findings_in(report):
+    """The lines of a report that tell what stops a map from opening, without those of what was done about it."""
+    return [line.partition(" paths ")[0] for line in lines_of(report) if not line.startswith(DONE)]
+
+
+def make(border_mend, map_path, made_path):
+    """Makes a map of what is no topology: the same as `findings`, and whether it was made without any change."""
+    status, report, _ = run(border_mend, map_path, "--out", made_path)
+    if status == 2:  # it can't be read, or no map comes of it
+        return *findings(border_mend, map_path), False
+    found = findings_in(report)
+    return found, status == 0, status == 0 and is_sound_geojson(found)
 
 
 def is_sound_geojson(findings):

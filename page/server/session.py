@@ -126,9 +126,7 @@ class Session:
             if ended.status != 2:
                 raise
             self.fault = mending.without_open(str(ended))
-            self.findings, self.is_mendable = mending.findings(self.programs.path("border_mend"), base)
-            if self.findings[:1] == ["geojson"]:
-                self._take_geojson()
+            self._find(base)
         else:
             self.base, self.child = base, child
         finally:
@@ -136,25 +134,25 @@ class Session:
             if self.child is not child:
                 child.end()
 
-    def _take_geojson(self):
-        """MAP is GeoJSON, and so is what is saved over it. Where nothing has to be mended, a map is made of it at once."""
-        if self.is_saved_over:
+    def _find(self, base):
+        """Finds what stops a map from opening. Where nothing has to be mended in GeoJSON, a map is made of it at once."""
+        border_mend = self.programs.path("border_mend")
+        if self.fault != mending.NOT_TOPOLOGY:
+            self.findings, self.is_mendable = mending.findings(border_mend, base)
+            return
+        made = self._mended_path()
+        self.findings, self.is_mendable, is_made = mending.make(border_mend, base, made)
+        if self.is_saved_over and self.findings[:1] == ["geojson"]:
+            # MAP is GeoJSON, and so is what is saved over it
             self.is_geojson = True
             self.programs.look_for("border_export")
-        if self.is_mendable and mending.is_sound_geojson(self.findings):
-            self._mend_at_once()
+        if is_made:
+            self._open_mended(made, None)
+            # saved as GeoJSON it is what it was; else there is something to save
+            self.saved_state = self.states[-1] if self.is_geojson else None
         if self.is_geojson:
             # whether it is proved is told with the page
             self.programs.path("border_export")
-
-    def _mend_at_once(self):
-        """Opens GeoJSON that needs no mending. Saved as GeoJSON it is what it was; else there is something to save."""
-        try:
-            self.mend(None)
-        except Refusal:
-            # the page offers it too, and says why it can't be done
-            return
-        self.saved_state = self.states[-1] if self.is_geojson else None
 
     def _must_be_exported(self):
         """Tries whether a topology can be GeoJSON, before anyone edits it."""
@@ -467,17 +465,26 @@ class Session:
             raise Refusal(f"{self.file} was changed by another program since it was opened or saved here", True)
         return now
 
+    def _mended_path(self):
+        """Where a map is put that is made of this one."""
+        mended = self.scratch / "mended" / self.base.name
+        mended.parent.mkdir(exist_ok=True)
+        return mended
+
+    def _open_mended(self, mended, digits):
+        """Opens what was made of a map with so many decimals."""
+        self._open(mended, self._child(mended))
+        self.mended_by, self.saved_state = "" if digits is None else f" --digits {digits}", None
+
     def mend(self, digits):
         """Mends a map that does not open, and opens what was made of it. The report of border_mend."""
         if self.child is not None:
             raise Refusal("the map opens")
-        mended = self.scratch / "mended" / self.base.name
-        mended.parent.mkdir(exist_ok=True)
+        mended = self._mended_path()
         report, why = mending.mend(self.programs.path("border_mend"), self.base, mended, digits)
         if why:
             raise Refusal(f"the map can't be mended: {why}")
-        self._open(mended, self._child(mended))
-        self.mended_by, self.saved_state = "" if digits is None else f" --digits {digits}", None
+        self._open_mended(mended, digits)
         return {"report": report, "opens": self.child is not None}
 
     # ---- the end

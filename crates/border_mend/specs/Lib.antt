@@ -4,3 +4,4 @@ pub mod Points
 pub mod Geojson
 pub mod Telling
 pub mod Common
+pub mod Told

@@ -1,5 +1,5 @@
 //! What the words of the program ask for.
-ghost use Rattle.std.specs.Prelude.{◌≤◌};
+ghost use Rattle.std.specs.Prelude.{◌≡◌, ◌≤◌, IsTrue};
 
 use mend_report::Asked;
 use program_ends::{FileArgument, Role};
@@ -21,6 +21,14 @@ pub struct Words {
 }
 
 impl Words {
+    /// Whether they ask nothing that a map which opens in the editor has not as it is: neither a finer grid
+    /// nor a text without lines, nor places.
+    pub(crate) fn take_as_is(&self) -> bool
+        ensures { IsTrue result → self.now.asked.grid.finer ≡ 0 }
+    {
+        self.asked.grid.finer == 0 && !self.drop_lines && self.places.is_none()
+    }
+
     /// The files that the words name, those that are written first. MAP is used so.
     pub(crate) fn files(&self, map: Role) -> [FileArgument<'_>; 3] {
         [

@@ -11,6 +11,7 @@ mod looking;
 mod points;
 mod seeds;
 mod telling;
+mod told;
 
 use asked::Words;
 use command_line::words;

@@ -4,10 +4,11 @@ ghost use Rattle.mend_report.specs.Common.{unmended_status};
 ghost use Rattle.mend_report.specs.declared.repair_fault.RepairFault.TheVariants.{Look};
 
 use crate::asked::Words;
-use crate::ending::{ending_of_mending, ending_of_report, ending_unmade};
+use crate::ending::ending_unmade;
 use crate::geojson::made_of;
-use crate::looking::{Looking, looking_at, mended, reported};
+use crate::looking::{Looking, looking_at};
 use crate::seeds::report_seed;
+use crate::told::{Outcome, Told, told_as_is, told_of};
 use mend_report::{LookFault, Texts};
 use program_ends::{Ending, Errors, Paths, Stop, hash_seed, map_bytes, replace_file};
 use std::hash::RandomState;
@@ -69,38 +70,22 @@ fn paths_of(words: &Words) -> Paths<'_> {
     }
 }
 
-/// Writes the report of a map and its places, and ends as the report did.
-fn tell_file<W: Write, E: Write>(
+/// Writes the report of a map and its places, and at last the mended map in FILE, where it is mended.
+fn end_told<W: Write, E: Write>(
     rt: &HostRuntime,
     words: &Words,
-    looking: &Looking,
+    told: &Told<'_>,
     output: &mut W,
     errors: &mut Errors<'_, E>,
 ) -> u8 {
-    let alloc = rt.alloc();
-    let mut texts = Texts::new(alloc, words.places.is_some());
-    let outcome = reported(alloc, looking, &mut texts);
-    let is_geojson = looking.source.is_geojson();
-    let ending = ending_of_report(&outcome, is_geojson, texts.report.as_slice());
-    let ending = print_and_place(rt, words, &texts, ending, output);
-    errors.end(ending, &paths_of(words))
-}
-
-/// Mends a map, writes its report and its places, and at last the mended map in FILE.
-fn mend_file<W: Write, E: Write>(
-    rt: &HostRuntime,
-    words: &Words,
-    looking: &Looking,
-    output: &mut W,
-    errors: &mut Errors<'_, E>,
-) -> u8 {
-    let alloc = rt.alloc();
-    let mut texts = Texts::new(alloc, words.places.is_some());
-    let outcome = mended(alloc, looking, &mut texts);
-    let ending = ending_of_mending(&outcome, texts.report.as_slice());
-    let ending = print_and_place(rt, words, &texts, ending, output);
-    let ending = match (&outcome, &words.out) {
-        (Ok(remade), Some(out)) => save(rt, ending, out.as_str(), remade.text.as_slice()),
+    let ending = print_and_place(rt, words, &told.texts, told.ending(), output);
+    let ending = match (&told.outcome, &words.out) {
+        (Outcome::Mended(Ok(remade)), Some(out)) => save(
+            rt,
+            ending,
+            out.as_str(),
+            remade.text.as_slice(),
+        ),
         _ => ending,
     };
     errors.end(ending, &paths_of(words))
@@ -121,6 +106,18 @@ fn end_unmade<E: Write>(words: &Words, fault: &LookFault<'_>, errors: &mut Error
     errors.end(ending_unmade(fault), &paths_of(words))
 }
 
+/// Tells or mends a map that does not open in the editor as it is, or of which more is asked.
+fn tell_looking<W: Write, E: Write>(
+    rt: &HostRuntime,
+    words: &Words,
+    looking: &Looking,
+    output: &mut W,
+    errors: &mut Errors<'_, E>,
+) -> u8 {
+    let told = told_of(rt.alloc(), words, looking);
+    end_told(rt, words, &told, output, errors)
+}
+
 /// Reads MAP, and tells or mends it.
 fn tell_map<W: Write, E: Write>(
     rt: &HostRuntime,
@@ -134,11 +131,11 @@ fn tell_map<W: Write, E: Write>(
         Ok(source) => source,
         Err(fault) => return Ok(end_unmade(words, &fault, errors)),
     };
-    let looking = looking_at(rt, words, seed, map, source)?;
-    match words.out {
-        Some(_) => Ok(mend_file(rt, words, &looking, output, errors)),
-        None => Ok(tell_file(rt, words, &looking, output, errors)),
+    if let Some(told) = told_as_is(rt.alloc(), words, seed, &source, map.as_slice())? {
+        return Ok(end_told(rt, words, &told, output, errors));
     }
+    let looking = looking_at(rt, words, seed, map, source)?;
+    Ok(tell_looking(rt, words, &looking, output, errors))
 }
 
 /// Tells what the words ask. Answers the status that the program ends with; the report and the line

@@ -17,9 +17,9 @@ use Rattle.topo_reader.proofs.Common.{made, bind_ok, demand_ok, ok_same}
 use Rattle.grid_reader.specs.declared.told.Told.{Told}
 use Rattle.grid_reader.specs.Common.{Wants, FinePosition, fine_origin, fine_position, before_next_fine, fine_positions, fine_arc}
 use Rattle.grid_reader.specs.Common.{fine_arcs, arcs_on, finer_by, has_further, opened_on, grid_opening, IsTold}
-use Rattle.grid_reader.specs.Common.{transform_on, has_wholes}
+use Rattle.grid_reader.specs.Common.{transform_on, has_wholes, positions_moved}
 use Rattle.grid_reader.proofs.Opened.{put, goes_well, opened_parts}
-use Rattle.grid_reader.proofs.WholeNumbers.{scaled, arcs_scaled, steps_of, IsPlain, steps_plain, position_in_units, position_back, no_digits, arcs_unmoved, same_arcs, same_grid}
+use Rattle.grid_reader.proofs.WholeNumbers.{scaled, arcs_scaled, steps_of, IsPlain, steps_plain, position_in_units, position_back, none_in_arcs, no_digits, all_stay, arcs_unmoved, same_arcs, same_grid}
 
 -- ---- what the editor reads has whole numbers, and two of them in each position
 
@@ -284,3 +284,25 @@ grid_is_whole wants bytes o told e h t whole low =
     let kept : g.shape.transform ≡ g.transform = ok_same g.shape.transform g.transform (rw grid at g.divides) in
     let is : made g.shape g.polygons ≡ o = ap (λ (x : Option Text). put g.shape x g.polygons) kept ∙ g.is in
     record { short = h.short; json = h.json; opens = rw (g.outlined, back.2, along) (ap opened is) }
+
+-- and this is told of it
+pub whole_is_told : (wants : Wants) (bytes : List ℕ) (o : Opened) → wants.finer ≡ 0 → OpensWalks bytes o →
+    IsTold wants bytes (record { decimals = 0; digits = 0; rounded = 0; heights = 0; whole = true })
+whole_is_told wants bytes o e h =
+    let w = whole_parts bytes o h in
+    let none = no_digits wants w.found in
+    let plain = subst (ArePlain wants.drop_heights) (ap (flat_map items) (items_told w.are.1))
+    (arcs_plain wants.drop_heights (is_some w.shape.transform) w.are.0 w.found w.are.2) in
+    record {
+      shape = w.shape;
+      fine = arcs_scaled w.found;
+      outlined = w.outlined;
+      are = arcs_in_units wants e (is_some w.shape.transform) w.shape.arcs w.found w.are;
+      is = record {
+        decimals = rw (none_in_arcs w.found) refl;
+        digits = sym none;
+        rounded = sym (ap (λ (n : ℕ). positions_moved n (arcs_scaled w.found)) none ∙ ap length (all_stay w.found));
+        heights = sym (none_dropped wants.drop_heights (nodes_of w.shape) plain);
+        whole = sym (all_whole_of wants.drop_heights (nodes_of w.shape) plain);
+      };
+    }

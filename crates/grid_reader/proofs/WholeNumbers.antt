@@ -4,6 +4,7 @@ use Rattle.kit_words.proofs.Common.{List, [], ◌∷◌, length, map, take, refl
 use Rattle.kit_words.proofs.Common.{◌*ℤ◌, unsigned_abs, Option, Some, None, Result, Ok, Err, is_ok, nat_le}
 use Rattle.kit_words.proofs.Common.{int_div_euclid, list_all, fold, flat_map, nat_tests, ints, unsigned_abs-mul}
 use Rattle.kit_words.proofs.Common.{map-append, fold-append, and_parts, le-leb, lt-leb, leb-true, and_none}
+use Rattle.kit_words.proofs.Common.{◌++◌, ◌==◌, not, filter, filter-append}
 use Rattle.json_spans.specs.Common.{is_digit, digits, IsValue, IsNumber, kind_from, kind_of, Node, items, IsWhole}
 use Rattle.json_spans.specs.Common.{plain, negative, whole_of}
 use Rattle.json_spans.specs.declared.kinds.Kind.TheVariants as kind
@@ -16,13 +17,13 @@ use Rattle.topo_reader.specs.Common.{Arc, IsSum}
 use Rattle.topo_reader.specs.Positions as editor
 use Rattle.topo_reader.proofs.Common.{bind_ok, demand_ok, ok_same}
 use Rattle.topo_reader.proofs.MeaningOfArcs.{small_step}
-use Rattle.decimal_texts.specs.Common.{Parts, parts_of, fine, decimals, rounded}
+use Rattle.decimal_texts.specs.Common.{Parts, parts_of, fine, decimals, rounded, is_rounded}
 use Rattle.decimal_texts.proofs.Wholes.{whole_has_parts, whole_is_fine}
 use Rattle.decimal_texts.proofs.Zeros.{zeros_all}
 use Rattle.grid_reader.specs.Common.{Wants, FinePosition, fits_finer_grid, fine_sum, fine_coordinate, first_two_of, fine_pair_of, fine_pair}
 use Rattle.grid_reader.specs.Common.{fine_position, xy, coordinates, greater, greatest_from, most_decimals, smaller}
 use Rattle.grid_reader.specs.Common.{fitting, furthest, furthest_of_all, decimals_kept, position_on_grid, arcs_on, finer_by, has_further, is_whole_number}
-use Rattle.grid_reader.specs.Common.{has_wholes}
+use Rattle.grid_reader.specs.Common.{has_wholes, is_moved}
 
 -- ---- whole numbers in units
 
@@ -208,7 +209,7 @@ none_in_arc : (a : Arc) → greatest_from decimals 0 (map scaled a) ≡ 0
 none_in_arc [] = refl
 none_in_arc (p ∷ ps) = rw (no_decimals p.x, no_decimals p.y) (none_in_arc ps)
 
-none_in_arcs : (found : List Arc) → most_decimals (arcs_scaled found) ≡ 0
+pub none_in_arcs : (found : List Arc) → most_decimals (arcs_scaled found) ≡ 0
 none_in_arcs [] = refl
 none_in_arcs (a ∷ found) =
     let rest = coordinates (arcs_scaled found) in
@@ -224,6 +225,21 @@ none_fit finer far most = let none : smaller most 0 ≡ 0 = grind arith in rw no
 pub no_digits : (wants : Wants) (found : List Arc) → decimals_kept wants (arcs_scaled found) ≡ 0
 no_digits wants found =
     rw (none_in_arcs found, none_fit wants.finer (furthest (arcs_scaled found)) wants.digits, none_fit wants.finer (furthest_of_all wants (arcs_scaled found)) wants.digits) refl
+
+not_rounded : (z : ℤ) → is_rounded 0 (in_units z) ≡ false
+not_rounded z =
+    let whole : unsigned_abs (in_units z) % 10 ^ 24 ≡ 0 = omega (arith, unsigned_abs-mul z (pos (10 ^ 24))) in
+    ap (λ (n : ℕ). not (n == 0)) whole
+
+none_moved : (a : Arc) → filter (is_moved 0) (map scaled a) ≡ []
+none_moved [] = refl
+none_moved (p ∷ ps) = rw (not_rounded p.x, not_rounded p.y) (none_moved ps)
+
+pub all_stay : (found : List Arc) → filter (is_moved 0) (flat_map (λ a. a) (arcs_scaled found)) ≡ []
+all_stay [] = refl
+all_stay (a ∷ found) =
+    filter-append (is_moved 0) (map scaled a) (flat_map (λ b. b) (arcs_scaled found))
+    ∙ ap₂ (λ qs rs. qs ++ rs) (none_moved a) (all_stay found)
 
 unrounded : (z : ℤ) → rounded 0 (in_units z) ≡ z
 unrounded (pos n) = omega (arith, ints)

@@ -10,6 +10,7 @@ pub mod Features
 pub mod Whole
 pub mod Settling
 pub mod Stays
+pub mod Unmended
 pub mod Kept
 pub mod Failing
 pub mod Counting

@@ -40,7 +40,7 @@ module _ (d : Document) (n : NeedsNoMending d) where
       all_in is_simple (rings d) w n.are_rings
       (in-flat_map rings_of f w (features d) i (in-flat_map (λ p. p) walks w f.polygons j k)))
 
-  bounding_in : (s : Segment) → bounds_in d s ≡ true → In s (all_segments d)
+  pub bounding_in : (s : Segment) → bounds_in d s ≡ true → In s (all_segments d)
   bounding_in s b =
       let f = any_in (λ g. list_any (λ walks. is_bounding walks s) g.polygons) (features d) b in
       let w = any_in (λ walks. is_bounding walks s) (f.0).polygons f.2 in
@@ -87,7 +87,7 @@ pub laid_plain : (walk : List Position) → laid [] walk ≡ walk
 laid_plain [] = refl
 laid_plain (a ∷ ps) = begins a a ps
 
-all_plain : (walks : List (List Position)) → map (laid []) walks ≡ walks
+pub all_plain : (walks : List (List Position)) → map (laid []) walks ≡ walks
 all_plain [] = refl
 all_plain (w ∷ walks) = ap₂ (λ (y : List Position) (z : List (List Position)). y ∷ z) (laid_plain w) (all_plain walks)
 

@@ -62,7 +62,7 @@ turned_pair rs =
 -- ---- a map of walks
 
 -- the rings of its document are its walks
-rings_of_walks : (bytes : List ℕ) (o : Opened) → OpensWalks bytes o → rings (document_of o) ≡ all_walks o.polygons
+pub rings_of_walks : (bytes : List ℕ) (o : Opened) → OpensWalks bytes o → rings (document_of o) ≡ all_walks o.polygons
 rings_of_walks bytes o h =
     let is : IsOfWalks o = answers_of_walks (λ (p : Opened). p) bytes (Ok o) h in
     rings_document o.polygons o.layers
@@ -89,8 +89,9 @@ walks_open bytes o h clear =
     opens _ bytes (in_rings canonical (document_of o)) turned.0 (turned.1 read.1) in
     (opened.0, opened.1, ap first_pair opened.2 ∙ pair_of_walks bytes o h ∙ clear.apart)
 
--- and nothing is found in what the editor opens
-pub rings_open : (bytes : List ℕ) → EditorOpens bytes → (o : Opened) × OpensWalks bytes o × Opens o.polygons
+-- and nothing is found in what the editor opens: its rings are walks, begun at their least positions
+pub rings_open : (bytes : List ℕ) (e : EditorOpens bytes)
+    → (o : Opened) × OpensWalks bytes o × Opens o.polygons × (document_of e.0 ≡ in_rings canonical (document_of o))
 rings_open bytes e =
     let read = is_read bytes e.0 e.1 in
     let walks = rings_are_walks bytes (document_of e.0) read.0 in
@@ -103,4 +104,5 @@ rings_open bytes e =
         apart = sym (pair_of_walks bytes opened.0 opened.1) ∙ ap (λ (d : Document). first_pair (in_rings canonical d)) opened.2
             ∙ ap first_pair (sym walks.3) ∙ e.2;
       },
+      walks.3 ∙ ap (in_rings canonical) (sym opened.2),
     )

@@ -1,6 +1,7 @@
 -- The words of this crate that others cite most, passed on from one place. Declares nothing.
 pub use Rattle.mend_report.specs.Looking.{EditorOpens, HasWalks, Looked, MapOpens, OpensOn, under}
-pub use Rattle.mend_report.specs.Opens.{HasOpened, OpensAgain}
+pub use Rattle.mend_report.specs.AsIs.{IsKeptAsIs, KeepsAsIs, TellsKept, TellsNothing, whole_grid}
+pub use Rattle.mend_report.specs.Opens.{HasOpened, IsRead, OpensAgain}
 pub use Rattle.mend_report.specs.Remaking.{IsRemade, PlacesRemade, RemakesWhole}
 pub use Rattle.mend_report.specs.Report.{all_counts_line, area_line, counts_line, crossing_line, findings_text}
 pub use Rattle.mend_report.specs.Report.{found_text, grid_text, is_clear, reads_unchanged, lines, opens_line, parts_line}

@@ -6,4 +6,5 @@ pub mod Faults
 pub mod Remaking
 pub mod SeenView
 pub mod Status
+pub mod AsIs
 pub mod Common

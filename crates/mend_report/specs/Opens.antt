@@ -3,6 +3,10 @@ use Rattle.std.specs.Prelude.{ℕ, List}
 use Rattle.ring_machine.specs.Common.{Document, Proper, Same}
 use Rattle.topo_reader.specs.Common.{Reads, Fits}
 
+-- the bytes mean a document, within the limits
+abbrev pub IsRead : List ℕ → Type 0
+IsRead bytes = (d : Document) × (reading : Reads bytes d) × Fits reading
+
 -- the bytes mean this document, within the limits, and no two of its segments conflict
 pub record OpensTo (bytes : List ℕ) (d : Document) : Type 0 where
   pub reads : Reads bytes d

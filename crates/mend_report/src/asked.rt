@@ -20,7 +20,8 @@ impl Asked {
     /// So many lines of one kind at most, and the grid that has all decimals that fit; nothing was left
     /// out.
     pub fn with_most(most: usize) -> Asked
-        ensures { result.most ≡ most }
+        ensures most { result.most ≡ most }
+        ensures grid { result.grid.finer ≡ 0 }
     {
         let grid = Wants {
             digits: 24,

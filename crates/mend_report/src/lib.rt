@@ -1,8 +1,8 @@
 //! The report of a map: all that keeps it from opening in the editor, a fact a line, and where; and
 //! how it is mended, so that it opens. From bytes to texts: no file is known here.
 //!
-//! The text of a mended map is given once it has opened: the map is built, written, and its text read
-//! and built again.
+//! The text of a mended map is given once it is known to open: the map is built, written, and its text
+//! read again. A map that opens in the editor as it is needs no more than that.
 #![tactic(auto)]
 
 // The value of a result, or a return of its fault: what `?` does where it converts nothing. The
@@ -32,6 +32,7 @@ macro_rules! append {
     }};
 }
 
+mod as_is;
 mod asked;
 mod lines;
 mod looking;
@@ -42,6 +43,7 @@ mod save_fault;
 mod saving;
 mod texts;
 
+pub use as_is::{mend_as_is, report_as_is};
 pub use asked::{Asked, Report};
 pub use looking::LookFault;
 pub use remaking::Remade;

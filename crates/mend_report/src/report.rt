@@ -80,7 +80,7 @@ fn push_findings<A: Allocator, B: Allocator + Copy>(
 }
 
 /// Appends the report of what was found, of each kind at most so many lines.
-fn push_report<A: Allocator, B: Allocator + Copy>(
+pub(crate) fn push_report<A: Allocator, B: Allocator + Copy>(
     text: &mut Vec<u8, A>,
     report: &Report<B>,
     most: usize,
@@ -93,7 +93,7 @@ fn push_report<A: Allocator, B: Allocator + Copy>(
 
 /// Appends the report of what was found in a map, and of what was done about it, of each kind at most
 /// so many lines.
-fn push_mended<A: Allocator, B: Allocator + Copy>(
+pub(crate) fn push_mended<A: Allocator, B: Allocator + Copy>(
     text: &mut Vec<u8, A>,
     report: &Report<B>,
     remade: &Remade<B>,

@@ -4,7 +4,7 @@ ghost use Rattle.map_text.specs.Common.{Saved, text_of};
 ghost use Rattle.ring_machine.specs.Common.{Proper};
 ghost use Rattle.topo_reader.specs.Common.{document_of, IsOfRings, view_raw};
 ghost use Rattle.mend_report.specs.Unsaved.{IsUnsaved, DoesNotOpen, unbuilt};
-ghost use Rattle.mend_report.specs.Opens.{OpensAgain, HasOpened};
+ghost use Rattle.mend_report.specs.Opens.{OpensAgain, IsRead};
 
 use crate::save_fault::SaveFault;
 use arc_store::{BuildFault, Map};
@@ -52,38 +52,34 @@ fn written<'a, A: Allocator + Copy>(
     }
 }
 
-/// Opens a text, and lets the map go.
-fn opened<A: Allocator + Copy>(
+/// Reads a text again, and lets go what was read.
+fn read_again<A: Allocator + Copy>(
     alloc: A,
     heap: Global,
     seed: RandomState,
     text: &[u8],
 ) -> Result<(), SaveFault>
-    ensures opened { OnOk result (HasOpened text.now) }
+    ensures read { OnOk result (IsRead text.now) }
     ensures fault { IfErr result (DoesNotOpen text.now) }
 {
-    let raw = match read(alloc, heap, seed, text) {
-        Ok(raw) => raw,
-        Err(fault) => {
-            return match fault {
-                OpenFault::OutOfMemory => Err(SaveFault::OutOfMemory),
-                _ => Err(SaveFault::Unopened),
-            };
+    match read(alloc, heap, seed, text) {
+        Ok(raw) => {
+            drop(raw);
+            Ok(())
         }
-    };
-    let index = TreeIndex::new(heap, raw.extent());
-    match Map::build(alloc, heap, seed, raw, index) {
-        Ok(_map) => Ok(()),
-        Err(BuildFault::Conflict { .. }) => Err(SaveFault::Unopened),
-        Err(BuildFault::OutOfMemory) => Err(SaveFault::OutOfMemory),
+        Err(fault) => match fault {
+            OpenFault::OutOfMemory => Err(SaveFault::OutOfMemory),
+            _ => Err(SaveFault::Unopened),
+        },
     }
 }
 
-/// The text of a map of rings, in which each border stands once. It has been opened again, as the same
-/// map but for the numbers of its features. Fails with `Conflict` where two segments conflict, with
-/// `Unopened` where the text is over a limit, and on allocation failure.
+/// The text of a map of rings, in which each border stands once. It opens as the same map but for the
+/// numbers of its features: it has been read again, and its segments are those of the map. Fails with
+/// `Conflict` where two segments conflict, with `Unopened` where the text is over a limit, and on
+/// allocation failure.
 ///
-/// The text and what is read of it lie in `alloc`, the indexes and long lists of arcs in `heap`.
+/// The text and what is read of it lie in `alloc`, the index and long lists of arcs in `heap`.
 pub fn saved_text<'a, A: Allocator + Copy>(
     alloc: A,
     heap: Global,
@@ -99,6 +95,6 @@ pub fn saved_text<'a, A: Allocator + Copy>(
     ensures fault { IfErr result (IsUnsaved (document_of (view_raw raw.entry))) }
 {
     let text = written(alloc, heap, seed, raw)?;
-    opened(alloc, heap, seed, text.as_slice())?;
+    read_again(alloc, heap, seed, text.as_slice())?;
     Ok(text)
 }

@@ -1,9 +1,12 @@
-//! Each allocation is refused in turn as a map is looked through, as one is mended, and as overlaps and gaps are told.
+//! Each allocation is refused in turn as a map is looked through, as one is mended, as one is told and kept that opens
+//! as it is, and as overlaps and gaps are told.
 use cover_places::{Texts as CoverTexts, tell_map};
 use cover_report::{Asked as Covered, CoverFault};
 use map_mending::MendFault;
-use mend_report::{Asked, LookFault, RepairFault, SaveFault, Texts, mend_map, report_map};
-use std::alloc::{Allocator, Global};
+use mend_report::{
+    Asked, LookFault, RepairFault, SaveFault, Texts, mend_as_is, mend_map, report_as_is, report_map,
+};
+use std::alloc::{AllocError, Allocator, Global};
 use test_aids::{Refusing, fixed_seed};
 use topo_outline::OpenFault;
 
@@ -15,6 +18,10 @@ const MAP: &str =
 const BOW_TIE: &str =
     r#"{"type":"Topology","objects":{"l":{"type":"Polygon","arcs":[[0]]}},"arcs":[[[0,0],[10,10],[10,0],[0,10],[0,0]]]}"#;
 
+/// A square, as it is saved.
+const SQUARE: &str =
+    r#"{"type":"Topology","objects":{"l":{"type":"Polygon","arcs":[[0]]}},"arcs":[[[0,0],[10,0],[10,10],[0,10],[0,0]]]}"#;
+
 /// Two layers with an overlap, land that two polygons of a feature have, a gap, a lake, and a hole outside its ring.
 const LAPPED: &str =
     r#"{"type":"Topology","objects":{"land":{"type":"GeometryCollection","geometries":[{"type":"Polygon","arcs":[[0],[1],[2]]},{"type":"Polygon","arcs":[[3]]},{"type":"MultiPolygon","arcs":[[[4]],[[4]]]},{"type":"Polygon","arcs":[[5]]}]},"b":{"type":"Polygon","arcs":[[4],[5]]}},"arcs":[[[0,0],[10,0],[10,3],[10,7],[10,10],[0,10],[0,0]],[[5,3],[10,3],[10,7],[5,7],[5,3]],[[2,2],[2,4],[4,4],[2,2]],[[10,0],[20,0],[20,10],[10,10],[10,7],[10,3],[10,0]],[[30,0],[40,0],[40,10],[30,0]],[[15,5],[16,5],[16,6],[15,5]]]}"#;
@@ -24,6 +31,10 @@ const LOOKED: &str = "counts short 1 repeats 1 on 1 cross 4\n";
 
 const MENDED: &str =
     "parts 0 0 2\narea 0 0 100 0\ncounts short 0 repeats 0 on 0 cross 1 paths 2 parts 1 areas 1\n";
+
+const OPENED: &str = "opens\ncounts short 0 repeats 0 on 0 cross 0\n";
+
+const KEPT: &str = "opens\ncounts short 0 repeats 0 on 0 cross 0 paths 0 parts 0 areas 0\n";
 
 const COVERED: &str = "counts overlap 1 twice 1 gap 1 lake 1 uneven 1\n";
 
@@ -77,6 +88,34 @@ fn mend<A: Allocator + Copy>(alloc: Global, heap: A) -> End {
     }
 }
 
+fn look_as_is<A: Allocator + Copy>(alloc: Global, heap: A) -> End {
+    let Some(seed) = fixed_seed() else {
+        return End::Otherwise;
+    };
+    let mut report = Vec::new(heap);
+    let asked = Asked::with_most(0);
+    match report_as_is(heap, alloc, seed, SQUARE.as_bytes(), asked, &mut report) {
+        Ok(Some(_)) if report.as_slice() == OPENED.as_bytes() => End::Told,
+        Err(AllocError) => End::OutOfMemory,
+        Ok(_) => End::Otherwise,
+    }
+}
+
+fn mend_nothing<A: Allocator + Copy>(alloc: Global, heap: A) -> End {
+    let Some(seed) = fixed_seed() else {
+        return End::Otherwise;
+    };
+    let mut report = Vec::new(heap);
+    let asked = Asked::with_most(0);
+    match mend_as_is(heap, alloc, seed, SQUARE.as_bytes(), asked, &mut report) {
+        Ok(Some(kept))
+            if report.as_slice() == KEPT.as_bytes() && kept.text.as_slice() == SQUARE.as_bytes() =>
+            End::Told,
+        Err(AllocError) => End::OutOfMemory,
+        Ok(_) => End::Otherwise,
+    }
+}
+
 fn cover<A: Allocator + Copy>(alloc: Global, heap: A) -> End {
     let Some(seed) = fixed_seed() else {
         return End::Otherwise;
@@ -100,6 +139,8 @@ fn cover<A: Allocator + Copy>(alloc: Global, heap: A) -> End {
 enum Call {
     Look,
     Mend,
+    LookAsIs,
+    MendNothing,
     Cover,
 }
 
@@ -109,6 +150,8 @@ fn ended(alloc: Global, nth: u64, call: Call) -> (End, bool) {
     let end = match call {
         Call::Look => look(alloc, &refusing),
         Call::Mend => mend(alloc, &refusing),
+        Call::LookAsIs => look_as_is(alloc, &refusing),
+        Call::MendNothing => mend_nothing(alloc, &refusing),
         Call::Cover => cover(alloc, &refusing),
     };
     (end, refusing.was_refused())
@@ -135,6 +178,12 @@ fn each_growth_of_looking_is_refused_in_turn(rt: HostRuntime) {
 #[test]
 fn each_growth_of_mending_is_refused_in_turn(rt: HostRuntime) {
     assert!(rt; count_growths(rt.alloc(), Call::Mend).is_some_and(|count| count > 30));
+}
+
+#[test]
+fn each_growth_of_what_opens_as_it_is_is_refused_in_turn(rt: HostRuntime) {
+    assert!(rt; count_growths(rt.alloc(), Call::LookAsIs).is_some_and(|count| count > 15));
+    assert!(rt; count_growths(rt.alloc(), Call::MendNothing).is_some_and(|count| count > 30));
 }
 
 #[test]
