@@ -1,4 +1,4 @@
-"""A second drawing of maps, written from docs/FORMATS.md and the constants of the picture: what `border_show` has to write
+"""A second drawing of maps, written from docs/PICTURES.md and the constants of the picture: what `border_show` has to write
 for a map, or for what an edit did to it, byte for byte.
 
 Numbers are Python's, so nothing overflows. What a conflict is it takes from the model of second_opinion.py; a map of more
@@ -15,7 +15,9 @@ from xml.sax.saxutils import escape
 from second_opinion import conflict_text, do_conflict, segments_of
 
 WIDTH, MARGIN, ROW, ACROSS, DOWN = 1000, 20, 20, 960, 720
-LABEL, RISE, LETTER, PIXEL, BEYOND, RADIUS, MOST_PAIRED = 1300, 1000, 720, 100, 1000, 14, 1500
+LABEL, RISE, LETTER, PIXEL, BEYOND, RADIUS, MOST_PAIRED = 1300, 1000, 720, 100, 10, 14, 1500
+# The least and the most parts of a pixel, and how many of them there are for all positions together.
+COARSE, FINE_PARTS, ALL_PARTS = 1, 100, 2_000_000
 # How many of the finest parts a unit of the map has, how many ten-thousandths a whole; how many bytes of a name and of a
 # title are shown.
 FINE, RATIO, MOST_BYTES, MOST_TITLE = 10**24, 10_000, 48, 76
@@ -217,8 +219,10 @@ class Units:
 
 
 class Layout:
-    def __init__(self, part, units):
-        self.units = units
+    """Where a part of the grid lies in the picture, in so many parts of a pixel."""
+
+    def __init__(self, part, units, parts=PIXEL):
+        self.part, self.units, self.parts = part, units, parts
         self.x, self.y, self.across, self.up = part
         across = max(1, self.across * units.ratio // RATIO)
         high = self.up * ACROSS // across
@@ -226,13 +230,19 @@ class Layout:
         self.height = max(1, min(high, DOWN))
         self.left, self.top = MARGIN + (ACROSS - self.width) // 2, MARGIN + ROW
 
+    def fine_for(self, *maps):
+        """The same, as fine as the map with the most positions here may be drawn."""
+        rings = ([ring for feature in features for rings in feature.polygons for ring in rings] for features in maps)
+        most = max(sum(self.has(position) for ring in each for position in ring) for each in rings)
+        return Layout(self.part, self.units, max(COARSE, min(FINE_PARTS, ALL_PARTS // max(1, most))))
+
     def point(self, position):
         x, y = position
         down = self.up - (y - self.y)
-        return cut((x - self.x) * self.width * PIXEL, self.across), cut(down * self.height * PIXEL, self.up)
+        return cut((x - self.x) * self.width * self.parts, self.across), cut(down * self.height * self.parts, self.up)
 
     def pixel(self, point):
-        return self.left + cut(point[0], PIXEL), self.top + cut(point[1], PIXEL)
+        return self.left + cut(point[0], self.parts), self.top + cut(point[1], self.parts)
 
     def has(self, position):
         return self.x <= position[0] <= self.x + self.across and self.y <= position[1] <= self.y + self.up
@@ -244,13 +254,17 @@ class Layout:
 
     def depths(self):
         """How far inside each side of the box a point is outside which nothing is drawn: ten pixels beyond the view."""
-        right, bottom = self.width * PIXEL + BEYOND, self.height * PIXEL + BEYOND
-        return (lambda p: p[0] + BEYOND), (lambda p: right - p[0]), (lambda p: p[1] + BEYOND), (lambda p: bottom - p[1])
+        beyond = BEYOND * self.parts
+        right, bottom = self.width * self.parts + beyond, self.height * self.parts + beyond
+        return (lambda p: p[0] + beyond), (lambda p: right - p[0]), (lambda p: p[1] + beyond), (lambda p: bottom - p[1])
 
-    def ring(self, ring):
-        """The points of a ring, without what is beyond that box; along its sides where something was cut off."""
+    def cut_ring(self, ring):
+        """The points of a ring, without what is beyond that box; along its sides where something was cut off. A ring at one
+        point goes on to the next one."""
         points = [self.point(position) for position in ring]
         points = [point for index, point in enumerate(points) if index == 0 or point != points[index - 1]]
+        if len(points) == 1:
+            points.append((points[0][0] + 1, points[0][1]))
         if all(depth(point) >= 0 for depth in self.depths() for point in points):
             return points
         for depth in self.depths():
@@ -260,6 +274,13 @@ class Layout:
                 kept += [other] if depth(other) >= 0 else []
             points = kept
         return points
+
+    def ring(self, ring):
+        """The same without those of which both neighbours are on a level line with them, or on an upright one, on two sides."""
+        points = self.cut_ring(ring)
+        inner = [b for a, b, c in zip(points, points[1:], points[2:])
+                 if not any(a[i] == b[i] == c[i] and (b[j] - a[j]) * (c[j] - b[j]) >= 0 for i, j in ((0, 1), (1, 0)))]
+        return points[:1] + inner + points[max(1, len(points) - 1):]
 
     def rings(self, feature):
         """The rings of a feature that are not all beyond it."""
@@ -275,8 +296,7 @@ class Layout:
             if not all(inside):
                 met = crossing(depth, *ends)
                 ends = (ends[0], met) if inside[0] else (met, ends[1])
-        (x, y), (u, v) = ends
-        return f"M {x} {y} {u} {v}"
+        return "" if ends[0] == ends[1] else data_of([ends])[:-1]
 
 
 def crossing(depth, one, other):
@@ -294,19 +314,28 @@ def bar(layout):
     return f'<path class="bar" d="M{start} 24v6H980v-6"/>\n' + text("number", start - 6, 30, whole + layout.units.words)
 
 
+def step(one, other):
+    """A line from a point to another one, as short as it can be written: a minus sign needs no space before it."""
+    right, down = other[0] - one[0], other[1] - one[1]
+    if right == 0 or down == 0:
+        return f"v{down}" if right == 0 else f"h{right}"
+    return f"l{right}{'' if down < 0 else ' '}{down}"
+
+
 def data_of(rings):
-    return "".join("M" + "".join(f" {x} {y}" for x, y in points) + "z" for points in rings)
+    return "".join(f"M{points[0][0]} {points[0][1]}" + "".join(map(step, points, points[1:])) + "z" for points in rings)
 
 
 def path(layout, look, feature):
     title = f"<title>{escape(called(feature), QUOTES)}</title>"
-    return f'<path class="{look}" d="{data_of(layout.rings(feature))}">{title}</path>\n' if layout.meets(feature) else ""
+    style = "" if look == "plain" else f' class="{look}"'
+    return f'<path{style} d="{data_of(layout.rings(feature))}">{title}</path>\n' if layout.meets(feature) else ""
 
 
-def lines(look, data):
+def lines(layout, look, data):
     """A path that is no feature: thick lines, dashed where they are gone."""
-    dashed = ' stroke-dasharray="700"' if look == "gone" else ""
-    return f'<path class="{look}" stroke-width="300"{dashed} d="{data}"/>\n'
+    dashed = f' stroke-dasharray="{7 * layout.parts}"' if look == "gone" else ""
+    return f'<path class="{look}" stroke-width="{3 * layout.parts}"{dashed} d="{data}"/>\n'
 
 
 def called(feature):
@@ -423,7 +452,7 @@ def borders(layout, look, these, others):
                     data += layout.line(low, start) if low < start else ""
                     low = max(low, end)
             data += layout.line(low, high) if low < high else ""
-    return lines(look, data)
+    return lines(layout, look, data)
 
 
 def is_seen(layout, one, other):
@@ -530,8 +559,8 @@ def first_conflict(features):
 
 def marks(layout, outlined, conflict):
     """What is drawn over the borders: the outline of the feature that is named, and the segments in conflict."""
-    drawn = lines("named", data_of(layout.rings(outlined))) if outlined else ""
-    return drawn + (lines("conflict", "".join(layout.line(*each) for each in conflict)) if conflict else "")
+    drawn = lines(layout, "named", data_of(layout.rings(outlined))) if outlined else ""
+    return drawn + (lines(layout, "conflict", "".join(layout.line(*each) for each in conflict)) if conflict else "")
 
 
 def fault(layout, conflict):
@@ -549,8 +578,8 @@ def page(title, layout, body, over, rest, rows):
     height = layout.top + layout.height + ROW + ROW * rows + MARGIN
     return (f'<svg xmlns="http://www.w3.org/2000/svg" width="{WIDTH}" height="{height}" viewBox="0 0 {WIDTH} {height}">\n' + STYLE
             + text("head", 20, 30, first_bytes(title, MOST_TITLE)) + bar(layout) + f'<svg x="{layout.left}" y="{layout.top}" width="{layout.width}" '
-            f'height="{layout.height}" viewBox="0 0 {layout.width}00 {layout.height}00">\n'
-            '<rect class="gap" width="100%" height="100%"/>\n<g stroke-width="100">\n' + body + "</g>\n</svg>\n" + over + rest + "</svg>\n")
+            f'height="{layout.height}" viewBox="0 0 {layout.width * layout.parts} {layout.height * layout.parts}">\n'
+            f'<rect class="gap" width="100%" height="100%"/>\n<g stroke-width="{layout.parts}">\n' + body + "</g>\n</svg>\n" + over + rest + "</svg>\n")
 
 
 def part_of(features, before, at, feature):
@@ -576,10 +605,11 @@ def map_page(title, topology, ids, names=None, at=None, feature=None):
     conflict = first_conflict(features)
     part, number = part_of(features, None, at, feature)
     layout = Layout(part, Units(topology.get("transform"), box_of(features), part if at or feature else None))
-    body = "".join(path(layout, "plain", each) for each in features)
-    body += marks(layout, None if number is None else features[number], conflict)
+    drawn = layout.fine_for(features)
+    body = "".join(path(drawn, "plain", each) for each in features)
+    body += marks(drawn, None if number is None else features[number], conflict)
     title += f": {feature}" if feature else ""
-    return page(title, layout, body, labels(layout, features) if ids else "", fault(layout, conflict), 0)
+    return page(title, drawn, body, labels(layout, features) if ids else "", fault(layout, conflict), 0)
 
 
 def change_page(title, before, after, ids, names=(None, None), at=None, feature=None):
@@ -589,21 +619,22 @@ def change_page(title, before, after, ids, names=(None, None), at=None, feature=
     conflict, (part, number) = first_conflict(new), part_of(new, old, at, feature)
     units = Units(after.get("transform"), box_of(old + new), part if at or feature else None)
     old, new, layout = list(map(straight, old)), list(map(straight, new)), Layout(part, units)
+    drawn = layout.fine_for(old, new)
     pairs = changes_of(old, new)
     seen = [(one, other) for one, other in pairs if not (one and other) or is_seen(layout, one, other)]
     filled = {other.number for _, other in seen if other}
-    body = "".join(path(layout, "lost", one) for one, other in pairs if other is None)
-    body += "".join(path(layout, "changed" if each.number in filled else "kept", each) for each in new)
-    body += borders(layout, "gone", [one for one, _ in seen if one], new)
-    body += borders(layout, "new", [other for _, other in seen if other], old)
-    body += marks(layout, None if number is None else new[number], conflict)
+    body = "".join(path(drawn, "lost", one) for one, other in pairs if other is None)
+    body += "".join(path(drawn, "changed" if each.number in filled else "kept", each) for each in new)
+    body += borders(drawn, "gone", [one for one, _ in seen if one], new)
+    body += borders(drawn, "new", [other for _, other in seen if other], old)
+    body += marks(drawn, None if number is None else new[number], conflict)
     is_whole = not (at or feature)
     listed = [pair for pair in pairs if is_whole or any(layout.meets(each) for each in pair)]
     rows = max(1, min(len(listed), 100)) + 2 + (len(listed) > 100)
     top = layout.top + layout.height + 2 * ROW
     over = (labels(layout, new) if ids else "") + fault(layout, conflict)
     title += f": {feature}" if feature else ""
-    return page(title, layout, body, over, table(top, units, listed), rows + 1)
+    return page(title, drawn, body, over, table(top, units, listed), rows + 1)
 
 
 def loads(words):

@@ -5,10 +5,12 @@ The pictures are made by the built programs border_edit, border_show and border_
 them); others can be named. Then `--maps N` maps with drawn ids are drawn too, alone and as what an edit did. Each
 picture has to be well-formed XML with whole numbers alone, in which each feature's title is its number
 and what a model here makes of its id, the page that the second drawing of drawn.py makes, and the same bytes again when it
-is drawn again. Of every third map a square is drawn. `--stored` prints the page of the stored run of border_show, as the
-second drawing makes it. Damaged, deep and huge maps have to end with the fault that border_edit has for them, or, where
-it names a conflict, with a picture that names it. There is one line for each that is wrong; the status is 0 where none is.
+is drawn again. Of every third map a square is drawn. Maps of so many positions that a pixel has fewer parts, one of them with
+islands that are dots, and an edit are compared with the second drawing too. Damaged, deep and huge maps have to end with
+the fault that border_edit has for them, or, where it names a conflict, with a picture that names it. There is one line for
+each that is wrong; the status is 0 where none is.
 
+`--stored` prints the page of the stored run of border_show, as the second drawing makes it.
 `MAP..` and `--change BEFORE AFTER` compare the pictures of these files alone with the second drawing, byte for byte, and
 make no other: maps that open, whose ids are strings or numbers.
 """
@@ -24,6 +26,7 @@ import tempfile
 import xml.dom.minidom
 
 import drawn
+import maps
 
 TOP = pathlib.Path(__file__).resolve().parent.parent
 EXAMPLES = TOP / "examples"
@@ -199,6 +202,18 @@ def compare_files(show, drawings):
     return wrong
 
 
+def compare_large(edit, show, seed):
+    """How many of the pictures of maps that are drawn coarser are another page than the second drawing's."""
+    with tempfile.TemporaryDirectory() as name:
+        folder = pathlib.Path(name)
+        for kind in "bricks", "mixed":
+            maps.make_map(folder / f"{kind}.json", kind, 15_000, seed)
+        (folder / "script.txt").write_text("delete 3\nmerge 100 101\n")
+        run(edit, folder / "bricks.json", folder / "script.txt", "--out", folder / "after.json")
+        drawings = [["bricks.json"], ["mixed.json"], ["bricks.json", "after.json"]]
+        return compare_files(show, [[folder / each for each in files] for files in drawings])
+
+
 def hostile_maps(draw):
     """Maps that are damaged, deep or huge, and one with a conflict."""
     whole = (EXAMPLES / "squares.json").read_bytes()
@@ -264,7 +279,9 @@ def main():
         return 1 if wrong else 0
     if not asked.no_pictures:
         make_pictures(edit, show, os.path.abspath(asked.mend))
-    wrong = draw_maps(show, asked.maps, asked.seed) + (draw_hostile(edit, show, asked.seed) if asked.maps else 0)
+    wrong = draw_maps(show, asked.maps, asked.seed)
+    if asked.maps:
+        wrong += compare_large(edit, show, asked.seed) + draw_hostile(edit, show, asked.seed)
     for picture in sorted(PICTURES.glob("*.svg")) if not asked.no_pictures else []:
         root = xml.dom.minidom.parse(str(picture)).documentElement
         if not is_whole(root):

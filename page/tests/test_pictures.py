@@ -49,7 +49,7 @@ OUTSIDE = {"the hole": (Fraction(5, 2), Fraction(9, 2)), "the gap": (5, Fraction
 COLOURS = ((200, 0, 0), (0, 160, 0), (0, 0, 200), (160, 0, 160))
 PAINT = """
 const [colours] = arguments;
-document.querySelectorAll('path.plain').forEach((path, i) => {
+document.querySelectorAll('g > path:not([class])').forEach((path, i) => {
     path.style.fill = `rgb(${colours[i].join(',')})`;
     path.style.fillOpacity = 1;
 });
@@ -75,16 +75,17 @@ return [path.querySelector('title').textContent, Math.max(box.width / width, box
 # or outside the view. Of each text, where it is; a label may cover no label, and another text no other text.
 LABELS_OUTSIDE = """
 const view = document.querySelector('svg > svg');
+const parts = view.viewBox.baseVal.width / Number(view.getAttribute('width'));
 const features = new Map();
-for (const path of document.querySelectorAll('path.plain'))
+for (const path of document.querySelectorAll('g > path:not([class])'))
     features.set(path.querySelector('title').textContent.split(' ')[0], path);
 const steps = [...Array(9).keys()].map(k => k / 8);
 return [...document.querySelectorAll('text.name')].filter(text => {
     const box = text.getBBox(), path = features.get(text.textContent.split(' ')[0]);
     const isIn = (x, y) => {
         const point = view.createSVGPoint();
-        point.x = (x - Number(view.getAttribute('x'))) * 100;
-        point.y = (y - Number(view.getAttribute('y'))) * 100;
+        point.x = (x - Number(view.getAttribute('x'))) * parts;
+        point.y = (y - Number(view.getAttribute('y'))) * parts;
         return path.isPointInFill(point);
     };
     return !steps.every(k => isIn(box.x + box.width * k, box.y + 2) && isIn(box.x + box.width * k, box.y + box.height - 2));

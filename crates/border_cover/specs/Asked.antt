@@ -1,6 +1,6 @@
 -- What the words of the program ask for, as clap reads them.
-use Rattle.std.specs.Prelude.{◌≡◌, ◌≤◌, ℕ, true, List, [], Option, Some, None, unwrap_or}
-use Rattle.std.specs.Prelude.{codes, map, string_bytes, String}
+use Rattle.std.specs.Prelude.{◌≡◌, ◌≢◌, ◌≤◌, ℕ, true, List, [], Option, Some, None, unwrap_or}
+use Rattle.std.specs.Prelude.{codes, map, option_map, string_bytes, String}
 use Rattle.std.specs.declared.alloc.Global.{Global}
 use Rattle.std.specs.Str.Parse.{IsNumeral, digits_value, without_leading_plus}
 use Rattle.clap.specs.Words.{App, Row, Rule, Text, all_of, first_of, matches_of, new_app, new_rule, with_rule}
@@ -23,11 +23,12 @@ option_rule name = record (new_rule name) { long = Some name; value_names = 1; a
 abbrev pub layer_rule : Rule
 layer_rule = record (new_rule (codes "layer")) { long = Some (codes "layer"); value_names = 1; action = Some Append }
 
--- MAP --layer NAME .. --width W --area N --most N, of which MAP is needed
+-- MAP --layer NAME .. --width W --area N --most N --places FILE, of which MAP is needed
 abbrev pub cover_program : App
 cover_program =
-    with_rule (with_rule (with_rule (with_rule (with_rule (with_version (new_app (codes "border_cover"))) map_rule)
-    layer_rule) (option_rule (codes "width"))) (option_rule (codes "area"))) (option_rule (codes "most"))
+    with_rule (with_rule (with_rule (with_rule (with_rule (with_rule (with_version (new_app (codes "border_cover"))) map_rule)
+    layer_rule) (option_rule (codes "width"))) (option_rule (codes "area"))) (option_rule (codes "most")))
+    (option_rule (codes "places"))
 
 -- ---- what its words ask for
 
@@ -45,13 +46,16 @@ IsBound greatest (Some text) None = ⊥
 IsBound greatest (Some text) (Some n) =
     IsNumeral 10 (without_leading_plus text) × (n ≡ digits_value 10 (without_leading_plus text)) × (n ≤ greatest)
 
--- the arguments are what clap found: MAP, the layers, the bounds of width and area, and how many lines there are at the most
+-- the arguments are what clap found: MAP, the layers, the bounds of width and area, how many lines there are at the most, and
+-- the file of the places, which is not the map
 pub record AreAsked (found : List Row) (asked : Arguments) : Type 0 where
   pub layers : map string_bytes asked.layers.items ≡ unwrap_or (all_of (codes "layer") found) []
   pub map : string_bytes asked.map ≡ unwrap_or (first_of (codes "MAP") found) []
   pub width : IsBound 1000000000000 (first_of (codes "width") found) asked.width
   pub area : IsBound 8000000000000000000000000 (first_of (codes "area") found) asked.area
   pub most : IsCount (first_of (codes "most") found) asked.most
+  pub places : option_map string_bytes asked.places ≡ first_of (codes "places") found
+  pub apart : option_map string_bytes asked.places ≢ Some (string_bytes asked.map)
 
 -- the same, found among the words by clap's rules, the program's name first
 abbrev pub AsksFor : List (String Global) → Arguments → Type 0

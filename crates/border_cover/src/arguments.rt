@@ -4,6 +4,7 @@ ghost use Rattle.cover_report.specs.Common.{view_asked};
 ghost use Rattle.border_cover.specs.Asked.{wants_of};
 
 use cover_report::Asked;
+use program_ends::{FileArgument, Role};
 use std::alloc::{AllocError, Global};
 
 /// What the arguments of the program ask for.
@@ -19,6 +20,8 @@ pub struct Arguments {
     pub area: Option<u128>,
     /// How many lines of one kind the report has at the most.
     pub most: usize,
+    /// The path of the file that the places are written in.
+    pub places: Option<String>,
 }
 
 impl Arguments {
@@ -32,6 +35,22 @@ impl Arguments {
             names.push(name.as_str())?;
         }
         Ok(names)
+    }
+
+    /// The files that the arguments name, the one first that is written.
+    pub(crate) fn files(&self) -> [FileArgument<'_>; 2] {
+        [
+            FileArgument {
+                argument: "--places",
+                path: self.places.as_ref().map(|path| path.as_str()),
+                role: Role::Written,
+            },
+            FileArgument {
+                argument: "MAP",
+                path: Some(self.map.as_str()),
+                role: Role::Read,
+            },
+        ]
     }
 
     /// What is asked of the report, by the names of the layers.

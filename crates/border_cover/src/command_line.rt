@@ -8,7 +8,7 @@ use crate::arguments::Arguments;
 use crate::help;
 use clap::error::ErrorKind;
 use clap::{Arg, ArgAction, ArgMatches, Command};
-use program_ends::VERSION;
+use program_ends::{VERSION, copied, is_file};
 use std::alloc::{AllocError, Global};
 
 /// The most lines of one kind, without `--most` and with it.
@@ -27,6 +27,8 @@ const MOST: &str = "--most takes a whole number from 0 to 4000000";
 const WIDTH: &str = "--width takes a whole number from 0 to 1000000000000";
 
 const AREA: &str = "--area takes a whole number from 0 to 8000000000000000000000000";
+
+const ONE_FILE: &str = "--places names the map";
 
 /// The argument that stands in its place.
 fn map<'a>(alloc: Global) -> Arg<'a>
@@ -75,7 +77,8 @@ fn command<'a>(alloc: Global) -> Result<Command<'a>, AllocError>
         .arg(layer(alloc))?
         .arg(option(alloc, "width", "W", help::WIDTH))?
         .arg(option(alloc, "area", "N", help::AREA))?
-        .arg(option(alloc, "most", "N", help::MOST))?;
+        .arg(option(alloc, "most", "N", help::MOST))?
+        .arg(option(alloc, "places", "FILE", help::PLACES))?;
     Ok(command)
 }
 
@@ -126,6 +129,8 @@ fn copies(alloc: Global, given: &[&str]) -> Result<Vec<String>, AllocError>
 enum AskFault {
     /// A value is wrong, as these words say.
     Wrong(&'static str),
+    /// The places and the map have one path.
+    OneFile,
     /// An allocation failed.
     OutOfMemory,
 }
@@ -149,20 +154,25 @@ fn asked(alloc: Global, matches: &ArgMatches<'_>) -> Result<Arguments, AskFault>
     let width = bound_of(matches.get_str("width"), GREATEST_WIDTH, WIDTH)?;
     let area = bound_of(matches.get_str("area"), GREATEST_AREA, AREA)?;
     let most = count_of(matches.get_str("most"))?;
-    let layers = copies(alloc, matches.get_strs("layer").unwrap_or(&[]))?;
     // A parse gives MAP, since it is required.
-    let map = String::from_str(alloc, matches.get_str("MAP").unwrap_or(""))?;
+    let map = matches.get_str("MAP").unwrap_or("");
+    let places = matches.get_str("places");
+    if is_file(places, map) {
+        return Err(AskFault::OneFile);
+    }
+    let layers = copies(alloc, matches.get_strs("layer").unwrap_or(&[]))?;
     Ok(Arguments {
-        map,
+        map: String::from_str(alloc, map)?,
         layers,
         width,
         area,
         most,
+        places: copied(alloc, places)?,
     })
 }
 
 /// Reads the arguments, the program's name first. A request for help, or for the version, is an
-/// error here too.
+/// error here too, and so are arguments that name one path for the places and for MAP.
 pub(crate) fn arguments_of(alloc: Global, given: &[String]) -> Result<Arguments, clap::Error>
     ensures { IfOk result (AsksFor given.now) }
 {
@@ -171,6 +181,7 @@ pub(crate) fn arguments_of(alloc: Global, given: &[String]) -> Result<Arguments,
     match asked(alloc, &matches) {
         Ok(arguments) => Ok(arguments),
         Err(AskFault::Wrong(words)) => Err(command.error(ErrorKind::ValueValidation, words)?),
+        Err(AskFault::OneFile) => Err(command.error(ErrorKind::ArgumentConflict, ONE_FILE)?),
         Err(AskFault::OutOfMemory) => Err(clap::Error::from(AllocError)),
     }
 }

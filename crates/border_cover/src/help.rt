@@ -32,7 +32,8 @@ not open, or has not that layer; 3 a file or memory failed; 64 the arguments are
 
 Examples:
   border_cover map.json
-  border_cover map.json --layer wards --width 10 --most 20";
+  border_cover map.json --layer wards --width 10 --most 20
+  border_cover map.json --width 10 --places places.json";
 
 // What each argument asks for.
 pub(crate) const MAP: &str = "The TopoJSON map, which has to open in border_edit";
@@ -47,3 +48,6 @@ pub(crate) const AREA: &str =
 
 pub(crate) const MOST: &str =
     "The most lines of one kind in the report, from 0 to 4000000; 1000 by default";
+
+pub(crate) const PLACES: &str =
+    "Write where the overlaps and gaps are to this file, as a topology of points and lines";

@@ -8,7 +8,7 @@ ghost use Rattle.cover_report.specs.Filling.{Fills, feature_segments, polygon_se
 
 use grid_geometry::{Pos, Seg};
 use local_planarity::{TestCount, fill};
-use segment_index::TreeIndex;
+use segment_index::{SegIndex, TreeIndex};
 use std::alloc::{AllocError, Allocator, Global};
 use topo_reader::RawDoc;
 
@@ -76,6 +76,33 @@ impl<A: Allocator + Copy> Filling<A> {
     }
 }
 
+/// How many positions the rings of a polygon have.
+fn ring_positions<A: Allocator + Copy>(rings: &[Vec<Pos, A>]) -> usize {
+    let mut count = 0usize;
+    for ring in rings {
+        count = count.saturating_add(ring.len());
+    }
+    count
+}
+
+/// How many positions the rings of a feature have.
+fn feature_positions<A: Allocator + Copy>(polygons: &[Vec<Vec<Pos, A>, A>]) -> usize {
+    let mut count = 0usize;
+    for rings in polygons {
+        count = count.saturating_add(ring_positions(rings.as_slice()));
+    }
+    count
+}
+
+/// How many segments features have if each stands in two rings, as on most maps.
+fn shared_by_two<A: Allocator + Copy>(features: &[Vec<Vec<Vec<Pos, A>, A>, A>]) -> usize {
+    let mut count = 0usize;
+    for polygons in features {
+        count = count.saturating_add(feature_positions(polygons.as_slice()));
+    }
+    count / 2
+}
+
 /// The least two segments of a map in conflict, which opening reports; none where it opens.
 pub(crate) fn first_pair<A: Allocator + Copy>(
     alloc: A,
@@ -85,8 +112,10 @@ pub(crate) fn first_pair<A: Allocator + Copy>(
     requires { IsOfRings (view_raw raw.now) }
     ensures { IfOk result (λ pair. first_pair (document_of (view_raw raw.now)) ≡ pair) }
 {
+    let mut index = TreeIndex::new(heap, raw.extent());
+    index.prepare(shared_by_two(raw.polygons.as_slice()))?;
     let mut filling = Filling {
-        index: TreeIndex::new(heap, raw.extent()),
+        index,
         first: None,
         near: Vec::new(alloc),
         tests: TestCount::new(),

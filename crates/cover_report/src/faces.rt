@@ -8,21 +8,25 @@ ghost use Rattle.cover_report.specs.Faces.{all_told, face_told, first_ends, is_f
 use grid_geometry::{Pos, Seg};
 use layer_faces::{Face, Kind};
 use layer_sides::Border;
-use std::alloc::{AllocError, Allocator};
+use std::alloc::{AllocError, Allocator, Global};
 
 /// A face that may be told.
 #[derive(Drop)]
-pub(crate) struct ToldFace<A: Allocator + Copy> {
-    pub(crate) kind: Kind,
+pub struct ToldFace<A: Allocator + Copy = Global> {
+    /// What kind of face it is.
+    pub kind: Kind,
     /// The features that hold it, or that are beside it, ascending.
-    pub(crate) features: Vec<usize, A>,
+    pub features: Vec<usize, A>,
     /// Twice its area.
-    pub(crate) area: i128,
+    pub area: i128,
     /// Its width in units, rounded up.
-    pub(crate) width: u128,
-    /// The ends of the first segment of its border, which has the face on its left.
-    pub(crate) from: Pos,
-    pub(crate) to: Pos,
+    pub width: u128,
+    /// Where the first segment of its border begins, which has the face on its left.
+    pub from: Pos,
+    /// Where that segment ends.
+    pub to: Pos,
+    /// Where each segment of its border begins and ends, which has the face on its left.
+    pub sides: Vec<(Pos, Pos), A>,
 }
 
 /// Whether a face is told where it is within the bounds: others are land, or outside.
@@ -83,24 +87,48 @@ fn first_ends<A: Allocator + Copy>(borders: &[Border<A>], sides: &[u32]) -> (Pos
     }
 }
 
+/// The ends of each of these sides.
+fn ends_of<A: Allocator + Copy>(
+    alloc: A,
+    borders: &[Border<A>],
+    sides: &[u32],
+) -> Result<Vec<(Pos, Pos), A>, AllocError>
+    ensures { IfOk result (λ ends. ends.items
+        ≡ map side_ends (map (side_at (segments_seen borders.now)) sides.now)) }
+{
+    let mut ends = Vec::new(alloc);
+    for side in sides {
+        ends.push(ends_at(borders, *side))?;
+    }
+    Ok(ends)
+}
+
 /// What is told of a face.
-fn told_of<A: Allocator + Copy>(borders: &[Border<A>], face: Face<A>) -> ToldFace<A>
-    ensures { view_told result ≡ face_told (face_seen (segments_seen borders.now) face) }
+fn told_of<A: Allocator + Copy>(
+    alloc: A,
+    borders: &[Border<A>],
+    face: Face<A>,
+) -> Result<ToldFace<A>, AllocError>
+    ensures { IfOk result (λ told.
+        view_told told ≡ face_told (face_seen (segments_seen borders.now) face)) }
 {
     let (from, to) = first_ends(borders, face.sides.as_slice());
+    let sides = ends_of(alloc, borders, face.sides.as_slice())?;
     let width = face.width();
-    ToldFace {
+    Ok(ToldFace {
         kind: face.kind,
         features: face.features,
         area: face.twice_area,
         width,
         from,
         to,
-    }
+        sides,
+    })
 }
 
 /// Appends what is told of a face, if it may be told.
 fn push_told<A: Allocator + Copy>(
+    alloc: A,
     found: &mut Vec<ToldFace<A>, A>,
     borders: &[Border<A>],
     face: Face<A>,
@@ -109,7 +137,7 @@ fn push_told<A: Allocator + Copy>(
         ++ all_told (face_seen (segments_seen borders.now) face ∷ [])) }
 {
     if is_found(face.kind) {
-        found.push(told_of(borders, face))?;
+        found.push(told_of(alloc, borders, face)?)?;
     }
     Ok(())
 }
@@ -125,7 +153,7 @@ pub(crate) fn told_of_all<A: Allocator + Copy>(
 {
     let mut found = Vec::new(alloc);
     for face in faces {
-        push_told(&mut found, borders, face)?;
+        push_told(alloc, &mut found, borders, face)?;
     }
     Ok(found)
 }

@@ -44,6 +44,8 @@ mod told;
 mod uneven;
 
 pub use asked::Asked;
+pub use faces::ToldFace;
 pub use fault::CoverFault;
-pub use report::report_map;
-pub use told::Counts;
+pub use looked::Looked;
+pub use report::{LookedMap, look_at_map, push_report};
+pub use told::{Counts, all_faces, told_faces};

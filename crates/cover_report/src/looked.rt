@@ -24,7 +24,7 @@ use topo_outline::RawLayer;
 
 /// What was found in a layer.
 #[derive(Drop)]
-pub(crate) struct Looked<'a, A: Allocator + Copy> {
+pub struct Looked<'a, A: Allocator + Copy = Global> {
     /// The layer's name with its quotes, as it stands.
     pub(crate) name: &'a [u8],
     /// What may be told of its faces.

@@ -95,7 +95,7 @@ fn push_faces<'l, A: Allocator + Copy>(
 }
 
 /// The faces of all layers that were looked at.
-pub(crate) fn all_faces<'l, A: Allocator + Copy>(
+pub fn all_faces<'l, A: Allocator + Copy>(
     alloc: A,
     looks: &'l [Looked<'_, A>],
 ) -> Result<Vec<&'l ToldFace<A>, A>, AllocError>
@@ -140,7 +140,7 @@ fn push_if<'l, A: Allocator + Copy>(
 }
 
 /// The faces of a kind that are told.
-pub(crate) fn told_faces<'l, A: Allocator + Copy>(
+pub fn told_faces<'l, A: Allocator + Copy>(
     alloc: A,
     asked: &Asked<'_>,
     kind: Kind,

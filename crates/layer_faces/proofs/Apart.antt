@@ -3,7 +3,7 @@ use Rattle.kit_words.proofs.Common.{◌≡◌, ℕ, suc, ◌<◌, Bool, true, fa
 use Rattle.std.proofs.Common.{rules, tests, ◌≢◌}
 use Rattle.std.specs.List.{prefix_len}
 use Rattle.std.proofs.lemmas.List.Sums.{prefix_len_is}
-use Rattle.kit_words.proofs.Common.{◌+◌, ◌-◌, ◌≤◌, sym, ap₂, length, get_or, append_assoc, take_all}
+use Rattle.kit_words.proofs.Common.{◌+◌, ◌-◌, ◌≤◌, sym, ap₂, length, get_or, append_assoc, drop_of_length-le, get_or_default, next_drop, take_all}
 use Rattle.grid_geometry.specs.Common.{xor}
 use Rattle.layer_sides.specs.Common.{Polygon, numbers_from}
 use Rattle.layer_faces.specs.Kept.{apart, merge_one}
@@ -123,6 +123,20 @@ module _ (n k : ℕ) (g : List ℕ → List ℕ) (ms front back found more : Lis
       ∙ append_assoc (found ++ front) (n ∷ []) (g back)
       ∙ append_assoc found front (n ∷ g back)
       ∙ ap (λ xs. found ++ xs) (at_front (n ∷ g back) (sym t))
+
+-- ---- one number more, and the rest
+
+pub pushed_more : (some found more rest left all : List ℕ) (i : ℕ) → i < length some
+    → ((g : List ℕ → List ℕ) → more ++ g left ≡ found ++ merge_one (get_or some i 0) g rest)
+    → found ++ apart (drop i some) rest ≡ all → more ++ apart (drop (i + 1) some) left ≡ all
+pushed_more some found more rest left all i l step is =
+    step (apart (drop (i + 1) some))
+    ∙ ap (λ (ns : List ℕ). found ++ apart ns rest) (sym (next_drop some i (get_or some i 0) l (get_or_default some i 0 (get_or some i 0) l))) ∙ is
+
+pub pushed_all : (some found more rest all : List ℕ) (i : ℕ) → length some ≤ i → more ≡ found ++ rest
+    → found ++ apart (drop i some) rest ≡ all → more ≡ all
+pushed_all some found more rest all i l pushed is =
+    pushed ∙ ap (λ (ns : List ℕ). found ++ apart ns rest) (sym (drop_of_length-le some l)) ∙ is
 
 -- ---- how many are below n
 

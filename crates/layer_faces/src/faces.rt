@@ -49,13 +49,14 @@ fn face_of<A: Allocator + Copy>(
 {
     let numbers = sides.as_slice();
     let first = numbers[0];
+    // (the length first: it needs each border alone, so that the memory is asked for several at a time)
+    let border = border_length(borders, numbers);
     let holders = common_holders(alloc, borders, numbers)?;
     let features = told_by(alloc, borders, owners, numbers, holders.as_slice())?;
     let Some(kind) = kind_in(outside, holders.as_slice(), features.as_slice()) else {
         return Err(FaceFault::Unlike(borders[first as usize / 2].segment));
     };
     let twice_area = area_of(borders, numbers);
-    let border = border_length(borders, numbers);
     Ok(Face {
         sides,
         first,

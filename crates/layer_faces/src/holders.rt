@@ -44,21 +44,39 @@ fn push_to<'o, A: Allocator + Copy>(
     }
 }
 
-/// Of two ascending lists of numbers those that are in one of them alone.
-fn apart<A: Allocator + Copy>(
-    alloc: A,
+/// Appends of two ascending lists of numbers those that are in one of them alone.
+fn push_apart<A: Allocator + Copy>(
+    found: &mut Vec<u32, A>,
     some: &[u32],
     others: &[u32],
-) -> Result<Vec<u32, A>, AllocError>
-    ensures { IfOk result (λ found. found.items ≡ apart some.now others.now) }
+) -> Result<(), AllocError>
+    ensures { OnOk result (found.new.items ≡ found.old.items ++ apart some.now others.now) }
 {
-    let mut found = Vec::new(alloc);
     let mut rest = others;
     for n in some {
-        rest = push_to(&mut found, rest, *n)?;
+        rest = push_to(found, rest, *n)?;
     }
     found.extend_from_slice(rest)?;
-    Ok(found)
+    Ok(())
+}
+
+/// Puts the polygons that hold side 2i, the left one of border i, or 2i + 1, its right one, in the place
+/// of what was found before.
+fn find_holders<A: Allocator + Copy>(
+    found: &mut Vec<u32, A>,
+    borders: &[Border<A>],
+    side: u32,
+) -> Result<(), AllocError>
+    requires { side < 2 * length borders.now }
+    ensures { OnOk result (found.new.items ≡ held_at (borders_seen borders.now) side) }
+{
+    let border = &borders[side as usize / 2];
+    found.clear();
+    if side % 2 == 0 {
+        push_apart(found, border.bounds.as_slice(), border.right.as_slice())
+    } else {
+        found.extend_from_slice(border.right.as_slice())
+    }
 }
 
 /// The polygons that hold side 2i, the left one of border i, or 2i + 1, its right one.
@@ -70,17 +88,14 @@ pub(crate) fn holders_at<A: Allocator + Copy>(
     requires { side < 2 * length borders.now }
     ensures { IfOk result (λ found. found.items ≡ held_at (borders_seen borders.now) side) }
 {
-    let border = &borders[side as usize / 2];
-    if side % 2 == 0 {
-        apart(alloc, border.bounds.as_slice(), border.right.as_slice())
-    } else {
-        Vec::from_slice(alloc, border.right.as_slice())
-    }
+    let mut found = Vec::new(alloc);
+    find_holders(&mut found, borders, side)?;
+    Ok(found)
 }
 
-/// Whether exactly these polygons hold the side.
+/// Whether exactly these polygons hold the side; the list `found` is for what holds it.
 fn is_held_by<A: Allocator + Copy>(
-    alloc: A,
+    found: &mut Vec<u32, A>,
     borders: &[Border<A>],
     side: u32,
     holders: &[u32],
@@ -88,7 +103,7 @@ fn is_held_by<A: Allocator + Copy>(
     requires { side < 2 * length borders.now }
     ensures { IfOk result (λ is. IsTrue is ↔ (held_at (borders_seen borders.now) side ≡ holders.now)) }
 {
-    let found = holders_at(alloc, borders, side)?;
+    find_holders(found, borders, side)?;
     Ok(found.as_slice() == holders)
 }
 
@@ -106,8 +121,9 @@ pub(crate) fn common_holders<A: Allocator + Copy>(
         return Ok(Vec::new(alloc));
     };
     let holders = holders_at(alloc, borders, *first)?;
+    let mut found = Vec::new(alloc);
     for side in sides {
-        if !is_held_by(alloc, borders, *side, holders.as_slice())? {
+        if !is_held_by(&mut found, borders, *side, holders.as_slice())? {
             return Err(FaceFault::Unlike(borders[*side as usize / 2].segment));
         }
     }

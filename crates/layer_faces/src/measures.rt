@@ -1,5 +1,5 @@
 // Areas and lengths of the borders of a face.
-ghost use Rattle.std.specs.Prelude.{◌≡◌, ◌*◌, ◌^◌, ◌<◌, ◌≤◌, ◌-ℤ◌, unsigned_abs, length, map, All};
+ghost use Rattle.std.specs.Prelude.{◌≡◌, ◌+◌, ◌*◌, ◌^◌, ◌<◌, ◌≤◌, ◌-ℤ◌, unsigned_abs, length, map, All, IsTrue};
 ghost use Rattle.layer_sides.specs.Levels as levels;
 ghost use Rattle.layer_faces.specs.Areas as areas;
 ghost use Rattle.layer_faces.specs.Lengths as lengths;
@@ -8,6 +8,7 @@ ghost use Rattle.layer_faces.specs.Seen.{segments_seen, side_at};
 use grid_geometry::{Pos, Seg, term};
 use layer_sides::Border;
 use std::alloc::Allocator;
+use std::num::{nearest_u64_to_f64, saturating_f64_to_u64};
 
 /// Whether p comes before q by level: it is lower, or at one height and further to the right.
 fn is_before(p: Pos, q: Pos) -> bool
@@ -69,6 +70,37 @@ fn square(y: i64, z: i64) -> u128
     far * far
 }
 
+/// The root of n in 65,536ths, nearly; far from it where n is very large.
+fn near_root(n: u128) -> u64 {
+    match u64::try_from(n) {
+        Ok(n) => saturating_f64_to_u64(nearest_u64_to_f64(n).sqrt() * 65_536.0),
+        Err(_) => 0,
+    }
+}
+
+/// Whether r is the root of n, rounded down.
+fn is_root(r: u64, n: u128) -> bool
+    ensures square_le { IsTrue result → r * r ≤ n }
+    ensures next_square_gt { IsTrue result → n < (r + 1) * (r + 1) }
+{
+    let r = r as u128;
+    let square = r * r;
+    square <= n && n - square <= 2 * r
+}
+
+/// The root of n, rounded down: a guess of it where that is right, which takes the least time.
+fn root_of(n: u128, guess: u64) -> u128
+    ensures square_le { result * result ≤ n }
+    ensures next_square_gt { n < (result + 1) * (result + 1) }
+    ensures bound { result < 2 ^ 64 }
+{
+    if is_root(guess, n) {
+        guess as u128
+    } else {
+        n.isqrt()
+    }
+}
+
 /// The length of a segment in 65,536ths of a unit, rounded down.
 fn length_of(segment: Seg) -> u128
     ensures value { result ≡ lengths.length_of segment }
@@ -76,7 +108,8 @@ fn length_of(segment: Seg) -> u128
 {
     let across = square(segment.lo.x(), segment.hi.x());
     let upward = square(segment.lo.y(), segment.hi.y());
-    ((across + upward) * 4_294_967_296).isqrt()
+    let sum = across + upward;
+    root_of(sum * 4_294_967_296, near_root(sum))
 }
 
 /// The length of the segments of these sides, each as often as it has a side among them.

@@ -2,7 +2,9 @@
 use Rattle.kit_words.proofs.Common.{◌≡◌, ℕ, ◌+◌, ◌-◌, ◌<◌, ◌≤◌, sym, ap, ◌∙◌, subst, arith, List, [], ◌∷◌, ◌++◌, take, drop}
 use Rattle.kit_words.proofs.Common.{length, get_or, All, IsTrue, IsPermutation, drop-drop, length-drop, length-append, take_more}
 use Rattle.std.proofs.lemmas.List.{get_or_at}
-use Rattle.kit_words.proofs.Common.{get_or_default, get_or-take, get_or-drop, length-take-le, not, false}
+use Rattle.std.proofs.lemmas.Slice.{drop-append-drop}
+use Rattle.kit_words.proofs.Common.{ap₂, append_assoc, drop-append_seam, next_drop, set, set-append_seam, take-append_seam}
+use Rattle.kit_words.proofs.Common.{get_or_default, get_or-take, get_or-drop, length-take-le, not, Bool, true, false}
 use Rattle.std.proofs.lemmas.List.Sorted.{IsPermutation-insert, IsPermutation-push_more, all_adjacent_more}
 use Rattle.std.specs.List.{insert, AllAdjacentBelow}
 use Rattle.grid_geometry.specs.Common.{Position, Segment, position_eq}
@@ -42,6 +44,63 @@ put_in begun found k at place d l e h =
     subst (λ ks. IsPermutation ks (insert found at place)) (ap (λ p. take k begun ++ p ∷ []) e ∙ sym (take_more begun k d l))
     (IsPermutation-push_more (take k begun) found (insert found at place) place h (IsPermutation-insert found at place))
 
+-- ---- places written over others, between those before them and behind
+
+front_of : (n : ℕ) (xs ys : List ℕ) → length xs ≡ n → take n (xs ++ ys) ≡ xs
+front_of n xs ys e = subst (λ m. take m (xs ++ ys) ≡ xs) e (take-append_seam xs ys)
+
+back_of : (n : ℕ) (xs ys : List ℕ) → length xs ≡ n → drop n (xs ++ ys) ≡ ys
+back_of n xs ys e = subst (λ m. drop m (xs ++ ys) ≡ ys) e (drop-append_seam xs ys)
+
+-- one place more is written over
+pub over_more : (old list begun : List ℕ) (at i : ℕ) → at + length begun ≤ length old → i < length begun
+    → list ≡ take at old ++ take i begun ++ drop (at + i) old
+    → set list (at + i) (get_or begun i 0) ≡ take at old ++ take (i + 1) begun ++ drop (at + (i + 1)) old
+over_more old list begun at i l m is =
+    ap (λ ks. set ks (at + i) x) (is ∙ ap (λ ks. front ++ ks) there)
+    ∙ subst (λ n. set (front ++ y ∷ behind) n x ≡ front ++ x ∷ behind) long (set-append_seam front y behind x)
+    ∙ sym (append_assoc front (x ∷ []) behind)
+    ∙ ap (λ ks. ks ++ behind) (append_assoc (take at old) (take i begun) (x ∷ []))
+    ∙ ap₂ (λ ks n. take at old ++ ks ++ drop n old) (sym (take_more begun i 0 m)) next
+  where
+    x : ℕ
+    x = get_or begun i 0
+
+    y : ℕ
+    y = get_or old (at + i) 0
+
+    front : List ℕ
+    front = take at old ++ take i begun
+
+    behind : List ℕ
+    behind = drop (at + i + 1) old
+
+    long : length front ≡ at + i
+    long = length-append (take at old) (take i begun) ∙ ap₂ (λ a b. a + b) (length-take-le at old (omega arith)) (length-take-le i begun (omega arith))
+
+    next : at + i + 1 ≡ at + (i + 1)
+    next = omega arith
+
+    there : drop (at + i) old ≡ y ∷ behind
+    there = next_drop old (at + i) y (omega arith) (get_or_default old (at + i) 0 y (omega arith))
+
+-- first as many as there are of both are written over, then the others are taken out or put in
+pub written_over : (list first rest begun over out new : List ℕ) (from to at : ℕ) → at ≡ from + length first → at ≤ to → to ≤ length list
+    → begun ≡ first ++ rest → over ≡ take from list ++ first ++ drop at list → out ≡ take at over ++ drop to over
+    → new ≡ take at out ++ rest ++ drop at out → new ≡ take from list ++ begun ++ drop to list
+written_over list first rest begun over out new from to at there l m parts is_over is_out is_new =
+    is_new ∙ ap₂ (λ xs ys. xs ++ rest ++ ys) (ap (take at) left ∙ front_of at front (drop to list) long) (ap (drop at) left ∙ back_of at front (drop to list) long)
+    ∙ ap (λ ks. ks ++ drop to list) (append_assoc (take from list) first rest ∙ ap (λ ks. take from list ++ ks) (sym parts))
+  where
+    front : List ℕ
+    front = take from list ++ first
+
+    long : length front ≡ at
+    long = let e : length (take from list) ≡ from = length-take-le from list (omega arith) in length-append (take from list) first ∙ ap (λ n. n + length first) e ∙ sym there
+
+    left : out ≡ front ++ drop to list
+    left = is_out ∙ ap₂ (λ xs ys. xs ++ ys) (ap (take at) is_over ∙ front_of at front (drop at list) long) (ap (drop to) is_over ∙ drop-append-drop at list front to l long)
+
 -- ---- those that begin, in turn
 
 -- the list but for its first, at a place
@@ -71,6 +130,12 @@ turned_more ss places k last place l e f h before =
   where
     back : k ≡ k + 1 - 1
     back = omega arith
+
+-- the top of one segment is on the right of another, as the code has found
+pub right_at : (ss : List Segment) (i j : ℕ) (s t : Segment) (w : Position) (found : Bool) → s ≡ segment_at ss j → t ≡ segment_at ss i
+    → w ≡ top s → found ≡ is_right w t → found ≡ true → IsTrue (is_right (top (segment_at ss j)) (segment_at ss i))
+right_at ss i j s t w found e f g h k =
+    ap₂ (λ x y. is_right (top x) y) (sym e) (sym f) ∙ ap (λ p. is_right p t) (sym g) ∙ sym h ∙ k
 
 pub same_at : (p q : Position) → not (position_eq p q) ≡ false → p ≡ q
 same_at p q h = position_eq-true p q (grind (arith, h))

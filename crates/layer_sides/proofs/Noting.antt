@@ -17,11 +17,12 @@ use Rattle.layer_sides.proofs.Places.{times-append}
 
 -- ---- ends
 
-pub ends_more : (ss : List Segment) (k : ℕ) (s : Segment) (found : List Position) → k < length ss → s ≡ segment_at ss k
-    → found ≡ flat_map turned_ends (take k ss)
-    → (found ++ turned (bottom s) ∷ []) ++ turned (top s) ∷ [] ≡ flat_map turned_ends (take (k + 1) ss)
-ends_more ss k s found l e h =
-    append_assoc found (turned (bottom s) ∷ []) (turned (top s) ∷ [])
+pub ends_more : (ss : List Segment) (k : ℕ) (s : Segment) (p q : Position) (found one both : List Position) → k < length ss → s ≡ segment_at ss k
+    → p ≡ turned (bottom s) → q ≡ turned (top s) → one ≡ found ++ p ∷ [] → both ≡ one ++ q ∷ [] → found ≡ flat_map turned_ends (take k ss)
+    → both ≡ flat_map turned_ends (take (k + 1) ss)
+ends_more ss k s p q found one both l e f g first second h =
+    second ∙ ap₂ (λ ps r. ps ++ r ∷ []) (first ∙ ap (λ r. found ++ r ∷ []) f) g
+    ∙ append_assoc found (turned (bottom s) ∷ []) (turned (top s) ∷ [])
     ∙ ap₂ (λ ps qs. ps ++ qs) h (ap turned_ends e)
     ∙ sym (ap (flat_map turned_ends) (take_more ss k _ l) ∙ flat_map-append turned_ends (take k ss) (segment_at ss k ∷ []))
 

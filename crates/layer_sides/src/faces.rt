@@ -1,5 +1,5 @@
 // Which sides of borders lie in one face: those that come to stand beside each other in the list.
-ghost use Rattle.std.specs.Prelude.{◌≡◌, ◌≤◌, length, IfOk};
+ghost use Rattle.std.specs.Prelude.{◌≡◌, length, IfOk};
 
 use std::alloc::{AllocError, Allocator};
 
@@ -7,43 +7,48 @@ use std::alloc::{AllocError, Allocator};
 #[derive(Drop)]
 pub(crate) struct Faces<A: Allocator + Copy> {
     /// Of each side a lesser one of its face, or the side itself.
-    lesser: Vec<usize, A>,
+    lesser: Vec<u32, A>,
+}
+
+/// The number of a side that 32 bits hold; of another one the greatest that they do.
+fn number_of(side: usize) -> u32 {
+    u32::try_from(side).unwrap_or(u32::MAX)
 }
 
 impl<A: Allocator + Copy> Faces<A> {
     /// So many sides, none united with another.
     pub(crate) fn new(alloc: A, count: usize) -> Result<Faces<A>, AllocError> {
-        let mut lesser = Vec::new(alloc);
+        let mut lesser = Vec::with_capacity(alloc, count)?;
         for side in 0..count {
-            lesser.push(side)?;
+            lesser.push(number_of(side))?;
         }
         Ok(Faces { lesser })
     }
 
     /// A lesser side of the face, or the side itself.
-    fn lesser_of(&self, side: usize) -> usize {
-        match self.lesser.get(side) {
+    fn lesser_of(&self, side: u32) -> u32 {
+        match self.lesser.get(side as usize) {
             Some(lesser) => *lesser,
             None => side,
         }
     }
 
     /// Writes a lesser side of the face of a side.
-    fn set_lesser(&mut self, side: usize, lesser: usize) {
-        if let Some(entry) = self.lesser.get_mut(side) {
+    fn set_lesser(&mut self, side: u32, lesser: u32) {
+        if let Some(entry) = self.lesser.get_mut(side as usize) {
             *entry = lesser;
         }
     }
 
     /// A lesser side of the face, or the side itself, with the way to the least halved.
-    fn step(&mut self, side: usize) -> usize {
+    fn step(&mut self, side: u32) -> u32 {
         let next = self.lesser_of(self.lesser_of(side));
         self.set_lesser(side, next);
         next
     }
 
     /// The least side of the face.
-    fn least(&mut self, side: usize) -> usize {
+    fn least(&mut self, side: u32) -> u32 {
         let mut least = side;
         let mut next = self.step(side);
         while next < least {
@@ -54,7 +59,7 @@ impl<A: Allocator + Copy> Faces<A> {
     }
 
     /// Unites the faces of two sides.
-    fn join(&mut self, side: usize, other: usize) {
+    fn join(&mut self, side: u32, other: u32) {
         let (a, b) = (self.least(side), self.least(other));
         if a < b {
             self.set_lesser(b, a);
@@ -63,23 +68,27 @@ impl<A: Allocator + Copy> Faces<A> {
         }
     }
 
+    /// The outside, which is the last.
+    fn outside(&self) -> u32 {
+        number_of(self.lesser.len().saturating_sub(1))
+    }
+
     /// The right side of the border before this place of the list; the outside before the first.
-    fn before(&self, list: &[usize], place: usize) -> usize {
-        let outside = self.lesser.len().saturating_sub(1);
+    fn before(&self, list: &[usize], place: usize) -> u32 {
         if place == 0 {
-            return outside;
+            return self.outside();
         }
         match list.get(place - 1) {
-            Some(border) => border.saturating_mul(2).saturating_add(1),
-            None => outside,
+            Some(border) => number_of(border.saturating_mul(2).saturating_add(1)),
+            None => self.outside(),
         }
     }
 
     /// The left side of the border at this place of the list; the outside behind the last.
-    fn behind(&self, list: &[usize], place: usize) -> usize {
+    fn behind(&self, list: &[usize], place: usize) -> u32 {
         match list.get(place) {
-            Some(border) => border.saturating_mul(2),
-            None => self.lesser.len().saturating_sub(1),
+            Some(border) => number_of(border.saturating_mul(2)),
+            None => self.outside(),
         }
     }
 
@@ -99,14 +108,14 @@ impl<A: Allocator + Copy> Faces<A> {
 
     /// Of each of so many sides the least one of its face.
     pub(crate) fn labels(&self, alloc: A, count: usize) -> Result<Vec<u32, A>, AllocError>
-        requires { count ≤ 4294967295 }
         ensures { IfOk result (λ labels. length labels.items ≡ count) }
     {
-        let mut labels = Vec::new(alloc);
+        let mut labels = Vec::with_capacity(alloc, count)?;
         for side in 0..count {
-            let label = match labels.get(self.lesser_of(side)) {
+            let number = number_of(side);
+            let label = match labels.get(self.lesser_of(number) as usize) {
                 Some(label) => *label,
-                None => side as u32,
+                None => number,
             };
             labels.push(label)?;
         }

@@ -1,5 +1,5 @@
 // The list of the borders under way, from left to right: the place of a vertex in it.
-ghost use Rattle.std.specs.Prelude.{◌≡◌, ◌<◌, ◌≤◌, ◌++◌, ◌∷◌, [], ℕ, List, length, take, drop, IsTrue, IfSome, OnOk};
+ghost use Rattle.std.specs.Prelude.{◌≡◌, ◌+◌, ◌<◌, ◌≤◌, ◌++◌, ◌∷◌, [], ℕ, List, length, take, drop, IsTrue, IfSome, OnOk};
 ghost use Rattle.std.specs.List.{All};
 ghost use Rattle.layer_sides.specs.Levels.{top};
 ghost use Rattle.layer_sides.specs.Order as order;
@@ -125,7 +125,19 @@ fn put_in<A: Allocator + Copy>(
     Ok(())
 }
 
-/// Puts places into the list, in the place of those from one on, up to before another.
+/// Writes places over those of the list, the first of them at this place of it.
+fn put_over<A: Allocator + Copy>(list: &mut Vec<usize, A>, at: usize, begun: &[usize])
+    requires { at + length begun.now ≤ length list.old.items }
+    ensures { list.new.items
+        ≡ take at list.old.items ++ begun.now ++ drop (at + length begun.now) list.old.items }
+{
+    for (i, place) in begun.iter().enumerate() {
+        list[at + i] = *place;
+    }
+}
+
+/// Puts places into the list, in the place of those from one on, up to before another. As many as there
+/// are of both are written over, since what is put in or taken out moves all that stands behind.
 pub(crate) fn put_begun<A: Allocator + Copy>(
     list: &mut Vec<usize, A>,
     from: usize,
@@ -137,6 +149,9 @@ pub(crate) fn put_begun<A: Allocator + Copy>(
     ensures { OnOk result
         (list.new.items ≡ take from list.old.items ++ begun.now ++ drop to list.old.items) }
 {
-    take_out(list, from, to);
-    put_in(list, from, begun)
+    let over = begun.len().min(to - from);
+    let (first, rest) = begun.split_at(over);
+    put_over(list, from, first);
+    take_out(list, from + over, to);
+    put_in(list, from + over, rest)
 }

@@ -12,6 +12,10 @@ use crate::fault::SideFault;
 use grid_geometry::Pos;
 use std::alloc::{AllocError, Allocator, Global};
 
+/// For how many borders that begin at a vertex there is room at first, so that those of vertices that
+/// follow on each other lie beside each other.
+const ROOM: usize = 2;
+
 /// A vertex of borders.
 #[derive(Drop)]
 pub(crate) struct Vertex<A: Allocator + Copy = Global> {
@@ -54,7 +58,7 @@ fn turned_ends<A: Allocator + Copy>(
 ) -> Result<Vec<Pos, A>, AllocError>
     ensures { IfOk result (λ found. found.items ≡ flat_map spec.turned_ends (segments_seen borders.now)) }
 {
-    let mut found = Vec::new(alloc);
+    let mut found = Vec::with_capacity(alloc, borders.len().saturating_mul(2))?;
     for border in borders {
         found.push(turned(bottom_of(border.segment)))?;
         found.push(turned(top_of(border.segment)))?;
@@ -75,38 +79,88 @@ fn bare<A: Allocator + Copy>(alloc: A, levels: &[Pos]) -> Result<Vec<Vertex<A>, 
     ensures levels { IfOk result (λ found. map (λ v. spec.turned v.0) (vertices_seen found.items) ≡ levels.now) }
     ensures bare { IfOk result (λ found. All (λ v. v.1 ≡ []) (vertices_seen found.items)) }
 {
-    let mut found = Vec::new(alloc);
+    let mut found = Vec::with_capacity(alloc, levels.len())?;
     for level in levels {
         found.push(Vertex {
             at: turned_back(*level),
-            begun: Vec::new(alloc),
+            begun: Vec::with_capacity(alloc, ROOM)?,
         })?;
     }
     Ok(found)
 }
 
-/// Notes at the vertex where it stands that the border at this place begins there.
-fn note<A: Allocator + Copy>(
+/// Where a border begins, turned, and its place. Ordered by level.
+#[derive(Clone, Copy, PartialEq, Eq, PartialOrd, Ord)]
+struct Start {
+    level: Pos,
+    place: usize,
+}
+
+/// Where the borders begin, by level.
+fn starts_of<A: Allocator + Copy>(
+    alloc: A,
+    borders: &[Border<A>],
+) -> Result<Vec<Start, A>, AllocError> {
+    let mut starts = Vec::with_capacity(alloc, borders.len())?;
+    for (place, border) in borders.iter().enumerate() {
+        starts.push(Start {
+            level: turned(bottom_of(border.segment)),
+            place,
+        })?;
+    }
+    starts.sort_unstable();
+    Ok(starts)
+}
+
+/// The place of the first level, from one on, that is not before this one.
+fn next_level(levels: &[Pos], from: usize, level: Pos) -> usize {
+    for at in from..levels.len() {
+        if level <= levels[at] {
+            return at;
+        }
+    }
+    levels.len()
+}
+
+/// Of each border the place of the level at which it begins. It is found by the order of both, and `note`
+/// tests it.
+fn level_places<A: Allocator + Copy>(
+    alloc: A,
     levels: &[Pos],
+    borders: &[Border<A>],
+) -> Result<Vec<usize, A>, AllocError> {
+    let starts = starts_of(alloc, borders)?;
+    let mut places = vec![in alloc; 0; borders.len()]?;
+    let mut at = 0;
+    for start in starts.as_slice() {
+        at = next_level(levels, at, start.level);
+        if let Some(place) = places.get_mut(start.place) {
+            *place = at;
+        }
+    }
+    Ok(places)
+}
+
+/// Notes at this vertex that the border at this place begins there. Fails where it is not so.
+fn note<A: Allocator + Copy>(
     vertices: &mut Vec<Vertex<A>, A>,
+    vertex: usize,
     place: usize,
     at: Pos,
 ) -> Result<(), SideFault>
     ensures { OnOk result (spec.Notes place at (vertices_seen vertices.old.items) (vertices_seen vertices.new.items)) }
 {
-    if let Ok(vertex) = levels.binary_search(&turned(at)) {
-        if vertex < vertices.len() && vertices[vertex].at == at {
-            vertices[vertex].begun.push(place)?;
-            return Ok(());
-        }
+    if vertex < vertices.len() && vertices[vertex].at == at {
+        vertices[vertex].begun.push(place)?;
+        return Ok(());
     }
     Err(SideFault::Unswept(at))
 }
 
-/// Notes of each border where it begins.
+/// Notes of each border where it begins: at which vertices, is known.
 fn note_all<A: Allocator + Copy>(
-    levels: &[Pos],
     vertices: &mut Vec<Vertex<A>, A>,
+    begins: &[usize],
     borders: &[Border<A>],
 ) -> Result<(), SideFault>
     requires rising { spec.AreRising (vertices_seen vertices.old.items) }
@@ -116,7 +170,8 @@ fn note_all<A: Allocator + Copy>(
     ensures begun { OnOk result (All (BegunAt (segments_seen borders.now) (length (segments_seen borders.now))) (vertices_seen vertices.new.items)) }
 {
     for (place, border) in borders.iter().enumerate() {
-        note(levels, vertices, place, bottom_of(border.segment))?;
+        let vertex = begins.get(place).copied().unwrap_or(0);
+        note(vertices, vertex, place, bottom_of(border.segment))?;
     }
     Ok(())
 }
@@ -130,7 +185,8 @@ pub(crate) fn vertices_of<A: Allocator + Copy>(
 {
     let mut levels = turned_ends(alloc, borders)?;
     sort_once(&mut levels);
+    let begins = level_places(alloc, levels.as_slice(), borders)?;
     let mut found = bare(alloc, levels.as_slice())?;
-    note_all(levels.as_slice(), &mut found, borders)?;
+    note_all(&mut found, begins.as_slice(), borders)?;
     Ok(found)
 }

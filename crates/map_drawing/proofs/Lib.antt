@@ -4,4 +4,5 @@ pub mod NamedLemmas
 pub mod LabelLemmas
 pub mod LabelledLemmas
 pub mod DrawnLemmas
+pub mod PathLemmas
 mod Examples

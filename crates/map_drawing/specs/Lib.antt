@@ -1,4 +1,7 @@
+pub mod Points
 pub mod Paths
+pub mod Corners
+pub mod Fineness
 pub mod Common
 pub mod Marks
 pub mod Labels

@@ -86,10 +86,10 @@ impl<A: Allocator + Copy> Picture<A> {
 
     /// Appends a path of runs.
     fn push_runs(&mut self, look: Look, runs: &[Run]) -> Result<(), AllocError> {
-        let sides = self.layout.sides();
+        let sides = self.drawn.sides();
         self.open_lines(look)?;
         for run in runs {
-            let (from, to) = (self.layout.point(run.from), self.layout.point(run.to));
+            let (from, to) = (self.drawn.point(run.from), self.drawn.point(run.to));
             if let Some((from, to)) = cut_line(&sides, from, to) {
                 push_line(&mut self.text, from, to)?;
             }
@@ -230,6 +230,9 @@ pub fn draw_change<A: Allocator + Copy>(
     let new = shapes_of(alloc, after, new_regions.as_slice())?;
     let bounds = bounds_of(bounds_of(None, old.as_slice()), new.as_slice());
     let units = Units::of(after.transform, bounds, view.part);
-    let picture = Picture::of_part(alloc, heap, view.part, bounds, &units);
+    let mut picture = Picture::of_part(alloc, heap, view.part, bounds, &units);
+    let positions = picture.positions(old.as_slice());
+    let positions = positions.max(picture.positions(new.as_slice()));
+    picture.draw_for(positions);
     picture.with_features(view, &units, title, old.as_slice(), new.as_slice())
 }

@@ -2,8 +2,8 @@
 use crate::points::{Point, between};
 use std::alloc::{AllocError, Allocator};
 
-/// How far lines go on beyond what is shown, in hundredths of a pixel: their new ends are not seen.
-const BEYOND: i64 = 1_000;
+/// How many pixels lines go on beyond what is shown: their new ends are not seen.
+const BEYOND: i64 = 10;
 
 /// A side of the box outside which nothing is drawn.
 #[derive(Clone, Copy)]
@@ -33,10 +33,10 @@ impl Side {
     fn crossing(self, from: Point, to: Point) -> Point {
         let part = self.depth(from);
         let whole = part.saturating_sub(self.depth(to));
-        Point {
-            x: between(from.x, to.x, part, whole),
-            y: between(from.y, to.y, part, whole),
-        }
+        Point::near(
+            between(from.x, to.x, part, whole),
+            between(from.y, to.y, part, whole),
+        )
     }
 
     /// The part of a line that is inside.
@@ -85,13 +85,14 @@ impl Side {
     }
 }
 
-/// The sides of the box for a picture of this size.
-pub(crate) fn sides(width: i64, height: i64) -> [Side; 4] {
+/// The sides of the box for a picture of this size, where a pixel has so many parts.
+pub(crate) fn sides(width: i64, height: i64, parts: i64) -> [Side; 4] {
+    let beyond = parts.saturating_mul(BEYOND);
     [
-        Side::Left(-BEYOND),
-        Side::Right(width.saturating_add(BEYOND)),
-        Side::Top(-BEYOND),
-        Side::Bottom(height.saturating_add(BEYOND)),
+        Side::Left(0i64.saturating_sub(beyond)),
+        Side::Right(width.saturating_add(beyond)),
+        Side::Top(0i64.saturating_sub(beyond)),
+        Side::Bottom(height.saturating_add(beyond)),
     ]
 }
 

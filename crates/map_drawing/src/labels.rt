@@ -90,10 +90,10 @@ impl Label {
 
     /// The middle of the base line of its words.
     pub(crate) fn base(&self) -> Point {
-        Point {
-            x: self.stretch.left.saturating_add(self.stretch.width() / 2),
-            y: self.row.top.saturating_add(RISE),
-        }
+        Point::near(
+            self.stretch.left.saturating_add(self.stretch.width() / 2),
+            self.row.top.saturating_add(RISE),
+        )
     }
 
     /// Whether it covers none of these.

@@ -16,7 +16,7 @@ pub(crate) const MARGIN: i64 = 20;
 /// How far a line of words is from the one above it.
 pub(crate) const ROW: i64 = 20;
 
-/// How many hundredths a pixel has.
+/// How many parts a pixel has where labels are put, and where pixels are looked for.
 pub(crate) const PIXEL: i64 = 100;
 
 /// How wide a window may be in the picture.
@@ -38,10 +38,13 @@ pub(crate) struct Layout {
     pub(crate) window: Window,
     /// Its place in the picture.
     pub(crate) place: ElementBox,
+    /// How many parts a pixel has.
+    pub(crate) parts: i64,
     ghost left: { (pos 0 ≤ℤ place.x) × (place.x ≤ℤ pos 1000) },
     ghost top: { (pos 0 ≤ℤ place.y) × (place.y ≤ℤ pos 1000) },
     ghost across: { (pos 1 ≤ℤ place.width) × (place.width ≤ℤ pos 960) },
     ghost down: { (pos 1 ≤ℤ place.height) × (place.height ≤ℤ pos 720) },
+    ghost fine: { (pos 1 ≤ℤ parts) × (parts ≤ℤ pos 100) },
 }
 
 /// So much of a room as a part is of a whole, rounded toward 0.
@@ -84,8 +87,8 @@ fn upward_units(window: Window, ratio: i64) -> i64
 }
 
 impl Layout {
-    /// As large as the room for it allows, in the middle. A unit across is as long as so many
-    /// ten-thousandths of a unit upward.
+    /// As large as the room for it allows, in the middle, in hundredths of a pixel. A unit across is as long as
+    /// so many ten-thousandths of a unit upward.
     pub(crate) fn new(window: Window, ratio: i64) -> Layout
         requires { (pos 0 ≤ℤ ratio) × (ratio ≤ℤ pos 10000) }
     {
@@ -100,31 +103,43 @@ impl Layout {
                 width,
                 height: extent(high, MOST_DOWN),
             },
+            parts: PIXEL,
         }
     }
 
-    /// How wide the map is in the picture, in hundredths of a pixel.
+    /// The same where a pixel has so many parts.
+    pub(crate) fn with_parts(self, parts: i64) -> Layout
+        requires { (pos 1 ≤ℤ parts) × (parts ≤ℤ pos 100) }
+    {
+        Layout {
+            window: self.window,
+            place: self.place,
+            parts,
+        }
+    }
+
+    /// How wide the map is in the picture, in parts of a pixel.
     pub(crate) fn width(&self) -> i64
-        ensures { (pos 100 ≤ℤ result) × (result ≤ℤ pos 96000) }
+        ensures { (pos 1 ≤ℤ result) × (result ≤ℤ pos 96000) }
     {
-        self.place.width * PIXEL
+        self.place.width * self.parts
     }
 
-    /// How high the map is in the picture, in hundredths of a pixel.
+    /// How high the map is in the picture, in parts of a pixel.
     pub(crate) fn height(&self) -> i64
-        ensures { (pos 100 ≤ℤ result) × (result ≤ℤ pos 72000) }
+        ensures { (pos 1 ≤ℤ result) × (result ≤ℤ pos 72000) }
     {
-        self.place.height * PIXEL
+        self.place.height * self.parts
     }
 
-    /// How far from the left of the map a position is, in hundredths of a pixel.
+    /// How far from the left of the map a position is, in parts of a pixel.
     pub(crate) fn across(&self, pos: Pos) -> i64
         ensures { unsigned_abs result ≤ 900000000000000000 }
     {
         share(self.window.right(pos), self.width(), self.window.width)
     }
 
-    /// How far from the top of the map a position is, in hundredths of a pixel.
+    /// How far from the top of the map a position is, in parts of a pixel.
     pub(crate) fn down(&self, pos: Pos) -> i64
         ensures { unsigned_abs result ≤ 900000000000000000 }
     {
@@ -142,13 +157,14 @@ impl Layout {
 
     /// The sides of the box outside which nothing is drawn.
     pub(crate) fn sides(&self) -> [Side; 4] {
-        sides(self.width(), self.height())
+        sides(self.width(), self.height(), self.parts)
     }
 
     /// A point of the map in pixels of the picture.
     pub(crate) fn pixel(&self, point: Point) -> (i64, i64) {
-        let x = self.place.x.saturating_add(quotient(point.x, PIXEL));
-        (x, self.place.y.saturating_add(quotient(point.y, PIXEL)))
+        let x = self.place.x.saturating_add(quotient(point.x, self.parts));
+        let y = self.place.y.saturating_add(quotient(point.y, self.parts));
+        (x, y)
     }
 
     /// How far from the top of the picture the first line of words below it is.

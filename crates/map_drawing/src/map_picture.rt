@@ -3,8 +3,9 @@ ghost use Rattle.std.specs.Prelude.{◌≡◌, ◌≤ℤ◌, ◌++◌, codes, po
 ghost use Rattle.map_drawing.specs.Marks.{IsNamedIn, NamesConflict};
 ghost use Rattle.map_drawing.specs.Names.{AddsNames, AddsNamesAsked, IsLabelled, IsLabelledIn, IsNumberAndId};
 
+use crate::fineness::{parts_for, positions_in};
 use crate::labels::{Label, place_in, rows_inside};
-use crate::layout::{Layout, MARGIN, PIXEL, ROW, WIDTH};
+use crate::layout::{Layout, MARGIN, ROW, WIDTH};
 use crate::outlines::push_outline;
 use crate::paths::push_rings;
 use crate::points::Point;
@@ -49,17 +50,17 @@ pub(crate) enum Look {
 }
 
 impl Look {
-    /// The name of its style.
-    fn class(self) -> &'static str {
+    /// The name of its style, if it has one of its own.
+    fn class(self) -> Option<&'static str> {
         match self {
-            Look::Plain => "plain",
-            Look::Kept => "kept",
-            Look::Changed => "changed",
-            Look::Lost => "lost",
-            Look::Gone => "gone",
-            Look::New => "new",
-            Look::Named => "named",
-            Look::Conflict => "conflict",
+            Look::Plain => None,
+            Look::Kept => Some("kept"),
+            Look::Changed => Some("changed"),
+            Look::Lost => Some("lost"),
+            Look::Gone => Some("gone"),
+            Look::New => Some("new"),
+            Look::Named => Some("named"),
+            Look::Conflict => Some("conflict"),
         }
     }
 }
@@ -73,8 +74,10 @@ pub(crate) struct Picture<A: Allocator + Copy> {
     pub(crate) heap: Global,
     /// Whether all is drawn, and not a part alone.
     pub(crate) is_whole: bool,
-    /// Where the part of the grid that is drawn lies.
+    /// Where the part of the grid that is drawn lies, in hundredths of a pixel.
     pub(crate) layout: Layout,
+    /// The same in the parts of a pixel in which features and borders are drawn.
+    pub(crate) drawn: Layout,
     /// The text so far.
     pub(crate) text: Vec<u8, A>,
 }
@@ -89,13 +92,25 @@ impl<A: Allocator + Copy> Picture<A> {
         units: &Units,
     ) -> Picture<A> {
         let window = part.unwrap_or(Window::of(bounds));
+        let layout = Layout::new(window, units.ratio);
         Picture {
             alloc,
             heap,
             is_whole: part.is_none(),
-            layout: Layout::new(window, units.ratio),
+            layout,
+            drawn: layout,
             text: Vec::new(alloc),
         }
+    }
+
+    /// How many positions of features are drawn.
+    pub(crate) fn positions(&self, shapes: &[Shape<'_, A>]) -> usize {
+        positions_in(&self.layout.window, shapes)
+    }
+
+    /// Draws features and borders as fine as so many positions may be drawn.
+    pub(crate) fn draw_for(&mut self, positions: usize) {
+        self.drawn = self.layout.with_parts(parts_for(positions));
     }
 
     /// Begins the picture, with a title and a bar of length above the map and so many lines of a list below.
@@ -113,18 +128,27 @@ impl<A: Allocator + Copy> Picture<A> {
 
     /// Begins the map.
     fn open_map(&mut self) -> Result<(), AllocError> {
-        let (width, height) = (self.layout.width(), self.layout.height());
-        open_view(&mut self.text, self.layout.place, width, height)?;
+        let (width, height) = (self.drawn.width(), self.drawn.height());
+        open_view(&mut self.text, self.drawn.place, width, height)?;
         self.text.extend_from_slice(b"<rect class=\"gap\" width=\"100%\" height=\"100%\"/>\n<g")?;
-        push_attribute(&mut self.text, "stroke-width", PIXEL)?;
+        push_attribute(&mut self.text, "stroke-width", self.drawn.parts)?;
         self.text.extend_from_slice(b">\n")
+    }
+
+    /// Appends the name of a style as an attribute.
+    fn push_class(&mut self, class: &str) -> Result<(), AllocError> {
+        self.text.extend_from_slice(b" class=\"")?;
+        self.text.extend_from_slice(class.as_bytes())?;
+        self.text.extend_from_slice(b"\"")
     }
 
     /// Begins a path.
     pub(crate) fn open_path(&mut self, look: Look) -> Result<(), AllocError> {
-        self.text.extend_from_slice(b"<path class=\"")?;
-        self.text.extend_from_slice(look.class().as_bytes())?;
-        self.text.extend_from_slice(b"\"")
+        self.text.extend_from_slice(b"<path")?;
+        match look.class() {
+            Some(class) => self.push_class(class),
+            None => Ok(()),
+        }
     }
 
     /// Appends a feature, if the window shows some of it. Its number and its `id` are shown where one points
@@ -138,7 +162,7 @@ impl<A: Allocator + Copy> Picture<A> {
         if let Some(bounds) = shape.bounds()
             && window.meets(&bounds)
         {
-            let rings = self.outline(shape)?;
+            let rings = self.outline(&self.drawn, shape)?;
             self.open_path(look)?;
             self.text.extend_from_slice(b" d=\"")?;
             push_rings(&mut self.text, rings.as_slice())?;
@@ -150,13 +174,14 @@ impl<A: Allocator + Copy> Picture<A> {
         Ok(())
     }
 
-    /// The rings of a feature as they are drawn.
+    /// The rings of a feature as they are drawn in a layout.
     pub(crate) fn outline(
         &self,
+        layout: &Layout,
         shape: &Shape<'_, A>,
     ) -> Result<Vec<Vec<Point, A>, A>, AllocError> {
         let mut rings = Vec::new(self.alloc);
-        push_outline(&mut rings, self.alloc, &self.layout, shape.polygons)?;
+        push_outline(&mut rings, self.alloc, layout, shape.polygons)?;
         Ok(rings)
     }
 
@@ -211,7 +236,7 @@ impl<A: Allocator + Copy> Picture<A> {
     ) -> Result<(), AllocError>
         ensures { OnOk result (AddsNames self.old.text.items self.new.text.items) }
     {
-        let rings = self.outline(shape)?;
+        let rings = self.outline(&self.layout, shape)?;
         let ends = Stretch {
             left: 0,
             right: self.layout.width(),
@@ -325,6 +350,8 @@ pub fn draw_map<A: Allocator + Copy>(
     let shapes = shapes_of(alloc, map, map.polygons.as_slice())?;
     let bounds = bounds_of(None, shapes.as_slice());
     let units = Units::of(map.transform, bounds, view.part);
-    let picture = Picture::of_part(alloc, heap, view.part, bounds, &units);
+    let mut picture = Picture::of_part(alloc, heap, view.part, bounds, &units);
+    let positions = picture.positions(shapes.as_slice());
+    picture.draw_for(positions);
     picture.with_map(view, &units, title, shapes.as_slice())
 }

@@ -3,7 +3,6 @@ ghost use Rattle.std.specs.Prelude.{Some, OnOk};
 ghost use Rattle.map_drawing.specs.Names.{Adds, AddsPlace};
 
 use crate::cutting::{Side, cut_line};
-use crate::layout::PIXEL;
 use crate::map_picture::{Look, Picture};
 use crate::paths::{push_line, push_rings};
 use grid_geometry::{Pos, Seg};
@@ -18,9 +17,9 @@ impl<A: Allocator + Copy> Picture<A> {
     /// Appends the beginning of a path of lines, up to its positions. What is gone is dashed.
     pub(crate) fn open_lines(&mut self, look: Look) -> Result<(), AllocError> {
         self.open_path(look)?;
-        push_attribute(&mut self.text, "stroke-width", 3 * PIXEL)?;
+        push_attribute(&mut self.text, "stroke-width", 3 * self.drawn.parts)?;
         if look == Look::Gone {
-            push_attribute(&mut self.text, "stroke-dasharray", 7 * PIXEL)?;
+            push_attribute(&mut self.text, "stroke-dasharray", 7 * self.drawn.parts)?;
         }
         self.text.extend_from_slice(b" d=\"")
     }
@@ -30,7 +29,7 @@ impl<A: Allocator + Copy> Picture<A> {
         let Some(shape) = shape else {
             return Ok(());
         };
-        let rings = self.outline(shape)?;
+        let rings = self.outline(&self.drawn, shape)?;
         self.open_lines(Look::Named)?;
         push_rings(&mut self.text, rings.as_slice())?;
         self.text.extend_from_slice(b"\"/>\n")
@@ -38,7 +37,7 @@ impl<A: Allocator + Copy> Picture<A> {
 
     /// Appends a segment as far as it is not far beyond what is shown.
     fn push_segment(&mut self, sides: &[Side; 4], segment: Seg) -> Result<(), AllocError> {
-        let (from, to) = (self.layout.point(segment.lo), self.layout.point(segment.hi));
+        let (from, to) = (self.drawn.point(segment.lo), self.drawn.point(segment.hi));
         if let Some((from, to)) = cut_line(sides, from, to) {
             push_line(&mut self.text, from, to)?;
         }
@@ -47,7 +46,7 @@ impl<A: Allocator + Copy> Picture<A> {
 
     /// Appends both segments of a conflict.
     fn push_conflict(&mut self, conflict: Conflict) -> Result<(), AllocError> {
-        let sides = self.layout.sides();
+        let sides = self.drawn.sides();
         self.open_lines(Look::Conflict)?;
         self.push_segment(&sides, conflict.first)?;
         self.push_segment(&sides, conflict.second)?;

@@ -1,40 +1,46 @@
 // The rings of a feature as they are drawn.
-use crate::cutting::{Side, cut_ring};
+use crate::corners::{corners, visible};
+use crate::cutting::cut_ring;
 use crate::layout::Layout;
 use crate::points::Point;
 use grid_geometry::Pos;
 use std::alloc::{AllocError, Allocator};
 
-/// The points of a ring. A vertex at the point of the one before it adds nothing.
+/// The points of the positions of a ring.
 fn points<A: Allocator + Copy>(
     alloc: A,
     layout: &Layout,
     ring: &[Pos],
 ) -> Result<Vec<Point, A>, AllocError> {
     let mut points = Vec::new(alloc);
-    let mut last = None;
     for pos in ring {
-        let point = layout.point(*pos);
-        if last != Some(point) {
-            points.push(point)?;
-            last = Some(point);
-        }
+        points.push(layout.point(*pos))?;
     }
     Ok(points)
 }
 
-/// Appends the rings of polygons, without what is far beyond what is shown. A ring that is all beyond it is
-/// left out: a path has no ring without a point (SVG 1.1, 8.3.2).
+/// A ring without what is far beyond what is shown, and without points that add nothing.
+fn outline<A: Allocator + Copy>(
+    alloc: A,
+    layout: &Layout,
+    ring: &[Pos],
+) -> Result<Vec<Point, A>, AllocError> {
+    let points = points(alloc, layout, ring)?;
+    let points = visible(alloc, points.as_slice())?;
+    let points = cut_ring(alloc, &layout.sides(), points)?;
+    corners(alloc, points.as_slice())
+}
+
+/// Appends the rings of polygons as they are drawn. A ring that is all far beyond what is shown is left out: a path
+/// has no ring without a point (SVG 1.1, 8.3.2).
 pub(crate) fn push_outline<A: Allocator + Copy>(
     rings: &mut Vec<Vec<Point, A>, A>,
     alloc: A,
     layout: &Layout,
     polygons: &[Vec<Vec<Pos, A>, A>],
 ) -> Result<(), AllocError> {
-    let sides: [Side; 4] = layout.sides();
     for ring in polygons.iter().flatten() {
-        let points = points(alloc, layout, ring.as_slice())?;
-        let ring = cut_ring(alloc, &sides, points)?;
+        let ring = outline(alloc, layout, ring.as_slice())?;
         if !ring.is_empty() {
             rings.push(ring)?;
         }

@@ -31,8 +31,8 @@ const WHOLE: Picture = Picture {
         r#"<svg x="20" y="40" width="960" height="523" viewBox="0 0 96000 52300">
 <rect class="gap" width="100%" height="100%"/>
 <g stroke-width="100">
-<path class="plain" d="M 4363 47941 48000 47941 48000 4358 4363 4358z"><title>#0 A</title></path>
-<path class="plain" d="M 48000 47941 91636 47941 91636 4358 48000 4358z"><title>#1</title></path>
+<path d="M4363 47941h43637v-43583h-43637z"><title>#0 A</title></path>
+<path d="M48000 47941h43636v-43583h-43636z"><title>#1</title></path>
 </g>
 </svg>
 </svg>
@@ -48,7 +48,7 @@ const PART: Picture = Picture {
     is_marked: false,
     shown: &[
         r#"viewBox="0 0 72000 72000""#,
-        r#"d="M -1000 73000 36000 73000 36000 36000 -1000 36000z"><title>#1</title>"#,
+        r#"d="M-1000 73000h37000v-37000h-37000z"><title>#1</title>"#,
         r#"<text class="name" x="320" y="583">#1</text>"#,
     ],
     others: &["<title>#0 A</title>", "#0 A</text>"],
@@ -71,7 +71,7 @@ const MARKED: Picture = Picture {
     has_ids: false,
     is_marked: true,
     shown: &[
-        r#"<path class="conflict" stroke-width="300" d="M 4363 47941 48000 4358M 4363 4358 48000 47941"/>"#,
+        r#"<path class="conflict" stroke-width="300" d="M4363 47941l43637-43583M4363 4358l43637 43583"/>"#,
         "conflict 0 0 10 10 / 0 10 10 0</text>",
         r#"<circle cx="281" cy="301" r="14"/>"#,
     ],
@@ -170,7 +170,7 @@ fn a_ring_beyond_the_part_is_left_out(rt: HostRuntime) {
         ..ALL
     };
     let text = drawn(&rt, rt.alloc(), ISLANDS, view);
-    let path = r#"d="M 27000 45000 45000 45000 45000 27000 27000 27000z"><title>#0</title>"#;
+    let path = r#"d="M27000 45000h18000v-18000h-18000z"><title>#0</title>"#;
     shows(&rt, text.as_slice(), &[path], &[]);
 }
 
@@ -182,8 +182,7 @@ fn a_named_feature_has_its_outline(rt: HostRuntime) {
         ..ALL
     };
     let text = drawn(&rt, rt.alloc(), SQUARES, view);
-    let path =
-        r#"<path class="named" stroke-width="300" d="M 48000 47941 91636 47941 91636 4358 48000 4358z"/>"#;
+    let path = r#"<path class="named" stroke-width="300" d="M48000 47941h43636v-43583h-43636z"/>"#;
     shows(&rt, text.as_slice(), &[path], &[]);
 }
 
@@ -195,7 +194,7 @@ fn a_map_without_rings_is_drawn(rt: HostRuntime) {
             &rt,
             text.as_slice(),
             &[r#"viewBox="0 0 72000 72000""#],
-            &[r#"<path class="plain""#],
+            &["<title>"],
         );
     }
 }

@@ -8,12 +8,12 @@ use Rattle.cover_report.proofs.Filled.{feature_came, pair_found}
 use Rattle.cover_report.proofs.conflict.first_pair.Goals as goal
 
 pub loop-polygons-init : goal.loop-polygons-init
-loop-polygons-init g c = filled_none c.new.result c.new.ensures.empty
+loop-polygons-init g c = filled_none c.prepare.new.self c.in_ok-prepare.ensures.empty
 
 pub loop-polygons-preserved : goal.loop-polygons-preserved
 loop-polygons-preserved g c =
-    feature_came feature_positions c.as_slice-polygons-items.result.now c.loop-polygons.polygons-index c.polygons-item.result (polygons_seen c.as_slice.result.now)
-    c.loop-polygons.filling c.put_feature.new.self c.loop-polygons-test.true c.polygons-item.is (ap polygons_seen c.as_slice.ensures.value)
+    feature_came feature_positions c.as_slice-polygons-items.result.now c.loop-polygons.polygons-index c.polygons-item.result (polygons_seen c.as_slice-in-loop-polygons.result.now)
+    c.loop-polygons.filling c.put_feature.new.self c.loop-polygons-test.true c.polygons-item.is (ap polygons_seen c.as_slice-in-loop-polygons.ensures.value)
     c.loop-polygons.invariant c.in_ok-put_feature.ensures
 
 pub returns : goal.returns

@@ -11,7 +11,7 @@ returns-clause-value c =
     let lx : to_z w64 (of_z w64 c.x.result) ≡ t.lo.x = omega (arith, ints, c.x.ensures.value) in
     let hy : to_z w64 (of_z w64 c.y-2.result) ≡ t.hi.y = omega (arith, ints, c.y-2.ensures.value) in
     let ly : to_z w64 (of_z w64 c.y.result) ≡ t.lo.y = omega (arith, ints, c.y.ensures.value) in
-    length_is c.args.segment t c.isqrt.result c.square-across.result c.square-upward.result (sym c.segment.view_is)
+    length_is c.args.segment t c.root_of.result c.square-across.result c.square-upward.result (sym c.segment.view_is)
     (c.square-across.ensures.value ∙ ap₂ (λ a b. square (a -ℤ b)) hx lx)
     (c.square-upward.ensures.value ∙ ap₂ (λ a b. square (a -ℤ b)) hy ly)
-    c.square-across.ensures.bound c.square-upward.ensures.bound c.isqrt.ensures.square_le c.isqrt.ensures.next_square_gt
+    c.square-across.ensures.bound c.square-upward.ensures.bound c.root_of.ensures.square_le c.root_of.ensures.next_square_gt

@@ -1,8 +1,6 @@
-use Rattle.kit_words.proofs.Common.{◌≡◌, ◌+◌, ◌<◌, ◌∙◌, sym, ap, ap₂, true, arith, length, get_or, take, drop, ◌-◌}
-use Rattle.layer_sides.specs.Common.{top}
-use Rattle.layer_sides.specs.Order as order
+use Rattle.kit_words.proofs.Common.{◌≡◌, ◌+◌, ◌<◌, true, arith, length, get_or, take, drop, ◌-◌}
 use Rattle.layer_sides.specs.Seen.{segments_seen}
-use Rattle.layer_sides.proofs.Cutting.{rest_at, rest_length, turned_more}
+use Rattle.layer_sides.proofs.Cutting.{rest_at, rest_length, right_at, turned_more}
 use Rattle.layer_sides.proofs.begun.are_in_order.Goals as goal
 
 pub loop-place-preserved : goal.loop-place-preserved
@@ -14,7 +12,8 @@ loop-place-preserved g c =
       rest_at places k l,
       turned_more (segments_seen c.args.borders.now) places k c.loop-place.last (get_or (take (length places - 1) (drop 1 places)) k 0) l
           c.loop-place.invariant.0 (rest_at places k l)
-          (ap₂ (λ s t. order.is_right (top s) t) (sym c.segment_at.ensures) (sym c.segment_at-in-loop-place.ensures)
-          ∙ ap (λ p. order.is_right p c.segment_at-in-loop-place.result) (sym c.top_of.ensures) ∙ sym c.is_right.ensures ∙ passed)
+          (right_at (segments_seen c.args.borders.now) c.loop-place.last (get_or (take (length places - 1) (drop 1 places)) k 0)
+          c.segment_at.result c.segment_at-in-loop-place.result c.top_of.result c.is_right.result
+          c.segment_at.ensures c.segment_at-in-loop-place.ensures c.top_of.ensures c.is_right.ensures passed)
           c.loop-place.invariant.1,
     )
