@@ -11,7 +11,9 @@ use Rattle.closing_search.specs.declared.decision.Decision.TheVariants.{Stays, W
 use Rattle.closing_search.specs.Common.{if_held, land_of}
 use Rattle.face_closing.specs.Decided.{DecidedFace, land_after, land_then}
 use Rattle.face_closing.specs.Held.{AreHeldSo, HasSide, IsAsDecided, IsHeldSo}
+use Rattle.layer_faces.specs.declared.looking.Look.{Look}
 use Rattle.face_closing.specs.Areas.{AreOnce}
+use Rattle.face_closing.specs.Layer.{faces_in}
 use Rattle.face_closing.specs.Hands.{AllChangeHands, ChangesHands, FeatureHolds, HoldsThen}
 
 -- ---- a face
@@ -67,7 +69,7 @@ first_among (u ∷ xs) (v ∷ ys) x y (inr i) = inr (first_among xs ys x y i)
 side_in : (ss : List Segment) (s : Segment) (hand : Hand) → In s ss → In (s, hand) (all_sides ss)
 side_in ss s hand i = in-flat_map (λ (t : Segment). (t, Left) ∷ (t, Right) ∷ []) s (s, hand) ss i (by hand)
   where
-    by : (h : Hand) → In (s, h) ((s, Left) ∷ (s, Right) ∷ [])
+    by : (h : Hand) → In {A = Side} (s, h) ((s, Left) ∷ (s, Right) ∷ [])
     by Left = inl refl
     by Right = inr (inl refl)
 
@@ -101,3 +103,10 @@ module _ (owners : List ℕ) (before : List Polygon) (made : List ℕ) (after : 
 -- the features of each face ascend, each once
 pub are_once : (owners : List ℕ) (polygons : List Polygon) (ss : List Segment) (faces : List FaceOf) → AreFaces polygons owners ss faces → AreOnce faces
 are_once owners polygons ss faces are = λ k d l. let is = are.each k d l in is.told.ascending
+
+-- ---- the same faces and decisions, seen through a reference
+
+pub over_decisions : {A : Type 0} (P : List DecidedFace → Type 0) (one look : Look A) (slice items : List Decision) → one ≡ look → slice ≡ items
+    → P (zip (faces_in one) slice) → P (zip (faces_in look) items)
+over_decisions {A} P one look slice items e f h =
+    subst (λ ds. P (zip (faces_in look) ds)) f (subst (λ (k : Look A). P (zip (faces_in k) slice)) e h)

@@ -1,15 +1,15 @@
 // Whether the land of each feature changed by what was closed, and nothing else.
-ghost use Rattle.std.specs.Prelude.{◌≡◌, ◌++◌, ◌∷◌, ◌+ℤ◌, [], ℕ, List, pos, length, slice_index_or, if◌then◌else◌, IfNone, IfOk, IfSome, OnOk};
+ghost use Rattle.std.specs.Prelude.{◌≡◌, ◌++◌, ◌∷◌, ◌+ℤ◌, [], ℕ, List, pos, length, slice_index_or, if◌then◌else◌, IfNone, IfOk, IfSome, IsTrue, OnOk};
 ghost use Rattle.std.specs.List.Sorted.{IsNonDecreasingBy};
 ghost use Rattle.layer_faces.specs.Common.{is_any};
-ghost use Rattle.face_closing.specs.Areas.{AddsAt, AddsLand, AreOnce, AreasAgree, Held, IsLandFrom, IsLandOf, decided_lands, found_lands, reach_of};
+ghost use Rattle.face_closing.specs.Areas.{AddsAt, AddsLand, AreOnce, AreSmall, AreasAgree, IsSmall, Held, IsLandFrom, IsLandOf, decided_lands, found_lands, reach_of};
 ghost use Rattle.face_closing.specs.Layer.{faces_in};
 ghost use Rattle.face_closing.specs.Seen.{decided_seen, faces_before};
 
 use crate::fault::CloseFault;
 use crate::holding::{Decided, land_after, unclosed_at};
 use closing_search::land_of;
-use layer_faces::Look;
+use layer_faces::{Look, Sums};
 use std::alloc::Allocator;
 
 /// Twice the areas of the land of features, by how far their numbers are from the first one's, and of all land.
@@ -17,7 +17,12 @@ use std::alloc::Allocator;
 struct Land<A: Allocator + Copy> {
     areas: Vec<i128, A>,
     all: i128,
+    ghost small: { IsSmall all },
+    ghost each_small: { AreSmall areas.items },
 }
+
+/// The greatest area of all land: more than all faces of a layer have together.
+const MAX_LAND: u128 = 64_000_000_000_000_000_000_000_000_000_000_000_000;
 
 /// The number of the first feature.
 fn first_of(owners: &[usize]) -> usize
@@ -41,17 +46,19 @@ fn reach_of(owners: &[usize]) -> Option<usize>
 
 /// Adds a number to the one at a place, if there is one.
 fn add_at(areas: &mut [i128], place: usize, area: i128) -> Result<(), CloseFault>
-    ensures { OnOk result (AddsAt place area areas.old areas.new) }
+    requires { AreSmall areas.old }
+    ensures added { OnOk result (AddsAt place area areas.old areas.new) }
+    ensures small { AreSmall areas.new }
 {
-    let Some(entry) = areas.get_mut(place) else {
+    if areas.len() <= place {
         return Ok(());
-    };
-    match entry.checked_add(area) {
-        Some(sum) => {
-            *entry = sum;
+    }
+    match areas[place].checked_add(area) {
+        Some(sum) if sum.unsigned_abs() <= MAX_LAND => {
+            areas[place] = sum;
             Ok(())
         }
-        None => Err(CloseFault::TooLarge),
+        _ => Err(CloseFault::TooLarge),
     }
 }
 
@@ -62,7 +69,9 @@ fn add_for(
     feature: usize,
     area: i128,
 ) -> Result<(), CloseFault>
-    ensures { OnOk result (AddsLand first (feature ∷ []) area areas.old areas.new) }
+    requires { AreSmall areas.old }
+    ensures added { OnOk result (AddsLand first (feature ∷ []) area areas.old areas.new) }
+    ensures small { AreSmall areas.new }
 {
     match feature.checked_sub(first) {
         Some(place) => add_at(areas, place, area),
@@ -77,7 +86,9 @@ fn add_land(
     features: &[usize],
     area: i128,
 ) -> Result<(), CloseFault>
-    ensures { OnOk result (AddsLand first features.now area areas.old areas.new) }
+    requires { AreSmall areas.old }
+    ensures added { OnOk result (AddsLand first features.now area areas.old areas.new) }
+    ensures small { AreSmall areas.new }
 {
     for feature in features {
         or_return!(add_for(areas, first, *feature, area));
@@ -87,14 +98,16 @@ fn add_land(
 
 /// The area of all land, with a face that these features hold.
 fn all_with(all: i128, features: &[usize], area: i128) -> Result<i128, CloseFault>
-    ensures { IfOk result (λ sum. sum ≡ all +ℤ (if is_any features.now then area else pos 0)) }
+    requires { IsSmall all }
+    ensures value { IfOk result (λ sum. sum ≡ all +ℤ (if is_any features.now then area else pos 0)) }
+    ensures small { IfOk result IsSmall }
 {
     if features.is_empty() {
         return Ok(all);
     }
     match all.checked_add(area) {
-        Some(sum) => Ok(sum),
-        None => Err(CloseFault::TooLarge),
+        Some(sum) if sum.unsigned_abs() <= MAX_LAND => Ok(sum),
+        _ => Err(CloseFault::TooLarge),
     }
 }
 
@@ -174,6 +187,14 @@ fn first_other(areas: &[i128], others: &[i128]) -> Option<usize>
     None
 }
 
+/// Whether what is covered is all land, and what is within is what it was.
+fn add_up(now: Sums, before: Sums, all: i128) -> bool
+    ensures covered { IsTrue result → now.covered ≡ all }
+    ensures within { IsTrue result → now.within ≡ before.within }
+{
+    now.covered == all && now.within == before.within
+}
+
 /// Tests that the land of each feature of the owners, which ascend, is after closing what it is by what was decided, that what
 /// is covered is all such land, and that what is within is what it was.
 pub(crate) fn test_land<A: Allocator + Copy>(
@@ -195,10 +216,7 @@ pub(crate) fn test_land<A: Allocator + Copy>(
     if let Some(place) = first_other(found.areas.as_slice(), wanted.areas.as_slice()) {
         return Err(CloseFault::UnclosedFeature(first_of(owners).saturating_add(place)));
     }
-    if after.sums.covered != wanted.all {
-        return Err(unclosed_at(before, 0));
-    }
-    if after.sums.within != before.sums.within {
+    if !add_up(after.sums, before.sums, wanted.all) {
         return Err(unclosed_at(before, 0));
     }
     Ok(())

@@ -3,11 +3,14 @@ use Rattle.std.specs.List.{zip}
 use Rattle.layer_faces.specs.Common.{IsOnce, face_seen}
 use Rattle.face_closing.specs.Kept.{changed_of}
 use Rattle.face_closing.specs.Seen.{borders_before}
-use Rattle.face_closing.proofs.Pairing.{all_pairs, gathered_more}
+use Rattle.face_closing.proofs.Pairing.{all_pairs, gathered_next}
 use Rattle.face_closing.proofs.keeping.changing.Goals as goal
 
 pub loop-place-preserved : goal.loop-place-preserved
-loop-place-preserved g c = ?
+loop-place-preserved g c =
+    gathered_next changed_of (face_seen (borders_before c.args.decided.now)) c.as_slice-faces.result.now c.args.decided.now.decisions.now c.loop-place.place
+    c.index-faces-place.result _ c.loop-place.found.items c.push_changing.new.changing.items c.loop-place-test.true
+    (c.requires ∙ ap length (sym c.as_slice-faces.ensures.value)) c.index-faces-place.is c.loop-place.invariant c.in_ok-push_changing.ensures
 
 pub returns : goal.returns
 returns g c =

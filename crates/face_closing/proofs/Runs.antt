@@ -1,9 +1,11 @@
 -- The polygons of features, run by run.
 use Rattle.kit_words.proofs.Common.{◌≡◌, ℕ, zero, suc, ◌+◌, ◌-◌, ◌<◌, ◌≤◌, ap, ap₂, refl, sym, subst, ◌∙◌, arith, Bool, true, false, cond, eqb, eqb-true, eq-eqb, length, inl, inr, cases_lt}
-use Rattle.kit_words.proofs.Common.{List, [], ◌∷◌, ◌++◌, get_or, All, Contains, append_assoc, append-nil, all_back, length-append, get_or-append-add, get_or_append_left, get_or_default, take, drop, take-append-drop, length-drop, map-append, Vec}
+use Rattle.kit_words.proofs.Common.{List, [], ◌∷◌, ◌++◌, get_or, All, Contains, append_assoc, append-nil, all_back, length-append, get_or-append-add, get_or_append_left, get_or_default, take, drop, take-append-drop, length-drop, map, map-append, map-id, and_parts, false≢true, Vec, Option, IfNone, slice_get}
 use Rattle.std.specs.List.Sorted.{IsNonDecreasingBy}
 use Rattle.std.proofs.lemmas.List.Elements.{All-append, All-contains, All-from_recursion, All-nil, recursion_from_All, All-contains_itself, Contains-append_cases}
-use Rattle.grid_geometry.specs.Common.{Position}
+use Rattle.std.specs.Cmp.Lexicographic.{pointwise}
+use Rattle.grid_geometry.specs.Common.{Position, position_eq}
+use Rattle.ring_machine.proofs.Common.{position_eq-true}
 use Rattle.ring_parts.specs.Common.{polygons_seen, rings_seen}
 use Rattle.layer_sides.specs.Common.{Polygon}
 use Rattle.face_closing.specs.Kept.{AllStay, IsCutOff, polygons_of}
@@ -172,12 +174,9 @@ module _ (skip : ℕ → Type 0) (owners : List ℕ) (before : List Polygon) (ma
           by : (b : Bool) → eqb m n ≡ b → polygons_of o p n ≡ polygons_of u q n
           by true t =
               let e = eqb-true m n t in
-              let mine : polygons_of o p m ≡ polygons_of u q m = all_of_run (same (subst (λ z. skip z → ⊥) (sym e) s)) in
+              let mine : polygons_of o p m ≡ polygons_of u q m = whole o p m own.own lo ∙ same (subst (λ z. skip z → ⊥) (sym e) s) ∙ sym (whole u q m new.own lu) in
               subst (λ z. polygons_of o p z ≡ polygons_of u q z) e mine
           by false t = of_other o p m n own.own t ∙ sym (of_other u q m n new.own t)
-
-          all_of_run : p ≡ q → polygons_of o p m ≡ polygons_of u q m
-          all_of_run e = whole o p m own.own lo ∙ e ∙ sym (whole u q m new.own lu)
 
       low_of_run : All (λ x. All (λ y. x ≤ y) u) h.done
       low_of_run k d l =
@@ -205,6 +204,22 @@ module _ (skip : ℕ → Type 0) (owners : List ℕ) (before : List Polygon) (ma
   pub made_known : (n : ℕ) → Contains made n → Contains owners n
   made_known n c = All-contains (Contains owners) made n (subst (All (Contains owners)) (sym (h.is ∙ append-nil h.done)) h.known) c
 
+-- ---- at the end
+
+none_left : (ns : List ℕ) → length ns < 1 → ns ≡ []
+none_left [] l = refl
+none_left (n ∷ ns) l = absurd (omega arith)
+
+pub over_at_end : (skip : ℕ → Type 0) (owners : List ℕ) (before : List Polygon) (made : List ℕ) (after : List Polygon)
+    (os : List ℕ) (ps : List Polygon) (ms : List ℕ) (qs : List Polygon) → length os < 1 → ms ≡ []
+    → GoneOver skip owners before made after os ps ms qs → GoneOver skip owners before made after [] ps [] qs
+over_at_end skip owners before made after os ps ms qs l e h =
+    subst (λ z. GoneOver skip owners before made after z ps [] qs) (none_left os l) (subst (λ z. GoneOver skip owners before made after os ps z qs) e h)
+
+pub if_none : (r : Option ℕ) (ns : List ℕ) (Q : Type 0) → r ≡ slice_get ns 0 → (ns ≡ [] → Q) → IfNone r Q
+if_none r [] Q e q = subst (λ x. IfNone x Q) (sym e) (q refl)
+if_none r (n ∷ ns) Q e q = subst (λ x. IfNone x Q) (sym e) tt
+
 -- what stays for those that are no part of some features stays for those that have nothing to do with what is closed
 pub stay_more : (few many : ℕ → Type 0) (owners : List ℕ) (before : List Polygon) (made : List ℕ) (after : List Polygon)
     → ((n : ℕ) → few n → many n) → AllStay few owners before made after → AllStay many owners before made after
@@ -226,3 +241,26 @@ seen_cut {A} k polygons front back e f =
     sym (ap₂ (λ (a b : List (Vec (Vec Position A) A)). polygons_seen a ++ polygons_seen b) e f
     ∙ sym (map-append (λ (polygon : Vec (Vec Position A) A). rings_seen polygon.items) (take k polygons) (drop k polygons))
     ∙ ap polygons_seen (take-append-drop k polygons))
+
+-- ---- polygons that are equal by a test, ring by ring and position by position
+
+pointwise_same : {X Y : Type 0} (E : X → X → Bool) (of : X → Y) → ((x y : X) → E x y ≡ true → of x ≡ of y) → (xs ys : List X)
+    → pointwise E xs ys ≡ true → map of xs ≡ map of ys
+pointwise_same E of h [] [] e = refl
+pointwise_same E of h [] (y ∷ ys) e = absurd (false≢true e)
+pointwise_same E of h (x ∷ xs) [] e = absurd (false≢true e)
+pointwise_same E of h (x ∷ xs) (y ∷ ys) e =
+    let both = and_parts (E x y) (pointwise E xs ys) e in
+    ap₂ (λ a b. a ∷ b) (h x y both.0) (pointwise_same E of h xs ys both.1)
+
+pub same_positions : (ps qs : List Position) → pointwise position_eq ps qs ≡ true → ps ≡ qs
+same_positions ps qs e = sym (map-id ps) ∙ pointwise_same position_eq (λ p. p) position_eq-true ps qs e ∙ map-id qs
+
+pub same_polygons : {A : Type 0} (one other : List (Vec (Vec Position A) A))
+    → pointwise (λ (p q : Vec (Vec Position A) A). pointwise (λ (r s : Vec Position A). pointwise position_eq r.items s.items) p.items q.items) one other ≡ true
+    → polygons_seen one ≡ polygons_seen other
+same_polygons {A} one other e =
+    pointwise_same (λ (p q : Vec (Vec Position A) A). pointwise (λ (r s : Vec Position A). pointwise position_eq r.items s.items) p.items q.items)
+    (λ (p : Vec (Vec Position A) A). rings_seen p.items)
+    (λ p q h. pointwise_same (λ (r s : Vec Position A). pointwise position_eq r.items s.items) (λ (r : Vec Position A). r.items)
+    (λ r s k. same_positions r.items s.items k) p.items q.items h) one other e
