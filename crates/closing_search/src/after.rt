@@ -35,17 +35,17 @@ impl<A: Allocator + Copy> After<A> {
 
 /// The layer, and what becomes of it.
 #[derive(Drop)]
-struct Making<'m, 'l, A: Allocator + Copy> {
+struct Making<'m, 'l, 'k, A: Allocator + Copy> {
     facing: &'m Facing<'l, A>,
     polygons: &'m [Vec<Vec<Pos, A>, A>],
     touched: Touched<'m>,
     /// The land that is made anew, by feature.
     pieces: &'m [Piece],
     /// By face, as the land of a feature is gone around.
-    marks: &'m mut [Mark],
+    marks: &'k mut [Mark],
 }
 
-impl<'m, 'l, A: Allocator + Copy> Making<'m, 'l, A> {
+impl<'m, 'l, 'k, A: Allocator + Copy> Making<'m, 'l, 'k, A> {
     /// The pieces of a feature.
     fn pieces_of(&self, feature: usize) -> &'m [Piece] {
         let begin = self.pieces.partition_point(|piece| piece.feature < feature);
