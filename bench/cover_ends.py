@@ -11,9 +11,11 @@ import file_ends
 import running
 from covering import Asked
 from file_ends import COVER, FULL, MEMORY, SEED, Row, Text
+from topology import read, saved_text, with_features
 
 TOP = pathlib.Path(__file__).resolve().parent.parent
 PAGE = pathlib.Path(__file__).resolve().parent / "cover_runs.txt"
+CLOSING = PAGE.with_name("closing_runs.txt")
 HELP = TOP / "crates/border_cover/src/help.rt"
 VERSION = TOP / "crates/program_ends/src/lib.rt"
 WRONG = "64"
@@ -63,6 +65,49 @@ def worked_runs():
             yield f"border_cover {' '.join(words)}", texts[name], asked, report, int(status)
 
 
+# ---- maps that are closed
+
+def polygons_by(text):
+    """The polygons that a part of a line means."""
+    return [[[tuple(map(int, p.split())) for p in ring.split(",")] for ring in rings.split("|")] for rings in text.split("||")]
+
+
+def closed_text(text, part):
+    """The text of a map in which the features that a part of a line names have other polygons."""
+    numbers = (it.strip().partition(" ")[::2] for it in part.split(";") if it.strip())
+    changes = {int(number): polygons_by(polygons) for number, polygons in numbers}
+
+    def changed(number, feature):
+        feature.polygons = changes.get(number, feature.polygons)
+    return saved_text(with_features(read(text), changed))
+
+
+def closing_runs():
+    """The runs that close a map: the arguments but --out, the text of the map, what is asked, what is closed, the lines, and the
+    text of the closed map."""
+    texts, _ = sorted_lines()
+    for line in CLOSING.read_text(encoding="utf-8").splitlines():
+        if line and not line.startswith("#"):
+            words, report, polygons = line.split(" =>")
+            words = words.split(" ")
+            at = words.index("--close")
+            name, asked = asked_by(words[:at] + words[at + 2 :])
+            lines = [part.strip() for part in report.split(";")[:-1]]
+            yield words, texts[name], asked, words[at + 1].split(","), lines, closed_text(texts[name], polygons)
+
+
+def closing_rows():
+    """The rows of these runs: into another file, over the map, and where standard output is full."""
+    for words, text, _, _, lines, after in closing_runs():
+        report = "".join(line + "\n" for line in lines)
+        before = {words[0]: Text(text), "saved.json": Text("what stood here before")}
+        for path in "saved.json", words[0]:
+            yield Row(f"border_cover {' '.join(words)} --out {path}", COVER, [*words, "--out", path], 0, "", before,
+                      {path: Text(after)}, output=[report, ""])
+        yield Row(f"border_cover {' '.join(words)}, {FULL}", COVER, [*words, "--out", "saved.json"], 3, "write fault\n", before,
+                  fails=FULL)
+
+
 def told_without_map():
     """What is told where no map is looked at: the help, which begins as it must, and the version; and without a seed."""
     about = re.search('ABOUT: &str =\\s*"(.*)"', HELP.read_text())[1]
@@ -98,6 +143,7 @@ def rows():
         yield row_of(line, texts)
     yield from told_without_map()
     yield from many_findings()
+    yield from closing_rows()
 
 
 def main():

@@ -25,15 +25,14 @@ import time
 import cover_ends
 import loose_maps
 import running
+from apart import apart
 from covering import Asked, Cover, Found
-from topology import Unreadable, read
+from topology import Unreadable
 
 TOP = pathlib.Path(__file__).resolve().parent.parent
 FOLDERS = TOP / "examples", TOP / "crates/stored_runs/data"
 # How many seconds a program may take.
 LIMIT = 600
-# How far a position may be moved where a map is digitised apart, by the map's extent.
-NOISE = 2000
 # How often each mistake is made in each report that was worked out by hand.
 TRIES = 5
 
@@ -140,26 +139,6 @@ def trial_of_check(seed):
 
 
 # ---- maps
-
-def apart(text):
-    """A map in which each feature has borders of its own, as where each was digitised by itself."""
-    topology = read(text)
-    draw, arcs = random.Random(len(text)), []
-    points = [p for arc in topology.arcs for p in arc]
-    noise = max(max(values) - min(values) for values in zip(*points)) // NOISE + 1
-
-    def drawn(ring):
-        kept = [p for p in ring if draw.random() < 0.7] if len(ring) > 12 else ring
-        moved = [tuple(c + draw.randint(-noise, noise) for c in p) for p in (kept if len(kept) > 2 else ring)]
-        arcs.append([*moved, moved[0]])
-        return len(arcs) - 1
-
-    geometries = []
-    for feature in topology.features:
-        shape = [[[drawn(ring)] for ring in rings] for rings in feature.polygons]
-        geometries.append({"type": "MultiPolygon", "arcs": shape})
-    return loose_maps.in_layer(geometries, arcs)
-
 
 FORMS = {
     "as it is": lambda text: text,

@@ -72,6 +72,7 @@ WRITERS = [
     Writer("FILE of border_mend", MEND, ["wards.json", "--out", "PATH"], 0, "save fault\n", WHOLE),
     Writer("places", MEND, ["wards.json", "--places", "PATH"], 1, "save fault\n", WHOLE),
     Writer("picture", SHOW, ["squares.json", "--out", "PATH"], 0, "save fault\n", WHOLE),
+    Writer("FILE of border_cover", COVER, ["squares.json", "--width", "5", "--close", "gaps", "--out", "PATH"], 0, "save fault\n", WHOLE),
     Writer("GeoJSON", EXPORT, ["squares.json", "--out", "PATH"], 0, "save fault\n", WHOLE),
 ]
 LONG, LONG_UMLAUTS = "n" * 255, "ä" * 127

@@ -16,6 +16,7 @@ It needs a C compiler, for the few lines that stand before the C library. The pr
 """
 import argparse
 import collections
+import itertools
 import os
 import pathlib
 import re
@@ -182,9 +183,10 @@ def make(words, out, more):
     return Made(ran.returncode, ran.stdout, ran.stderr, out.read_text())
 
 
-def making_wants(done):
-    """Whether a run that makes one file ended as one for want of memory is to end."""
-    return done in (Made(3, "", said, BEFORE) for said in ("out of memory\n", "save fault\n"))
+def making_wants(done, report=""):
+    """Whether a run that makes one file ended as one for want of memory is to end; it may have printed its report."""
+    ends = itertools.product({"", report}, ("out of memory\n", "save fault\n"))
+    return done in (Made(3, printed, said, BEFORE) for printed, said in ends)
 
 
 def made(words, out, library, holds):
@@ -198,7 +200,7 @@ def made(words, out, library, holds):
         done = make(words, out, {"LD_PRELOAD": str(library), "REFUSED": str(nth)})
         if done.status == 100:  # there are fewer growths
             break
-        if making_wants(done):
+        if making_wants(done, whole.answers):
             wanting += 1
         elif done != whole:
             wrong += 1
@@ -241,6 +243,12 @@ def covered(program, folder, library):
     return nth - 1, wanting, wrong
 
 
+def closed(program, folder, library):
+    """The same counts where border_cover closes the map."""
+    words = [program, folder / "lapped.json", "--area", str(10**9), "--close", "overlaps,gaps,lakes"]
+    return made(words, folder / "closed.json", library, ['"Topology"'])
+
+
 def exported(program, folder, library):
     """The same counts of border_export."""
     (folder / "nested.json").write_text(NESTED)
@@ -249,7 +257,7 @@ def exported(program, folder, library):
 
 
 def refused(edit, mend, show, cover, export):
-    """The counts of each of the six runs."""
+    """The counts of each of the seven runs."""
     with tempfile.TemporaryDirectory() as name:
         folder = pathlib.Path(name)
         shutil.copy(MAP, folder / "squares.json")
@@ -259,13 +267,14 @@ def refused(edit, mend, show, cover, export):
         yield mended(mend, folder, library)
         yield drawn(show, folder, library)
         yield covered(cover, folder, library)
+        yield closed(cover, folder, library)
         yield exported(export, folder, library)
 
 
 def told(programs):
     """Runs all, writes what differs, and counts the runs and those that differ."""
     tries = list(refused(*(programs[name] for name in ("edit", "mend", "show", "cover", "export"))))
-    names = "border_edit", "border_edit --refused", "border_mend", "border_show", "border_cover", "border_export"
+    names = "border_edit", "border_edit --refused", "border_mend", "border_show", "border_cover", "border_cover --close", "border_export"
     for what, (_, wanting, _) in zip(names, tries):
         if not wanting:
             print(f"{what}: no growth was wanting")

@@ -1,8 +1,10 @@
 //! What the arguments of the program ask for.
 ghost use Rattle.std.specs.Prelude.{◌≡◌, map, string_bytes, IfOk};
 ghost use Rattle.cover_report.specs.Common.{view_asked};
-ghost use Rattle.border_cover.specs.Asked.{wants_of};
+ghost use Rattle.border_cover.specs.Asked.{closes, wants_of};
 
+use crate::kinds::Kinds;
+use closing_report::{AskedClosing, Closing};
 use cover_report::Asked;
 use std::alloc::{AllocError, Global};
 
@@ -19,6 +21,8 @@ pub struct Arguments {
     pub area: Option<u128>,
     /// How many lines of one kind the report has at the most.
     pub most: usize,
+    /// Which faces are closed, where any are to be, and the path of the file that gets the map then.
+    pub closing: Option<(Kinds, String)>,
 }
 
 impl Arguments {
@@ -44,6 +48,24 @@ impl Arguments {
             width: self.width,
             area: self.area,
             most: self.most,
+        }
+    }
+
+    /// What is asked of a map that is closed: faces of these kinds, within the bounds.
+    pub(crate) fn asked_closing<'w>(&self, names: &'w [&'w str], kinds: Kinds) -> AskedClosing<'w>
+        ensures report { map (λ name. name.now) names.now ≡ map string_bytes self.now.layers.items
+            → view_asked result.report ≡ wants_of self.now }
+        ensures closing { result.closing ≡ closes self.now kinds }
+    {
+        AskedClosing {
+            report: self.asked(names),
+            closing: Closing {
+                overlaps: kinds.overlaps,
+                gaps: kinds.gaps,
+                lakes: kinds.lakes,
+                width: self.width,
+                area: self.area,
+            },
         }
     }
 }

@@ -6,6 +6,7 @@ ghost use Rattle.border_cover.specs.Asked.{cover_program, layer_rule, map_rule, 
 
 use crate::arguments::Arguments;
 use crate::help;
+use crate::kinds::{closing_of, with_copy};
 use clap::error::ErrorKind;
 use clap::{Arg, ArgAction, ArgMatches, Command};
 use program_ends::VERSION;
@@ -75,7 +76,9 @@ fn command<'a>(alloc: Global) -> Result<Command<'a>, AllocError>
         .arg(layer(alloc))?
         .arg(option(alloc, "width", "W", help::WIDTH))?
         .arg(option(alloc, "area", "N", help::AREA))?
-        .arg(option(alloc, "most", "N", help::MOST))?;
+        .arg(option(alloc, "most", "N", help::MOST))?
+        .arg(option(alloc, "close", "WHAT", help::CLOSE))?
+        .arg(option(alloc, "out", "FILE", help::OUT))?;
     Ok(command)
 }
 
@@ -149,6 +152,9 @@ fn asked(alloc: Global, matches: &ArgMatches<'_>) -> Result<Arguments, AskFault>
     let width = bound_of(matches.get_str("width"), GREATEST_WIDTH, WIDTH)?;
     let area = bound_of(matches.get_str("area"), GREATEST_AREA, AREA)?;
     let most = count_of(matches.get_str("most"))?;
+    let is_bounded = width.is_some() || area.is_some();
+    let closing = closing_of(matches.get_str("close"), matches.get_str("out"), is_bounded)?;
+    let closing = with_copy(alloc, closing)?;
     let layers = copies(alloc, matches.get_strs("layer").unwrap_or(&[]))?;
     // A parse gives MAP, since it is required.
     let map = String::from_str(alloc, matches.get_str("MAP").unwrap_or(""))?;
@@ -158,6 +164,7 @@ fn asked(alloc: Global, matches: &ArgMatches<'_>) -> Result<Arguments, AskFault>
         width,
         area,
         most,
+        closing,
     })
 }
 

@@ -24,15 +24,25 @@ its left):
                            Twice the areas of this layer: S of all polygons, O of what is in too many of
                            them, C of what is in some, G of gaps and lakes, T within the outer border:
                            C = S - O, T = C + G
-  counts overlap N twice N gap N lake N uneven N
+  closed KIND F / A / X1 Y1 X2 Y2
+                           With --close: this face is F's now
+  left KIND F G .. / A W / X1 Y1 X2 Y2
+                           It is within the bounds, and the rule gives it to nobody
+  parts F M N              F stood as M polygons, and stands as N
+  area F A B               Twice the area of F was A, and is B
+  now S over O covered C gaps G within T NAME
+                           Twice the areas of this layer after closing
+  counts overlap N twice N gap N lake N uneven N [closed N left N parts N areas N]
                            How many there are within the bounds, whatever --most is
 
-Status: 0 there is nothing but lakes within the bounds; 1 there is, and the report tells it; 2 MAP does
-not open, or has not that layer; 3 a file or memory failed; 64 the arguments are wrong.
+Status: 0 there is nothing but lakes within the bounds, or FILE was saved; 1 there is, and the report
+tells it; 2 MAP does not open, or has not that layer; 3 a file or memory failed; 64 the arguments are
+wrong.
 
 Examples:
   border_cover map.json
-  border_cover map.json --layer wards --width 10 --most 20";
+  border_cover map.json --layer wards --width 10 --most 20
+  border_cover map.json --width 10 --close overlaps,gaps --out closed.json";
 
 // What each argument asks for.
 pub(crate) const MAP: &str = "The TopoJSON map, which has to open in border_edit";
@@ -47,3 +57,8 @@ pub(crate) const AREA: &str =
 
 pub(crate) const MOST: &str =
     "The most lines of one kind in the report, from 0 to 4000000; 1000 by default";
+
+pub(crate) const CLOSE: &str =
+    "Close what is of these kinds and within the bounds: overlaps, gaps, lakes, with commas between; a face goes to the neighbour with the longest border";
+
+pub(crate) const OUT: &str = "Where the closed map is saved; it may be MAP";

@@ -2,9 +2,11 @@
 #![tactic(auto)]
 
 mod arguments;
+mod closing;
 mod command_line;
 mod ending;
 mod help;
+mod kinds;
 mod telling;
 
 use arguments::Arguments;

@@ -4,6 +4,7 @@ ghost use Rattle.cover_report.specs.Common.{IsRefused, IsTold};
 ghost use Rattle.border_cover.specs.Asked.{wants_of};
 
 use crate::arguments::Arguments;
+use crate::closing::{Given, close_read};
 use crate::ending::ending_of_report;
 use cover_report::{Counts, CoverFault, report_map};
 use program_ends::{Ending, Errors, Paths, Stop, hash_seed, map_bytes};
@@ -12,11 +13,14 @@ use std::hash::RandomState;
 use std::io::{Result as IoResult, Write};
 
 /// The paths of the files that the arguments name.
-fn paths_of(arguments: &Arguments) -> Paths<'_> {
+pub(crate) fn paths_of(arguments: &Arguments) -> Paths<'_> {
     Paths {
         map: arguments.map.as_str(),
         script: "",
-        file: "",
+        file: match &arguments.closing {
+            Some((_, path)) => path.as_str(),
+            None => "",
+        },
         list: "",
         mends: false,
     }
@@ -29,7 +33,7 @@ fn print<W: Write>(text: &[u8], output: &mut W) -> IoResult<()> {
 }
 
 /// Says what is wrong with the layers. Of the map and of memory the line of the ending tells.
-fn say_fault<E: Write>(fault: &CoverFault<'_>, errors: &mut Errors<'_, E>) {
+pub(crate) fn say_fault<E: Write>(fault: &CoverFault<'_>, errors: &mut Errors<'_, E>) {
     match fault {
         CoverFault::Open(_) => {}
         _ => {
@@ -39,7 +43,7 @@ fn say_fault<E: Write>(fault: &CoverFault<'_>, errors: &mut Errors<'_, E>) {
 }
 
 /// Prints the report where the ending has one.
-fn printed<'a, W: Write>(ending: Ending<'a>, output: &mut W) -> Ending<'a> {
+pub(crate) fn printed<'a, W: Write>(ending: Ending<'a>, output: &mut W) -> Ending<'a> {
     match ending.file {
         Some(report) => ending.once_printed(print(report, output)),
         None => ending,
@@ -69,7 +73,7 @@ fn reported<'a>(
     )
 }
 
-/// Reads MAP, and prints its report.
+/// Reads MAP, and prints its report, or closes it.
 fn tell_read<W: Write, E: Write>(
     rt: &HostRuntime,
     arguments: &Arguments,
@@ -78,6 +82,14 @@ fn tell_read<W: Write, E: Write>(
 ) -> Result<u8, Stop> {
     let seed = hash_seed(rt)?;
     let map = map_bytes(rt, arguments.map.as_str())?;
+    if let Some((kinds, path)) = &arguments.closing {
+        let given = Given {
+            seed,
+            map: map.as_slice(),
+            arguments,
+        };
+        return Ok(close_read(rt, given, (*kinds, path.as_str()), output, errors));
+    }
     let mut report = Vec::new(rt.alloc());
     let outcome = reported(rt.alloc(), seed, map.as_slice(), arguments, &mut report);
     if let Err(fault) = &outcome {
@@ -89,7 +101,7 @@ fn tell_read<W: Write, E: Write>(
 
 /// Tells what the arguments ask for. Answers the status that the program ends with; the report and the line that says why
 /// it ends go to these two writers. Faults are found in this order: a seed, the file of the map, the map and its layers,
-/// standard output.
+/// standard output, and FILE of a map that is closed.
 pub(crate) fn tell<W: Write, E: Write>(
     rt: &HostRuntime,
     arguments: &Arguments,

@@ -12,21 +12,23 @@ use std::alloc::{AllocError, Allocator};
 
 /// A face that may be told.
 #[derive(Drop)]
-pub(crate) struct ToldFace<A: Allocator + Copy> {
-    pub(crate) kind: Kind,
+pub struct ToldFace<A: Allocator + Copy> {
+    /// How many hold it, and how many are beside it.
+    pub kind: Kind,
     /// The features that hold it, or that are beside it, ascending.
-    pub(crate) features: Vec<usize, A>,
+    pub features: Vec<usize, A>,
     /// Twice its area.
-    pub(crate) area: i128,
+    pub area: i128,
     /// Its width in units, rounded up.
-    pub(crate) width: u128,
-    /// The ends of the first segment of its border, which has the face on its left.
-    pub(crate) from: Pos,
-    pub(crate) to: Pos,
+    pub width: u128,
+    /// The begin of the first segment of its border, which has the face on its left.
+    pub from: Pos,
+    /// The end of this segment.
+    pub to: Pos,
 }
 
 /// Whether a face is told where it is within the bounds: others are land, or outside.
-fn is_found(kind: Kind) -> bool
+pub fn is_found(kind: Kind) -> bool
     ensures { result ≡ is_found kind }
 {
     match kind {

@@ -45,7 +45,7 @@ impl<'a, T: Drop> From<AllocFailed<T>> for CoverFault<'a> {
 }
 
 /// Why a layer was not looked at.
-pub(crate) fn of_face<'a>(fault: FaceFault) -> CoverFault<'a>
+pub fn of_face<'a>(fault: FaceFault) -> CoverFault<'a>
     ensures { result ≡ of_face fault }
 {
     match fault {

@@ -13,15 +13,17 @@ use std::vec::IntoIter;
 use topo_outline::Item;
 
 /// The polygons of a feature.
-pub(crate) type Feature<A> = Vec<Vec<Vec<Pos, A>, A>, A>;
+pub type Feature<A> = Vec<Vec<Vec<Pos, A>, A>, A>;
 
-/// Polygons, and of each the number of its feature.
+/// Polygons of a layer, and to which features they belong.
 #[derive(Drop)]
-pub(crate) struct Owned<A: Allocator + Copy> {
-    pub(crate) polygons: Vec<Vec<Vec<Pos, A>, A>, A>,
-    pub(crate) owners: Vec<usize, A>,
+pub struct Owned<A: Allocator + Copy> {
+    /// The polygons, each an outer ring and its holes.
+    pub polygons: Vec<Vec<Vec<Pos, A>, A>, A>,
+    /// Of each the number of its feature.
+    pub owners: Vec<usize, A>,
     /// Of each its number among the polygons of its feature.
-    pub(crate) numbers: Vec<usize, A>,
+    pub numbers: Vec<usize, A>,
 }
 
 /// Whether an item is a feature with rings or none.
@@ -32,7 +34,7 @@ fn is_leaf<A: Allocator + Copy>(item: &Item<'_, A>) -> bool
 }
 
 /// How many features with rings or none stand in items.
-pub(crate) fn leaf_count<A: Allocator + Copy>(items: &[Item<'_, A>]) -> usize
+pub fn leaf_count<A: Allocator + Copy>(items: &[Item<'_, A>]) -> usize
     ensures value { result ≡ length (leaves_in (map view_item items.now)) }
     ensures bound { result ≤ length items.now }
 {
@@ -114,7 +116,7 @@ fn push_next<A: Allocator + Copy>(
 }
 
 /// The polygons of the next features, so many, which are numbered from a number on.
-pub(crate) fn next_polygons<A: Allocator + Copy>(
+pub fn next_polygons<A: Allocator + Copy>(
     alloc: A,
     rest: &mut IntoIter<Feature<A>, A>,
     first: usize,

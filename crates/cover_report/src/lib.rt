@@ -44,6 +44,14 @@ mod told;
 mod uneven;
 
 pub use asked::Asked;
-pub use fault::CoverFault;
-pub use report::report_map;
-pub use told::Counts;
+pub use faces::{ToldFace, is_found};
+pub use fault::{CoverFault, of_face};
+pub use layers::{Feature, Owned, leaf_count, next_polygons};
+pub use lines::{ReportLine, push_all_sums, push_first, push_widths, word_of};
+pub use looked::{Looked, told_at};
+pub use names::{are_there, is_asked};
+pub use numbers::{push_bytes, push_number, push_position};
+pub use opening::proper_map;
+pub use report::{push_found, report_map};
+pub use told::{Counts, all_faces, all_uneven, is_kind};
+pub use uneven::UnevenPolygon;

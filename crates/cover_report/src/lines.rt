@@ -15,7 +15,7 @@ use layer_faces::Kind;
 use std::alloc::{AllocError, Allocator};
 
 /// What a report has a line of.
-pub(crate) trait ReportLine {
+pub trait ReportLine {
     ghost line: { Self → List ℕ };
 
     /// Appends its line.
@@ -35,7 +35,7 @@ fn push_features<A: Allocator>(text: &mut Vec<u8, A>, features: &[usize]) -> Res
 }
 
 /// The word of a kind.
-fn word_of(kind: Kind) -> &'static [u8]
+pub fn word_of(kind: Kind) -> &'static [u8]
     ensures { result.now ≡ kind_word kind }
 {
     match kind {
@@ -69,7 +69,7 @@ impl ReportLine for UnevenPolygon {
 }
 
 /// Appends a line for each of the first elements of a list, at most so many.
-pub(crate) fn push_first<A: Allocator, L: ReportLine>(
+pub fn push_first<A: Allocator, L: ReportLine>(
     text: &mut Vec<u8, A>,
     list: &[L],
     most: usize,
@@ -161,7 +161,7 @@ fn push_width<A: Allocator, B: Allocator + Copy>(
 }
 
 /// Appends how many faces have each width, in powers of two.
-pub(crate) fn push_widths<A: Allocator, B: Allocator + Copy>(
+pub fn push_widths<A: Allocator, B: Allocator + Copy>(
     text: &mut Vec<u8, A>,
     faces: &[&ToldFace<B>],
 ) -> Result<(), AllocError>
@@ -190,7 +190,7 @@ fn push_sums<A: Allocator, B: Allocator + Copy>(
 }
 
 /// Appends what the areas of each layer add up to.
-pub(crate) fn push_all_sums<A: Allocator, B: Allocator + Copy>(
+pub fn push_all_sums<A: Allocator, B: Allocator + Copy>(
     text: &mut Vec<u8, A>,
     looks: &[Looked<'_, B>],
 ) -> Result<(), AllocError>

@@ -24,17 +24,19 @@ use topo_outline::RawLayer;
 
 /// What was found in a layer.
 #[derive(Drop)]
-pub(crate) struct Looked<'a, A: Allocator + Copy> {
+pub struct Looked<'a, A: Allocator + Copy> {
     /// The layer's name with its quotes, as it stands.
-    pub(crate) name: &'a [u8],
+    pub name: &'a [u8],
     /// What may be told of its faces.
-    pub(crate) faces: Vec<ToldFace<A>, A>,
-    pub(crate) uneven: Vec<UnevenPolygon, A>,
-    pub(crate) sums: Sums,
+    pub faces: Vec<ToldFace<A>, A>,
+    /// The polygons whose area by rings is not their area by the even-odd rule.
+    pub uneven: Vec<UnevenPolygon, A>,
+    /// What the areas add up to.
+    pub sums: Sums,
 }
 
 /// What is told of a layer with this name, in which this was found.
-fn told_at<'a, A: Allocator + Copy>(
+pub fn told_at<'a, A: Allocator + Copy>(
     alloc: A,
     name: &'a [u8],
     owned: &Owned<A>,

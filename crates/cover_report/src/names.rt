@@ -34,7 +34,7 @@ fn is_one_of(heap: Global, names: &[&str], token: &[u8]) -> Result<bool, AllocEr
 }
 
 /// Whether a layer with this name is looked at: it is asked for, or none is.
-pub(crate) fn is_asked(heap: Global, names: &[&str], token: &[u8]) -> Result<bool, AllocError>
+pub fn is_asked(heap: Global, names: &[&str], token: &[u8]) -> Result<bool, AllocError>
     ensures { IfOk result (λ is. is ≡ is_asked (map (λ name. name.now) names.now) token.now) }
 {
     match names {
@@ -62,7 +62,7 @@ fn has_name<A: Allocator + Copy>(
 
 /// Whether each of these names is one of a layer.
 #[tactic(auto, using(crate::proofs::Naming::there_step, crate::proofs::Naming::there_end))]
-pub(crate) fn are_there<A: Allocator + Copy>(
+pub fn are_there<A: Allocator + Copy>(
     heap: Global,
     layers: &[RawLayer<'_, A>],
     names: &[&str],

@@ -7,7 +7,7 @@ use itoa::{Buffer, Integer};
 use std::alloc::{AllocError, Allocator};
 
 /// Appends a text.
-pub(crate) fn push_bytes<A: Allocator>(
+pub fn push_bytes<A: Allocator>(
     text: &mut Vec<u8, A>,
     bytes: &[u8],
 ) -> Result<(), AllocError>
@@ -17,7 +17,7 @@ pub(crate) fn push_bytes<A: Allocator>(
 }
 
 /// Appends a number in decimal.
-pub(crate) fn push_number<A: Allocator, I: Integer>(
+pub fn push_number<A: Allocator, I: Integer>(
     text: &mut Vec<u8, A>,
     number: I,
 ) -> Result<(), AllocError>
@@ -28,7 +28,7 @@ pub(crate) fn push_number<A: Allocator, I: Integer>(
 }
 
 /// Appends both numbers, with a space between them.
-pub(crate) fn push_position<A: Allocator>(
+pub fn push_position<A: Allocator>(
     text: &mut Vec<u8, A>,
     position: Pos,
 ) -> Result<(), AllocError>

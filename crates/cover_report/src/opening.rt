@@ -10,7 +10,7 @@ use topo_outline::OpenFault;
 use topo_reader::{RawDoc, read};
 
 /// The map that the bytes are, where it opens in the editor, or its first fault.
-pub(crate) fn proper_map<'a, A: Allocator + Copy>(
+pub fn proper_map<'a, A: Allocator + Copy>(
     alloc: A,
     heap: Global,
     seed: RandomState,

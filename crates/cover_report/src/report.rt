@@ -44,7 +44,7 @@ fn push_kind<A: Allocator + Copy>(
 }
 
 /// Appends the lines of what is told of these faces and uneven polygons, and answers how much there is of each kind.
-fn push_found<A: Allocator + Copy>(
+pub fn push_found<A: Allocator + Copy>(
     alloc: A,
     text: &mut Vec<u8, A>,
     asked: &Asked<'_>,

@@ -37,7 +37,7 @@ impl Counts {
 }
 
 /// Whether both are one kind.
-pub(crate) fn is_kind(one: Kind, other: Kind) -> bool
+pub fn is_kind(one: Kind, other: Kind) -> bool
     ensures { result ≡ is_kind one other }
 {
     match (one, other) {
@@ -95,7 +95,7 @@ fn push_faces<'l, A: Allocator + Copy>(
 }
 
 /// The faces of all layers that were looked at.
-pub(crate) fn all_faces<'l, A: Allocator + Copy>(
+pub fn all_faces<'l, A: Allocator + Copy>(
     alloc: A,
     looks: &'l [Looked<'_, A>],
 ) -> Result<Vec<&'l ToldFace<A>, A>, AllocError>
@@ -110,7 +110,7 @@ pub(crate) fn all_faces<'l, A: Allocator + Copy>(
 }
 
 /// The polygons of all layers that were looked at whose areas differ.
-pub(crate) fn all_uneven<A: Allocator + Copy>(
+pub fn all_uneven<A: Allocator + Copy>(
     alloc: A,
     looks: &[Looked<'_, A>],
 ) -> Result<Vec<UnevenPolygon, A>, AllocError>

@@ -7,12 +7,15 @@ use std::alloc::{AllocError, Allocator};
 
 /// A polygon whose area by its rings is not that by the even-odd rule, both twice as large.
 #[derive(Clone, Copy, Debug)]
-pub(crate) struct UnevenPolygon {
-    pub(crate) feature: usize,
+pub struct UnevenPolygon {
+    /// The number of its feature.
+    pub feature: usize,
     /// Its number among the polygons of the feature.
-    pub(crate) polygon: usize,
-    pub(crate) by_rings: i128,
-    pub(crate) even_odd: i128,
+    pub polygon: usize,
+    /// The area of its outer ring less those of its holes.
+    pub by_rings: i128,
+    /// The area of the places that an odd number of its rings hold.
+    pub even_odd: i128,
 }
 
 /// The number at a place of a list, and 0 behind its end.

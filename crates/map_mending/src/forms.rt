@@ -11,7 +11,7 @@ use topo_outline::{Form, Item, Layers};
 use topo_reader::RawDoc;
 
 /// The polygons of a feature, each an outer ring and its holes.
-pub(crate) type Polygons<A> = Vec<Vec<Vec<Pos, A>, A>, A>;
+pub type Polygons<A> = Vec<Vec<Vec<Pos, A>, A>, A>;
 
 /// The form of a feature that has so many polygons now.
 fn form_after(form: Form, polygons: usize) -> Form
@@ -71,7 +71,7 @@ fn settle_layers<A: Allocator + Copy>(layers: &mut Layers<'_, A>, features: &[Po
 }
 
 /// The topology with other polygons, by feature, and the forms that they ask for.
-pub(crate) fn with_polygons<'a, A: Allocator + Copy>(
+pub fn with_polygons<'a, A: Allocator + Copy>(
     raw: RawDoc<'a, A>,
     polygons: Vec<Polygons<A>, A>,
 ) -> RawDoc<'a, A>

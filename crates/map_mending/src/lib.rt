@@ -20,5 +20,6 @@ mod sweeping;
 pub use change::AreaChange;
 pub use changes::area_changes;
 pub use fault::MendFault;
+pub use forms::with_polygons;
 pub use mending::{Mending, mend};
 pub use parted::Parted;

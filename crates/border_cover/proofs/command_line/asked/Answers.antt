@@ -8,7 +8,7 @@ returns c =
     record {
       layers = texts_found m (codes "layer") _ c.get_strs.result _ c.unwrap_or.result _ (search rules) c.get_strs.ensures (search rules) c.unwrap_or.ensures
           c.in_ok-layers.ensures;
-      map = word_found m (codes "MAP") _ c.get_str-4.result _ c.unwrap_or-2.result _ (search rules) c.get_str-4.ensures (search rules) c.unwrap_or-2.ensures
+      map = word_found m (codes "MAP") _ c.get_str-6.result _ c.unwrap_or-2.result _ (search rules) c.get_str-6.ensures (search rules) c.unwrap_or-2.ensures
           c.in_ok-map.ensures.ok;
       width = bound_found m _ (codes "width") _ c.get_str.result _ (search rules) c.get_str.ensures c.in_ok-width.ensures;
       area = bound_found m _ (codes "area") _ c.get_str-2.result _ (search rules) c.get_str-2.ensures c.in_ok-area.ensures;

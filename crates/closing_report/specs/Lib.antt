@@ -1,0 +1,7 @@
+pub mod Changes
+pub mod Decided
+pub mod Report
+pub mod Layers
+pub mod Closed
+pub mod Seen
+pub mod Common

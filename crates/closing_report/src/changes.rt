@@ -1,0 +1,86 @@
+// Which features change.
+ghost use Rattle.std.specs.Prelude.{◌≡◌, ◌≤◌, map, length, sum_by, IfOk};
+ghost use Rattle.std.specs.List.{All};
+ghost use Rattle.ring_parts.specs.Common.{polygons_seen};
+ghost use Rattle.closing_report.specs.Changes as spec;
+ghost use Rattle.topo_reader.specs.Uses.{feature_positions};
+
+use cover_report::Feature;
+use grid_geometry::Pos;
+use layer_faces::polygon_area;
+use std::alloc::{AllocError, Allocator};
+
+/// A feature that stands as another number of polygons than it did.
+#[derive(Clone, Copy, Debug, PartialEq, Eq)]
+pub(crate) struct PartsChange {
+    pub(crate) feature: usize,
+    pub(crate) before: usize,
+    pub(crate) after: usize,
+}
+
+/// A feature whose rings changed, and twice its area before and after.
+#[derive(Clone, Copy, Debug, PartialEq, Eq)]
+pub(crate) struct AreaChange {
+    pub(crate) feature: usize,
+    pub(crate) before: i128,
+    pub(crate) after: i128,
+}
+
+/// Twice the area of polygons, the sum over them.
+fn area_of<A: Allocator + Copy>(polygons: &[Vec<Vec<Pos, A>, A>]) -> i128
+    requires { sum_by (sum_by length) (polygons_seen polygons.now) ≤ 4000000 }
+    ensures { result ≡ spec.feature_area (polygons_seen polygons.now) }
+{
+    let mut area = 0;
+    for polygon in polygons {
+        let part = polygon_area(polygon.as_slice());
+        area += part;
+    }
+    area
+}
+
+/// The features that stand as another number of polygons than before, in order.
+pub(crate) fn parts_changes<A: Allocator + Copy>(
+    alloc: A,
+    before: &[Feature<A>],
+    after: &[Feature<A>],
+) -> Result<Vec<PartsChange, A>, AllocError>
+    ensures { IfOk result (λ changes. changes.items
+        ≡ spec.parts_from 0 (map feature_positions before.now) (map feature_positions after.now)) }
+{
+    let mut changes = Vec::new(alloc);
+    for (feature, (old, new)) in before.iter().zip(after).enumerate() {
+        if old.len() != new.len() {
+            changes.push(PartsChange {
+                feature,
+                before: old.len(),
+                after: new.len(),
+            })?;
+        }
+    }
+    Ok(changes)
+}
+
+/// The features whose rings changed, in order.
+pub(crate) fn area_changes<A: Allocator + Copy>(
+    alloc: A,
+    before: &[Feature<A>],
+    after: &[Feature<A>],
+) -> Result<Vec<AreaChange, A>, AllocError>
+    requires few { All (λ feature. sum_by (sum_by length) (feature_positions feature) ≤ 4000000) before.now }
+    requires few_after { All (λ feature. sum_by (sum_by length) (feature_positions feature) ≤ 4000000) after.now }
+    ensures { IfOk result (λ changes. changes.items
+        ≡ spec.areas_from 0 (map feature_positions before.now) (map feature_positions after.now)) }
+{
+    let mut changes = Vec::new(alloc);
+    for (feature, (old, new)) in before.iter().zip(after).enumerate() {
+        if old != new {
+            changes.push(AreaChange {
+                feature,
+                before: area_of(old.as_slice()),
+                after: area_of(new.as_slice()),
+            })?;
+        }
+    }
+    Ok(changes)
+}

@@ -1,0 +1,154 @@
+// The report of a map that was closed.
+ghost use Rattle.std.specs.Prelude.{◌≡◌, ◌++◌, flat_map, map, IfOk, OnOk};
+ghost use Rattle.topo_reader.specs.Uses.{feature_positions};
+ghost use Rattle.cover_report.specs.Asked.{view_asked};
+ghost use Rattle.cover_report.specs.Counted.{counts_of};
+ghost use Rattle.closing_report.specs.Report.{closed_report};
+ghost use Rattle.closing_report.specs.Seen.{closings_seen};
+
+use crate::changes::{area_changes, parts_changes};
+use crate::layers::{Closings, DecidedLayer};
+use crate::lines::{ClosedCounts, ClosedFace, LeftFace, push_all_now, push_closed_counts};
+use cover_report::{
+    Asked, Counts, Feature, Looked, ToldFace, all_faces, all_uneven, is_kind, push_all_sums,
+    push_first, push_found, push_widths,
+};
+use face_closing::Decision;
+use layer_faces::Kind;
+use std::alloc::{AllocError, Allocator};
+
+/// The order of the kinds in a report.
+const KINDS: [Kind; 4] = [Kind::Overlap, Kind::Twice, Kind::Gap, Kind::Lake];
+
+/// A face that may be told, and what was decided of it.
+#[derive(Drop)]
+struct DecidedFace<'l, A: Allocator + Copy> {
+    face: &'l ToldFace<A>,
+    decision: Decision,
+}
+
+/// Appends the faces of a layer that may be told, with what was decided of them.
+fn push_decided<'l, A: Allocator + Copy>(
+    found: &mut Vec<DecidedFace<'l, A>, A>,
+    looked: &'l Looked<'_, A>,
+    decided: &DecidedLayer<A>,
+) -> Result<(), AllocError> {
+    for (face, decision) in looked.faces.iter().zip(decided.decisions.as_slice()) {
+        found.push(DecidedFace {
+            face,
+            decision: *decision,
+        })?;
+    }
+    Ok(())
+}
+
+/// The faces of all layers that may be told, with what was decided of them.
+fn all_decided<'l, A: Allocator + Copy>(
+    alloc: A,
+    looks: &'l [Looked<'_, A>],
+    decided: &[DecidedLayer<A>],
+) -> Result<Vec<DecidedFace<'l, A>, A>, AllocError> {
+    let mut found = Vec::new(alloc);
+    for (looked, decided) in looks.iter().zip(decided) {
+        push_decided(&mut found, looked, decided)?;
+    }
+    Ok(found)
+}
+
+/// Appends those of a kind that were closed.
+fn push_closed_of<'l, A: Allocator + Copy>(
+    found: &mut Vec<ClosedFace<'l, A>, A>,
+    kind: Kind,
+    faces: &[DecidedFace<'l, A>],
+) -> Result<(), AllocError> {
+    for it in faces {
+        if let Decision::Given(feature) = it.decision
+            && is_kind(it.face.kind, kind)
+        {
+            found.push(ClosedFace {
+                face: it.face,
+                feature,
+            })?;
+        }
+    }
+    Ok(())
+}
+
+/// Appends those of a kind that are left.
+fn push_left_of<'l, A: Allocator + Copy>(
+    found: &mut Vec<LeftFace<'l, A>, A>,
+    kind: Kind,
+    faces: &[DecidedFace<'l, A>],
+) -> Result<(), AllocError> {
+    for it in faces {
+        if matches!(it.decision, Decision::Waits) && is_kind(it.face.kind, kind) {
+            found.push(LeftFace { face: it.face })?;
+        }
+    }
+    Ok(())
+}
+
+/// Those that were closed, kind by kind.
+fn closed_faces<'l, A: Allocator + Copy>(
+    alloc: A,
+    faces: &[DecidedFace<'l, A>],
+) -> Result<Vec<ClosedFace<'l, A>, A>, AllocError> {
+    let mut found = Vec::new(alloc);
+    for kind in KINDS.iter() {
+        push_closed_of(&mut found, *kind, faces)?;
+    }
+    Ok(found)
+}
+
+/// Those that are left, kind by kind.
+fn left_faces<'l, A: Allocator + Copy>(
+    alloc: A,
+    faces: &[DecidedFace<'l, A>],
+) -> Result<Vec<LeftFace<'l, A>, A>, AllocError> {
+    let mut found = Vec::new(alloc);
+    for kind in KINDS.iter() {
+        push_left_of(&mut found, *kind, faces)?;
+    }
+    Ok(found)
+}
+
+/// Appends the report of a map with these features whose layers were closed; answers how much is told of each kind.
+pub(crate) fn push_report<A: Allocator + Copy>(
+    alloc: A,
+    text: &mut Vec<u8, A>,
+    asked: &Asked<'_>,
+    before: &[Feature<A>],
+    closings: &Closings<'_, A>,
+) -> Result<Counts, AllocError>
+    ensures lines { OnOk result (text.new.items ≡ text.old.items ++ closed_report (view_asked asked.now)
+        (map (λ k. k.found) (closings_seen closings.now)) (flat_map (λ k. k.decided) (closings_seen closings.now))
+        (map feature_positions before.now) (map feature_positions closings.now.features.items)
+        (map (λ k. (k.found.name, k.now)) (closings_seen closings.now))) }
+    ensures counts { IfOk result (λ counts. counts
+        ≡ counts_of (view_asked asked.now) (map (λ k. k.found) (closings_seen closings.now))) }
+{
+    let (looks, decided) = (closings.looks.as_slice(), closings.decided.as_slice());
+    let told = all_faces(alloc, looks)?;
+    let uneven = all_uneven(alloc, looks)?;
+    let counts = push_found(alloc, text, asked, told.as_slice(), uneven.as_slice())?;
+    push_widths(text, told.as_slice())?;
+    push_all_sums(text, looks)?;
+    let faces = all_decided(alloc, looks, decided)?;
+    let closed = closed_faces(alloc, faces.as_slice())?;
+    push_first(text, closed.as_slice(), asked.most)?;
+    let left = left_faces(alloc, faces.as_slice())?;
+    push_first(text, left.as_slice(), asked.most)?;
+    let parts = parts_changes(alloc, before, closings.features.as_slice())?;
+    push_first(text, parts.as_slice(), asked.most)?;
+    let areas = area_changes(alloc, before, closings.features.as_slice())?;
+    push_first(text, areas.as_slice(), asked.most)?;
+    push_all_now(text, looks, decided)?;
+    let done = ClosedCounts {
+        closed: closed.len(),
+        left: left.len(),
+        parts: parts.len(),
+        areas: areas.len(),
+    };
+    push_closed_counts(text, counts, done)?;
+    Ok(counts)
+}
