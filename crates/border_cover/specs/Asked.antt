@@ -10,7 +10,7 @@ use Rattle.cover_report.specs.Common.{Wants}
 use Rattle.border_cover.specs.declared.arguments.Arguments.{Arguments}
 use Rattle.border_cover.specs.declared.kinds.Kinds.{Kinds}
 use Rattle.border_cover.specs.Kinds.{IsKinds}
-use Rattle.face_closing.specs.declared.asked.Closing.{Closing}
+use Rattle.closing_search.specs.declared.asked.Closing.{Closing}
 
 -- ---- the program
 

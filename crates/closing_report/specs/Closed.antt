@@ -11,7 +11,7 @@ use Rattle.cover_report.specs.Asked.{Wants}
 use Rattle.cover_report.specs.Counted.{counts_of}
 use Rattle.cover_report.specs.Faults.{OpensProper}
 use Rattle.cover_report.specs.Names.{are_there}
-use Rattle.face_closing.specs.declared.asked.Closing.{Closing}
+use Rattle.closing_search.specs.declared.asked.Closing.{Closing}
 use Rattle.closing_report.specs.declared.closing.ClosedMap.{ClosedMap}
 use Rattle.closing_report.specs.Layers.{AreClosings, ClosedLayer}
 use Rattle.closing_report.specs.Report.{closed_report}

@@ -6,8 +6,8 @@ use Rattle.layer_faces.specs.declared.kind.Kind.TheVariants.{Overlap, Twice, Gap
 use Rattle.cover_report.specs.Counted.{is_kind}
 use Rattle.cover_report.specs.Faces.{FaceTold, face_told, is_found}
 use Rattle.face_closing.specs.Common.{DecidedFace}
-use Rattle.face_closing.specs.declared.decision.Decision.{Decision}
-use Rattle.face_closing.specs.declared.decision.Decision.TheVariants.{Stays, Waits, Given}
+use Rattle.closing_search.specs.declared.decision.Decision.{Decision}
+use Rattle.closing_search.specs.declared.decision.Decision.TheVariants.{Stays, Waits, Given}
 
 -- what is told of a face, and what was decided of it
 abbrev pub DecidedTold : Type 0

@@ -10,8 +10,8 @@ use Rattle.cover_report.specs.Faces.{all_told}
 use Rattle.cover_report.specs.Layers.{IsLookAt, LayerOf, LookedAt, layer_of}
 use Rattle.cover_report.specs.Names.{is_asked}
 use Rattle.face_closing.specs.Common.{AllChangeHands, AllWaitRightly, AreDecided, AreMade, AreasAgree, DecidedFace, OnlyLeftRemain, OthersStay}
-use Rattle.face_closing.specs.declared.asked.Closing.{Closing}
-use Rattle.face_closing.specs.declared.decision.Decision.{Decision}
+use Rattle.closing_search.specs.declared.asked.Closing.{Closing}
+use Rattle.closing_search.specs.declared.decision.Decision.{Decision}
 use Rattle.closing_report.specs.Decided.{DecidedTold, told_decided}
 
 -- a layer that was closed: what was found in it, what was decided of its faces that may be told, and what its areas add up to

@@ -8,12 +8,12 @@ ghost use Rattle.cover_report.specs.Faces.{all_told, face_told, first_ends, is_f
 use grid_geometry::{Pos, Seg};
 use layer_faces::{Face, Kind};
 use layer_sides::Border;
-use std::alloc::{AllocError, Allocator};
+use std::alloc::{AllocError, Allocator, Global};
 
 /// A face that may be told.
 #[derive(Drop)]
-pub struct ToldFace<A: Allocator + Copy> {
-    /// How many hold it, and how many are beside it.
+pub struct ToldFace<A: Allocator + Copy = Global> {
+    /// What kind of face it is.
     pub kind: Kind,
     /// The features that hold it, or that are beside it, ascending.
     pub features: Vec<usize, A>,
@@ -21,9 +21,9 @@ pub struct ToldFace<A: Allocator + Copy> {
     pub area: i128,
     /// Its width in units, rounded up.
     pub width: u128,
-    /// The begin of the first segment of its border, which has the face on its left.
+    /// Where the first segment of its border begins, which has the face on its left.
     pub from: Pos,
-    /// The end of this segment.
+    /// Where that segment ends.
     pub to: Pos,
 }
 

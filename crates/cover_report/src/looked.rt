@@ -24,14 +24,14 @@ use topo_outline::RawLayer;
 
 /// What was found in a layer.
 #[derive(Drop)]
-pub struct Looked<'a, A: Allocator + Copy> {
+pub struct Looked<'a, A: Allocator + Copy = Global> {
     /// The layer's name with its quotes, as it stands.
     pub name: &'a [u8],
     /// What may be told of its faces.
     pub faces: Vec<ToldFace<A>, A>,
     /// The polygons whose area by rings is not their area by the even-odd rule.
     pub uneven: Vec<UnevenPolygon, A>,
-    /// What the areas add up to.
+    /// What its areas add up to.
     pub sums: Sums,
 }
 
