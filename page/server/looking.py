@@ -49,31 +49,50 @@ def sums(found):
 ROWS = (("faces", FACE, face), ("uneven", UNEVEN, uneven), ("wide", WIDE, wide), ("sums", SUM, sums))
 
 
-def read(report):
-    """A report of border_cover, as the page reads it."""
+def rows_of(report, known):
+    """The rows of a report by the names of their kinds, as they are read, and its last row. `known` has the kinds: of each
+    its name, the pattern of a row, and what reads it."""
     *rows, last = lines_of(report) or [""]
-    told = {name: [] for name, _, _ in ROWS}
+    told = {name: [] for name, _, _ in known}
     for row in rows:
-        for name, pattern, reads in ROWS:
+        for name, pattern, reads in known:
             if found := pattern.fullmatch(row):
                 told[name].append(reads(found))
                 break
         else:
             raise Unknown(row)
-    found = COUNTS.fullmatch(last)
+    return told, last
+
+
+def counts_of(last, pattern, names):
+    """The numbers of the last row of a report, by names."""
+    found = pattern.fullmatch(last)
     if not found:
         raise Unknown(last)
-    return {**told, "counts": dict(zip((*KINDS, "uneven"), map(int, found.groups())))}
+    return dict(zip(names, map(int, found.groups())))
+
+
+def read(report):
+    """A report of border_cover, as the page reads it."""
+    told, last = rows_of(report, ROWS)
+    return {**told, "counts": counts_of(last, COUNTS, (*KINDS, "uneven"))}
+
+
+def bound(width):
+    """The arguments for what is told: at most so wide; nothing for any width."""
+    return [] if width is None else ["--width", str(width)]
 
 
 class Look:
     """A look at a text of the map, a file that is removed once border_cover has ended."""
 
-    def __init__(self, program, text, width):
-        """`width` is that of what is told, at most; nothing for any."""
-        bound = [] if width is None else ["--width", str(width)]
+    # the statuses with a report, and what reads it
+    statuses, read = (0, 1), staticmethod(read)
+
+    def __init__(self, program, text, words):
+        """`words` are the arguments behind the text."""
         pipes = {"stdin": subprocess.DEVNULL, "stdout": subprocess.PIPE, "stderr": subprocess.PIPE}
-        self.process = subprocess.Popen([program, text, "--most", str(MOST), *bound], **pipes, env=environment())
+        self.process = subprocess.Popen([program, text, "--most", str(MOST), *words], **pipes, env=environment())
         self.text = text
         # whether it was given up, and whether someone waits for its report
         self.is_over = self.is_awaited = False
@@ -84,11 +103,11 @@ class Look:
         self.text.unlink(missing_ok=True)
         if self.is_over:
             return None
-        if self.process.returncode not in (0, 1):
+        if self.process.returncode not in self.statuses:
             why = said.decode(errors="replace").strip()
             return {"fault": why or f"border_cover ended with status {self.process.returncode}"}
         try:
-            return read(out)
+            return self.read(out)
         except Unknown as row:
             return {"fault": f"border_cover said what the page does not know: {str(row)[:200]}"}
 

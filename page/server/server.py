@@ -13,6 +13,7 @@ Everything is below /TOKEN/, on the loopback address alone.
 | of a map that opens | | `log`, `counts` (when it was opened), `undos` (how many are possible), `unsaved` |
 | of one that does not | | `fault`, `findings`, `mendable` |
 | `edit` | `owner`, `act`, `lines` | `answers` up to a refusal, `accepted`, `entries` of the log, `counts` now, `undos`, `unsaved` |
+| | a line `close W overlaps,gaps` | the same; border_cover closes the map, and features are numbered anew, in the order of the text |
 | `try` | `owner`, `line` | `answer` |
 | `ask` | `owner`, `lines` | `answers` |
 | `save` | `owner`, `force` | `file`, `bytes` |
@@ -20,7 +21,8 @@ Everything is below /TOKEN/, on the loopback address alone.
 | `place` | `owner`, `x`, `y`, `width` | `picture`: that square of a map that does not open, as SVG |
 | `seek` | `owner` | `building`: whether border_cover is still looked for, after a while; it may have to be built |
 | `look` | `owner`, perhaps `width` | `look`, a number, of a look at overlaps and gaps that begins, `proved`; or `missing` |
-| `looked` | `owner`, `look` | once that has ended what was found (looking.py), or `fault`; all else is answered meanwhile |
+| `close` | `owner`, `width` | the same, where overlaps and gaps would be closed; nothing is taken of that yet |
+| `looked` | `owner`, `look` | once that has ended what was found (looking.py), would be closed (closing.py), or `fault`; all else is answered meanwhile |
 | `alive`, `leave` | `owner` | nothing |
 | GET `socket` | texts with the names that `begin` tells | a WebSocket, on which these are answered |
 
@@ -43,12 +45,14 @@ import sys
 import threading
 import time
 
+import closing
 from bundle import bundled
 from child import Ended
 from connection import BadRequest, Connection
 from growing import Growing
-from session import MOST_EDITS, MOST_LINE, Lost, Refusal
+from session import MOST_EDITS, Lost, Refusal
 from sockets import WebSocket, is_asked_for, opening
+from stages import MOST_LINE
 from visits import NoPage, Visits
 
 WEB = pathlib.Path(__file__).resolve().parent.parent / "web"
@@ -109,13 +113,21 @@ def lines_in(given, commands, least, most):
 
 def edits_in(given):
     """The lines of a request that edits; those that take changes back stand in a request of their own."""
-    lines = lines_in(given, EDITS | {"undo"}, 1, MOST_LINES)
+    lines = lines_in(given, EDITS | {"undo", "close"}, 1, MOST_LINES)
     undos = lines.count("undo")
     if undos not in (0, len(lines)):
         raise BadRequest(400, "edits and undos in one request")
+    if any(line.startswith("close") for line in lines) and not (len(lines) == 1 and is_closing(lines[0])):
+        raise BadRequest(400, "no closing, or more than that")
     if undos == 0 and len(lines) > MOST_EDITS:
         raise BadRequest(400, f"at most {MOST_EDITS} edits are taken at once")
     return lines
+
+
+def is_closing(line):
+    """Whether a line closes what is at most so wide as border_cover takes it."""
+    width = closing.width_in(line)
+    return width is not None and width <= MOST_BOUND
 
 
 def number_in(given, name, most, least=0):
@@ -506,8 +518,13 @@ def look(session, given):
     return session.look(None if given.get("width") is None else number_in(given, "width", MOST_BOUND))
 
 
+def close(session, given):
+    """Begins to close overlaps and gaps, of which nothing is taken yet."""
+    return session.look_closed(number_in(given, "width", MOST_BOUND))
+
+
 def looked(session, given):
-    """What was found."""
+    """What was found, or would be closed."""
     begun = session.look_that_is(number_in(given, "look", 2 ** 53))
 
     def report():
@@ -526,4 +543,4 @@ def alive(session, given):
 
 # What the page that has the map can ask.
 ANSWERS = {"edit": edit, "try": attempt, "ask": ask, "save": save, "mend": mend, "place": place, "seek": seek,
-           "look": look, "looked": looked, "alive": alive}
+           "look": look, "close": close, "looked": looked, "alive": alive}

@@ -7,13 +7,16 @@ import shutil
 import tempfile
 import time
 
+import closing
 import exporting
 import looking
 import mending
 import saving
+import stages
 from child import DEPTH, Child, Ended
 from paths import shown, why_not_writable
 from programs import NotFound
+from stages import Stage, is_accepted
 
 # Bytes of a map that opens.
 MOST_BYTES = 67_108_864
@@ -21,8 +24,6 @@ MOST_BYTES = 67_108_864
 # border_edit keeps, so that fewer can be taken back by the page.
 MOST_EDITS = 250
 MOST_UNDOS = DEPTH - MOST_EDITS
-# Bytes of a line of a script.
-MOST_LINE = 8192
 
 
 class Refusal(Exception):
@@ -37,19 +38,9 @@ class Lost(Exception):
     """border_edit does not have the map of the log; nothing is edited or saved any more."""
 
 
-def is_accepted(answer):
-    """Whether an edit was accepted."""
-    return answer.startswith("ok")
-
-
 def is_change(line, answer):
     """Whether an edit can be taken back: a thinning that left nothing out can't."""
     return is_accepted(answer) and not (line.startswith("thin") and answer == "ok 0")
-
-
-def comment(text):
-    """A line of a script that is skipped; a longer one than a script may have is cut off."""
-    return f"# {text}".encode()[:MOST_LINE].decode(errors="ignore")
 
 
 def is_geojson_name(path):
@@ -66,6 +57,8 @@ class Session:
         # as they are shown
         self.name, self.file = shown(map_path.name), shown(out)
         self.log = []
+        # the map that was opened, and what it was closed to, one after another; of each its edits
+        self.stages = []
         # numbers of the states that can be gone back to, the last one that of the map as it is
         self.states = collections.deque([0], maxlen=MOST_UNDOS + 1)
         self.newest_state = self.saved_state = 0
@@ -130,7 +123,7 @@ class Session:
             if self.findings[:1] == ["geojson"]:
                 self._take_geojson()
         else:
-            self.base, self.child = base, child
+            self.base, self.child, self.stages = base, child, [Stage(base)]
         finally:
             self.opening = None
             if self.child is not child:
@@ -257,19 +250,24 @@ class Session:
         if self.mended_by is not None:
             rows.append(f"# It was mended: border_mend {self.name} --out MENDED{self.mended_by}")
         base = self.name if self.mended_by is None else "MENDED"
-        edited = "EDITED" if self.is_geojson else "FILE"
-        rows.append(f"# To make them again: border_edit {base} THIS --out {edited} --undo {DEPTH}")
+        rows += stages.how_to(self.stages, base, "EDITED" if self.is_geojson else "FILE", DEPTH)
         if self.is_geojson:
             rows.append(f"# And then: border_export EDITED --out FILE {' '.join(exporting.ARGUMENTS)}")
-        for entry in self.log:
-            line, answer = entry["line"], entry["answer"]
-            rows.append(line if is_accepted(answer) else comment(f"{answer}: {line}"))
+        rows += stages.lines_of(self.stages)
         return "".join(row + "\n" for row in rows).encode()
 
     # ---- overlaps and gaps
 
     def look(self, width):
         """Begins to look for overlaps and gaps in the map as it is. The look before is given up."""
+        return self._look_at(lambda program, text: looking.Look(program, text, looking.bound(width)))
+
+    def look_closed(self, width):
+        """Begins to close a text of the map, of which nothing is taken yet. The look before is given up."""
+        return self._look_at(lambda program, text: closing.Closing(program, text, width, self.states[-1]))
+
+    def _look_at(self, looks):
+        """Begins a look at the map as it is."""
         self._must_be_open()
         self.end_look()
         try:
@@ -280,7 +278,7 @@ class Session:
         text = self.scratch / f"looked-{self.looks}.json"
         try:
             self._with_child(lambda: self._write_text(text))
-            self.looked = looking.Look(program, text, width)
+            self.looked = looks(program, text)
         except OSError as fault:
             raise Refusal(f"the map can't be handed to border_cover: {fault.strerror}") from None
         finally:
@@ -313,11 +311,16 @@ class Session:
         self._must_be_open()
         if lines[0] == "undo":
             return self._take_back(act, lines)
+        width = closing.width_in(lines[0])
+        if width is not None:
+            return self._close(act, lines[0], width)
         answers, undone, counts = self._with_child(lambda: self._all_or_none(lines))
         accepted = is_accepted(answers[-1])
         entries = self._entries(act, lines, answers)
         if accepted:
-            self._count(sum(map(is_change, lines, answers)))
+            changes = sum(map(is_change, lines, answers))
+            self.stages[-1].changes += changes
+            self._count(changes)
         elif any(line.startswith("split") for line in lines[:len(answers) - 1]):
             # the number of the new feature is used up, so whoever runs the log again must make that feature too
             entries += self._entries(act, ["undo"] * undone, ["ok"] * undone)
@@ -359,10 +362,67 @@ class Session:
             answers = ["ok"] * kept + ["refused nothing to undo"]
             counts = self._with_child(self._count_now)
             return self._logged(self._entries(act, lines[-1:], answers[-1:]), answers, False, counts)
+        stage, entries = self.stages[-1], self._entries(act, lines, ["ok"] * kept)
+        if stage.changes < kept:
+            return self._open_again(entries)
         counts = self._with_child(lambda: self._undo(kept) or self._count_now())
+        stage.changes -= kept
         for _ in lines:
             self.states.pop()
-        return self._logged(self._entries(act, lines, ["ok"] * kept), ["ok"] * kept, True, counts)
+        return self._logged(entries, ["ok"] * kept, True, counts)
+
+    # ---- closing
+
+    def _close(self, act, line, width):
+        """Closes overlaps and gaps that are at most so wide. What border_cover makes of the map takes its place."""
+        made, answer = self._closed(width)
+        entries = self._entries(act, [line], [answer])
+        if made is None:
+            return self._logged(entries, [answer], False, self._with_child(self._count_now))
+        stage = Stage(made, line)
+        try:
+            child, counts = self._opened(stage)
+        except BaseException:
+            made.unlink(missing_ok=True)
+            raise
+        self.child.end()
+        self.child = child
+        self.stages.append(stage)
+        self._count(1)
+        return self._logged(entries, [answer], True, counts, is_closing=True)
+
+    def _closed(self, width):
+        """The file of the map that closing made, and the answer to it; no file where it is refused. Where the page was shown
+        what would change, that is taken; else the map is closed now."""
+        looked = self.looked
+        if not (isinstance(looked, closing.Closing) and looked.is_of(width, self.states[-1])):
+            if self.look_closed(width)["missing"]:
+                return None, "refused not closed: border_cover is not there"
+            looked = self.looked
+            looked.is_awaited = True
+            looked.report()
+        if looked.found is None:
+            return None, "refused not closed: the page is closed"
+        if "fault" in looked.found:
+            return None, f"refused not closed: {looked.found['fault']}"
+        count = looked.found["counts"]["closed"]
+        if count == 0:
+            return None, "refused nothing to close"
+        self.looked = None
+        return looked.made, f"ok {count}"
+
+    def _open_again(self, entries):
+        """Takes a closing back: the map before it is opened again, and its edits are made again."""
+        if len(entries) > 1 or self.stages[-1].changes:
+            raise Refusal("a closing is taken back by itself")
+        *before, closed = self.stages
+        child, counts = self._opened(before[-1])
+        self.child.end()
+        self.child, self.stages = child, before
+        before[-1].add_left(closed)
+        closed.base.unlink(missing_ok=True)
+        self.states.pop()
+        return self._logged(entries, ["ok"], True, counts, is_closing=True)
 
     def attempt(self, line):
         """What the answer to an edit of a vertex would be. It is taken back at once, and is not in the log."""
@@ -384,8 +444,26 @@ class Session:
     def _entries(act, lines, answers):
         return [{"line": line, "answer": answer, "act": act} for line, answer in zip(lines, answers)]
 
-    def _logged(self, entries, answers, accepted, counts):
+    def _opened(self, stage):
+        """A border_edit that has the map of a stage with its edits, and the counts of it."""
+        child = self._child(stage.base)
+        try:
+            if not stage.make_again(child):
+                raise Refusal("the edits before the closing have other answers now")
+            return child, child.ask(["count"])[0]
+        except Ended as fault:
+            child.end()
+            raise Refusal(f"border_edit does not open the map: {fault}") from None
+        except BaseException:
+            child.end()
+            raise
+
+    def _logged(self, entries, answers, accepted, counts, is_closing=False):
+        """Puts entries in the log, and in the script of the map, of which a closing is no line."""
         self.log += entries
+        for entry in entries:
+            if not is_closing:
+                self.stages[-1].add(entry["line"], entry["answer"])
         return {"answers": answers, "accepted": accepted, "entries": entries, "counts": counts, **self._state()}
 
     # ---- after border_edit has ended
@@ -410,9 +488,8 @@ class Session:
     def _run_again(self):
         """Starts border_edit again, with the edits of the log."""
         self.child.end()
-        self.child = self._child(self.base)
-        done = [entry for entry in self.log if is_accepted(entry["answer"])]
-        if self.child.ask([entry["line"] for entry in done]) != [entry["answer"] for entry in done]:
+        self.child = self._child(self.stages[-1].base)
+        if not self.stages[-1].make_again(self.child):
             raise self._lose("border_edit ended, and when it was started again its answers were other ones")
 
     def _lose(self, reason):

@@ -6,7 +6,7 @@ import subprocess
 import types
 
 from server_ending import is_running
-from server_maps import SQUARES, box, of_layers, of_rings, square
+from server_maps import ABOVE, BELOW, SIDES, SQUARES, box, of_layers, of_rings, square
 from server_runs import PATHS, Served, folder, until
 
 import looking
@@ -15,8 +15,6 @@ import server as served
 # Layers, each at a place of its own: of each its features, the faces that are told, by the features, and what its areas
 # add up to. All is worked by hand from the rules in docs/COVERING.md: areas are twice as large, and the width is that
 # area by the length of the border, rounded up. A face is named by its least segment, with the face on its left.
-SIDES = [["0 0, 9 0, 9 10, 0 10"], ["10 0, 20 0, 20 10, 10 10"]]
-BELOW, ABOVE = ["0 -5, 20 -5, 20 0, 10 0, 9 0, 0 0"], ["0 10, 9 10, 10 10, 20 10, 20 15, 0 15"]
 LAYERS = [
     ("side by side", [[box(0, 0, 10, 10)], [box(10, 0, 20, 10)]], [], "400 0 400 0 400"),
     ("an overlap", [["0 0, 9 0, 10 0, 10 10, 9 10, 0 10"], ["9 0, 10 0, 20 0, 20 10, 10 10, 9 10"]],

@@ -62,3 +62,9 @@ def of_layers(layers, apart=0):
                                                     for polygon in polygons]} for polygons in features]
         objects[name] = {"type": "GeometryCollection", "geometries": shapes}
     return json.dumps({"type": "Topology", "objects": objects, "arcs": list(arcs)}, separators=(",", ":"))
+
+
+# Features around a gap, each with its polygons: two on its sides, one below, one above.
+SIDES = [["0 0, 9 0, 9 10, 0 10"], ["10 0, 20 0, 20 10, 10 10"]]
+BELOW, ABOVE = ["0 -5, 20 -5, 20 0, 10 0, 9 0, 0 0"], ["0 10, 9 10, 10 10, 20 10, 20 15, 0 15"]
+GAP = of_layers({"a": [*SIDES, BELOW, ABOVE]})

@@ -13,6 +13,7 @@ sys.path.insert(1, str(pathlib.Path(__file__).resolve().parents[1]))
 
 from browser import By, Keys, Page, new_folder, start_browser
 from page_checks import COUNTS, act_of, document, is_map, put, same, true, verbs
+from page_closing import GAP, test_closing, test_closing_troubles
 from page_covering import (COVERED, HOSTILE_PAIR, covering, test_covering, test_covering_hostile, test_covering_troubles,
                            test_not_covering)
 from page_files import files_and_tabs, test_mending, test_not_mendable
@@ -445,6 +446,9 @@ def run_all(driver, folder, downloads):
     with_page(driver, covered, [], lambda page: test_covering_troubles(page, folder), **covering(folder))
     with_page(driver, covered, [], test_not_covering, BORDER_COVER=str(folder / "none"))
     with_page(driver, put(folder, "pair.json", HOSTILE_PAIR), [], test_covering_hostile)
+    gap = put(folder, "gap.json", GAP)
+    with_page(driver, gap, [], test_closing)
+    with_page(driver, gap, [], lambda page: test_closing_troubles(page, folder), **covering(folder))
     wards = shutil.copy(EXAMPLES / "wards.json", folder / "wards.json")
     with_page(driver, wards, ["--out", mended], lambda page: test_mending(page, mended))
     with_page(driver, put(folder, "broken.json", '{"type":"Topology",'), [], test_not_mendable)

@@ -11,6 +11,7 @@ import time
 
 from server_check import Checks
 import server_asking
+import server_closing
 import server_covering
 import server_dying
 import server_editing
@@ -24,7 +25,7 @@ import server_starting
 
 # The groups that take longest come first.
 MODULES = [server_large, server_ending, server_socket, server_dying, server_starting, server_opening, server_saving,
-           server_geojson, server_covering, server_asking, server_editing]
+           server_geojson, server_covering, server_closing, server_asking, server_editing]
 # Groups that are run at once: most of the time a group waits for a server.
 AT_ONCE = 4
 

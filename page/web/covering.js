@@ -1,23 +1,25 @@
 // @ts-check
 /**
- * Overlaps and gaps: looking for them, and where they are in the map; their list stands in found.js. border_cover looks
- * at the map as it is at that moment. What is edited meanwhile, or afterwards, changes nothing of what was found, but
- * makes it out of date.
+ * Overlaps and gaps: looking for them, where they are in the map, and closing them; their list stands in found.js.
+ * border_cover looks at the map as it is at that moment. What is edited meanwhile, or afterwards, changes nothing of what
+ * was found, but makes it out of date.
  */
+import { agreed } from "./dialogs.js";
 import { by } from "./dom.js";
+import { Stopped } from "./editor.js";
 import { drawChain } from "./marks.js";
 import { Found } from "./found.js";
 import { shapesOf } from "./faces.js";
-import { actsBetween } from "./lines.js";
+import { actsBetween, closingLine } from "./lines.js";
 import { TalkFault } from "./talk.js";
 import { inTurns } from "./turns.js";
-import { coverFaultText, TEXT } from "./words.js";
+import { closedText, coverFaultText, TEXT } from "./words.js";
 
 /** @typedef {import("./found.js").Face} Face */
 /**
- * A look that has begun: its number, the map as it was then, how many entries the log had, and the greatest width that
- * is asked for, if any.
- * @typedef {{look: number, shot: import("./pieces.js").Shot, entries: number, width: string}} Begun
+ * A look that has begun: its number, the map as it was then, how many entries the log had, the greatest width that is
+ * asked for, if any, and how often features had been numbered anew.
+ * @typedef {{look: number, shot: import("./pieces.js").Shot, entries: number, width: string, numberings: number}} Begun
  */
 
 const CURRENT = "#ffd24a", EDGE = "#23272e";
@@ -43,6 +45,11 @@ export class Covering {
     /** how many entries the log had when what is listed was looked at; below 0 where nothing is listed */
     this.entries = -1;
     this.isOld = false;
+    /** of what is listed the greatest width that was asked for, how many there are that can be closed, and which numbers
+     * features had */
+    this.width = "";
+    this.closable = 0;
+    this.numberings = 0;
     /**
      * the face that was gone to
      * @type {Face | null}
@@ -52,20 +59,35 @@ export class Covering {
     editor.view.layers.push(ctx => this.paint(ctx));
     by("coverForm").addEventListener("submit", (/** @type {Event} */ e) => { e.preventDefault(); this.look(); });
     by("coverClear").addEventListener("click", () => this.clear());
+    by("coverClose").addEventListener("click", () => this.close());
   }
 
   // ---- looking
 
   /** Looks at the map as it is. */
-  async look() {
+  look() {
+    return this.ask(TEXT.coverLooking, async isNewest => {
+      const { talk } = this.editor, begun = await this.begin(isNewest, widthIn(by("coverWidth")), width => talk.look(width));
+      /** @type {import("./talk.js").Report & {fault: string}} */
+      const report = begun && (await talk.looked(begun.look));
+      if (report?.fault) throw new NotLooked(TEXT.coverFailed(coverFaultText(report.fault)));
+      if (begun && report && isNewest()) await this.take(begun, report, isNewest);
+    });
+  }
+
+  /**
+   * Asks border_cover, in place of what it was asked before.
+   * @param {string} text what is said meanwhile
+   * @param {(isNewest: () => boolean) => Promise<any>} steps
+   */
+  async ask(text, steps) {
     const newest = ++this.newest, isNewest = () => newest === this.newest;
     this.isLooking = true;
     this.problem = "";
-    this.tell(TEXT.coverLooking);
+    this.follow();
+    this.tell(text);
     try {
-      const begun = await this.begin(isNewest), report = begun && (await this.editor.talk.looked(begun.look));
-      if (report?.fault) throw new NotLooked(TEXT.coverFailed(coverFaultText(report.fault)));
-      if (begun && report && isNewest()) await this.take(begun, report, isNewest);
+      await steps(isNewest);
     } catch (fault) {
       if (isNewest()) this.fail(fault);
     } finally {
@@ -74,25 +96,27 @@ export class Covering {
   }
 
   /**
-   * Begins to look, once border_cover is there; nothing where another look has begun meanwhile.
+   * Begins to look, or to close, once border_cover is there; nothing where it was asked for something else meanwhile.
    * @param {() => boolean} isNewest
+   * @param {string} width
+   * @param {(width: string) => Promise<{look: number, missing: boolean, proved: boolean}>} begins
    * @returns {Promise<Begun | null>}
    */
-  async begin(isNewest) {
-    const { editor } = this, { talk } = editor, width = widthIn(by("coverWidth"));
+  async begin(isNewest, width, begins) {
+    const { editor } = this, { talk } = editor, said = by("coverState").textContent;
     while (await talk.isBuilding()) {
       if (!isNewest()) return null;
       this.tell(TEXT.coverBuilding);
     }
     if (!isNewest()) return null;
-    this.tell(TEXT.coverLooking);
+    this.tell(said);
     // no edit is under way then, so the model is the map that border_cover is given
     return editor.queue(async () => {
       if (editor.isLocked) throw new NotLooked(TEXT.coverThinning);
-      const shot = editor.model.shot(), entries = editor.log.length, { look, missing, proved } = await talk.look(width);
+      const shot = editor.model.shot(), entries = editor.log.length, { look, missing, proved } = await begins(width);
       if (missing) throw new NotLooked(TEXT.coverMissing);
       if (!proved) by("unproved").hidden = false;
-      return { look, shot, entries, width };
+      return { look, shot, entries, width, numberings: editor.numberings };
     });
   }
 
@@ -102,7 +126,7 @@ export class Covering {
    * @param {import("./talk.js").Report} report
    * @param {() => boolean} isNewest
    */
-  async take({ shot, entries, width }, report, isNewest) {
+  async take({ shot, entries, width, numberings }, report, isNewest) {
     const layers = new Map(shot.features.map(({ num, layer }) => [num, layer]));
     const faces = report.faces.map(face => {
       // the program numbers features in the order of the text
@@ -113,6 +137,9 @@ export class Covering {
     if (!shapes) return;
     const uneven = report.uneven.map(each => ({ ...each, feature: shot.order[each.feature] }));
     this.entries = entries;
+    this.width = width;
+    this.closable = report.counts.overlap + report.counts.twice + report.counts.gap;
+    this.numberings = numberings;
     this.current = null;
     this.follow();
     const numbered = faces.map((face, i) => ({ ...face, number: i + 1, shape: shapes[i] }));
@@ -123,12 +150,48 @@ export class Covering {
   clear() {
     this.newest++;
     this.isLooking = false;
-    this.entries = -1;
     this.problem = "";
-    this.current = null;
-    this.found.clear();
+    this.forget();
     this.follow();
     by("look").focus();
+  }
+
+  /** What was found is not listed any more. */
+  forget() {
+    this.entries = -1;
+    this.current = null;
+    this.found.clear();
+  }
+
+  // ---- closing
+
+  /** Shows what closing would change; then it is one act. What is left is listed after it. */
+  close() {
+    return this.ask(TEXT.closing, async isNewest => {
+      const { editor } = this, { talk } = editor, begun = await this.begin(isNewest, this.width, width => talk.close(width));
+      /** @type {import("./talk.js").Closed & {fault: string}} */
+      const report = begun && (await talk.looked(begun.look));
+      if (report?.fault) throw new NotLooked(TEXT.notClosed(coverFaultText(report.fault)));
+      if (!begun || !report || !isNewest()) return;
+      if (!report.counts.closed) throw new NotLooked(TEXT.closesNothing);
+      this.tell("");
+      if (!(await agreed(TEXT.closes(report.counts.closed), this.changes(begun.shot, report), TEXT.closeNow))) return;
+      const isClosed = await editor.perform(async send => {
+        if (editor.log.length !== begun.entries) throw new Stopped(TEXT.closeOld);
+        await send(closingLine(begun.width));
+      });
+      if (isClosed) setTimeout(() => this.look());
+    });
+  }
+
+  /**
+   * What closing changes, in words.
+   * @param {import("./pieces.js").Shot} shot
+   * @param {import("./talk.js").Closed} report
+   */
+  changes(shot, { counts, parts, areas }) {
+    const name = (/** @type {number} */ place) => this.found.panel.nameOf(shot.order[place]);
+    return closedText(counts, parts, areas, name);
   }
 
   /** @param {any} fault */
@@ -144,14 +207,24 @@ export class Covering {
   /** What is true once something has changed: what is listed may be out of date, and features may have other names. */
   follow() {
     const { editor, entries, isOld: wasOld } = this, acts = entries < 0 ? 0 : actsBetween(editor.log.slice(entries));
+    if (entries >= 0 && this.numberings !== editor.numberings) { this.forget(); this.follow(); return; }
     by("look").disabled = !editor.canEdit;
     if (!this.isLooking) this.tell(this.problem);
     this.isOld = acts > 0;
     by("coverAge").hidden = by("coverClear").hidden = entries < 0;
     setText("coverAge", this.isOld ? TEXT.coverOld(acts) : TEXT.coverNow);
+    this.offer();
     for (const id of ["coverAge", "coverFound"]) by(id).classList.toggle("old", this.isOld);
     this.found.nameAnew();
     if (this.isOld !== wasOld) this.draw();
+  }
+
+  /** Offers to close what is listed, or says why that can't be done. */
+  offer() {
+    const { width, isOld } = this, isListed = this.entries >= 0 && this.closable > 0;
+    by("closing").hidden = !isListed;
+    by("coverClose").disabled = !width || isOld || this.isLooking || !this.editor.canEdit;
+    setText("closingHint", isOld ? TEXT.closeAgain : width ? TEXT.closeWidth(width) : TEXT.closeNoWidth);
   }
 
   /** @param {string} text */

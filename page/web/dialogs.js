@@ -8,14 +8,15 @@ import { HELP, HELP_HEAD, TEXT } from "./words.js";
  * @param {string} text
  * @param {"askValue" | "askChoice" | "askReport" | ""} field
  * @param {string=} yes what the button says
+ * @param {boolean=} isAsked whether there is a choice
  * @returns {Promise<boolean>}
  */
-function show(text, field, yes = TEXT.ok) {
+function show(text, field, yes = TEXT.ok, isAsked = field !== "askReport") {
   const dialog = by("ask");
   by("askText").textContent = text;
   by("askYes").textContent = yes;
   for (const id of ["askValue", "askChoice", "askReport"]) by(id).hidden = id !== field;
-  by("askNo").hidden = field === "askReport";
+  by("askNo").hidden = !isAsked;
   by("askNo").onclick = () => dialog.close("no");
   dialog.returnValue = "no";
   dialog.showModal();
@@ -62,6 +63,17 @@ export const confirmed = (text, yes) => show(text, "", yes);
 export function tell(text, report) {
   by("askReport").textContent = report;
   return show(text, "askReport");
+}
+
+/**
+ * Shows a report, and asks whether to go on.
+ * @param {string} text
+ * @param {string} report
+ * @param {string} yes
+ */
+export function agreed(text, report, yes) {
+  by("askReport").textContent = report;
+  return show(text, "askReport", yes, true);
 }
 
 export const isAsking = () => by("ask").open || by("help").open;

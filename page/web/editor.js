@@ -1,7 +1,7 @@
 // @ts-check
 /** The map that is edited: what is selected, edits and their answers. What is shown of it stands in panel.js. */
-import { History, renumbered, partOf } from "./history.js";
-import { isChange, orderAfter, splitWords } from "./lines.js";
+import { History, isClosingAct, renumbered, partOf } from "./history.js";
+import { isChange, isClosing, orderAfter, splitWords } from "./lines.js";
 import { Model } from "./model.js";
 import { countsIn, isCounted } from "./counts.js";
 import { conflictOf } from "./words.js";
@@ -57,6 +57,8 @@ export class Editor {
   isClosed = false;
   /** whether edits wait, since a thinning is shown that is not kept yet */
   isLocked = false;
+  /** how often features were numbered anew, by a closing or its undo */
+  numberings = 0;
   /** features at the start of the session, and vertices now */
   count = 0;
   vertices = 0;
@@ -227,7 +229,8 @@ export class Editor {
    */
   async follow(run, entry) {
     run.entries.push(entry);
-    if (run.isStale || entry.line.startsWith("thin ")) { run.isStale = true; return; }
+    if (isClosing(entry.line)) this.numberAnew();
+    if (run.isStale || entry.line.startsWith("thin ") || isClosing(entry.line)) { run.isStale = true; return; }
     try {
       this.model.apply(entry.line, entry.answer, await this.ringsOfPart(entry));
       run.records++;
@@ -235,6 +238,12 @@ export class Editor {
       console.error(fault);
       run.isStale = true;
     }
+  }
+
+  /** Features have other numbers from here on. */
+  numberAnew() {
+    this.numberings++;
+    this.selected = [];
   }
 
   /**
@@ -362,6 +371,7 @@ export class Editor {
     const count = act.entries.length;
     if (!count) return;
     await this.sendUndo(count);
+    if (isClosingAct(act)) this.numberAnew();
     const isKnown = !act.isStale && act.records > 0 && this.model.past.length >= act.records;
     if (isKnown) for (let i = 0; i < act.records; i++) this.model.undo();
     else await this.reload(false);

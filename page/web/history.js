@@ -1,7 +1,7 @@
 // @ts-check
 /** Acts that were made and taken back. An act is what the user did in one go: one line of a script, or several. */
 
-import { isChange } from "./lines.js";
+import { isChange, isClosing } from "./lines.js";
 
 /** @typedef {{line: string, answer: string}} Entry */
 /**
@@ -29,6 +29,12 @@ export function renumbered(line, numbers) {
  * @returns {string | null}
  */
 export const partOf = ({ line, answer }) => line.startsWith("split ") && answer.startsWith("ok ") ? answer.slice(3) : null;
+
+/**
+ * Whether an act closes overlaps and gaps, so that later ones speak of other numbers.
+ * @param {Act} act
+ */
+export const isClosingAct = act => act.entries.some(({ line }) => isClosing(line));
 
 export class History {
   constructor() {
@@ -85,6 +91,9 @@ export class History {
       if (before && now && before !== now) numbers.set(before, now);
     });
     if (!numbers.size) return;
-    for (const act of this.undone) act.entries = act.entries.map(e => ({ ...e, line: renumbered(e.line, numbers) }));
+    for (let i = this.undone.length - 1; i >= 0 && !isClosingAct(this.undone[i]); i--) {
+      const act = this.undone[i];
+      act.entries = act.entries.map(e => ({ ...e, line: renumbered(e.line, numbers) }));
+    }
   }
 }

@@ -1,5 +1,5 @@
 // @ts-check
-/** What the lines of a script of border_edit say, as far as the page has to know it. */
+/** What the lines of a script of border_edit say, and a line that closes overlaps and gaps, as far as the page has to know it. */
 
 /**
  * The arguments of a split.
@@ -16,6 +16,19 @@ export function splitWords(line) {
  * @param {string} answer
  */
 export const isChange = answer => answer.startsWith("ok") && answer !== "ok 0";
+
+/**
+ * The line that closes overlaps and gaps.
+ * @param {string} width of those that are closed, at most
+ */
+export const closingLine = width => `close ${width} overlaps,gaps`;
+
+/**
+ * Whether a line closes overlaps and gaps. It is none of border_edit: another map takes the place of the one before, and
+ * features are numbered anew, in the order of the text.
+ * @param {string} line
+ */
+export const isClosing = line => line.startsWith("close ");
 
 /**
  * How many acts are between the map as it was before some lines and as it is after them: those that were made, and
@@ -53,6 +66,7 @@ export function orderAfter(count, log) {
     if (verb === "split") order = orderWith(order, Number(first), Number(answer.split(" ")[1]));
     if (verb === "merge") order = order.filter(num => num !== Number(second));
     if (verb === "delete") order = order.filter(num => num !== Number(first));
+    if (verb === "close") order = order.map((_, place) => place);
   }
   return order;
 }

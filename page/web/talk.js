@@ -42,6 +42,12 @@ import { parsedStream } from "./topology.js";
  * @typedef {{polygons: string, over: string, covered: string, gaps: string, within: string, layer: string}} Sums
  * @typedef {Record<Kind | "uneven", number>} Counts
  * @typedef {{faces: ToldFace[], uneven: Uneven[], wide: Wide[], sums: Sums[], counts: Counts}} Report
+ * What would be closed: how many faces are, and how many are left; of which features the number of polygons and twice the
+ * area change.
+ * @typedef {{feature: number, before: number, after: number}} Parts
+ * @typedef {{feature: number, before: string, after: string}} AreaChange
+ * @typedef {Counts & {closed: number, left: number, parts: number, areas: number}} ClosedCounts
+ * @typedef {Omit<Report, "counts"> & {parts: Parts[], areas: AreaChange[], counts: ClosedCounts}} Closed
  */
 
 /** An answer of the server that is no answer to the question. */
@@ -211,9 +217,16 @@ export class Talk {
   look(width) { return this.question("look", width === "" ? {} : { width: Number(width) }); }
 
   /**
-   * What was found, or why nothing was.
+   * Begins to close overlaps and gaps, of which nothing is taken yet; `looked` has what would change.
+   * @param {string} width of those that are closed, at most
+   * @returns {Promise<{look: number, missing: boolean, proved: boolean}>}
+   */
+  close(width) { return this.question("close", { width: Number(width) }); }
+
+  /**
+   * What was found, or would be closed, or why nothing was.
    * @param {number} look
-   * @returns {Promise<Report & {fault: string}>}
+   * @returns {Promise<any>}
    */
   looked(look) { return this.question("looked", { look }); }
 

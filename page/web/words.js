@@ -40,6 +40,8 @@ const REFUSALS = [
   [/^same side/, "These features lie on the same side of their common border."],
   [/^too large/, "The map would become larger than the editor allows."],
   [/^nothing to undo/, "There is nothing left to undo."],
+  [/^nothing to close/, "There is no overlap and no gap of this width that can be closed."],
+  [/^not closed: (.+)/, "border_cover did not close it: $1."],
 ];
 
 /**
@@ -96,7 +98,7 @@ const COVER_FAULTS = [
   [/^open: too large sides/, "The map has too many borders, or too many features lie upon each other."],
   [/^open: too large bytes/, "The text of the map is larger than 64 MiB by now, and border_cover reads no more."],
   [/^out of memory/, "There is too little memory."],
-  [/^(unswept|unlike) /, "A check of the work itself failed, which has never been seen. Please keep the map, and tell us."],
+  [/^(unswept|unlike|unclosed) /, "A check of the work itself failed, which has never been seen. Please keep the map, and tell us."],
   [/^map fault/, "The map could not be handed to border_cover."],
   [/^no random seed/, "The system gave border_cover no random numbers."],
 ];
@@ -319,8 +321,46 @@ export const TEXT = {
     `and ${even} by the rule that says what is inside.`,
   coverWide: (/** @type {string} */ least, /** @type {string} */ most, /** @type {string} */ kinds) =>
     `over ${least}, up to ${most}: ${kinds}`,
+  closing: "Looking what closing would change …",
+  closeWidth: (/** @type {string} */ width) =>
+    `Gives what is at most ${grouped(width)} wide to the feature with the longest border along it. Lakes stay.`,
+  closeNoWidth: "To close them, look with a width first: it keeps out lakes and land that is disputed.",
+  closeAgain: "Look again first.",
+  closes: (/** @type {number} */ count) => `Close ${count === 1 ? "1 overlap or gap" : `${grouped(count)} overlaps and gaps`}?`,
+  closeNow: "Close",
+  closesNothing: "None of these can be closed: where features have one outline, nothing says whose land it is.",
+  closeOld: "The map was edited meanwhile. Look again first.",
+  notClosed: (/** @type {string} */ reason) => `Nothing was closed. ${sentence(reason)}`,
+  closedKinds: (/** @type {string} */ kinds) => `Of ${kinds}.`,
+  closedLeft: (/** @type {number} */ left) => `${grouped(left)} ${left === 1 ? "is" : "are"} left: nothing says whose land it is.`,
+  closedStays: "No vertex moves, and none is new. Undo takes it back.",
+  closedParts: (/** @type {string} */ name, /** @type {number} */ before, /** @type {number} */ after) =>
+    `${name}: ${grouped(before)} ${before === 1 ? "part" : "parts"}, then ${grouped(after)}`,
+  closedArea: (/** @type {string} */ name, /** @type {string} */ before, /** @type {string} */ after) =>
+    `${name}: area ${before}, then ${after}`,
+  closedMore: (/** @type {number} */ more) => `and ${grouped(more)} more`,
+  closedAreas: "In square grid units:",
   mended: "Mended. Nothing is saved yet.",
 };
+
+/**
+ * What closing changes: how many are closed, and which features have other parts and areas then.
+ * @param {import("./talk.js").ClosedCounts} counts
+ * @param {import("./talk.js").Parts[]} parts
+ * @param {import("./talk.js").AreaChange[]} areas
+ * @param {(place: number) => string} name of the feature at a place of the text
+ */
+export function closedText(counts, parts, areas, name) {
+  const kinds = /** @type {const} */ (["overlap", "twice", "gap"]).filter(kind => counts[kind]);
+  const of = listed(kinds.map(kind => `${TEXT.coverKinds[kind].toLowerCase()} ${grouped(counts[kind])}`), 0);
+  const rows = [TEXT.closedKinds(of), ...(counts.left ? [TEXT.closedLeft(counts.left)] : []), TEXT.closedStays, ""];
+  rows.push(...parts.map(({ feature, before, after }) => TEXT.closedParts(name(feature), before, after)));
+  if (counts.parts > parts.length) rows.push(TEXT.closedMore(counts.parts - parts.length));
+  if (areas.length) rows.push(TEXT.closedAreas);
+  rows.push(...areas.map(({ feature, before, after }) => TEXT.closedArea(name(feature), halved(before), halved(after))));
+  if (counts.areas > areas.length) rows.push(TEXT.closedMore(counts.areas - areas.length));
+  return rows.join("\n");
+}
 
 /**
  * The help panel: what is done, by mouse, by key.
@@ -353,6 +393,7 @@ export const HELP = [
     ["Thin the borders", "Thin, then the slider", "T, then arrows on the slider"],
     ["Measure", "Measure, then click along the way", "D, then Enter at each point"],
     ["Look for overlaps and gaps", "Overlaps and gaps, at the right, then Look", "O, Enter"],
+    ["Close those that are at most so wide", "Look with a width, then Close", "O, Shift+Tab, Enter; Tab, Enter"],
     ["Undo, redo", "Undo, Redo", "Ctrl+Z, Ctrl+Y"],
     ["Save", "Save", "Ctrl+S"],
     ["Stop what is under way", "", "Esc"],
