@@ -126,6 +126,9 @@ const ORDERS = [
   [2, [['split 0 "a" 0 0 1 1', "ok 2"], ["merge 2 1", "ok"], ["undo", "ok"], ["delete 0", "ok"]], "2,1"],
   [2, [["merge 0 1", "refused runs 2"], ["thin 5", "ok 0"], ["undo", "refused nothing to undo"]], "0,1"],
   [2, [["delete 0", "ok"], ["thin 5", "ok 3"], ["undo", "ok"], ["undo", "ok"]], "0,1"],
+  [2, [['split 0 "a" 0 0 1 1', "ok 2"], ["close 5 overlaps,gaps", "ok 1"], ['split 0 "b" 0 0 1 1', "ok 3"]], "0,3,1,2"],
+  [2, [['split 0 "a" 0 0 1 1', "ok 2"], ["close 5 overlaps,gaps", "ok 1"], ["delete 0", "ok"], ["undo", "ok"], ["undo", "ok"]], "0,2,1"],
+  [2, [['split 0 "a" 0 0 1 1', "ok 2"], ["close 5 overlaps,gaps", "refused nothing to close"]], "0,2,1"],
 ];
 
 // a file below the map, and its lines on the grid

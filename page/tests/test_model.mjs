@@ -4,6 +4,7 @@
 import { existsSync, readdirSync } from "node:fs";
 import { fileURLToPath } from "node:url";
 import { checkAll } from "./model_cases.mjs";
+import { checkClosing } from "./closing_cases.mjs";
 import { checkFaces } from "./face_cases.mjs";
 import { checkFiles } from "./file_cases.mjs";
 import { checkSocket } from "./socket_cases.mjs";
@@ -33,6 +34,7 @@ function check(what, found, expected) {
 
 checkAll(check);
 checkFaces(check);
+checkClosing(check);
 checkFiles(check);
 await checkSocket(check);
 const programs = { edit: given.program, cover: given.cover };
