@@ -1,9 +1,8 @@
 // Which features change.
 ghost use Rattle.std.specs.Prelude.{◌≡◌, ◌≤◌, map, length, sum_by, IfOk};
-ghost use Rattle.std.specs.List.{All};
 ghost use Rattle.ring_parts.specs.Common.{polygons_seen};
 ghost use Rattle.closing_report.specs.Changes as spec;
-ghost use Rattle.topo_reader.specs.Uses.{feature_positions};
+ghost use Rattle.topo_reader.specs.Common.{feature_positions};
 
 use cover_report::Feature;
 use grid_geometry::Pos;
@@ -67,8 +66,8 @@ pub(crate) fn area_changes<A: Allocator + Copy>(
     before: &[Feature<A>],
     after: &[Feature<A>],
 ) -> Result<Vec<AreaChange, A>, AllocError>
-    requires few { All (λ feature. sum_by (sum_by length) (feature_positions feature) ≤ 4000000) before.now }
-    requires few_after { All (λ feature. sum_by (sum_by length) (feature_positions feature) ≤ 4000000) after.now }
+    requires few { sum_by (sum_by (sum_by length)) (map feature_positions before.now) ≤ 4000000 }
+    requires few_after { sum_by (sum_by (sum_by length)) (map feature_positions after.now) ≤ 4000000 }
     ensures { IfOk result (λ changes. changes.items
         ≡ spec.areas_from 0 (map feature_positions before.now) (map feature_positions after.now)) }
 {

@@ -1,14 +1,19 @@
 // From the bytes of a map to the text of what it is closed to.
-ghost use Rattle.std.specs.Prelude.{IfOk};
+ghost use Rattle.std.specs.Prelude.{◌≡◌, true, length, map, IfOk, OnOk};
+ghost use Rattle.ring_machine.specs.Common.{Proper};
+ghost use Rattle.topo_reader.specs.Common.{document_of, feature_positions, IsOfRings, view_raw};
 ghost use Rattle.cover_report.specs.Asked.{view_asked};
+ghost use Rattle.cover_report.specs.Names.{are_there};
 ghost use Rattle.closing_report.specs.Closed.{IsClosedMap};
+ghost use Rattle.closing_report.specs.Layers.{AreClosings};
+ghost use Rattle.closing_report.specs.Seen.{closings_seen};
 
 use crate::asked::AskedClosing;
 use crate::fault::{ClosingFault, of_save};
 use crate::layers::{Closings, closings_of};
 use crate::report::push_report;
 use cover_report::{Counts, CoverFault, are_there, proper_map};
-use map_mending::with_polygons;
+use map_mending::{fit, with_polygons};
 use mend_report::saved_text;
 use std::alloc::{Allocator, Global};
 use std::hash::RandomState;
@@ -29,7 +34,16 @@ fn closings_in<'a, A: Allocator + Copy>(
     heap: Global,
     asked: &AskedClosing<'_>,
     raw: &RawDoc<'a, A>,
-) -> Result<Closings<'a, A>, ClosingFault<'a>> {
+) -> Result<Closings<'a, A>, ClosingFault<'a>>
+    requires rings { IsOfRings (view_raw raw.now) }
+    requires proper { Proper (document_of (view_raw raw.now)) }
+    ensures there { OnOk result (are_there (map (λ name. name.now) asked.now.report.layers.now)
+        (view_raw raw.now).layers ≡ true) }
+    ensures closings { IfOk result (λ closings. AreClosings (map (λ name. name.now) asked.now.report.layers.now)
+        asked.now.closing 0 (view_raw raw.now).layers (view_raw raw.now).polygons
+        (map feature_positions closings.features.items) (closings_seen closings)) }
+    ensures even { IfOk result (λ closings. length closings.looks.items ≡ length closings.decided.items) }
+{
     let layers = raw.layers.values();
     if !are_there(heap, layers.as_slice(), asked.report.layers)? {
         return Err(ClosingFault::Cover(CoverFault::NoLayer));
@@ -43,7 +57,7 @@ fn closings_in<'a, A: Allocator + Copy>(
 /// each border stands once; all that is no border, and each feature that has nothing to do with a closed face, is as before.
 ///
 /// Fails as `report_map` of `cover_report` does; with `Unclosed` where the map that was made is not as it was decided, which
-/// is not known to occur; and with `Unsaved` where its text is over a limit. Then `text` may have a part of a report.
+/// is not known to occur; and with `TooManyPositions` or `Unsaved` where it, or its text, is over a limit. Then `text` may have a part of a report.
 pub fn close_map<'a, A: Allocator + Copy>(
     alloc: A,
     heap: Global,
@@ -60,6 +74,9 @@ pub fn close_map<'a, A: Allocator + Copy>(
         Err(fault) => return Err(ClosingFault::Cover(CoverFault::Open(fault))),
     };
     let closings = or_return!(closings_in(alloc, heap, asked, &raw));
+    if !fit(closings.features.as_slice()) {
+        return Err(ClosingFault::TooManyPositions);
+    }
     let counts = push_report(
         alloc,
         text,

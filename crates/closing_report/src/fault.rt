@@ -16,6 +16,8 @@ pub enum ClosingFault<'a> {
     UnclosedSegment(Seg),
     /// A check of a closed layer failed for the feature with this number. No map is known where it does.
     UnclosedFeature(usize),
+    /// The closed map would have more than 4,000,000 positions in rings.
+    TooManyPositions,
     /// It was closed, and its text would not open: it is over a limit.
     Unsaved(SaveFault),
 }
@@ -59,6 +61,7 @@ impl<'a> fmt::Display for ClosingFault<'a> {
             ClosingFault::Cover(fault) => write!(f, "{fault}"),
             ClosingFault::UnclosedSegment(segment) => write!(f, "unclosed {segment}"),
             ClosingFault::UnclosedFeature(feature) => write!(f, "unclosed {feature}"),
+            ClosingFault::TooManyPositions => f.write_str("open: too large positions"),
             ClosingFault::Unsaved(_) => f.write_str("open: too large bytes"),
         }
     }

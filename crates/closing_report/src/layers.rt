@@ -1,12 +1,16 @@
 // The layers of a map, closed one after another.
-ghost use Rattle.std.specs.Prelude.{◌≡◌, ◌≤◌, List, length, map, IfOk};
+ghost use Rattle.std.specs.Prelude.{◌≡◌, ◌≤◌, ◌<◌, ◌^◌, ◌+◌, ◌++◌, drop, length, map, replicate, take, true, false, IfOk, OnOk};
 ghost use Rattle.std.specs.List.{zip};
-ghost use Rattle.grid_geometry.specs.Common.{Segment};
-ghost use Rattle.topo_outline.specs.Common.{leaves, view_layer};
-ghost use Rattle.topo_reader.specs.Uses.{feature_positions};
+ghost use Rattle.std.specs.List.Sorted.{IsNonDecreasingBy};
+ghost use Rattle.std.specs.Vec.Iter.{into_iter_items};
 ghost use Rattle.layer_sides.specs.Common.{IsProperLayer};
-ghost use Rattle.layer_faces.specs.Common.{faces_seen};
-ghost use Rattle.cover_report.specs.Layers.{polygons_in};
+ghost use Rattle.ring_parts.specs.Common.{polygons_seen};
+ghost use Rattle.topo_outline.specs.Common.{leaves, leaves_in, view_item, view_layer};
+ghost use Rattle.topo_reader.specs.Common.{feature_positions};
+ghost use Rattle.cover_report.specs.Layers.{layer_of, polygons_in};
+ghost use Rattle.cover_report.specs.Owned.{owned_layer};
+ghost use Rattle.face_closing.specs.Common.{faces_in};
+ghost use Rattle.closing_report.specs.Added.{AddsClosed, AddsFeatures};
 ghost use Rattle.closing_report.specs.Decided.{told_decisions};
 ghost use Rattle.closing_report.specs.Layers.{AreClosings};
 ghost use Rattle.closing_report.specs.Seen.{closings_seen};
@@ -18,7 +22,7 @@ use cover_report::{
 };
 use face_closing::{Closed, Closing, Decision, close};
 use grid_geometry::Pos;
-use layer_faces::{Face, Sums, look_at};
+use layer_faces::{Look, Sums, look_at};
 use std::alloc::{AllocError, Allocator, Global};
 use std::vec::IntoIter;
 use topo_outline::RawLayer;
@@ -44,17 +48,24 @@ pub(crate) struct Closings<'a, A: Allocator + Copy> {
     rest: IntoIter<Feature<A>, A>,
 }
 
+/// Polygons that were not come to yet, in the order of their features, and of each the number of its feature.
+#[derive(Drop)]
+struct Following<'o, A: Allocator + Copy> {
+    polygons: IntoIter<Vec<Vec<Pos, A>, A>, A>,
+    owners: &'o [usize],
+}
+
 /// The decisions of the faces that may be told.
 fn told_decisions<A: Allocator + Copy>(
     alloc: A,
-    faces: &[Face<A>],
+    look: &Look<A>,
     decisions: &[Decision],
 ) -> Result<Vec<Decision, A>, AllocError>
-    ensures { IfOk result (λ told. (ss : List Segment)
-        → told.items ≡ told_decisions (zip (faces_seen ss faces.now) decisions.now)) }
+    ensures { IfOk result (λ told.
+        told.items ≡ told_decisions (zip (faces_in look.now) decisions.now)) }
 {
     let mut told = Vec::new(alloc);
-    for (face, decision) in faces.iter().zip(decisions) {
+    for (face, decision) in look.faces.iter().zip(decisions) {
         if is_found(face.kind) {
             told.push(*decision)?;
         }
@@ -62,44 +73,110 @@ fn told_decisions<A: Allocator + Copy>(
     Ok(told)
 }
 
-impl<'a, A: Allocator + Copy> Closings<'a, A> {
-    /// Appends so many features without polygons.
-    fn push_empty(&mut self, alloc: A, count: usize) -> Result<(), AllocError> {
+/// How many of the first of these are the number.
+fn run_length(owners: &[usize], number: usize) -> usize
+    ensures bound { result ≤ length owners.now }
+    ensures run { take result owners.now ≡ replicate result number }
+{
+    let mut length = 0;
+    while length < owners.len() && owners[length] == number {
+        length += 1;
+    }
+    length
+}
+
+impl<'o, A: Allocator + Copy> Following<'o, A> {
+    /// The next polygons, which are those of the feature with this number.
+    fn next_feature(&mut self, alloc: A, number: usize) -> Result<Feature<A>, AllocError>
+        requires even { length (into_iter_items self.old.polygons) ≡ length self.old.owners.now }
+        ensures even { OnOk result
+            (length (into_iter_items self.new.polygons) ≡ length self.new.owners.now) }
+        ensures polygons { IfOk result (λ feature. polygons_seen (into_iter_items self.old.polygons)
+            ≡ feature_positions feature ++ polygons_seen (into_iter_items self.new.polygons)) }
+        ensures owners { IfOk result (λ feature. self.old.owners.now
+            ≡ replicate (length feature.items) number ++ self.new.owners.now) }
+    {
+        let count = run_length(self.owners, number);
+        let mut feature = Vec::new(alloc);
         for _ in 0..count {
-            self.features.push(Vec::new(alloc))?;
+            if let Some(polygon) = self.polygons.next() {
+                feature.push(polygon)?;
+            }
+        }
+        self.owners = &self.owners[count..];
+        Ok(feature)
+    }
+}
+
+impl<'a, A: Allocator + Copy> Closings<'a, A> {
+    /// Appends the next features as they are, so many.
+    fn pass(&mut self, count: usize) -> Result<(), AllocError>
+        ensures features { OnOk result (map feature_positions self.new.features.items
+            ≡ map feature_positions self.old.features.items
+            ++ take count (map feature_positions (into_iter_items self.old.rest))) }
+        ensures rest { OnOk result
+            (into_iter_items self.new.rest ≡ drop count (into_iter_items self.old.rest)) }
+        ensures layers { OnOk result (closings_seen self.new ≡ closings_seen self.old) }
+    {
+        for _ in 0..count {
+            if let Some(feature) = self.rest.next() {
+                self.features.push(feature)?;
+            }
         }
         Ok(())
     }
 
-    /// Appends so many features, with these polygons, each of which has the number of its feature.
+    /// Appends so many features, which have these polygons. Fails at a polygon of another feature.
     fn push_features(
         &mut self,
         alloc: A,
         count: usize,
         polygons: Vec<Vec<Vec<Pos, A>, A>, A>,
         owners: &[usize],
-    ) -> Result<(), AllocError> {
-        self.push_empty(alloc, count)?;
-        let mut owners = owners.iter();
-        for polygon in polygons {
-            if let Some(owner) = owners.next()
-                && let Some(feature) = self.features.get_mut(*owner)
-            {
-                feature.push(polygon)?;
-            }
+    ) -> Result<(), ClosingFault<'a>>
+        requires few { length self.old.features.items + count < 2 ^ 64 }
+        requires owned { length owners.now ≡ length polygons.items }
+        ensures added { OnOk result (AddsFeatures (map feature_positions self.old.features.items)
+            (map feature_positions self.new.features.items) count (polygons_seen polygons.items) owners.now) }
+        ensures rest { OnOk result (self.new.rest ≡ self.old.rest) }
+        ensures looks { OnOk result (self.new.looks ≡ self.old.looks) }
+        ensures decided { OnOk result (self.new.decided ≡ self.old.decided) }
+    {
+        let first = self.features.len();
+        let mut following = Following {
+            polygons: polygons.into_iter(),
+            owners,
+        };
+        for number in first..first + count {
+            let feature = following.next_feature(alloc, number)?;
+            self.features.push(feature)?;
         }
-        Ok(())
+        match following.owners {
+            [] => Ok(()),
+            [owner, ..] => Err(ClosingFault::UnclosedFeature(*owner)),
+        }
     }
 
-    /// Closes a layer, which has these polygons.
+    /// Closes a layer with so many features, which has these polygons.
     fn close_layer(
         &mut self,
         alloc: A,
         closing: &Closing,
-        layer: &RawLayer<'a, A>,
+        name: &'a [u8],
+        count: usize,
         owned: Owned<A>,
-    ) -> Result<(), ClosingFault<'a>> {
-        let count = leaf_count(layer.items.as_slice());
+    ) -> Result<(), ClosingFault<'a>>
+        requires few { length self.old.features.items + count < 2 ^ 64 }
+        requires even { length self.old.looks.items ≡ length self.old.decided.items }
+        requires owned { length owned.owners.items ≡ length owned.polygons.items }
+        requires proper { IsProperLayer (polygons_seen owned.polygons.items) }
+        requires ascending { IsNonDecreasingBy (λ n. n) owned.owners.items }
+        ensures closed { OnOk result (AddsClosed closing.now (owned_layer name.now owned) count
+            (map feature_positions self.old.features.items) (map feature_positions self.new.features.items)
+            (closings_seen self.old) (closings_seen self.new)) }
+        ensures even { OnOk result (length self.new.looks.items ≡ length self.new.decided.items) }
+        ensures rest { OnOk result (self.new.rest ≡ self.old.rest) }
+    {
         let (polygons, owners) = (owned.polygons.as_slice(), owned.owners.as_slice());
         let look = match look_at(alloc, polygons, owners) {
             Ok(look) => look,
@@ -115,12 +192,13 @@ impl<'a, A: Allocator + Copy> Closings<'a, A> {
             owners,
             look: after,
         } = closed;
+        let decisions = told_decisions(alloc, &look, decisions.as_slice())?;
         self.decided.push(DecidedLayer {
-            decisions: told_decisions(alloc, look.faces.as_slice(), decisions.as_slice())?,
+            decisions,
             now: after.sums,
         })?;
-        self.push_features(alloc, count, polygons, owners.as_slice())?;
-        self.looks.push(told_at(alloc, layer.name, &owned, look)?)?;
+        or_return!(self.push_features(alloc, count, polygons, owners.as_slice()));
+        self.looks.push(told_at(alloc, name, &owned, look)?)?;
         Ok(())
     }
 
@@ -131,20 +209,37 @@ impl<'a, A: Allocator + Copy> Closings<'a, A> {
         closing: &Closing,
         is_asked: bool,
         layer: &RawLayer<'a, A>,
-    ) -> Result<(), ClosingFault<'a>> {
+    ) -> Result<(), ClosingFault<'a>>
+        requires few { length self.old.features.items
+            + length (leaves_in (map view_item layer.now.items.items)) ≤ 200000 }
+        requires there { length (leaves_in (map view_item layer.now.items.items))
+            ≤ length (into_iter_items self.old.rest) }
+        requires even { length self.old.looks.items ≡ length self.old.decided.items }
+        requires proper { IsProperLayer
+            (polygons_in (map feature_positions (into_iter_items self.old.rest))) }
+        ensures even { OnOk result (length self.new.looks.items ≡ length self.new.decided.items) }
+        ensures rest { OnOk result (into_iter_items self.new.rest
+            ≡ drop (length (leaves_in (map view_item layer.now.items.items))) (into_iter_items self.old.rest)) }
+        ensures passed { is_asked ≡ false → OnOk result (closings_seen self.new ≡ closings_seen self.old) }
+        ensures same { is_asked ≡ false → OnOk result (map feature_positions self.new.features.items
+            ≡ map feature_positions self.old.features.items
+            ++ take (length (leaves_in (map view_item layer.now.items.items)))
+            (map feature_positions (into_iter_items self.old.rest))) }
+        ensures closed { is_asked ≡ true → OnOk result (AddsClosed closing.now
+            (layer_of layer.now.name.now (length self.old.features.items)
+            (take (length (leaves_in (map view_item layer.now.items.items)))
+            (map feature_positions (into_iter_items self.old.rest))))
+            (length (leaves_in (map view_item layer.now.items.items)))
+            (map feature_positions self.old.features.items) (map feature_positions self.new.features.items)
+            (closings_seen self.old) (closings_seen self.new)) }
+    {
         let count = leaf_count(layer.items.as_slice());
+        if !is_asked {
+            return Ok(self.pass(count)?);
+        }
         let first = self.features.len();
         let owned = next_polygons(alloc, &mut self.rest, first, count)?;
-        if is_asked {
-            return self.close_layer(alloc, closing, layer, owned);
-        }
-        let Owned {
-            polygons,
-            owners,
-            ..
-        } = owned;
-        self.push_features(alloc, count, polygons, owners.as_slice())?;
-        Ok(())
+        self.close_layer(alloc, closing, layer.name, count, owned)
     }
 }
 
@@ -157,10 +252,12 @@ pub(crate) fn closings_of<'a, A: Allocator + Copy>(
     features: Vec<Feature<A>, A>,
 ) -> Result<Closings<'a, A>, ClosingFault<'a>>
     requires few { length (leaves (map view_layer layers.now)) ≤ 200000 }
+    requires counted { length features.items ≡ length (leaves (map view_layer layers.now)) }
     requires proper { IsProperLayer (polygons_in (map feature_positions features.items)) }
-    ensures { IfOk result (λ closings. AreClosings (map (λ name. name.now) asked.now.report.layers.now)
+    ensures closed { IfOk result (λ closings. AreClosings (map (λ name. name.now) asked.now.report.layers.now)
         asked.now.closing 0 (map view_layer layers.now) (map feature_positions features.items)
         (map feature_positions closings.features.items) (closings_seen closings)) }
+    ensures even { IfOk result (λ closings. length closings.looks.items ≡ length closings.decided.items) }
 {
     let mut closings = Closings {
         looks: Vec::new(alloc),

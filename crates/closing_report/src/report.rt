@@ -1,10 +1,13 @@
 // The report of a map that was closed.
-ghost use Rattle.std.specs.Prelude.{◌≡◌, ◌++◌, flat_map, map, IfOk, OnOk};
-ghost use Rattle.topo_reader.specs.Uses.{feature_positions};
+ghost use Rattle.std.specs.Prelude.{◌≡◌, ◌≤◌, ◌++◌, flat_map, length, map, sum_by, IfOk, OnOk};
+ghost use Rattle.std.specs.List.{zip};
+ghost use Rattle.topo_reader.specs.Common.{feature_positions};
 ghost use Rattle.cover_report.specs.Asked.{view_asked};
 ghost use Rattle.cover_report.specs.Counted.{counts_of};
 ghost use Rattle.closing_report.specs.Report.{closed_report};
-ghost use Rattle.closing_report.specs.Seen.{closings_seen};
+ghost use Rattle.cover_report.specs.Faces.{view_told};
+ghost use Rattle.closing_report.specs.Decided.{all_given, all_left, given_of, left_of};
+ghost use Rattle.closing_report.specs.Seen.{closings_seen, decision_seen, given_seen, layers_seen, left_seen};
 
 use crate::changes::{area_changes, parts_changes};
 use crate::layers::{Closings, DecidedLayer};
@@ -22,19 +25,22 @@ const KINDS: [Kind; 4] = [Kind::Overlap, Kind::Twice, Kind::Gap, Kind::Lake];
 
 /// A face that may be told, and what was decided of it.
 #[derive(Drop)]
-struct DecidedFace<'l, A: Allocator + Copy> {
+struct FaceDecision<'l, A: Allocator + Copy> {
     face: &'l ToldFace<A>,
     decision: Decision,
 }
 
 /// Appends the faces of a layer that may be told, with what was decided of them.
 fn push_decided<'l, A: Allocator + Copy>(
-    found: &mut Vec<DecidedFace<'l, A>, A>,
+    found: &mut Vec<FaceDecision<'l, A>, A>,
     looked: &'l Looked<'_, A>,
     decided: &DecidedLayer<A>,
-) -> Result<(), AllocError> {
+) -> Result<(), AllocError>
+    ensures { OnOk result (map decision_seen found.new.items ≡ map decision_seen found.old.items
+        ++ zip (map view_told looked.now.faces.items) decided.now.decisions.items) }
+{
     for (face, decision) in looked.faces.iter().zip(decided.decisions.as_slice()) {
-        found.push(DecidedFace {
+        found.push(FaceDecision {
             face,
             decision: *decision,
         })?;
@@ -47,7 +53,10 @@ fn all_decided<'l, A: Allocator + Copy>(
     alloc: A,
     looks: &'l [Looked<'_, A>],
     decided: &[DecidedLayer<A>],
-) -> Result<Vec<DecidedFace<'l, A>, A>, AllocError> {
+) -> Result<Vec<FaceDecision<'l, A>, A>, AllocError>
+    ensures { IfOk result (λ found. map decision_seen found.items
+        ≡ flat_map (λ k. k.decided) (layers_seen looks.now decided.now)) }
+{
     let mut found = Vec::new(alloc);
     for (looked, decided) in looks.iter().zip(decided) {
         push_decided(&mut found, looked, decided)?;
@@ -59,8 +68,11 @@ fn all_decided<'l, A: Allocator + Copy>(
 fn push_closed_of<'l, A: Allocator + Copy>(
     found: &mut Vec<ClosedFace<'l, A>, A>,
     kind: Kind,
-    faces: &[DecidedFace<'l, A>],
-) -> Result<(), AllocError> {
+    faces: &[FaceDecision<'l, A>],
+) -> Result<(), AllocError>
+    ensures { OnOk result (map given_seen found.new.items ≡ map given_seen found.old.items
+        ++ flat_map (given_of kind) (map decision_seen faces.now)) }
+{
     for it in faces {
         if let Decision::Given(feature) = it.decision
             && is_kind(it.face.kind, kind)
@@ -78,8 +90,11 @@ fn push_closed_of<'l, A: Allocator + Copy>(
 fn push_left_of<'l, A: Allocator + Copy>(
     found: &mut Vec<LeftFace<'l, A>, A>,
     kind: Kind,
-    faces: &[DecidedFace<'l, A>],
-) -> Result<(), AllocError> {
+    faces: &[FaceDecision<'l, A>],
+) -> Result<(), AllocError>
+    ensures { OnOk result (map left_seen found.new.items ≡ map left_seen found.old.items
+        ++ flat_map (left_of kind) (map decision_seen faces.now)) }
+{
     for it in faces {
         if matches!(it.decision, Decision::Waits) && is_kind(it.face.kind, kind) {
             found.push(LeftFace { face: it.face })?;
@@ -91,8 +106,11 @@ fn push_left_of<'l, A: Allocator + Copy>(
 /// Those that were closed, kind by kind.
 fn closed_faces<'l, A: Allocator + Copy>(
     alloc: A,
-    faces: &[DecidedFace<'l, A>],
-) -> Result<Vec<ClosedFace<'l, A>, A>, AllocError> {
+    faces: &[FaceDecision<'l, A>],
+) -> Result<Vec<ClosedFace<'l, A>, A>, AllocError>
+    ensures { IfOk result (λ found. map given_seen found.items
+        ≡ all_given (map decision_seen faces.now)) }
+{
     let mut found = Vec::new(alloc);
     for kind in KINDS.iter() {
         push_closed_of(&mut found, *kind, faces)?;
@@ -103,8 +121,11 @@ fn closed_faces<'l, A: Allocator + Copy>(
 /// Those that are left, kind by kind.
 fn left_faces<'l, A: Allocator + Copy>(
     alloc: A,
-    faces: &[DecidedFace<'l, A>],
-) -> Result<Vec<LeftFace<'l, A>, A>, AllocError> {
+    faces: &[FaceDecision<'l, A>],
+) -> Result<Vec<LeftFace<'l, A>, A>, AllocError>
+    ensures { IfOk result (λ found. map left_seen found.items
+        ≡ all_left (map decision_seen faces.now)) }
+{
     let mut found = Vec::new(alloc);
     for kind in KINDS.iter() {
         push_left_of(&mut found, *kind, faces)?;
@@ -120,6 +141,10 @@ pub(crate) fn push_report<A: Allocator + Copy>(
     before: &[Feature<A>],
     closings: &Closings<'_, A>,
 ) -> Result<Counts, AllocError>
+    requires few { sum_by (sum_by (sum_by length)) (map feature_positions before.now) ≤ 4000000 }
+    requires few_after { sum_by (sum_by (sum_by length))
+        (map feature_positions closings.now.features.items) ≤ 4000000 }
+    requires even { length closings.now.looks.items ≡ length closings.now.decided.items }
     ensures lines { OnOk result (text.new.items ≡ text.old.items ++ closed_report (view_asked asked.now)
         (map (λ k. k.found) (closings_seen closings.now)) (flat_map (λ k. k.decided) (closings_seen closings.now))
         (map feature_positions before.now) (map feature_positions closings.now.features.items)

@@ -23,3 +23,4 @@ pub use fault::MendFault;
 pub use forms::with_polygons;
 pub use mending::{Mending, mend};
 pub use parted::Parted;
+pub use size::fit;

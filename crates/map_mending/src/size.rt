@@ -49,7 +49,7 @@ fn after_all<A: Allocator + Copy>(room: usize, features: &[Polygons<A>]) -> Opti
 }
 
 /// Whether the rings of all features have no more than 4,000,000 positions.
-pub(crate) fn fit<A: Allocator + Copy>(features: &[Polygons<A>]) -> bool
+pub fn fit<A: Allocator + Copy>(features: &[Polygons<A>]) -> bool
     ensures { result
         ≡ nat_le (sum_by (sum_by (sum_by length)) (map feature_positions features.now)) 4000000 }
 {
