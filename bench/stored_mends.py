@@ -8,6 +8,7 @@
                  pairs of bench/looking.py, the places of some, and that each is mended
     covers.txt   the runs of bench/cover_runs.txt that were worked out by hand, and drawn maps that open, whose overlaps and
                  gaps bench/covering.py tells
+    closed.txt   the runs of bench/closing_runs.txt, which were worked out by hand
     parted.txt   drawn polygons of which no two segments cross, and how their areas change: a polygon that is taken apart has
                  what an odd number of its rings surrounds
 
@@ -207,7 +208,7 @@ def refused_covers():
     texts, runs = cover_ends.sorted_lines()
     for line in runs:
         words, status, _, said = cover_ends.parts_of(line)
-        if status == "2":
+        if status == "2" and "--close" not in words:
             name, asked = cover_ends.asked_by(words)
             layers = [("layer", layer) for layer in asked.names]
             yield case(f"border_cover {' '.join(words)}", ("map", texts[name]), *layers, ("fault", said))
@@ -241,7 +242,14 @@ def cover_cases():
         yield covered(f"overlaps and gaps {number}", text, asked, lines, status)
 
 
-FILES = {"worked.txt": worked_cases, "drawn.txt": drawn_cases, "parted.txt": parted_cases, "covers.txt": cover_cases}
+def closed_cases():
+    for words, text, asked, what, lines, after in cover_ends.closing_runs():
+        given = [("map", text), ("width", str(asked.width)), *((kind, "") for kind in what)]
+        yield case(f"border_cover {' '.join(words)}", *given, ("report", lines), ("saved", after))
+
+
+FILES = {"worked.txt": worked_cases, "drawn.txt": drawn_cases, "parted.txt": parted_cases, "covers.txt": cover_cases,
+         "closed.txt": closed_cases}
 
 
 def main():

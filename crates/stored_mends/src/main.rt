@@ -1,9 +1,10 @@
 //! A test: maps that do not open, or have decimals, beside the answers that are stored in `data/`: what
 //! is reported of them, where it is, what they are mended to, and how they are put on a grid; and the overlaps
-//! and gaps of maps that open. Each answer that differs has a line, and each file its count.
+//! and gaps of maps that open, and what these are closed to. Each answer that differs has a line, and each file its count.
 #![tactic(auto)]
 
 mod cases;
+mod closes;
 mod covers;
 mod maps;
 mod points;
@@ -28,10 +29,11 @@ enum Door {
     PutPoints,
     KeepDigits,
     Cover,
+    Close,
 }
 
 /// The files of cases, with what answers to them.
-const FILES: [(&str, Door, &str); 15] = [
+const FILES: [(&str, Door, &str); 16] = [
     ("worked.txt", Door::Report, "reports"),
     ("worked.txt", Door::Mend, "mended maps"),
     ("reports.txt", Door::Report, "reports"),
@@ -47,6 +49,7 @@ const FILES: [(&str, Door, &str); 15] = [
     ("points.txt", Door::PutPoints, "texts with points on a grid"),
     ("digits.txt", Door::KeepDigits, "decimals of grids"),
     ("covers.txt", Door::Cover, "reports of overlaps and gaps"),
+    ("closed.txt", Door::Close, "closed maps"),
 ];
 
 /// How many cases there are, and how many of them have an answer that differs.
@@ -74,6 +77,7 @@ fn compare(stored: &mut Stored<'_>, door: Door, seed: RandomState) -> Result<(),
         Door::PutPoints => points::compare_on_grid(stored),
         Door::KeepDigits => points::compare_digits(stored, seed),
         Door::Cover => covers::compare_cover(stored, seed),
+        Door::Close => closes::compare_closed(stored, seed),
     }
 }
 

@@ -1,4 +1,6 @@
-//! Each allocation is refused in turn as a map is looked through, as one is mended, and as overlaps and gaps are told.
+//! Each allocation is refused in turn as a map is looked through, as one is mended, and as overlaps and gaps are told and
+//! closed.
+use closing_report::{AskedClosing, Closing, ClosingFault, close_map};
 use cover_report::{Asked as Covered, CoverFault, report_map as report_cover};
 use map_mending::MendFault;
 use mend_report::{Asked, LookFault, RepairFault, SaveFault, Texts, mend_map, report_map};
@@ -25,6 +27,9 @@ const MENDED: &str =
     "parts 0 0 2\narea 0 0 100 0\ncounts short 0 repeats 0 on 0 cross 1 paths 2 parts 1 areas 1\n";
 
 const COVERED: &str = "counts overlap 1 twice 1 gap 1 lake 1 uneven 1\n";
+
+const CLOSED: &str =
+    "counts overlap 1 twice 1 gap 1 lake 1 uneven 1 closed 4 left 0 parts 1 areas 3\n";
 
 /// More than the allocations of any call.
 const MANY: u64 = 4000;
@@ -94,12 +99,40 @@ fn cover<A: Allocator + Copy>(alloc: Global, heap: A) -> End {
     }
 }
 
+fn close<A: Allocator + Copy>(alloc: Global, heap: A) -> End {
+    let Some(seed) = fixed_seed() else {
+        return End::Otherwise;
+    };
+    let asked = AskedClosing {
+        report: Covered {
+            layers: &[],
+            width: None,
+            area: Some(1000),
+            most: 1000,
+        },
+        closing: Closing {
+            overlaps: true,
+            gaps: true,
+            lakes: true,
+            width: None,
+            area: Some(1000),
+        },
+    };
+    let mut text = Vec::new(heap);
+    match close_map(heap, alloc, seed, LAPPED.as_bytes(), &asked, &mut text) {
+        Ok(_) if text.as_slice().ends_with(CLOSED.as_bytes()) => End::Told,
+        Err(ClosingFault::Cover(CoverFault::Open(OpenFault::OutOfMemory))) => End::OutOfMemory,
+        _ => End::Otherwise,
+    }
+}
+
 /// What is called.
 #[derive(Clone, Copy)]
 enum Call {
     Look,
     Mend,
     Cover,
+    Close,
 }
 
 /// How a call ends where the allocation of this number is refused, and whether there was one.
@@ -109,6 +142,7 @@ fn ended(alloc: Global, nth: u64, call: Call) -> (End, bool) {
         Call::Look => look(alloc, &refusing),
         Call::Mend => mend(alloc, &refusing),
         Call::Cover => cover(alloc, &refusing),
+        Call::Close => close(alloc, &refusing),
     };
     (end, refusing.was_refused())
 }
@@ -139,4 +173,9 @@ fn each_growth_of_mending_is_refused_in_turn(rt: HostRuntime) {
 #[test]
 fn each_growth_of_covering_is_refused_in_turn(rt: HostRuntime) {
     assert!(rt; count_growths(rt.alloc(), Call::Cover).is_some_and(|count| count > 30));
+}
+
+#[test]
+fn each_growth_of_closing_is_refused_in_turn(rt: HostRuntime) {
+    assert!(rt; count_growths(rt.alloc(), Call::Close).is_some_and(|count| count > 30));
 }
