@@ -57,15 +57,14 @@ impl Arguments {
             → view_asked result.report ≡ wants_of self.now }
         ensures closing { result.closing ≡ closes self.now kinds }
     {
-        AskedClosing {
-            report: self.asked(names),
-            closing: Closing {
-                overlaps: kinds.overlaps,
-                gaps: kinds.gaps,
-                lakes: kinds.lakes,
-                width: self.width,
-                area: self.area,
-            },
-        }
+        let report = self.asked(names);
+        let closing = Closing {
+            overlaps: kinds.overlaps,
+            gaps: kinds.gaps,
+            lakes: kinds.lakes,
+            width: report.width,
+            area: report.area,
+        };
+        AskedClosing { report, closing }
     }
 }
