@@ -44,11 +44,13 @@ pub(crate) fn parts_changes<A: Allocator + Copy>(
     before: &[Feature<A>],
     after: &[Feature<A>],
 ) -> Result<Vec<PartsChange, A>, AllocError>
+    requires same { length after.now ≡ length before.now }
     ensures { IfOk result (λ changes. changes.items
         ≡ spec.parts_from 0 (map feature_positions before.now) (map feature_positions after.now)) }
 {
     let mut changes = Vec::new(alloc);
-    for (feature, (old, new)) in before.iter().zip(after).enumerate() {
+    for (feature, old) in before.iter().enumerate() {
+        let new = &after[feature];
         if old.len() != new.len() {
             changes.push(PartsChange {
                 feature,
@@ -66,13 +68,15 @@ pub(crate) fn area_changes<A: Allocator + Copy>(
     before: &[Feature<A>],
     after: &[Feature<A>],
 ) -> Result<Vec<AreaChange, A>, AllocError>
+    requires same { length after.now ≡ length before.now }
     requires few { sum_by (sum_by (sum_by length)) (map feature_positions before.now) ≤ 4000000 }
     requires few_after { sum_by (sum_by (sum_by length)) (map feature_positions after.now) ≤ 4000000 }
     ensures { IfOk result (λ changes. changes.items
         ≡ spec.areas_from 0 (map feature_positions before.now) (map feature_positions after.now)) }
 {
     let mut changes = Vec::new(alloc);
-    for (feature, (old, new)) in before.iter().zip(after).enumerate() {
+    for (feature, old) in before.iter().enumerate() {
+        let new = &after[feature];
         if old != new {
             changes.push(AreaChange {
                 feature,

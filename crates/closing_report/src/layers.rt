@@ -61,13 +61,14 @@ fn told_decisions<A: Allocator + Copy>(
     look: &Look<A>,
     decisions: &[Decision],
 ) -> Result<Vec<Decision, A>, AllocError>
+    requires same { length decisions.now ≡ length look.now.faces.items }
     ensures { IfOk result (λ told.
         told.items ≡ told_decisions (zip (faces_in look.now) decisions.now)) }
 {
     let mut told = Vec::new(alloc);
-    for (face, decision) in look.faces.iter().zip(decisions) {
+    for (place, face) in look.faces.iter().enumerate() {
         if is_found(face.kind) {
-            told.push(*decision)?;
+            told.push(decisions[place])?;
         }
     }
     Ok(told)

@@ -1,7 +1,7 @@
 // The lines that tell what was closed.
 ghost use Rattle.cover_report.specs.Faces.{view_told};
 ghost use Rattle.closing_report.specs.Report.{area_line, closed_counts_line, closed_line, left_line, now_line, parts_line};
-ghost use Rattle.std.specs.Prelude.{◌≡◌, ◌++◌, flat_map, map, OnOk};
+ghost use Rattle.std.specs.Prelude.{◌≡◌, ◌++◌, flat_map, length, map, OnOk};
 ghost use Rattle.std.specs.List.{zip};
 
 use crate::changes::{AreaChange, PartsChange};
@@ -83,11 +83,12 @@ pub(crate) fn push_all_now<A: Allocator, B: Allocator + Copy>(
     looks: &[Looked<'_, B>],
     decided: &[DecidedLayer<B>],
 ) -> Result<(), AllocError>
+    requires even { length looks.now ≡ length decided.now }
     ensures { OnOk result (text.new.items ≡ text.old.items ++ flat_map now_line
         (zip (map (λ l. l.name.now) looks.now) (map (λ d. d.now) decided.now))) }
 {
-    for (looked, decided) in looks.iter().zip(decided) {
-        push_now(text, looked, decided)?;
+    for (place, looked) in looks.iter().enumerate() {
+        push_now(text, looked, &decided[place])?;
     }
     Ok(())
 }

@@ -39,11 +39,13 @@ fn push_decided<'l, A: Allocator + Copy>(
     ensures { OnOk result (map decision_seen found.new.items ≡ map decision_seen found.old.items
         ++ zip (map view_told looked.now.faces.items) decided.now.decisions.items) }
 {
-    for (face, decision) in looked.faces.iter().zip(decided.decisions.as_slice()) {
-        found.push(FaceDecision {
-            face,
-            decision: *decision,
-        })?;
+    for (place, face) in looked.faces.iter().enumerate() {
+        if let Some(decision) = decided.decisions.get(place) {
+            found.push(FaceDecision {
+                face,
+                decision: *decision,
+            })?;
+        }
     }
     Ok(())
 }
@@ -54,12 +56,13 @@ fn all_decided<'l, A: Allocator + Copy>(
     looks: &'l [Looked<'_, A>],
     decided: &[DecidedLayer<A>],
 ) -> Result<Vec<FaceDecision<'l, A>, A>, AllocError>
+    requires even { length looks.now ≡ length decided.now }
     ensures { IfOk result (λ found. map decision_seen found.items
         ≡ flat_map (λ k. k.decided) (layers_seen looks.now decided.now)) }
 {
     let mut found = Vec::new(alloc);
-    for (looked, decided) in looks.iter().zip(decided) {
-        push_decided(&mut found, looked, decided)?;
+    for (place, looked) in looks.iter().enumerate() {
+        push_decided(&mut found, looked, &decided[place])?;
     }
     Ok(found)
 }
@@ -145,6 +148,7 @@ pub(crate) fn push_report<A: Allocator + Copy>(
     requires few_after { sum_by (sum_by (sum_by length))
         (map feature_positions closings.now.features.items) ≤ 4000000 }
     requires even { length closings.now.looks.items ≡ length closings.now.decided.items }
+    requires same { length closings.now.features.items ≡ length before.now }
     ensures lines { OnOk result (text.new.items ≡ text.old.items ++ closed_report (view_asked asked.now)
         (map (λ k. k.found) (closings_seen closings.now)) (flat_map (λ k. k.decided) (closings_seen closings.now))
         (map feature_positions before.now) (map feature_positions closings.now.features.items)
