@@ -76,9 +76,11 @@ export class Covering {
   }
 
   /**
-   * Asks border_cover, in place of what it was asked before.
+   * Asks border_cover, in place of what it was asked before. Answers what the steps do; nothing after a fault.
+   * @template T
    * @param {string} text what is said meanwhile
-   * @param {(isNewest: () => boolean) => Promise<any>} steps
+   * @param {(isNewest: () => boolean) => Promise<T>} steps
+   * @returns {Promise<T | undefined>}
    */
   async ask(text, steps) {
     const newest = ++this.newest, isNewest = () => newest === this.newest;
@@ -87,7 +89,7 @@ export class Covering {
     this.follow();
     this.tell(text);
     try {
-      await steps(isNewest);
+      return await steps(isNewest);
     } catch (fault) {
       if (isNewest()) this.fail(fault);
     } finally {
@@ -166,22 +168,22 @@ export class Covering {
   // ---- closing
 
   /** Shows what closing would change; then it is one act. What is left is listed after it. */
-  close() {
-    return this.ask(TEXT.closing, async isNewest => {
+  async close() {
+    const isClosed = await this.ask(TEXT.closing, async isNewest => {
       const { editor } = this, { talk } = editor, begun = await this.begin(isNewest, this.width, width => talk.close(width));
       /** @type {import("./talk.js").Closed & {fault: string}} */
       const report = begun && (await talk.looked(begun.look));
       if (report?.fault) throw new NotLooked(TEXT.notClosed(coverFaultText(report.fault)));
-      if (!begun || !report || !isNewest()) return;
+      if (!begun || !report || !isNewest()) return false;
       if (!report.counts.closed) throw new NotLooked(TEXT.closesNothing);
       this.tell("");
-      if (!(await agreed(TEXT.closes(report.counts.closed), this.changes(begun.shot, report), TEXT.closeNow))) return;
-      const isClosed = await editor.perform(async send => {
+      if (!(await agreed(TEXT.closes(report.counts.closed), this.changes(begun.shot, report), TEXT.closeNow))) return false;
+      return editor.perform(async send => {
         if (editor.log.length !== begun.entries) throw new Stopped(TEXT.closeOld);
         await send(closingLine(begun.width));
       });
-      if (isClosed) setTimeout(() => this.look());
     });
+    if (isClosed) await this.look();
   }
 
   /**

@@ -393,7 +393,7 @@ export const HELP = [
     ["Thin the borders", "Thin, then the slider", "T, then arrows on the slider"],
     ["Measure", "Measure, then click along the way", "D, then Enter at each point"],
     ["Look for overlaps and gaps", "Overlaps and gaps, at the right, then Look", "O, Enter"],
-    ["Close those that are at most so wide", "Look with a width, then Close", "O, Shift+Tab, Enter; Tab, Enter"],
+    ["Close those that are at most so wide", "Look with a width, then Close", "Tab from Look to Close, Enter"],
     ["Undo, redo", "Undo, Redo", "Ctrl+Z, Ctrl+Y"],
     ["Save", "Save", "Ctrl+S"],
     ["Stop what is under way", "", "Esc"],
