@@ -1,0 +1,3 @@
+pub mod Closings
+pub mod Adding
+pub mod Telling
