@@ -236,7 +236,8 @@ impl<'a, A: Allocator + Copy> Closings<'a, A> {
     {
         let count = leaf_count(layer.items.as_slice());
         if !is_asked {
-            return Ok(self.pass(count)?);
+            self.pass(count)?;
+            return Ok(());
         }
         let first = self.features.len();
         let owned = next_polygons(alloc, &mut self.rest, first, count)?;
