@@ -23,5 +23,7 @@ pub use face::Face;
 pub use fault::FaceFault;
 pub use kind::Kind;
 pub use looking::{Look, look_at};
+pub use measures::{ends_at, length_of};
+pub use rings::polygon_area;
 pub use sums::Sums;
 pub use uneven::Uneven;

@@ -83,6 +83,8 @@ pub fn look_at<A: Allocator + Copy>(
 ) -> Result<Look<A>, FaceFault>
     requires proper { IsProperLayer (polygons_seen polygons.now) }
     requires owned { length owners.now ≡ length polygons.now }
+    ensures few { IfOk result
+        (λ look. sum_by (sum_by length) (polygons_seen polygons.now) ≤ 4000000) }
     ensures borders { IfOk result (λ look.
         AreBorders (polygons_seen polygons.now) (borders_seen look.borders.items)) }
     ensures faces { IfOk result (λ look. AreFaces (polygons_seen polygons.now) owners.now

@@ -30,7 +30,7 @@ fn upwards(segment: Seg) -> (Pos, Pos)
 
 /// The ends of the segment of a side, so that the side is on the left of the way from the first to the
 /// second. Side 2i is the left one of border i, and 2i + 1 its right one.
-pub(crate) fn ends_at<A: Allocator + Copy>(borders: &[Border<A>], side: u32) -> (Pos, Pos)
+pub fn ends_at<A: Allocator + Copy>(borders: &[Border<A>], side: u32) -> (Pos, Pos)
     requires { side < 2 * length borders.now }
     ensures { areas.side_ends (side_at (segments_seen borders.now) side) ≡ result }
 {
@@ -70,7 +70,7 @@ fn square(y: i64, z: i64) -> u128
 }
 
 /// The length of a segment in 65,536ths of a unit, rounded down.
-fn length_of(segment: Seg) -> u128
+pub fn length_of(segment: Seg) -> u128
     ensures value { result ≡ lengths.length_of segment }
     ensures bound { result < 2 ^ 64 }
 {

@@ -16,7 +16,7 @@ fn ring_area(ring: &[Pos]) -> i128
 }
 
 /// Twice the area of a polygon: of its outer ring less those of its holes (RFC 7946, 3.1.6).
-pub(crate) fn polygon_area<A: Allocator + Copy>(polygon: &[Vec<Pos, A>]) -> i128
+pub fn polygon_area<A: Allocator + Copy>(polygon: &[Vec<Pos, A>]) -> i128
     requires { sum_by length (rings_seen polygon.now) ≤ 4000000 }
     ensures value { result ≡ machine.polygon_area (rings_seen polygon.now) }
     ensures bound { unsigned_abs result

@@ -1,0 +1,8 @@
+mod Examples
+pub mod Making
+pub mod Placing
+pub mod Pairing
+pub mod Settling
+pub mod Keeping
+pub mod Hands
+pub mod Lands

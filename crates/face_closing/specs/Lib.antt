@@ -1,0 +1,11 @@
+pub mod Decided
+pub mod Made
+pub mod Held
+pub mod Hands
+pub mod Waiting
+pub mod Remaining
+pub mod Areas
+pub mod Kept
+pub mod Layer
+pub mod Seen
+pub mod Common

@@ -1,0 +1,59 @@
+// Whether no face remains that was to be closed, but those that are left.
+ghost use Rattle.std.specs.Prelude.{IsTrue, OnOk};
+ghost use Rattle.layer_faces.specs.Common.{face_seen};
+ghost use Rattle.face_closing.specs.Layer.{borders_in, faces_in};
+ghost use Rattle.face_closing.specs.Remaining.{IsLeft, MayRemain, OnlyLeftRemain};
+ghost use Rattle.face_closing.specs.Seen.{decided_seen};
+
+use crate::fault::CloseFault;
+use crate::holding::{Decided, unclosed_at};
+use closing_search::{Closing, Decision};
+use layer_faces::{Face, Kind, Look};
+use std::alloc::Allocator;
+
+/// Whether what remains is part of a face that is left, or a lake that was a gap and not asked for.
+fn may_remain<A: Allocator + Copy>(face: &Face<A>, before: &Face<A>, decision: &Decision) -> bool
+    ensures { IsTrue result → MayRemain face.now.kind before.now.kind decision.now }
+{
+    match decision {
+        Decision::Waits => true,
+        Decision::Given(_) => false,
+        Decision::Stays => matches!((face.kind, before.kind), (Kind::Lake, Kind::Gap)),
+    }
+}
+
+/// Whether a face after closing has a side of one that may remain.
+fn is_left<A: Allocator + Copy>(
+    decided: &Decided<'_, '_, A>,
+    after: &Look<A>,
+    face: &Face<A>,
+) -> bool
+    ensures { IsTrue result → IsLeft (decided_seen decided.now) (face_seen (borders_in after.now) face.now) }
+{
+    let sides = face.sides.as_slice();
+    for side in sides {
+        if let Some((before, decision)) = decided.face_before(after, *side)
+            && may_remain(face, before, decision)
+        {
+            return true;
+        }
+    }
+    false
+}
+
+/// Tests that each face after closing that is asked for has a side of one that is left, or is a lake that was a gap.
+pub(crate) fn test_remaining<A: Allocator + Copy>(
+    decided: &Decided<'_, '_, A>,
+    asked: &Closing,
+    after: &Look<A>,
+) -> Result<(), CloseFault>
+    ensures { OnOk result (OnlyLeftRemain asked.now (decided_seen decided.now) (faces_in after.now)) }
+{
+    let faces = after.faces.as_slice();
+    for face in faces {
+        if asked.has(face) && !is_left(decided, after, face) {
+            return Err(unclosed_at(after, face.first));
+        }
+    }
+    Ok(())
+}
