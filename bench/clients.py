@@ -1,10 +1,11 @@
 #!/usr/bin/env python3
 """Has topojson-client, the library that makers of web maps read TopoJSON with, read what the built programs write.
 
-For each map border_mend writes its places and the map that it is mended to, and border_edit saves the mended map. Each
-layer of each of these files is turned into GeoJSON twice: by `feature` of topojson-client, which node runs, and here,
-by the rules of TopoJSON 1.0 (2.1.2 to 2.1.4, 2.2). Both have to be the same: ids, properties, kinds of geometry, and
-every coordinate to the last bit. Where border_mend refuses a map, that is told and no fault.
+For each map border_mend writes its places and the map that it is mended to, border_edit saves the mended map, and
+border_cover writes where its overlaps and gaps are. Each layer of each of these files is turned into GeoJSON twice: by
+`feature` of topojson-client, which node runs, and here, by the rules of TopoJSON 1.0 (2.1.2 to 2.1.4, 2.2). Both have
+to be the same: ids, properties, kinds of geometry, and every coordinate to the last bit. Where border_mend refuses a
+map, that is told and no fault.
 
 topojson-client stands in Debian's package node-topojson-client, and any copy of it will do (--client). A line at the end
 counts files, layers, features and faults.
@@ -19,6 +20,7 @@ import tempfile
 TOP = pathlib.Path(__file__).resolve().parent.parent
 MEND = TOP / "crates/border_mend/out/border_mend"
 EDIT = TOP / "crates/border_edit/out/border_edit"
+COVER = TOP / "crates/border_cover/out/border_cover"
 CLIENT = "/usr/share/nodejs/topojson-client"
 LAYERS = """
 const client = require(process.argv[1]);
@@ -116,8 +118,8 @@ def run(words):
 
 
 def check(tally, client, path, folder):
-    """Has a map mended, its places written and the mended map saved, and all three read."""
-    places, mended, saved = (folder / name for name in ("places.json", "mended.json", "saved.json"))
+    """Has a map mended, its places written, the mended map saved, and its overlaps and gaps written, and all four read."""
+    places, mended, saved, faces = (folder / name for name in ("places.json", "mended.json", "saved.json", "faces.json"))
     done = run([MEND, path, "--places", places, "--out", mended])
     if done.returncode:
         print(f"{path}: {done.stderr.strip()}")
@@ -128,7 +130,11 @@ def check(tally, client, path, folder):
     if done.returncode:
         tally.fault(path, f"border_edit: {done.stderr.strip()}")
         return
-    for written in (places, mended, saved):
+    done = run([COVER, mended, "--most", "0", "--places", faces])
+    if done.returncode > 1:
+        tally.fault(path, f"border_cover: {done.stderr.strip()}")
+        return
+    for written in (places, mended, saved, faces):
         tally.compare(client, written)
 
 

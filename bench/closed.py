@@ -217,7 +217,7 @@ def unclosed(closing):
 def told_otherwise(mistake):
     """A mistake in the report, as bench/covered.py makes it."""
     def otherwise(draw, ended):
-        told = mistake(draw, covered.Told(ended.status, ended.lines, ended.said))
+        told = mistake(draw, covered.Told(ended.status, ended.lines, ended.said, None))
         return ended._replace(status=told.status, lines=told.lines, said=told.said)
     otherwise.__name__ = mistake.__name__
     return otherwise
@@ -225,7 +225,7 @@ def told_otherwise(mistake):
 
 MISTAKES = [moved, moved_alone, left_out, put_in, turned, given_away, filled, parted, doubled, emptied, exchanged, without_head,
             with_member, spaced_out]
-TELLING = [told_otherwise(mistake) for mistake in covered.MISTAKES]
+TELLING = [told_otherwise(mistake) for mistake in covered.IN_REPORTS]
 
 
 # ---- runs worked out by hand

@@ -1,9 +1,10 @@
-"""The ends of border_cover: with which status it ends, what it prints, and what its arguments are read as.
+"""The ends of border_cover: with which status it ends, what it prints, what it writes, and what its arguments are read as.
 
 Most runs are lines of bench/cover_runs.txt, whose head says what a line means. What a run does not name has to stand as it
 stood before.
 """
 import argparse
+import collections
 import pathlib
 import re
 
@@ -28,20 +29,27 @@ def sorted_lines():
     return texts, [line for line in lines if " => " in line]
 
 
-def parts_of(line):
-    """The arguments of a line of the page, the status, the lines of the report, and the line on standard error."""
-    words, status, *rest = line.split(" => ")
-    report, said = (rest + ["", ""])[:2]
-    return words.split(" ") if words else [], status, report.split(";")[:-1], said
+# A run of the page: the arguments, the status, the texts by the files that then hold them, the lines of the report, the line on
+# standard error, and how the run fails.
+Run = collections.namedtuple("Run", "words status held report said fails")
+
+
+def run_of(line):
+    """The run of a line of the page."""
+    words, end, *rest = line.split(" => ")
+    report, said, fails = (rest + ["", "", ""])[:3]
+    status, *held = end.split(" ")
+    return Run(words.split(" ") if words else [], status, dict(pair.split("=") for pair in held), report.split(";")[:-1], said, fails)
 
 
 def row_of(line, texts):
     """The row of a line of the page."""
-    words, status, report, said = parts_of(line)
-    told = [] if status == WRONG else said + "\n" if said else ""
+    run = run_of(line)
+    told = [] if run.status == WRONG else run.said + "\n" if run.said else ""
     before = {name: Text(text) for name, text in texts.items()}
-    output = ["".join(one + "\n" for one in report), ""]
-    return Row(f"border_cover {line}", COVER, words, int(status), told, before, output=output)
+    after = {path: Text(texts[name]) for path, name in run.held.items()}
+    output = None if run.fails else ["".join(one + "\n" for one in run.report), ""]
+    return Row(f"border_cover {line}", COVER, run.words, int(run.status), told, before, after, output=output, fails=run.fails)
 
 
 def asked_by(words):
@@ -51,18 +59,20 @@ def asked_by(words):
     parser.add_argument("--layer", dest="names", action="append", default=[])
     for name, usual in ("width", None), ("area", None), ("most", 1000):
         parser.add_argument(f"--{name}", type=int, default=usual)
+    parser.add_argument("--places")
     given = vars(parser.parse_args(words))
+    del given["places"]
     return given.pop("map"), Asked(**given)
 
 
 def worked_runs():
-    """The runs with a report: a name, the text of the map, what is asked, the lines and the status."""
+    """The runs with a report: a name, the text of the map, what is asked, the lines and the status, and the places or None."""
     texts, runs = sorted_lines()
-    for line in runs:
-        words, status, report, _ = parts_of(line)
-        if report:
-            name, asked = asked_by(words)
-            yield f"border_cover {' '.join(words)}", texts[name], asked, report, int(status)
+    for run in map(run_of, runs):
+        if run.report and int(run.status) < 2:
+            name, asked = asked_by(run.words)
+            places = [texts[held] for held in run.held.values()]
+            yield f"border_cover {' '.join(run.words)}", texts[name], asked, run.report, int(run.status), *(places or [None])
 
 
 # ---- maps that are closed

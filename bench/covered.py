@@ -1,21 +1,24 @@
 #!/usr/bin/env python3
-"""Compares the reports of the built border_cover with those that bench/covering.py works out, line by line.
+"""Compares the reports and the places of the built border_cover with those that bench/covering.py works out.
 
 The maps are those of bench/cover_runs.txt; those that are named, or real ones of this repository, each mended as it is,
 simplified to a tenth, and digitised apart, with borders of each feature's own; and drawn ones, mended. Each is looked at with
 several arguments: none, a bound of the width, one of the area, both, few lines, and some of its layers. Of each run
 
     standard output is the report, line by line, and standard error has nothing,
+    the file of the places has the topology, byte for byte, of all faces within the bounds,
     the status is 1 where an overlap, a gap or an uneven polygon is told, and 0 else.
 
-Before that the check itself is tried: each report of bench/cover_runs.txt, which was worked out by hand, has to be that of
-bench/covering.py, and with a mistake in it has to be refused.
+Before that the check itself is tried: each report of bench/cover_runs.txt, and each list of places there, which were worked
+out by hand, have to be those of bench/covering.py, and with a mistake in them have to be refused.
 
 There is a line for each map with a name, one for each drawn map with a fault, and one that counts. The status is 0 where
 nothing is wrong. A drawn map with a fault is left in bench/out.
 """
 import argparse
 import collections
+import json
+import os
 import pathlib
 import random
 import subprocess
@@ -26,8 +29,8 @@ import cover_ends
 import loose_maps
 import running
 from apart import apart
-from covering import Asked, Cover, Found
-from topology import Unreadable
+from covering import Asked, Cover, Found, compact
+from topology import Unreadable, read
 
 TOP = pathlib.Path(__file__).resolve().parent.parent
 FOLDERS = TOP / "examples", TOP / "crates/stored_runs/data"
@@ -37,14 +40,14 @@ LIMIT = 600
 TRIES = 5
 
 # A run as it ended.
-Told = collections.namedtuple("Told", "status lines said")
+Told = collections.namedtuple("Told", "status lines said places")
 
 
 # ---- the check
 
 def fault_of(wanted, told):
-    """What is wrong with a run, of which these lines and this status are wanted; None where nothing is."""
-    lines, status = wanted
+    """What is wrong with a run, of which these lines, status and places are wanted; None where nothing is."""
+    lines, status, places = wanted
     if told.said:
         return f"says {told.said[:200]!r}"
     if told.status != status:
@@ -54,7 +57,15 @@ def fault_of(wanted, told):
             return f"line {number} is {line!r}, and not {own!r}"
     if len(told.lines) != len(lines):
         return f"{len(told.lines)} lines, and not {len(lines)}"
+    if told.places != places:
+        at = max(0, len(os.path.commonprefix([told.places or "", places])) - 30)
+        return f"the places have {(told.places or '')[at:at + 80]!r}, and not {places[at:at + 80]!r}"
     return None
+
+
+def wanted_of(cover, asked):
+    """The lines, the status and the places that a run has to end with."""
+    return *cover.report(asked), cover.places(asked)
 
 
 def lost(draw, told):
@@ -118,14 +129,96 @@ def said_too(_, told):
     return told._replace(said="out of memory\n")
 
 
-MISTAKES = [lost, doubled, swapped, renumbered, reworded, turned, ended_otherwise, said_too]
+# ---- mistakes in the places
+
+def placed(change):
+    """A mistake that changes the topology of the places."""
+
+    def mistake(draw, told):
+        topology = json.loads(told.places)
+        change(draw, topology)
+        return told._replace(places=compact(topology))
+
+    mistake.__name__ = change.__name__
+    return mistake
+
+
+def chosen(draw, topology):
+    """One of the geometries, or an empty one where there is none."""
+    layers = [layer["geometries"] for layer in topology["objects"].values() if layer["geometries"]]
+    return draw.choice(draw.choice(layers)) if layers else {"properties": {}}
+
+
+def face_lost(draw, topology):
+    for layer in topology["objects"].values():
+        del layer["geometries"][-1:]
+
+
+def border_lost(draw, topology):
+    del topology["objects"]["borders"]["geometries"][-1:]
+
+
+def side_lost(draw, topology):
+    chosen(draw, topology).get("arcs", [])[-1:] = []
+
+
+def told_of_another(draw, topology):
+    properties = chosen(draw, topology)["properties"]
+    for name in {*properties} & {draw.choice(["number", "area", "width"])}:
+        properties[name] += 1
+
+
+def kind_of_another(draw, topology):
+    properties = chosen(draw, topology)["properties"]
+    for name in {*properties} & {"kind"}:
+        properties[name] = draw.choice(["overlap", "twice", "gap", "lake"])
+
+
+def feature_lost(draw, topology):
+    chosen(draw, topology)["properties"].get("features", [])[-1:] = []
+
+
+def point_moved(draw, topology):
+    for point in topology["objects"]["places"]["geometries"][:1]:
+        point["coordinates"][draw.randrange(2)] += draw.choice([-1, 1])
+
+
+def arc_turned(draw, topology):
+    if topology["arcs"]:
+        draw.choice(topology["arcs"]).reverse()
+
+
+def arc_lost(draw, topology):
+    del topology["arcs"][-1:]
+
+
+def arcs_of_others(draw, topology):
+    topology["arcs"].sort(key=lambda _: draw.random())
+
+
+def under_another(draw, topology):
+    if "transform" in topology:
+        topology["transform"]["translate"][0] += 1
+    else:
+        topology["transform"] = {"scale": [1, 1], "translate": [0, 0]}
+
+
+def not_written(_, told):
+    return told._replace(places=None)
+
+
+IN_PLACES = [face_lost, border_lost, side_lost, told_of_another, kind_of_another, feature_lost, point_moved, arc_turned,
+             arc_lost, arcs_of_others, under_another]
+IN_REPORTS = [lost, doubled, swapped, renumbered, reworded, turned, ended_otherwise, said_too]
+MISTAKES = [*IN_REPORTS, not_written, *map(placed, IN_PLACES)]
 
 
 def trial_of_check(seed):
     """What is wrong with the check: a report by hand that it refuses, a mistake that it takes or that was not made."""
     draw, faults, made = random.Random(seed), [], collections.Counter()
-    for name, text, asked, lines, status in cover_ends.worked_runs():
-        wanted, told = Cover(text).report(asked), Told(status, lines, "")
+    for name, text, asked, lines, status, places in cover_ends.worked_runs():
+        wanted = wanted_of(Cover(text), asked)
+        told = Told(status, lines, "", places or wanted[-1])
         fault = fault_of(wanted, told)
         faults += [f"{name}: {fault}"] * bool(fault)
         for mistake in MISTAKES * TRIES:
@@ -170,16 +263,18 @@ class Programs:
 
     def told(self, asked):
         """What is told of the map that was mended last."""
-        words = [self.looker, self.folder / "mended.json", *asked.words()]
+        places = self.folder / "places.json"
+        places.unlink(missing_ok=True)
+        words = [self.looker, self.folder / "mended.json", *asked.words(), "--places", places]
         done = subprocess.run(words, capture_output=True, timeout=LIMIT, check=False)
         output = done.stdout.decode()
         lines = output.removesuffix("\n").split("\n") if output else []
-        return Told(done.returncode, lines, done.stderr.decode())
+        return Told(done.returncode, lines, done.stderr.decode(), places.read_text(encoding="utf-8") if places.exists() else None)
 
 
 def asked_of(draw, cover):
     """What is asked of a map: nothing, and bounds near to what was found in it, few lines, and some of its layers."""
-    found = [it for _, _, found in cover.layers for it in found] or [Found("gap", [0], 10, 1 << 20, (0, 0, 0, 0))]
+    found = [it for _, _, found in cover.layers for it in found] or [Found("gap", [0], 10, 1 << 20, (0, 0, 0, 0), [])]
     one, other = draw.choice(found), draw.choice(found)
     width = 65536 * one.area // one.length
     yield Asked()
@@ -197,7 +292,7 @@ def looked(programs, draw, text):
     cover = Cover(programs.mended(text))
     first = None
     for asked in asked_of(draw, cover):
-        wanted = cover.report(asked)
+        wanted = wanted_of(cover, asked)
         first = first or wanted[0][-1]
         fault = fault_of(wanted, programs.told(asked))
         if fault:

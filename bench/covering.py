@@ -7,7 +7,8 @@ Faces are found by going around them, at each vertex along the next border clock
 is the inside of a face that lies around it, which a way to the right finds. Nothing here is shared with the program:
 it goes neither around a face nor from a middle.
 
-`python3 bench/covering.py MAP [--layer NAME].. [--width W] [--area N] [--most N]` prints the report.
+`python3 bench/covering.py MAP [--layer NAME].. [--width W] [--area N] [--most N] [--places FILE]` prints the report, and
+writes the places.
 """
 import argparse
 import collections
@@ -18,15 +19,15 @@ import json
 import math
 import pathlib
 
-from topology import Collection, Feature, edges, read, segment
+from topology import Collection, Feature, differences, edges, read, segment
 
 KINDS = "overlap", "twice", "gap", "lake"
 USUAL = 1000
 # Lengths are counted in 65,536ths of a unit.
 PARTS = 1 << 16
 
-# A face that is told: what kind it is, the number of its layer, its features, twice its area, its length, and its name.
-Found = collections.namedtuple("Found", "kind features area length name")
+# A face that is told: what kind it is, its features, twice its area, its length, its name, and its sides.
+Found = collections.namedtuple("Found", "kind features area length name sides")
 
 
 def orient(a, b, c):
@@ -163,7 +164,7 @@ class Layer:
         return [self.told(face) for face in sorted(self.faces, key=self.least)]
 
     def least(self, face):
-        return min((segment(a, b), (a, b) != upward(segment(a, b))) for a, b in face)
+        return min(map(in_order, face))
 
     def told(self, face):
         """The face, or None where one polygon holds it."""
@@ -175,10 +176,9 @@ class Layer:
             return None
         features = self.features(holders or set().union(*(self.held[b, a] for a, b in face)))
         kind = KINDS[(0 if holders else 2) + (len(features) < 2)]
-        s, is_right = self.least(face)
-        name = upward(s)[::-1] if is_right else upward(s)
+        sides = sorted(face, key=in_order)
         area = sum(term(a, b) for a, b in face)
-        return Found(kind, features, area, sum(map(length_of, face)), (*name[0], *name[1]))
+        return Found(kind, features, area, sum(map(length_of, face)), (*sides[0][0], *sides[0][1]), sides)
 
     def uneven(self):
         """The polygons whose area by their rings is not that by the even-odd rule: feature, polygon, one area, the other."""
@@ -204,6 +204,12 @@ class Layer:
 def upward(s):
     """A segment directed upwards, a horizontal one to the left: so its left side is the one on its left, and the lower."""
     return s if (s[0][1], -s[0][0]) < (s[1][1], -s[1][0]) else s[::-1]
+
+
+def in_order(side):
+    """What sides stand in the order of: by their segments, and of two of one segment its left side first."""
+    s = segment(*side)
+    return s, side != upward(s)
 
 
 def half(d):
@@ -266,14 +272,35 @@ class Cover:
     """A map that opens, with what is found in its layers."""
 
     def __init__(self, text):
+        self.transform = read(text).transform
         self.layers = [(json.loads(layer.name), layer, [it for it in layer.found() if it]) for layer in layers_of(text)]
+
+    def looked(self, asked):
+        """The layers that are asked for, and all that is found in them."""
+        looked = [(layer, found) for name, layer, found in self.layers if not asked.names or name in asked.names]
+        return looked, [it for _, found in looked for it in found]
+
+    def places(self, asked):
+        """The text of the places: a point for each face within the bounds, and a line for each of its sides."""
+        _, found = self.looked(asked)
+        layers, arcs = {"places": [], "borders": []}, []
+        for kind in KINDS:
+            told = [it for it in found if it.kind == kind and asked.has(it)]
+            for number, it in enumerate(told):
+                properties = {"kind": kind, "number": number, "features": it.features, "area": it.area, "width": width_of(it)}
+                layers["places"].append({"type": "Point", "properties": properties, "coordinates": it.name[:2]})
+                lines = [[len(arcs) + n] for n in range(len(it.sides))]
+                layers["borders"].append({"type": "MultiLineString", "properties": properties, "arcs": lines})
+                arcs += [differences(side) if self.transform else side for side in it.sides]
+        objects = {name: {"type": "GeometryCollection", "geometries": them} for name, them in layers.items()}
+        transform = f',"transform":{self.transform}' if self.transform else ""
+        return f'{{"type":"Topology"{transform},"objects":{compact(objects)},"arcs":{compact(arcs)}}}'
 
     def report(self, asked):
         """The lines of the report, and the status; no lines where a layer has not that name."""
         if not {name for name, _, _ in self.layers}.issuperset(asked.names):
             return [], 2
-        looked = [(layer, found) for name, layer, found in self.layers if not asked.names or name in asked.names]
-        found = [it for _, found in looked for it in found]
+        looked, found = self.looked(asked)
         lines, counts = [], {}
         for kind in KINDS:
             told = [it for it in found if it.kind == kind and asked.has(it)]
@@ -286,6 +313,10 @@ class Cover:
         lines += ["sum {} over {} covered {} gaps {} within {} ".format(*layer.sums()) + layer.name for layer, _ in looked]
         lines.append("counts " + " ".join(f"{kind} {count}" for kind, count in counts.items()))
         return lines, 1 if any(count for kind, count in counts.items() if kind != "lake") else 0
+
+
+def compact(value):
+    return json.dumps(value, separators=(",", ":"))
 
 
 def spaced(numbers):
@@ -306,9 +337,13 @@ def main():
     words.add_argument("--width", type=int, help="the greatest width of a face that is told")
     words.add_argument("--area", type=int, help="the greatest area of one, twice as large")
     words.add_argument("--most", type=int, default=USUAL, help="how many lines of one kind (%(default)s)")
+    words.add_argument("--places", type=pathlib.Path, help="the file of the places")
     given = words.parse_args()
     cover = Cover(given.map.read_text(encoding="utf-8"))
-    lines, status = cover.report(Asked(given.layer, given.width, given.area, given.most))
+    asked = Asked(given.layer, given.width, given.area, given.most)
+    lines, status = cover.report(asked)
+    if given.places and lines:
+        given.places.write_text(cover.places(asked), encoding="utf-8")
     print("\n".join(lines))
     return status
 

@@ -216,26 +216,39 @@ def drawn(program, folder, library):
     return made(words, folder / "drawn.svg", library, ["left.json: B", "conflict"])
 
 
+Covered = collections.namedtuple("Covered", "status report said places")
+
+
 def cover(program, folder, more):
-    """The status, what stands on standard output and standard error, of a map with a line of each kind."""
-    words = [program, folder / "lapped.json", "--layer", "land", "--layer", "b"]
+    """The same of border_cover, of a map with a line of each kind; and what the file of the places holds."""
+    places = folder / "faces.json"
+    places.write_text(BEFORE)
+    words = [program, folder / "lapped.json", "--layer", "land", "--layer", "b", "--places", places]
     ran = subprocess.run(words, capture_output=True, text=True, timeout=60, env={**os.environ, **more})
-    return ran.returncode, ran.stdout, ran.stderr
+    return Covered(ran.returncode, ran.stdout, ran.stderr, places.read_text())
+
+
+def covering_wants(done, whole):
+    """Whether a run of border_cover ended for want of memory as it is to end: with the whole report or none."""
+    if done.status != 3 or done.places != BEFORE:
+        return False
+    return done.said == "out of memory\n" and done.report in ("", whole.report) or (done.said, done.report) == ("save fault\n", whole.report)
 
 
 def covered(program, folder, library):
-    """The same counts of border_cover, which prints a report where there is memory for it, and else nothing."""
+    """The same counts of border_cover."""
     (folder / "lapped.json").write_text(LAPPED)
     whole = cover(program, folder, {})
-    if whole[0] != 1 or whole[2] or not whole[1].endswith("counts overlap 1 twice 1 gap 1 lake 1 uneven 1\n"):
+    is_told = whole.report.endswith("counts overlap 1 twice 1 gap 1 lake 1 uneven 1\n") and '"kind":"lake"' in whole.places
+    if whole.status != 1 or whole.said or not is_told:
         print(f"the overlaps are not told: {whole}")
         return 0, 0, 1
     wrong = wanting = 0
     for nth in range(1, MANY):
         done = cover(program, folder, {"LD_PRELOAD": str(library), "REFUSED": str(nth)})
-        if done[0] == 100:  # there are fewer growths
+        if done.status == 100:  # there are fewer growths
             break
-        if done == (3, "", "out of memory\n"):
+        if covering_wants(done, whole):
             wanting += 1
         elif done != whole:
             wrong += 1

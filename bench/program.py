@@ -258,6 +258,7 @@ def covering_advised():
     report = 'sum 400 over 0 covered 400 gaps 0 within 400 "land"\ncounts overlap 0 twice 0 gap 0 lake 0 uneven 0\n'
     for words, status, answers, said, path, advice in (
         (["squares.json"], 0, report, "", None, None),
+        (["squares.json", "--places", "."], 3, report, "save fault", ".", "write"),
         (["cut.json"], 2, "", "open: not json at 1", "cut.json", "not json"),
         (["halves.json"], 2, "", "open: not whole at 79", "halves.json", "not whole"),
         (["crossing.json"], 2, "", "open: conflict 0 0 10 10 / 0 10 10 0", "crossing.json", "conflict"),

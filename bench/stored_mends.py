@@ -7,7 +7,7 @@
     drawn.txt    drawn maps, and two on which a search for paths may end too early: their findings by the search over all
                  pairs of bench/looking.py, the places of some, and that each is mended
     covers.txt   the runs of bench/cover_runs.txt that were worked out by hand, and drawn maps that open, whose overlaps and
-                 gaps bench/covering.py tells
+                 gaps bench/covering.py tells, and where they are
     closed.txt   the runs of bench/closing_runs.txt, which were worked out by hand
     parted.txt   drawn polygons of which no two segments cross, and how their areas change: a polygon that is taken apart has
                  what an odd number of its rings surrounds
@@ -196,22 +196,21 @@ def parted_cases():
 
 # ---- overlaps and gaps
 
-def covered(name, text, asked, lines, status):
-    """The case of what is told of a map that opens."""
+def covered(name, text, asked, lines, status, places):
+    """The case of what is told of a map that opens, and where it is."""
     bounds = [(word, str(value)) for word, value in (("width", asked.width), ("area", asked.area)) if value is not None]
     given = [("map", text), *(("layer", layer) for layer in asked.names), *bounds, ("most", str(asked.most))]
-    return case(name, *given, ("status", str(status)), ("report", lines))
+    return case(name, *given, ("status", str(status)), ("report", lines), ("places", places))
 
 
 def refused_covers():
     """The cases of maps that do not open, or have not the layers that are asked for."""
     texts, runs = cover_ends.sorted_lines()
-    for line in runs:
-        words, status, _, said = cover_ends.parts_of(line)
-        if status == "2" and "--close" not in words:
-            name, asked = cover_ends.asked_by(words)
+    for run in map(cover_ends.run_of, runs):
+        if run.status == "2" and "--close" not in run.words:
+            name, asked = cover_ends.asked_by(run.words)
             layers = [("layer", layer) for layer in asked.names]
-            yield case(f"border_cover {' '.join(words)}", ("map", texts[name]), *layers, ("fault", said))
+            yield case(f"border_cover {' '.join(run.words)}", ("map", texts[name]), *layers, ("fault", run.said))
 
 
 def open_map(draw):
@@ -231,15 +230,15 @@ def open_map(draw):
 
 
 def cover_cases():
-    for name, text, asked, lines, status in cover_ends.worked_runs():
-        yield covered(name, text, asked, lines, status)
+    for name, text, asked, lines, status, places in cover_ends.worked_runs():
+        yield covered(name, text, asked, lines, status, places or covering.Cover(text).places(asked))
     yield from refused_covers()
     for number in range(COVERS):
         draw = random.Random(f"cover {number}")
         text = open_map(draw)
         asked = covering.Asked(width=draw.choice([None, None, 2, 10**9]), most=draw.choice([1000, 3]))
-        lines, status = covering.Cover(text).report(asked)
-        yield covered(f"overlaps and gaps {number}", text, asked, lines, status)
+        cover = covering.Cover(text)
+        yield covered(f"overlaps and gaps {number}", text, asked, *cover.report(asked), cover.places(asked))
 
 
 def closed_cases():

@@ -10,9 +10,11 @@ use Rattle.border_cover.specs.Asked.{cover_program}
 use Rattle.border_cover.specs.Endings.{TellsFault}
 use Rattle.border_cover.specs.Status.{cover_status}
 
--- border_cover --layer a map.json --layer b --width=5
+-- border_cover --layer a map.json --layer b --width=5 --places p.json
 abbrev words : List Text
-words = codes "border_cover" ∷ codes "--layer" ∷ codes "a" ∷ codes "map.json" ∷ codes "--layer" ∷ codes "b" ∷ codes "--width=5" ∷ []
+words =
+    codes "border_cover" ∷ codes "--layer" ∷ codes "a" ∷ codes "map.json" ∷ codes "--layer" ∷ codes "b" ∷ codes "--width=5"
+    ∷ codes "--places" ∷ codes "p.json" ∷ []
 
 simple : is_simple cover_program ≡ true
 simple = refl
@@ -28,6 +30,10 @@ layers = refl
 width : first_of (codes "width") (matches_of cover_program words) ≡ Some (codes "5")
 unfolding clap_on_literals
 width = refl
+
+places : first_of (codes "places") (matches_of cover_program words) ≡ Some (codes "p.json")
+unfolding clap_on_literals
+places = refl
 
 area : first_of (codes "area") (matches_of cover_program words) ≡ None
 unfolding clap_on_literals

@@ -1,5 +1,5 @@
 -- What the words of the program ask for, as clap reads them.
-use Rattle.std.specs.Prelude.{◌≡◌, ◌≤◌, ◌||◌, ℕ, Bool, true, List, [], Option, Some, None, is_some, option_map, unwrap_or}
+use Rattle.std.specs.Prelude.{◌≡◌, ◌≢◌, ◌≤◌, ◌||◌, ℕ, Bool, true, List, [], Option, Some, None, is_some, option_map, unwrap_or}
 use Rattle.std.specs.Prelude.{codes, map, string_bytes, String}
 use Rattle.std.specs.declared.alloc.Global.{Global}
 use Rattle.std.specs.Str.Parse.{IsNumeral, digits_value, without_leading_plus}
@@ -26,13 +26,13 @@ option_rule name = record (new_rule name) { long = Some name; value_names = 1; a
 abbrev pub layer_rule : Rule
 layer_rule = record (new_rule (codes "layer")) { long = Some (codes "layer"); value_names = 1; action = Some Append }
 
--- MAP --layer NAME .. --width W --area N --most N --close WHAT --out FILE, of which MAP is needed
+-- MAP --layer NAME .. --width W --area N --most N --places FILE --close WHAT --out FILE, of which MAP is needed
 abbrev pub cover_program : App
 cover_program =
-    with_rule (with_rule (with_rule (with_rule (with_rule (with_rule (with_rule
+    with_rule (with_rule (with_rule (with_rule (with_rule (with_rule (with_rule (with_rule
     (with_version (new_app (codes "border_cover"))) map_rule) layer_rule)
     (option_rule (codes "width"))) (option_rule (codes "area"))) (option_rule (codes "most")))
-    (option_rule (codes "close"))) (option_rule (codes "out"))
+    (option_rule (codes "places"))) (option_rule (codes "close"))) (option_rule (codes "out"))
 
 -- ---- what its words ask for
 
@@ -59,14 +59,16 @@ pub data IsClosing : Option Text → Option Text → Bool → Option (Kinds × T
 abbrev pub closing_of : Arguments → Option (Kinds × Text)
 closing_of asked = option_map (λ x. (x.0, string_bytes x.1)) asked.closing
 
--- the arguments are what clap found: MAP, the layers, the bounds of width and area, how many lines there are at the most, and
--- what is closed
+-- the arguments are what clap found: MAP, the layers, the bounds of width and area, how many lines there are at the most,
+-- the file of the places, which is not the map, and what is closed
 pub record AreAsked (found : List Row) (asked : Arguments) : Type 0 where
   pub layers : map string_bytes asked.layers.items ≡ unwrap_or (all_of (codes "layer") found) []
   pub map : string_bytes asked.map ≡ unwrap_or (first_of (codes "MAP") found) []
   pub width : IsBound 1000000000000 (first_of (codes "width") found) asked.width
   pub area : IsBound 8000000000000000000000000 (first_of (codes "area") found) asked.area
   pub most : IsCount (first_of (codes "most") found) asked.most
+  pub places : option_map string_bytes asked.places ≡ first_of (codes "places") found
+  pub apart : option_map string_bytes asked.places ≢ Some (string_bytes asked.map)
   pub closing : IsClosing (first_of (codes "close") found) (first_of (codes "out") found)
       (is_some asked.width || is_some asked.area) (closing_of asked)
 

@@ -6,6 +6,7 @@ ghost use Rattle.border_cover.specs.Asked.{closes, wants_of};
 use crate::kinds::Kinds;
 use closing_report::{AskedClosing, Closing};
 use cover_report::Asked;
+use program_ends::{FileArgument, Role};
 use std::alloc::{AllocError, Global};
 
 /// What the arguments of the program ask for.
@@ -21,6 +22,8 @@ pub struct Arguments {
     pub area: Option<u128>,
     /// How many lines of one kind the report has at the most.
     pub most: usize,
+    /// The path of the file that the places are written in.
+    pub places: Option<String>,
     /// Which faces are closed, where any are to be, and the path of the file that gets the map then.
     pub closing: Option<(Kinds, String)>,
 }
@@ -36,6 +39,31 @@ impl Arguments {
             names.push(name.as_str())?;
         }
         Ok(names)
+    }
+
+    /// The files that the arguments name, the one first that is written.
+    pub(crate) fn files(&self) -> [FileArgument<'_>; 3] {
+        [
+            FileArgument {
+                argument: "--places",
+                path: self.places.as_ref().map(|path| path.as_str()),
+                role: Role::Written,
+            },
+            FileArgument {
+                argument: "--out",
+                path: self.closing.as_ref().map(|closing| closing.1.as_str()),
+                role: Role::Saved,
+            },
+            FileArgument {
+                argument: "MAP",
+                path: Some(self.map.as_str()),
+                role: if self.closing.is_some() {
+                    Role::Edited
+                } else {
+                    Role::Read
+                },
+            },
+        ]
     }
 
     /// What is asked of the report, by the names of the layers.

@@ -1,14 +1,14 @@
 //! A map closed: what is read was read before, the report is printed, and FILE is written last.
-ghost use Rattle.std.specs.Prelude.{◌≡◌, IsSome, IfOk};
+ghost use Rattle.std.specs.Prelude.{IfOk};
 ghost use Rattle.border_cover.specs.Asked.{closes, wants_of};
 ghost use Rattle.closing_report.specs.Common.{IsClosedMap};
 
 use crate::arguments::Arguments;
 use crate::ending::ending_of_closing;
 use crate::kinds::Kinds;
-use crate::telling::{paths_of, printed, say_fault};
+use crate::telling::{paths_of, printed, save, say_fault};
 use closing_report::{ClosedMap, ClosingFault, close_map};
-use program_ends::{Ending, Errors, replace_file};
+use program_ends::Errors;
 use std::alloc::Global;
 use std::hash::RandomState;
 use std::io::Write;
@@ -44,16 +44,6 @@ fn say_closing_fault<E: Write>(fault: &ClosingFault<'_>, errors: &mut Errors<'_,
             let _ = writeln!(errors.writer, "{fault}");
         }
     }
-}
-
-/// Writes the closed map in its file where nothing has failed before, and none after a fault.
-fn save<'a>(rt: &HostRuntime, ending: Ending<'a>, path: &str, text: &[u8]) -> Ending<'a>
-    ensures { IsSome ending.entry.line → result ≡ ending.entry }
-{
-    if ending.line.is_some() {
-        return ending;
-    }
-    ending.once_written(replace_file(rt, path, text))
 }
 
 /// Closes faces of these kinds, prints the report, and at last writes the map in the file of this path. Answers the status.

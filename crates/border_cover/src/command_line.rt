@@ -9,7 +9,7 @@ use crate::help;
 use crate::kinds::{closing_of, with_copy};
 use clap::error::ErrorKind;
 use clap::{Arg, ArgAction, ArgMatches, Command};
-use program_ends::VERSION;
+use program_ends::{VERSION, copied, is_file};
 use std::alloc::{AllocError, Global};
 
 /// The most lines of one kind, without `--most` and with it.
@@ -28,6 +28,10 @@ const MOST: &str = "--most takes a whole number from 0 to 4000000";
 const WIDTH: &str = "--width takes a whole number from 0 to 1000000000000";
 
 const AREA: &str = "--area takes a whole number from 0 to 8000000000000000000000000";
+
+const ONE_FILE: &str = "--places names the map";
+
+const PLACES_ALONE: &str = "--places does not stand beside --close";
 
 /// The argument that stands in its place.
 fn map<'a>(alloc: Global) -> Arg<'a>
@@ -77,6 +81,7 @@ fn command<'a>(alloc: Global) -> Result<Command<'a>, AllocError>
         .arg(option(alloc, "width", "W", help::WIDTH))?
         .arg(option(alloc, "area", "N", help::AREA))?
         .arg(option(alloc, "most", "N", help::MOST))?
+        .arg(option(alloc, "places", "FILE", help::PLACES))?
         .arg(option(alloc, "close", "WHAT", help::CLOSE))?
         .arg(option(alloc, "out", "FILE", help::OUT))?;
     Ok(command)
@@ -129,6 +134,8 @@ fn copies(alloc: Global, given: &[&str]) -> Result<Vec<String>, AllocError>
 enum AskFault {
     /// A value is wrong, as these words say.
     Wrong(&'static str),
+    /// The places and the map have one path.
+    OneFile,
     /// An allocation failed.
     OutOfMemory,
 }
@@ -154,22 +161,29 @@ fn asked(alloc: Global, matches: &ArgMatches<'_>) -> Result<Arguments, AskFault>
     let most = count_of(matches.get_str("most"))?;
     let is_bounded = width.is_some() || area.is_some();
     let closing = closing_of(matches.get_str("close"), matches.get_str("out"), is_bounded)?;
-    let closing = with_copy(alloc, closing)?;
-    let layers = copies(alloc, matches.get_strs("layer").unwrap_or(&[]))?;
     // A parse gives MAP, since it is required.
-    let map = String::from_str(alloc, matches.get_str("MAP").unwrap_or(""))?;
+    let map = matches.get_str("MAP").unwrap_or("");
+    let places = matches.get_str("places");
+    if places.is_some() && closing.is_some() {
+        return Err(AskFault::Wrong(PLACES_ALONE));
+    }
+    if is_file(places, map) {
+        return Err(AskFault::OneFile);
+    }
+    let layers = copies(alloc, matches.get_strs("layer").unwrap_or(&[]))?;
     Ok(Arguments {
-        map,
+        map: String::from_str(alloc, map)?,
         layers,
         width,
         area,
         most,
-        closing,
+        places: copied(alloc, places)?,
+        closing: with_copy(alloc, closing)?,
     })
 }
 
 /// Reads the arguments, the program's name first. A request for help, or for the version, is an
-/// error here too.
+/// error here too, and so are arguments that name one path for the places and for MAP.
 pub(crate) fn arguments_of(alloc: Global, given: &[String]) -> Result<Arguments, clap::Error>
     ensures { IfOk result (AsksFor given.now) }
 {
@@ -178,6 +192,7 @@ pub(crate) fn arguments_of(alloc: Global, given: &[String]) -> Result<Arguments,
     match asked(alloc, &matches) {
         Ok(arguments) => Ok(arguments),
         Err(AskFault::Wrong(words)) => Err(command.error(ErrorKind::ValueValidation, words)?),
+        Err(AskFault::OneFile) => Err(command.error(ErrorKind::ArgumentConflict, ONE_FILE)?),
         Err(AskFault::OutOfMemory) => Err(clap::Error::from(AllocError)),
     }
 }

@@ -42,6 +42,7 @@ wrong.
 Examples:
   border_cover map.json
   border_cover map.json --layer wards --width 10 --most 20
+  border_cover map.json --width 10 --places places.json
   border_cover map.json --width 10 --close overlaps,gaps --out closed.json";
 
 // What each argument asks for.
@@ -57,6 +58,9 @@ pub(crate) const AREA: &str =
 
 pub(crate) const MOST: &str =
     "The most lines of one kind in the report, from 0 to 4000000; 1000 by default";
+
+pub(crate) const PLACES: &str =
+    "Write where the overlaps and gaps are to this file, as a topology of points and lines";
 
 pub(crate) const CLOSE: &str =
     "Close what is of these kinds and within the bounds: overlaps, gaps, lakes, with commas between; a face goes to the neighbour with the longest border";

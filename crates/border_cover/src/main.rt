@@ -11,7 +11,7 @@ mod telling;
 
 use arguments::Arguments;
 use command_line::arguments_of;
-use program_ends::{Errors, Stop, end_stopped, given_words};
+use program_ends::{Errors, Stop, check_apart, end_stopped, given_words};
 use std::io::IsTerminal;
 use std::process::ExitCode;
 use telling::tell;
@@ -20,6 +20,7 @@ use telling::tell;
 fn given_arguments(rt: &HostRuntime) -> Result<Arguments, Stop> {
     let given = given_words(rt)?;
     let arguments = arguments_of(rt.alloc(), given.as_slice())?;
+    check_apart(rt, &arguments.files())?;
     Ok(arguments)
 }
 

@@ -21,6 +21,7 @@ strip = record {
   width = 1;
   from = at 9 10;
   to = at 9 0;
+  sides = (at 9 10, at 9 0) ∷ (at 9 0, at 10 0) ∷ (at 10 10, at 9 10) ∷ (at 10 0, at 10 10) ∷ [];
 }
 
 abbrev lake : FaceTold
@@ -31,6 +32,7 @@ lake = record {
   width = 3;
   from = at 5 10;
   to = at 5 5;
+  sides = (at 5 10, at 5 5) ∷ (at 5 5, at 10 5) ∷ (at 10 10, at 5 10) ∷ (at 10 5, at 10 10) ∷ [];
 }
 
 strip_told : face_line strip ≡ codes "overlap 0 1 / 20 1 / 9 10 9 0\n"

@@ -7,7 +7,8 @@ use Rattle.layer_faces.specs.declared.kind.Kind.{Kind}
 use Rattle.layer_faces.specs.declared.kind.Kind.TheVariants.{Overlap, Twice, Gap, Lake, Land, Outside}
 use Rattle.cover_report.specs.declared.faces.ToldFace.{ToldFace}
 
--- what is told of a face: its kind, its features, twice its area, its width, and its name
+-- what is told of a face: its kind, its features, twice its area, its width, its name, and its sides, each by the ends of its
+-- segment with the face on the left
 pub record FaceTold : Type 0 where
   pub kind : Kind
   pub features : List ℕ
@@ -15,6 +16,7 @@ pub record FaceTold : Type 0 where
   pub width : ℕ
   pub from : Position
   pub to : Position
+  pub sides : List Edge
 
 abbrev pub view_told : {A : Type 0} → ToldFace A → FaceTold
 view_told f = record {
@@ -24,6 +26,7 @@ view_told f = record {
   width = f.width;
   from = f.from;
   to = f.to;
+  sides = f.sides.items;
 }
 
 -- a face that is told where it is within the bounds: others are land, or outside
@@ -48,6 +51,7 @@ face_told f = record {
   width = width_of f.area f.border;
   from = (first_ends f.sides).0;
   to = (first_ends f.sides).1;
+  sides = map side_ends f.sides;
 }
 
 -- what is told of those of these faces that are told

@@ -8,5 +8,5 @@ pub mod Filling
 pub mod Faults
 pub mod Counted
 pub mod Report
-pub mod Told
+pub mod Found
 pub mod Common

@@ -25,6 +25,8 @@ pub struct ToldFace<A: Allocator + Copy = Global> {
     pub from: Pos,
     /// Where that segment ends.
     pub to: Pos,
+    /// Where each segment of its border begins and ends, which has the face on its left.
+    pub sides: Vec<(Pos, Pos), A>,
 }
 
 /// Whether a face is told where it is within the bounds: others are land, or outside.
@@ -85,24 +87,48 @@ fn first_ends<A: Allocator + Copy>(borders: &[Border<A>], sides: &[u32]) -> (Pos
     }
 }
 
+/// The ends of each of these sides.
+fn ends_of<A: Allocator + Copy>(
+    alloc: A,
+    borders: &[Border<A>],
+    sides: &[u32],
+) -> Result<Vec<(Pos, Pos), A>, AllocError>
+    ensures { IfOk result (λ ends. ends.items
+        ≡ map side_ends (map (side_at (segments_seen borders.now)) sides.now)) }
+{
+    let mut ends = Vec::new(alloc);
+    for side in sides {
+        ends.push(ends_at(borders, *side))?;
+    }
+    Ok(ends)
+}
+
 /// What is told of a face.
-fn told_of<A: Allocator + Copy>(borders: &[Border<A>], face: Face<A>) -> ToldFace<A>
-    ensures { view_told result ≡ face_told (face_seen (segments_seen borders.now) face) }
+fn told_of<A: Allocator + Copy>(
+    alloc: A,
+    borders: &[Border<A>],
+    face: Face<A>,
+) -> Result<ToldFace<A>, AllocError>
+    ensures { IfOk result (λ told.
+        view_told told ≡ face_told (face_seen (segments_seen borders.now) face)) }
 {
     let (from, to) = first_ends(borders, face.sides.as_slice());
+    let sides = ends_of(alloc, borders, face.sides.as_slice())?;
     let width = face.width();
-    ToldFace {
+    Ok(ToldFace {
         kind: face.kind,
         features: face.features,
         area: face.twice_area,
         width,
         from,
         to,
-    }
+        sides,
+    })
 }
 
 /// Appends what is told of a face, if it may be told.
 fn push_told<A: Allocator + Copy>(
+    alloc: A,
     found: &mut Vec<ToldFace<A>, A>,
     borders: &[Border<A>],
     face: Face<A>,
@@ -111,7 +137,7 @@ fn push_told<A: Allocator + Copy>(
         ++ all_told (face_seen (segments_seen borders.now) face ∷ [])) }
 {
     if is_found(face.kind) {
-        found.push(told_of(borders, face))?;
+        found.push(told_of(alloc, borders, face)?)?;
     }
     Ok(())
 }
@@ -127,7 +153,7 @@ pub(crate) fn told_of_all<A: Allocator + Copy>(
 {
     let mut found = Vec::new(alloc);
     for face in faces {
-        push_told(&mut found, borders, face)?;
+        push_told(alloc, &mut found, borders, face)?;
     }
     Ok(found)
 }

@@ -52,6 +52,6 @@ pub use looked::{Looked, told_at};
 pub use names::{are_there, is_asked};
 pub use numbers::{push_bytes, push_number, push_position};
 pub use opening::proper_map;
-pub use report::{push_found, report_map};
-pub use told::{Counts, all_faces, all_uneven, is_kind};
+pub use report::{LookedMap, look_at_map, push_found, push_report};
+pub use told::{Counts, all_faces, all_uneven, is_kind, told_faces};
 pub use uneven::UnevenPolygon;

@@ -1,5 +1,5 @@
 //! The report of the overlaps and gaps of a map.
-ghost use Rattle.std.specs.Prelude.{◌≡◌, ◌++◌, true, length, map, IfErr, IfOk, OnOk};
+ghost use Rattle.std.specs.Prelude.{◌≡◌, ◌++◌, true, length, map, option_map, IfErr, IfOk, OnOk};
 ghost use Rattle.cover_report.specs.Faces.{view_told};
 ghost use Rattle.cover_report.specs.Asked.{view_asked};
 ghost use Rattle.cover_report.specs.Counted.{counts_among, counts_of, told};
@@ -9,7 +9,7 @@ ghost use Rattle.cover_report.specs.Faults.{IsRefused, IsUnlooked};
 ghost use Rattle.cover_report.specs.Layers.{AreLooks, asked_layers, view_looked};
 ghost use Rattle.cover_report.specs.Names.{are_there};
 ghost use Rattle.cover_report.specs.Report.{found_text, report_text, told_lines};
-ghost use Rattle.cover_report.specs.Told.{IsTold};
+ghost use Rattle.cover_report.specs.Found.{IsLookedAt};
 
 use crate::asked::Asked;
 use crate::faces::ToldFace;
@@ -70,8 +70,11 @@ pub fn push_found<A: Allocator + Copy>(
     })
 }
 
-/// Appends the report of the layers that were looked at, and answers how much is told of each kind.
-fn push_report<A: Allocator + Copy>(
+/// Appends the report of the layers that were looked at, and answers how much is told of each kind, whatever the most lines
+/// are.
+///
+/// Fails on allocation failure; then the text may have a part of a report.
+pub fn push_report<A: Allocator + Copy>(
     alloc: A,
     text: &mut Vec<u8, A>,
     asked: &Asked<'_>,
@@ -118,28 +121,36 @@ fn looks_at<'a, A: Allocator + Copy>(
     looks_of(alloc, heap, names, layers.as_slice(), polygons)
 }
 
-/// Looks at a map that opens, and appends the report of its overlaps and gaps to a text. Answers how much is told of each
-/// kind, whatever the most lines are.
+/// A map that was looked at.
+#[derive(Drop)]
+pub struct LookedMap<'a, A: Allocator + Copy = Global> {
+    /// The text of its transform.
+    pub transform: Option<&'a [u8]>,
+    /// What was found in the layers that are asked for, in their order.
+    pub looks: Vec<Looked<'a, A>, A>,
+}
+
+/// Looks at the layers of a map that opens: those that are asked for.
 ///
 /// Fails where the map does not open, with `NoLayer` where a name that is asked for is none of a layer, with `TooLarge`
-/// where a layer has more sides than can be looked at, and on allocation failure; then the text may have a part of a report.
-pub fn report_map<'a, A: Allocator + Copy>(
+/// where a layer has more sides than can be looked at, with `Unswept` or `Unlike` where a check of the work failed, and on
+/// allocation failure.
+pub fn look_at_map<'a, A: Allocator + Copy>(
     alloc: A,
     heap: Global,
     seed: RandomState,
     bytes: &'a [u8],
     asked: &Asked<'_>,
-    text: &mut Vec<u8, A>,
-) -> Result<Counts, CoverFault<'a>>
-    ensures told { IfOk result (λ counts. IsTold (view_asked asked.now) bytes.now counts
-        text.old.items text.new.items) }
+) -> Result<LookedMap<'a, A>, CoverFault<'a>>
+    ensures found { IfOk result (λ looked. IsLookedAt (view_asked asked.now) bytes.now
+        (option_map (λ t. t.now) looked.transform) (map view_looked looked.looks.items)) }
     ensures refused { IfErr result (IsRefused (view_asked asked.now) bytes.now) }
 {
     let raw = match proper_map(alloc, heap, seed, bytes) {
         Ok(raw) => raw,
         Err(fault) => return Err(CoverFault::Open(fault)),
     };
+    let transform = raw.transform;
     let looks = or_return!(looks_at(alloc, heap, asked.layers, raw));
-    let counts = push_report(alloc, text, asked, looks.as_slice())?;
-    Ok(counts)
+    Ok(LookedMap { transform, looks })
 }

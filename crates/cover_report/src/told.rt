@@ -140,7 +140,7 @@ fn push_if<'l, A: Allocator + Copy>(
 }
 
 /// The faces of a kind that are told.
-pub(crate) fn told_faces<'l, A: Allocator + Copy>(
+pub fn told_faces<'l, A: Allocator + Copy>(
     alloc: A,
     asked: &Asked<'_>,
     kind: Kind,

@@ -1,13 +1,18 @@
-// What is told of the overlaps and gaps of a map.
+// What is told of the overlaps and gaps of a map, and where they are.
 use crate::stored::Stored;
-use cover_report::{Asked, Counts, report_map};
+use cover_places::{Texts, tell_map};
+use cover_report::{Asked, Counts};
 use std::alloc::AllocError;
 use std::hash::RandomState;
 
-/// Compares the status and the lines of a report.
-fn compare_told(stored: &mut Stored<'_>, counts: Counts, report: &[u8]) -> Result<(), AllocError> {
+/// Compares the status, the lines of a report, and the places.
+fn compare_told(stored: &mut Stored<'_>, counts: Counts, texts: &Texts) -> Result<(), AllocError> {
     stored.compare_number("status", if counts.is_clear() { 0 } else { 1 })?;
-    stored.compare_lines("report", report)
+    stored.compare_lines("report", texts.report.as_slice())?;
+    match &texts.places {
+        Some(places) => stored.compare("places", places.as_slice()),
+        None => stored.compare("places", b"none"),
+    }
 }
 
 /// Compares what is told of the overlaps and gaps of the map of a case, or why nothing is.
@@ -25,16 +30,16 @@ pub(crate) fn compare_cover(stored: &mut Stored<'_>, seed: RandomState) -> Resul
         area: stored.case.wide_number("area"),
         most: stored.case.number("most", 1000),
     };
-    let mut report = Vec::new(alloc);
-    match report_map(
+    let mut texts = Texts::new(alloc, true);
+    match tell_map(
         alloc,
         alloc,
         seed,
         map.as_str().as_bytes(),
         &asked,
-        &mut report,
+        &mut texts,
     ) {
-        Ok(counts) => compare_told(stored, counts, report.as_slice()),
+        Ok(counts) => compare_told(stored, counts, &texts),
         Err(fault) => {
             let text = format!(in alloc; "{fault}")?;
             stored.compare("fault", text.as_str().as_bytes())

@@ -1,7 +1,8 @@
 //! Each allocation is refused in turn as a map is looked through, as one is mended, and as overlaps and gaps are told and
 //! closed.
 use closing_report::{AskedClosing, Closing, ClosingFault, close_map};
-use cover_report::{Asked as Covered, CoverFault, report_map as report_cover};
+use cover_places::{Texts as CoverTexts, tell_map};
+use cover_report::{Asked as Covered, CoverFault};
 use map_mending::MendFault;
 use mend_report::{Asked, LookFault, RepairFault, SaveFault, Texts, mend_map, report_map};
 use std::alloc::{Allocator, Global};
@@ -91,9 +92,9 @@ fn cover<A: Allocator + Copy>(alloc: Global, heap: A) -> End {
         area: None,
         most: 1000,
     };
-    let mut text = Vec::new(heap);
-    match report_cover(heap, alloc, seed, LAPPED.as_bytes(), &asked, &mut text) {
-        Ok(_) if text.as_slice().ends_with(COVERED.as_bytes()) => End::Told,
+    let mut texts = CoverTexts::new(heap, true);
+    match tell_map(heap, alloc, seed, LAPPED.as_bytes(), &asked, &mut texts) {
+        Ok(_) if texts.report.as_slice().ends_with(COVERED.as_bytes()) => End::Told,
         Err(CoverFault::Open(OpenFault::OutOfMemory)) => End::OutOfMemory,
         _ => End::Otherwise,
     }

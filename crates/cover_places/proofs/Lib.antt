@@ -1,0 +1,3 @@
+pub mod Listed
+pub mod Placed
+mod Examples

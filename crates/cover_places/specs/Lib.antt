@@ -1,0 +1,4 @@
+pub mod Places
+pub mod Text
+pub mod Told
+pub mod Common
