@@ -1,6 +1,7 @@
 -- Texts, and the borders of faces, one after another.
-use Rattle.kit_words.proofs.Common.{◌≡◌, ◌∙◌, ℕ, suc, ◌+◌, ◌<◌, ◌++◌, ◌∷◌, [], List, ap, sym, refl, arith, length, map, take, get_or, nat_lt}
+use Rattle.kit_words.proofs.Common.{◌≡◌, ◌∙◌, ℕ, suc, ◌+◌, ◌<◌, ◌++◌, ◌∷◌, [], List, ap, ap₂, sym, refl, arith, length, map, take, get_or, nat_lt}
 use Rattle.kit_words.proofs.Common.{append_assoc, flat_mapped_more, length-append, length-map, mapped_more}
+use Rattle.grid_geometry.specs.Common.{Edge}
 use Rattle.ring_machine.specs.Common.{Text}
 use Rattle.map_text.specs.Common.{comma_if, commas}
 use Rattle.place_text.proofs.Listed.{commas_next}
@@ -49,16 +50,20 @@ module _ {X Y : Type 0} (of : X → Y) (xs : List X) (i : ℕ) (x : X) (l : i < 
   pub told_length : (f : Y → Text) → length (map f (map of (take i xs))) ≡ i
   told_length f = length-map (map of (take i xs)) f ∙ seen_length
 
-module _ {X : Type 0} (of : X → PlaceOf) (xs : List X) (i : ℕ) (x : X) (l : i < length xs) (e : x ≡ get_or xs i x) where
+module _ {X : Type 0} (of : X → PlaceOf) (xs : List X) (i : ℕ) (x : X) (l : i < length xs) (is_x : x ≡ get_or xs i x) where
   pub so_many_borders : length (borders_text 0 (map of (take i xs))) ≡ i
-  so_many_borders = borders_length 0 (map of (take i xs)) ∙ seen_length of xs i x l e
+  so_many_borders = borders_length 0 (map of (take i xs)) ∙ seen_length of xs i x l is_x
 
   -- the sides so far tell the index of the first arc of the next border
   pub borders_more : (n : ℕ) → n ≡ length (sides_of (map of (take i xs)))
       → borders_text 0 (map of (take (i + 1) xs)) ≡ borders_text 0 (map of (take i xs)) ++ border_text n (of x) ∷ []
   borders_more n is =
-      ap (borders_text 0) (mapped_more of xs i x l e) ∙ borders_end 0 (map of (take i xs)) (of x)
-      ∙ ap (λ (k : ℕ). borders_text 0 (map of (take i xs)) ++ border_text k (of x) ∷ []) (sym is)
+      let e : 0 + length (sides_of (map of (take i xs))) ≡ n = omega (arith, is) in
+      ap (borders_text 0) (mapped_more of xs i x l is_x) ∙ borders_end 0 (map of (take i xs)) (of x)
+      ∙ ap (λ (k : ℕ). borders_text 0 (map of (take i xs)) ++ border_text k (of x) ∷ []) e
 
-  pub sides_more : sides_of (map of (take (i + 1) xs)) ≡ sides_of (map of (take i xs)) ++ (of x).face.sides
-  sides_more = flat_mapped_more (λ (p : PlaceOf). p.face.sides) of xs i x l e
+  sides_more : sides_of (map of (take (i + 1) xs)) ≡ sides_of (map of (take i xs)) ++ (of x).face.sides
+  sides_more = flat_mapped_more (λ (p : PlaceOf). p.face.sides) of xs i x l is_x
+
+  pub sides_pushed : (was now part : List Edge) → was ≡ sides_of (map of (take i xs)) → now ≡ was ++ part → part ≡ (of x).face.sides → now ≡ sides_of (map of (take (i + 1) xs))
+  sides_pushed was now part p q r = q ∙ ap₂ (λ a b. a ++ b) p r ∙ sym sides_more

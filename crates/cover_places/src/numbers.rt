@@ -5,7 +5,7 @@ ghost use Rattle.map_text.specs.Common.{comma_if, pair_text};
 ghost use Rattle.place_text.specs.Common.{pair_behind};
 
 use grid_geometry::Pos;
-use place_text::{append, push_number};
+use place_text::push_number;
 use std::alloc::{AllocError, Allocator};
 
 /// Appends a comma where something stands before.

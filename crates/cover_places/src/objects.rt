@@ -10,7 +10,7 @@ use crate::numbers::{push_behind, push_comma, push_position};
 use crate::places::Place;
 use grid_geometry::Pos;
 use layer_faces::Kind;
-use place_text::{append, push_number};
+use place_text::push_number;
 use std::alloc::{AllocError, Allocator};
 
 /// Appends the name of a kind, as the value of a member.

@@ -12,7 +12,6 @@ use crate::objects::{push_arc, push_border, push_point};
 use crate::places::{Place, places_of};
 use cover_report::{Asked, Looked};
 use grid_geometry::Pos;
-use place_text::append;
 use std::alloc::{AllocError, Allocator};
 
 /// Appends a collection of a point for each face (TopoJSON 1.0, 2.2.7).

@@ -1,4 +1,4 @@
-use Rattle.kit_words.proofs.Common.{arith, refl, sym, ap, ◌∙◌, ◌+◌, ◌++◌, map, codes, appended_three}
+use Rattle.kit_words.proofs.Common.{◌≡◌, arith, refl, sym, ap, ◌∙◌, ◌+◌, ◌++◌, map, codes, appended_three}
 use Rattle.std.specs.List.{range_with_len}
 use Rattle.std.proofs.Common.{append-nil}
 use Rattle.std.proofs.lemmas.List.FromFn.{length-map-range_with_len, map-range_with_len_more}

@@ -3,7 +3,7 @@ use Rattle.std.proofs.Common.{append-nil}
 use Rattle.map_text.specs.Common.{commas}
 use Rattle.cover_places.specs.Places.{place_seen}
 use Rattle.cover_places.specs.Text.{border_text, borders_text, sides_of}
-use Rattle.cover_places.proofs.Listed.{borders_more, sides_more, so_many_borders, text_step}
+use Rattle.cover_places.proofs.Listed.{borders_more, sides_pushed, so_many_borders, text_step}
 use Rattle.cover_places.proofs.topology.push_listed.Goals as goal
 
 pub loop-index-init : goal.loop-index-init
@@ -22,10 +22,8 @@ loop-index-preserved g c =
           (so_many_borders place_seen places i place there is)
           c.args.text.now.items c.loop-index.text.items c.push_comma.new.text.items c.push_border.new.text.items
           c.loop-index.invariant.0 c.in_ok-push_comma.ensures c.in_ok-push_border.ensures,
-      c.in_ok-extend_from_slice.ensures.items
-          ∙ ap (λ z. z ++ c.as_slice.result.now) c.loop-index.invariant.1
-          ∙ ap (λ z. sides_of (map place_seen (take i places)) ++ z) c.as_slice.ensures.value
-          ∙ sym (sides_more place_seen places i place there is),
+      sides_pushed place_seen places i place there is c.loop-index.sides.items c.extend_from_slice.new.self.items c.as_slice.result.now
+          c.loop-index.invariant.1 c.in_ok-extend_from_slice.ensures.items c.as_slice.ensures.value,
     )
 
 pub returns-clause-text : goal.returns-clause-text

@@ -1,4 +1,4 @@
-use Rattle.kit_words.proofs.Common.{◌≡◌, ◌×◌, ◌++◌, map, take}
+use Rattle.kit_words.proofs.Common.{◌≡◌, ◌++◌, map, take}
 use Rattle.map_text.specs.Common.{commas}
 use Rattle.cover_places.specs.Places.{place_seen}
 use Rattle.cover_places.specs.Text.{borders_text, sides_of}
