@@ -177,7 +177,7 @@ class Closing:
                 if (a, b) not in after.held and decided.after((a, b)) != decided.after((b, a)):
                     yield f"the border {a} {b} is gone"
         for place, (_, layer, _) in enumerate(self.cover.layers):
-            if place not in self.places and [it[2] for it in layer.polygons] != [it[2] for it in layers[place].polygons]:
+            if place not in self.places and rings_in(layer) != rings_in(layers[place]):
                 yield f"layer {layer.name} was not asked for"
 
     def remaining(self, layers):
@@ -254,6 +254,11 @@ def ordered(polygons, to_left):
 
 def signed(ring):
     return sum(term(a, b) for a, b in edges(ring))
+
+
+def rings_in(layer):
+    """The polygons of a layer, each ring from its least position on."""
+    return canonical([rings for _, _, rings in layer.polygons])
 
 
 def canonical(polygons):

@@ -1,7 +1,7 @@
 //! The kinds of faces that are closed, and the file that gets the map then, as arguments name them.
-ghost use Rattle.std.specs.Prelude.{◌≡◌, map, option_map, string_bytes, IfOk, IfSome};
+ghost use Rattle.std.specs.Prelude.{◌≡◌, ◌++◌, ◌∷◌, [], ℕ, List, option_map, string_bytes, IfOk, IfSome};
 ghost use Rattle.border_cover.specs.Asked.{IsClosing};
-ghost use Rattle.border_cover.specs.Kinds.{IsKinds};
+ghost use Rattle.border_cover.specs.Kinds.{AreNamed, IsKinds};
 
 use std::alloc::{AllocError, Global};
 
@@ -32,7 +32,10 @@ impl Kinds {
     };
 
     /// These and those of a word, which is not to be among them.
-    fn with(self, word: &str) -> Option<Kinds> {
+    fn with(self, word: &str) -> Option<Kinds>
+        ensures { IfSome result (λ kinds. (words : List (List ℕ))
+            → AreNamed words self → AreNamed (words ++ word.now ∷ []) kinds) }
+    {
         if word == "overlaps" && !self.overlaps {
             Some(Kinds {
                 overlaps: true,
@@ -55,18 +58,14 @@ impl Kinds {
 fn kinds_of(text: &str) -> Option<Kinds>
     ensures { IfSome result (IsKinds text.now) }
 {
-    let mut kinds = Kinds::NONE;
-    let mut rest = text;
-    for _ in 0..3 {
-        match rest.split_once(",") {
-            Some((word, more)) => {
-                kinds = kinds.with(word)?;
-                rest = more;
-            }
-            None => return kinds.with(rest),
-        }
-    }
-    None
+    let Some((first, rest)) = text.split_once(",") else {
+        return Kinds::NONE.with(text);
+    };
+    let kinds = Kinds::NONE.with(first)?;
+    let Some((second, third)) = rest.split_once(",") else {
+        return kinds.with(rest);
+    };
+    kinds.with(second)?.with(third)
 }
 
 /// What is closed, and the path of the file that gets the map then.

@@ -18,9 +18,10 @@ pub one_more : (first : ℕ) (added : List (List Polygon)) (feature : List Polyg
     → polygons_in added ++ rest ≡ polygons → rest ≡ feature ++ left
     → owners_from first added ++ following ≡ owners → following ≡ replicate (length feature) (first + length added) ++ later
     → (polygons_in (added ++ feature ∷ []) ++ left ≡ polygons) × (owners_from first (added ++ feature ∷ []) ++ later ≡ owners)
-one_more first added feature polygons rest left owners following later all taken all_owners taken_owners =
-    (ap (λ z. z ++ left) (flat_map-append (λ (ps : List Polygon). ps) added (feature ∷ []) ∙ ap (λ z. polygons_in added ++ z) (append-nil feature))
-    ∙ append_assoc (polygons_in added) feature left ∙ ap (λ z. polygons_in added ++ z) (sym taken) ∙ all,
-    ap (λ z. z ++ later) (owners_behind first added (feature ∷ []) ∙ ap (λ z. owners_from first added ++ z) (append-nil (replicate (length feature) (first + length added))))
-    ∙ append_assoc (owners_from first added) (replicate (length feature) (first + length added)) later
-    ∙ ap (λ z. owners_from first added ++ z) (sym taken_owners) ∙ all_owners)
+one_more first added feature polygons rest left owners following later all taken all_owners taken_owners = (
+  ap (λ z. z ++ left) (flat_map-append (λ (ps : List Polygon). ps) added (feature ∷ []) ∙ ap (λ z. polygons_in added ++ z) (append-nil feature))
+      ∙ append_assoc (polygons_in added) feature left ∙ ap (λ z. polygons_in added ++ z) (sym taken) ∙ all,
+  ap (λ z. z ++ later) (owners_behind first added (feature ∷ []) ∙ ap (λ z. owners_from first added ++ z) (append-nil (replicate (length feature) (first + length added))))
+      ∙ append_assoc (owners_from first added) (replicate (length feature) (first + length added)) later
+      ∙ ap (λ z. owners_from first added ++ z) (sym taken_owners) ∙ all_owners,
+)

@@ -16,18 +16,21 @@ feature_area polygons = total polygon_area polygons
 abbrev pub is_same : List Polygon → List Polygon → Bool
 is_same one other = list_eq (list_eq (list_eq position_eq)) one other
 
--- feature n stands as another number of polygons than it did; the first of the list has number n
-abbrev pub parts_from : ℕ → List (List Polygon) → List (List Polygon) → List PartsChange
-parts_from n (old ∷ before) (new ∷ after) =
-    (if length old == length new then []
-    else (record { feature = n; before = length old; after = length new } ∷ []))
-    ++ parts_from (suc n) before after
-parts_from n _ _ = []
+-- feature n stands as another number of polygons than it did
+abbrev pub parts_change : ℕ → List Polygon → List Polygon → List PartsChange
+parts_change n old new =
+    if length old == length new then [] else (record { feature = n; before = length old; after = length new } ∷ [])
 
 -- the rings of feature n changed, and twice its area before and after
+abbrev pub area_change : ℕ → List Polygon → List Polygon → List AreaChange
+area_change n old new =
+    if is_same old new then [] else (record { feature = n; before = feature_area old; after = feature_area new } ∷ [])
+
+-- the same of each feature, where the first has number n
+abbrev pub parts_from : ℕ → List (List Polygon) → List (List Polygon) → List PartsChange
+parts_from n (old ∷ before) (new ∷ after) = parts_change n old new ++ parts_from (suc n) before after
+parts_from n _ _ = []
+
 abbrev pub areas_from : ℕ → List (List Polygon) → List (List Polygon) → List AreaChange
-areas_from n (old ∷ before) (new ∷ after) =
-    (if is_same old new then []
-    else (record { feature = n; before = feature_area old; after = feature_area new } ∷ []))
-    ++ areas_from (suc n) before after
+areas_from n (old ∷ before) (new ∷ after) = area_change n old new ++ areas_from (suc n) before after
 areas_from n _ _ = []

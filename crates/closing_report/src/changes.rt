@@ -1,5 +1,5 @@
 // Which features change.
-ghost use Rattle.std.specs.Prelude.{◌≡◌, ◌≤◌, map, length, sum_by, IfOk};
+ghost use Rattle.std.specs.Prelude.{◌≡◌, ◌≤◌, ◌==◌, ◌++◌, ◌∷◌, [], map, length, sum_by, if◌then◌else◌, IfOk, OnOk};
 ghost use Rattle.ring_parts.specs.Common.{polygons_seen};
 ghost use Rattle.closing_report.specs.Changes as spec;
 ghost use Rattle.topo_reader.specs.Common.{feature_positions};
@@ -38,6 +38,20 @@ fn area_of<A: Allocator + Copy>(polygons: &[Vec<Vec<Pos, A>, A>]) -> i128
     area
 }
 
+/// Appends a change, if there is one.
+fn push_parts<A: Allocator + Copy>(
+    changes: &mut Vec<PartsChange, A>,
+    change: PartsChange,
+) -> Result<(), AllocError>
+    ensures { OnOk result (changes.new.items
+        ≡ changes.old.items ++ (if change.before == change.after then [] else (change ∷ []))) }
+{
+    if change.before != change.after {
+        changes.push(change)?;
+    }
+    Ok(())
+}
+
 /// The features that stand as another number of polygons than before, in order.
 pub(crate) fn parts_changes<A: Allocator + Copy>(
     alloc: A,
@@ -50,16 +64,36 @@ pub(crate) fn parts_changes<A: Allocator + Copy>(
 {
     let mut changes = Vec::new(alloc);
     for (feature, old) in before.iter().enumerate() {
-        let new = &after[feature];
-        if old.len() != new.len() {
-            changes.push(PartsChange {
-                feature,
-                before: old.len(),
-                after: new.len(),
-            })?;
-        }
+        let change = PartsChange {
+            feature,
+            before: old.len(),
+            after: after[feature].len(),
+        };
+        push_parts(&mut changes, change)?;
     }
     Ok(changes)
+}
+
+/// Appends how the area of a feature changes, if its rings do.
+fn push_area<A: Allocator + Copy>(
+    changes: &mut Vec<AreaChange, A>,
+    feature: usize,
+    before: &Feature<A>,
+    after: &Feature<A>,
+) -> Result<(), AllocError>
+    requires few { sum_by (sum_by length) (feature_positions before.now) ≤ 4000000 }
+    requires few_after { sum_by (sum_by length) (feature_positions after.now) ≤ 4000000 }
+    ensures { OnOk result (changes.new.items ≡ changes.old.items
+        ++ spec.area_change feature (feature_positions before.now) (feature_positions after.now)) }
+{
+    if before != after {
+        changes.push(AreaChange {
+            feature,
+            before: area_of(before.as_slice()),
+            after: area_of(after.as_slice()),
+        })?;
+    }
+    Ok(())
 }
 
 /// The features whose rings changed, in order.
@@ -76,14 +110,7 @@ pub(crate) fn area_changes<A: Allocator + Copy>(
 {
     let mut changes = Vec::new(alloc);
     for (feature, old) in before.iter().enumerate() {
-        let new = &after[feature];
-        if old != new {
-            changes.push(AreaChange {
-                feature,
-                before: area_of(old.as_slice()),
-                after: area_of(new.as_slice()),
-            })?;
-        }
+        push_area(&mut changes, feature, old, &after[feature])?;
     }
     Ok(changes)
 }

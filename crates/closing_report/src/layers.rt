@@ -1,5 +1,5 @@
 // The layers of a map, closed one after another.
-ghost use Rattle.std.specs.Prelude.{◌≡◌, ◌≤◌, ◌<◌, ◌^◌, ◌+◌, ◌++◌, drop, length, map, replicate, take, true, false, IfOk, OnOk};
+ghost use Rattle.std.specs.Prelude.{◌≡◌, ◌≤◌, ◌<◌, ◌^◌, ◌+◌, ◌++◌, ◌∷◌, [], drop, length, map, replicate, take, true, false, if◌then◌else◌, IfOk, OnOk};
 ghost use Rattle.std.specs.List.{zip};
 ghost use Rattle.std.specs.List.Sorted.{IsNonDecreasingBy};
 ghost use Rattle.std.specs.Vec.Iter.{into_iter_items};
@@ -55,6 +55,21 @@ struct Following<'o, A: Allocator + Copy> {
     owners: &'o [usize],
 }
 
+/// Appends a decision, if its face may be told.
+fn push_told<A: Allocator + Copy>(
+    told: &mut Vec<Decision, A>,
+    is_told: bool,
+    decision: Decision,
+) -> Result<(), AllocError>
+    ensures { OnOk result (told.new.items
+        ≡ told.old.items ++ (if is_told then (decision ∷ []) else [])) }
+{
+    if is_told {
+        told.push(decision)?;
+    }
+    Ok(())
+}
+
 /// The decisions of the faces that may be told.
 fn told_decisions<A: Allocator + Copy>(
     alloc: A,
@@ -67,11 +82,27 @@ fn told_decisions<A: Allocator + Copy>(
 {
     let mut told = Vec::new(alloc);
     for (place, face) in look.faces.iter().enumerate() {
-        if is_found(face.kind) {
-            told.push(decisions[place])?;
-        }
+        push_told(&mut told, is_found(face.kind), decisions[place])?;
     }
     Ok(told)
+}
+
+/// Appends the next element, if there is one.
+fn push_next<T: Drop, A: Allocator + Copy>(
+    list: &mut Vec<T, A>,
+    rest: &mut IntoIter<T, A>,
+) -> Result<(), AllocError>
+    ensures list { OnOk result
+        (list.new.items ≡ list.old.items ++ take 1 (into_iter_items rest.old)) }
+    ensures rest { into_iter_items rest.new ≡ drop 1 (into_iter_items rest.old) }
+{
+    match rest.next() {
+        Some(element) => {
+            list.push(element)?;
+            Ok(())
+        }
+        None => Ok(()),
+    }
 }
 
 /// How many of the first of these are the number.
@@ -100,9 +131,7 @@ impl<'o, A: Allocator + Copy> Following<'o, A> {
         let count = run_length(self.owners, number);
         let mut feature = Vec::new(alloc);
         for _ in 0..count {
-            if let Some(polygon) = self.polygons.next() {
-                feature.push(polygon)?;
-            }
+            push_next(&mut feature, &mut self.polygons)?;
         }
         self.owners = &self.owners[count..];
         Ok(feature)
@@ -120,9 +149,7 @@ impl<'a, A: Allocator + Copy> Closings<'a, A> {
         ensures layers { OnOk result (closings_seen self.new ≡ closings_seen self.old) }
     {
         for _ in 0..count {
-            if let Some(feature) = self.rest.next() {
-                self.features.push(feature)?;
-            }
+            push_next(&mut self.features, &mut self.rest)?;
         }
         Ok(())
     }

@@ -67,6 +67,26 @@ fn all_decided<'l, A: Allocator + Copy>(
     Ok(found)
 }
 
+/// Appends a face, if it is of a kind and was closed.
+fn push_given<'l, A: Allocator + Copy>(
+    found: &mut Vec<ClosedFace<'l, A>, A>,
+    kind: Kind,
+    it: &FaceDecision<'l, A>,
+) -> Result<(), AllocError>
+    ensures { OnOk result (map given_seen found.new.items
+        ≡ map given_seen found.old.items ++ given_of kind (decision_seen it.now)) }
+{
+    if let Decision::Given(feature) = it.decision
+        && is_kind(it.face.kind, kind)
+    {
+        found.push(ClosedFace {
+            face: it.face,
+            feature,
+        })?;
+    }
+    Ok(())
+}
+
 /// Appends those of a kind that were closed.
 fn push_closed_of<'l, A: Allocator + Copy>(
     found: &mut Vec<ClosedFace<'l, A>, A>,
@@ -77,14 +97,22 @@ fn push_closed_of<'l, A: Allocator + Copy>(
         ++ flat_map (given_of kind) (map decision_seen faces.now)) }
 {
     for it in faces {
-        if let Decision::Given(feature) = it.decision
-            && is_kind(it.face.kind, kind)
-        {
-            found.push(ClosedFace {
-                face: it.face,
-                feature,
-            })?;
-        }
+        push_given(found, kind, it)?;
+    }
+    Ok(())
+}
+
+/// Appends a face, if it is of a kind and is left.
+fn push_left<'l, A: Allocator + Copy>(
+    found: &mut Vec<LeftFace<'l, A>, A>,
+    kind: Kind,
+    it: &FaceDecision<'l, A>,
+) -> Result<(), AllocError>
+    ensures { OnOk result (map left_seen found.new.items
+        ≡ map left_seen found.old.items ++ left_of kind (decision_seen it.now)) }
+{
+    if matches!(it.decision, Decision::Waits) && is_kind(it.face.kind, kind) {
+        found.push(LeftFace { face: it.face })?;
     }
     Ok(())
 }
@@ -99,9 +127,7 @@ fn push_left_of<'l, A: Allocator + Copy>(
         ++ flat_map (left_of kind) (map decision_seen faces.now)) }
 {
     for it in faces {
-        if matches!(it.decision, Decision::Waits) && is_kind(it.face.kind, kind) {
-            found.push(LeftFace { face: it.face })?;
-        }
+        push_left(found, kind, it)?;
     }
     Ok(())
 }

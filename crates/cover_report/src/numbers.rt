@@ -7,10 +7,7 @@ use itoa::{Buffer, Integer};
 use std::alloc::{AllocError, Allocator};
 
 /// Appends a text.
-pub fn push_bytes<A: Allocator>(
-    text: &mut Vec<u8, A>,
-    bytes: &[u8],
-) -> Result<(), AllocError>
+pub fn push_bytes<A: Allocator>(text: &mut Vec<u8, A>, bytes: &[u8]) -> Result<(), AllocError>
     ensures { OnOk result (text.new.items ≡ text.old.items ++ bytes.now) }
 {
     text.extend_from_slice(bytes)
@@ -28,10 +25,7 @@ pub fn push_number<A: Allocator, I: Integer>(
 }
 
 /// Appends both numbers, with a space between them.
-pub fn push_position<A: Allocator>(
-    text: &mut Vec<u8, A>,
-    position: Pos,
-) -> Result<(), AllocError>
+pub fn push_position<A: Allocator>(text: &mut Vec<u8, A>, position: Pos) -> Result<(), AllocError>
     ensures { OnOk result (text.new.items ≡ text.old.items ++ position_text position) }
 {
     append!(text; push_number(position.x()) b" " push_number(position.y()))
