@@ -76,8 +76,9 @@ module _ (names : List Text) (asked : Closing) (whole : List LayerText) (all : L
 
 -- at first nothing was closed
 pub goes_begun : (names : List Text) (asked : Closing) (whole : List LayerText) (all features done : List (List Polygon)) (before : List ClosedLayer)
-    → features ≡ all → done ≡ [] → before ≡ [] → GoesOn names asked whole all 0 features whole done before
+    → features ≡ all → done ≡ [] → before ≡ [] → GoesOn names asked whole all (length done) features whole done before
 goes_begun names asked whole all features done before is no_feature no_layer = λ after ks h.
     subst (λ (z : List ClosedLayer). AreClosings names asked 0 whole all (done ++ after) (z ++ ks)) (sym no_layer)
     (subst (λ (z : List (List Polygon)). AreClosings names asked 0 whole all (z ++ after) ks) (sym no_feature)
-    (subst (λ (z : List (List Polygon)). AreClosings names asked 0 whole z after ks) is h))
+    (subst (λ (z : List (List Polygon)). AreClosings names asked 0 whole z after ks) is
+    (subst (λ (z : List (List Polygon)). AreClosings names asked (length z) whole features after ks) no_feature h)))
