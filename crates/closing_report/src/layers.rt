@@ -256,7 +256,7 @@ impl<'a, A: Allocator + Copy> Closings<'a, A> {
             ++ take (length (leaves_in (map view_item layer.now.items.items)))
             (map feature_positions (into_iter_items self.old.rest))) }
         ensures closed { is_asked ≡ true → OnOk result (AddsClosed closing.now
-            (layer_of layer.now.name.now (length self.old.features.items)
+            (layer_of layer.now.name.now (length (map feature_positions self.old.features.items))
             (take (length (leaves_in (map view_item layer.now.items.items)))
             (map feature_positions (into_iter_items self.old.rest))))
             (length (leaves_in (map view_item layer.now.items.items)))
