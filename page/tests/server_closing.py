@@ -275,7 +275,7 @@ def as_geojson(checks):
             page.begin()
             checks.same("closed", page.edit(CLOSE), (["ok 1"], True))
             checks.same("saved", page.post("save")[0], 200)
-        first = json.loads((files / "areas.geojson").read_text())["features"][0]["geometry"]["coordinates"][0]
+        first = json.loads((files / "areas.geojson").read_text())["features"][0]["geometry"]["coordinates"][0][0]
         checks.same("with the gap", sorted(map(tuple, first[1:])), sorted(positions_in(RING, 0)))
 
 

@@ -1,6 +1,6 @@
 -- Layers that are closed one after another.
 use Rattle.kit_words.proofs.Common.{◌≡◌, ◌∙◌, ℕ, ◌+◌, ◌≤◌, ◌++◌, ◌∷◌, [], Bool, true, false, List, ap, sym, subst, refl, length, map, take, drop}
-use Rattle.kit_words.proofs.Common.{append_assoc, append-nil, drop-map, take-map, take-append-drop, length-take-le}
+use Rattle.kit_words.proofs.Common.{append_assoc, append-nil, arith, drop-map, length-map, length-take-le, take-append-drop}
 use Rattle.ring_machine.specs.Common.{Text}
 use Rattle.topo_outline.specs.Common.{LayerText, leaves_in}
 use Rattle.layer_sides.specs.Common.{Polygon}
@@ -74,10 +74,24 @@ module _ (names : List Text) (asked : Closing) (whole : List LayerText) (all : L
   turn false first features l ls done done' before before' e few at passed same adds goes =
       stays_turn first features l ls done done' before before' (sym e) few (passed refl) (same refl) goes
 
+  -- the same as the code holds it
+  pub turned_on : {X : Type 0} (of : X → List Polygon) (b : Bool) (l : LayerText) (ls : List LayerText) (rest left : List X) (done done' : List (List Polygon))
+      (before before' : List ClosedLayer) → b ≡ is_asked names l.name → length (leaves_in l.pieces) ≤ length rest
+      → length done' ≡ length done + length (leaves_in l.pieces) → left ≡ drop (length (leaves_in l.pieces)) rest
+      → (b ≡ false → before' ≡ before) → (b ≡ false → done' ≡ done ++ take (length (leaves_in l.pieces)) (map of rest))
+      → (b ≡ true → AddsClosed asked (layer_of l.name (length done) (take (length (leaves_in l.pieces)) (map of rest))) (length (leaves_in l.pieces)) done done' before before')
+      → GoesOn (length done) (map of rest) (l ∷ ls) done before → GoesOn (length done') (map of left) ls done' before'
+  turned_on of b l ls rest left done done' before before' e few longer is passed same adds goes =
+      subst (λ (k : ℕ). GoesOn k (map of left) ls done' before') (sym longer)
+      (subst (λ (fs : List (List Polygon)). GoesOn (length done + length (leaves_in l.pieces)) fs ls done' before')
+      (sym (ap (map of) is ∙ sym (drop-map of (length (leaves_in l.pieces)) rest)))
+      (turn b (length done) (map of rest) l ls done done' before before' e (omega (arith, few, length-map rest of)) refl passed same adds goes))
+
 -- at first nothing was closed
 pub goes_begun : (names : List Text) (asked : Closing) (whole : List LayerText) (all features done : List (List Polygon)) (before : List ClosedLayer)
-    → features ≡ all → done ≡ [] → before ≡ [] → GoesOn names asked whole all 0 features whole done before
+    → features ≡ all → done ≡ [] → before ≡ [] → GoesOn names asked whole all (length done) features whole done before
 goes_begun names asked whole all features done before is no_feature no_layer = λ after ks h.
     subst (λ (z : List ClosedLayer). AreClosings names asked 0 whole all (done ++ after) (z ++ ks)) (sym no_layer)
     (subst (λ (z : List (List Polygon)). AreClosings names asked 0 whole all (z ++ after) ks) (sym no_feature)
-    (subst (λ (z : List (List Polygon)). AreClosings names asked 0 whole z after ks) is h))
+    (subst (λ (z : List (List Polygon)). AreClosings names asked 0 whole z after ks) is
+    (subst (λ (z : List (List Polygon)). AreClosings names asked (length z) whole features after ks) no_feature h)))

@@ -246,6 +246,8 @@ impl<'a, A: Allocator + Copy> Closings<'a, A> {
         requires proper { IsProperLayer
             (polygons_in (map feature_positions (into_iter_items self.old.rest))) }
         ensures even { OnOk result (length self.new.looks.items ≡ length self.new.decided.items) }
+        ensures longer { OnOk result (length self.new.features.items ≡ length self.old.features.items
+            + length (leaves_in (map view_item layer.now.items.items))) }
         ensures rest { OnOk result (into_iter_items self.new.rest
             ≡ drop (length (leaves_in (map view_item layer.now.items.items))) (into_iter_items self.old.rest)) }
         ensures passed { is_asked ≡ false → OnOk result (closings_seen self.new ≡ closings_seen self.old) }
@@ -254,7 +256,7 @@ impl<'a, A: Allocator + Copy> Closings<'a, A> {
             ++ take (length (leaves_in (map view_item layer.now.items.items)))
             (map feature_positions (into_iter_items self.old.rest))) }
         ensures closed { is_asked ≡ true → OnOk result (AddsClosed closing.now
-            (layer_of layer.now.name.now (length self.old.features.items)
+            (layer_of layer.now.name.now (length (map feature_positions self.old.features.items))
             (take (length (leaves_in (map view_item layer.now.items.items)))
             (map feature_positions (into_iter_items self.old.rest))))
             (length (leaves_in (map view_item layer.now.items.items)))

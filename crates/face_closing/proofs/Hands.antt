@@ -67,7 +67,7 @@ first_among (u ∷ xs) (v ∷ ys) x y (inr i) = inr (first_among xs ys x y i)
 side_in : (ss : List Segment) (s : Segment) (hand : Hand) → In s ss → In (s, hand) (all_sides ss)
 side_in ss s hand i = in-flat_map (λ (t : Segment). (t, Left) ∷ (t, Right) ∷ []) s (s, hand) ss i (by hand)
   where
-    by : (h : Hand) → In (s, h) ((s, Left) ∷ (s, Right) ∷ [])
+    by : (h : Hand) → In {A = Side} (s, h) ((s, Left) ∷ (s, Right) ∷ [])
     by Left = inl refl
     by Right = inr (inl refl)
 

@@ -1,6 +1,6 @@
 -- Areas that are added to the land of features.
 use Rattle.kit_words.proofs.Common.{◌≡◌, ℕ, zero, suc, ◌+◌, ◌-◌, ◌<◌, ◌≤◌, ℤ, pos, ◌+ℤ◌, ◌*ℤ◌, refl, sym, ap, ap₂, ◌∙◌, subst, arith, ints, cond, eqb, eqb-true, eq-eqb, Bool, true, false, false≢true, ne_eqb}
-use Rattle.kit_words.proofs.Common.{List, [], ◌∷◌, ◌++◌, length, map, take, get_or, replicate, list_any, inl, inr, All, All-contains, Contains, sum_by-cons, by_bool, get_or_default, map-append, mapped_more, ◌||◌}
+use Rattle.kit_words.proofs.Common.{List, [], ◌∷◌, ◌++◌, length, map, take, get_or, replicate, list_any, inl, inr, All, All-contains, Contains, sum_by-cons, by_bool, get_or_default, map-append, mapped_more, set, cases_eq, get_or-set_same, get_or-set_other, length-set, ◌||◌}
 use Rattle.std.specs.List.{count_by, zip}
 use Rattle.std.specs.List.Sorted.{IsNonDecreasingBy, IsStrictlySortedBy}
 use Rattle.std.specs.Ordering.{MatchOrdering, nat_cmp}
@@ -48,6 +48,32 @@ times_more n m ns area =
     ap (λ k. pos k *ℤ area) (sum_by-append (λ k. cond (eqb k n) 1 0) ns (m ∷ [])
     ∙ ap (λ k. count_by (λ j. eqb j n) ns + k) (sum_by-cons (λ k. cond (eqb k n) 1 0) m []))
     ∙ spread (count_by (λ k. eqb k n) ns) (eqb m n) area
+
+-- ---- a number at a place
+
+pub adds_past : (place : ℕ) (area : ℤ) (old : List ℤ) → length old ≤ place → AddsAt place area old old
+adds_past place area old l = record {
+  long = refl;
+  each = λ k m.
+      let none : eqb k place ≡ false = ne_eqb k place (λ (e : k ≡ place). omega (arith, l, m, e)) in
+      nothing_more (get_or old k (pos 0)) ∙ ap (λ b. get_or old k (pos 0) +ℤ cond b area (pos 0)) (sym none);
+}
+
+pub adds_there : (place : ℕ) (area v : ℤ) (old new : List ℤ) → place < length old → new ≡ set old place v → v ≡ get_or old place (pos 0) +ℤ area
+    → AddsAt place area old new
+adds_there place area v old new l e is = record {
+  long = ap length e ∙ length-set old place v;
+  each = λ k m. elim (cases_eq k place) [
+    | inl same ↦
+        ap (λ zs. get_or zs k (pos 0)) e
+        ∙ subst (λ j. get_or (set old place v) j (pos 0) ≡ get_or old j (pos 0) +ℤ area) (sym same)
+        (get_or-set_same old place v (pos 0) l ∙ is)
+        ∙ ap (λ b. get_or old k (pos 0) +ℤ cond b area (pos 0)) (sym (eq-eqb k place same))
+    | inr other ↦
+        ap (λ zs. get_or zs k (pos 0)) e ∙ get_or-set_other old place k v (pos 0) other
+        ∙ nothing_more (get_or old k (pos 0)) ∙ ap (λ b. get_or old k (pos 0) +ℤ cond b area (pos 0)) (sym (ne_eqb k place other))
+  ];
+}
 
 -- ---- the land of features, a number at a time
 
@@ -128,18 +154,6 @@ land_more first count lands features area old new all more h adds is = record {
       ∙ sym (total_push (λ (x : Held). cond (is_any x.0) x.1 (pos 0)) lands (features, area));
 }
 
--- a face more, by what its features are
-pub land_step : (owners : List ℕ) (first count : ℕ) (lands more : List Held) (features land : List ℕ) (area : ℤ) (areas : List ℤ) (all : ℤ)
-    → first ≡ get_or owners 0 0 → features ≡ land → more ≡ lands ++ (land, area) ∷ []
-    → IsLandFrom first count (lands ++ (features, area) ∷ []) areas all → IsLandFrom (get_or owners 0 0) count more areas all
-land_step owners first count lands more features land area areas all e f g h =
-    subst (λ n. IsLandFrom n count more areas all) e
-    (subst (λ xs. IsLandFrom first count xs areas all) (ap (λ ns. lands ++ (ns, area) ∷ []) f ∙ sym g) h)
-
-pub land_start : (owners : List ℕ) (first count : ℕ) (lands : List Held) (areas : List ℤ) (all : ℤ)
-    → first ≡ get_or owners 0 0 → IsLandFrom (get_or owners 0 0) count lands areas all → IsLandFrom first count lands areas all
-land_start owners first count lands areas all e h = subst (λ n. IsLandFrom n count lands areas all) (sym e) h
-
 pub found_land_more : {A : Type 0} (ss : List Segment) (faces : List (Face A)) (i : ℕ) (f : Face A) → i < length faces → f ≡ get_or faces i f
     → found_lands (faces_seen ss (take (i + 1) faces)) ≡ found_lands (faces_seen ss (take i faces)) ++ (land_of (face_seen ss f), f.twice_area) ∷ []
 found_land_more ss faces i f l e =
@@ -153,6 +167,31 @@ pub decided_land_more : {A : Type 0} (ss : List Segment) (faces : List (Face A))
 decided_land_more ss faces decisions i f d l m e g =
     ap decided_lands (pairs_more (face_seen ss) faces decisions i f d l m e g)
     ∙ map-append (λ (x : DecidedFace). (land_after x, x.0.area)) (zip (map (face_seen ss) (take i faces)) (take i decisions)) ((face_seen ss f, d) ∷ [])
+
+-- a face more, by what its features are
+pub land_step : (owners : List ℕ) (first count : ℕ) (lands more : List Held) (features land : List ℕ) (given area : ℤ) (areas : List ℤ) (all : ℤ)
+    → first ≡ get_or owners 0 0 → features ≡ land → given ≡ area → more ≡ lands ++ (land, area) ∷ []
+    → IsLandFrom first count (lands ++ (features, given) ∷ []) areas all → IsLandFrom (get_or owners 0 0) count more areas all
+land_step owners first count lands more features land given area areas all e f k g h =
+    subst (λ n. IsLandFrom n count more areas all) e
+    (subst (λ xs. IsLandFrom first count xs areas all) (ap₂ (λ ns z. lands ++ (ns, z) ∷ []) f k ∙ sym g) h)
+
+-- the same of a face and what was decided of it
+pub decided_step : {A : Type 0} (owners : List ℕ) (first count : ℕ) (ss : List Segment) (faces : List (Face A)) (decisions : List Decision) (i : ℕ) (f : Face A) (e : Decision)
+    (features : List ℕ) (given : ℤ) (areas : List ℤ) (all : ℤ)
+    → i < length faces → i < length decisions → f ≡ get_or faces i f → first ≡ get_or owners 0 0
+    → features ≡ land_then (land_of (face_seen ss f)) (get_or decisions i e) → given ≡ f.twice_area
+    → IsLandFrom first count (decided_lands (zip (map (face_seen ss) (take i faces)) (take i decisions)) ++ (features, given) ∷ []) areas all
+    → IsLandFrom (get_or owners 0 0) count (decided_lands (zip (map (face_seen ss) (take (i + 1) faces)) (take (i + 1) decisions))) areas all
+decided_step owners first count ss faces decisions i f e features given areas all l m is same held area h =
+    let d = get_or decisions i e in
+    land_step owners first count (decided_lands (zip (map (face_seen ss) (take i faces)) (take i decisions)))
+    (decided_lands (zip (map (face_seen ss) (take (i + 1) faces)) (take (i + 1) decisions))) features (land_then (land_of (face_seen ss f)) d) given f.twice_area
+    areas all same held area (decided_land_more ss faces decisions i f d l m is (get_or_default decisions i e d m)) h
+
+pub land_start : (owners : List ℕ) (first count : ℕ) (lands : List Held) (areas : List ℤ) (all : ℤ)
+    → first ≡ get_or owners 0 0 → IsLandFrom (get_or owners 0 0) count lands areas all → IsLandFrom first count lands areas all
+land_start owners first count lands areas all e h = subst (λ n. IsLandFrom n count lands areas all) (sym e) h
 
 -- ---- where features ascend, each is there once or not at all
 
@@ -170,14 +209,15 @@ none_of n (x ∷ xs) h =
 once_or_not : (n : ℕ) (ns : List ℕ) → IsStrictlySortedBy nat_cmp ns → count_by (λ m. eqb m n) ns ≡ cond (has_number n ns) 1 0
 unfolding IsStrictlySortedBy
 once_or_not n [] s = refl
-once_or_not n (x ∷ xs) s = sum_by-cons (λ m. cond (eqb m n) 1 0) x xs ∙ by (eqb x n) refl
+once_or_not n (x ∷ xs) s = sum_by-cons (λ m. cond (eqb m n) 1 0) x xs ∙ by (eqb x n) refl (once_or_not n xs s.1)
   where
-    by : (b : Bool) → eqb x n ≡ b → cond b 1 0 + count_by (λ m. eqb m n) xs ≡ cond (b || has_number n xs) 1 0
-    by true e =
+    by : (b : Bool) → eqb x n ≡ b → count_by (λ m. eqb m n) xs ≡ cond (has_number n xs) 1 0
+        → cond b 1 0 + count_by (λ m. eqb m n) xs ≡ cond (b || has_number n xs) 1 0
+    by true e more =
         let none = none_of n xs (λ m i f. let less = less_than x m (in_recursion (λ y. nat_cmp x y ≡ Less) xs m s.0 i) in
         let same = eqb-true x n e in omega (arith, less, same, f)) in
         omega (arith, none)
-    by false e = let more = once_or_not n xs s.1 in omega (arith, more)
+    by false e more = omega (arith, more)
 
 pub times_once : (n : ℕ) (ns : List ℕ) (area : ℤ) → IsStrictlySortedBy nat_cmp ns → times_area n (ns, area) ≡ cond (has_number n ns) area (pos 0)
 times_once n ns area s = ap (λ k. pos k *ℤ area) (once_or_not n ns s) ∙ by (has_number n ns)

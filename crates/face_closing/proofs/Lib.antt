@@ -3,6 +3,6 @@ pub mod Making
 pub mod Placing
 pub mod Pairing
 pub mod Settling
-pub mod Keeping
+pub mod Runs
 pub mod Hands
 pub mod Lands

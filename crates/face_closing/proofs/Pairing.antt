@@ -1,6 +1,7 @@
 -- Two lists gone over at once, by the place in both.
-use Rattle.kit_words.proofs.Common.{◌≡◌, ℕ, zero, suc, ◌+◌, ◌<◌, ◌≤◌, ap, ap₂, refl, sym, ◌∙◌, arith, List, [], ◌∷◌, ◌++◌, length, map, take, take_all, get_or, flat_map, append-nil, append_assoc, flat_mapped_more, All, All-push, All-same}
-use Rattle.std.specs.List.{zip}
+use Rattle.kit_words.proofs.Common.{◌≡◌, ℕ, zero, suc, ◌+◌, ◌<◌, ◌≤◌, ap, ap₂, refl, sym, ◌∙◌, arith, List, [], ◌∷◌, ◌++◌, length, map, take, take_all, get_or, flat_map, append-nil, append_assoc, flat_mapped_more, mapped_more, subst, get_or_default, all_zipped_more, All, All-push, All-same}
+use Rattle.std.specs.List.{AllZip, zip}
+use Rattle.std.proofs.lemmas.List.{take_more}
 use Rattle.std.proofs.lemmas.List.Concat.{flat_map-append}
 
 -- the pairs so far, and one more
@@ -11,7 +12,9 @@ pairs_more of [] ys i x y l m e f = absurd (omega arith)
 pairs_more of (u ∷ us) [] i x y l m e f = absurd (omega arith)
 pairs_more of (u ∷ us) (v ∷ vs) zero x y l m e f = ap₂ (λ a b. (of a, b) ∷ []) (sym e) (sym f)
 pairs_more of (u ∷ us) (v ∷ vs) (suc i) x y l m e f =
-    ap (λ rest. (of u, v) ∷ rest) (pairs_more of us vs i x y (omega arith) (omega arith) e f)
+    let next : suc i + 1 ≡ suc (i + 1) = omega arith in
+    ap (λ k. zip (map of (take k (u ∷ us))) (take k (v ∷ vs))) next
+    ∙ ap (λ rest. (of u, v) ∷ rest) (pairs_more of us vs i x y (omega arith) (omega arith) e f)
 
 -- what is gathered from the pairs so far, and from one more
 pub gathered_more : {X Y Z W : Type 0} (g : Z × Y → List W) (of : X → Z) (xs : List X) (ys : List Y) (i : ℕ) (x : X) (y : Y)
@@ -47,3 +50,29 @@ pub all_pairs : {X Y Z : Type 0} (of : X → Z) (slice xs : List X) (ys : List Y
     → zip (map of (take i slice)) (take i ys) ≡ zip (map of xs) ys
 all_pairs of slice xs ys i e l same =
     ap₂ (λ a b. zip (map of a) b) (take_all i slice l ∙ e) (take_all i ys (omega (arith, ap length e, l, same)))
+
+-- ---- one more, where the second list is read with a default
+
+pub gathered_next : {X Y Z W : Type 0} (g : Z × Y → List W) (of : X → Z) (xs : List X) (ys : List Y) (i : ℕ) (x : X) (e : Y) (old new : List W)
+    → i < length xs → length ys ≡ length xs → x ≡ get_or xs i x → old ≡ flat_map g (zip (map of (take i xs)) (take i ys))
+    → new ≡ old ++ g (of x, get_or ys i e) → new ≡ flat_map g (zip (map of (take (i + 1) xs)) (take (i + 1) ys))
+gathered_next g of xs ys i x e old new l same is so_far put =
+    let m : i < length ys = omega arith in
+    put ∙ ap (λ z. z ++ g (of x, get_or ys i e)) so_far
+    ∙ sym (gathered_more g of xs ys i x (get_or ys i e) l m is (get_or_default ys i e (get_or ys i e) m))
+
+pub all_pairs_next : {X Y Z : Type 0} (P : Z × Y → Type 0) (of : X → Z) (xs : List X) (ys : List Y) (i : ℕ) (x : X) (e : Y)
+    → i < length xs → length ys ≡ length xs → x ≡ get_or xs i x
+    → All P (zip (map of (take i xs)) (take i ys)) → P (of x, get_or ys i e) → All P (zip (map of (take (i + 1) xs)) (take (i + 1) ys))
+all_pairs_next P of xs ys i x e l same is h p =
+    let m : i < length ys = omega arith in
+    all_pairs_more P of xs ys i x (get_or ys i e) l m is (get_or_default ys i e (get_or ys i e) m) h p
+
+pub all_zip_next : {X Y Z : Type 0} (R : Z → Y → Type 0) (of : X → Z) (xs : List X) (ys : List Y) (i : ℕ) (x : X) (e : Y)
+    → i < length xs → length ys ≡ length xs → x ≡ get_or xs i x
+    → AllZip R (map of (take i xs)) (take i ys) → R (of x) (get_or ys i e) → AllZip R (map of (take (i + 1) xs)) (take (i + 1) ys)
+all_zip_next R of xs ys i x e l same is h r =
+    let m : i < length ys = omega arith in
+    subst (λ zs. AllZip R zs (take (i + 1) ys)) (sym (mapped_more of xs i x l is))
+    (subst (AllZip R (map of (take i xs) ++ of x ∷ [])) (sym (take_more ys i e m))
+    (all_zipped_more R (map of (take i xs)) (take i ys) (of x) (get_or ys i e) h r))

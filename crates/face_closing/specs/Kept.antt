@@ -39,7 +39,7 @@ abbrev pub changed_of : DecidedFace → List ℕ
 changed_of x = changed_by x.0.holders x.0.features x.1
 
 -- numbers that begin with those of one feature, if there are any, and go on with others
-pub record IsCutOff (n : ℕ) (numbers own rest : List ℕ) : Type 0 where
-  pub joined : numbers ≡ own ++ rest
-  pub own : All (λ m. m ≡ n) own
+pub record IsCutOff (n : ℕ) (numbers front rest : List ℕ) : Type 0 where
+  pub joined : numbers ≡ front ++ rest
+  pub own : All (λ m. m ≡ n) front
   pub some : 0 < length numbers → slice_index numbers 0 ≡ n → length rest < length numbers

@@ -18,14 +18,22 @@ pub data MayRemain (after before : Kind) : Decision → Type 0 where
   waits : MayRemain after before Waits
   was_gap : after ≡ Lake → before ≡ Gap → MayRemain after before Stays
 
+-- the side was one of a face that may be left of this kind
+pub record MayStay (decided : List DecidedFace) (kind : Kind) (a : Side) : Type 0 where
+  pub before : DecidedFace
+  pub had_side : HasSide decided a before
+  pub may : MayRemain kind before.0.kind before.1
+
 -- the face has a side of a face before that may remain
 pub record IsLeft (decided : List DecidedFace) (f : FaceOf) : Type 0 where
   pub side : Side
-  pub before : DecidedFace
   pub has_side : Contains f.sides side
-  pub had_side : HasSide decided side before
-  pub may : MayRemain f.kind before.0.kind before.1
+  pub stays : MayStay decided f.kind side
 
--- each face that is found after closing, and that is asked for, is one that may remain, or has a part of one
+-- it is one that may remain, or has a part of one, if it is asked for
+abbrev pub MayBeThere : Closing → List DecidedFace → FaceOf → Type 0
+MayBeThere asked decided f = IsTrue (is_asked asked f) → IsLeft decided f
+
+-- each face that is found after closing, and that is asked for, is such
 abbrev pub OnlyLeftRemain : Closing → List DecidedFace → List FaceOf → Type 0
-OnlyLeftRemain asked decided after = All (λ f. IsTrue (is_asked asked f) → IsLeft decided f) after
+OnlyLeftRemain asked decided after = All (MayBeThere asked decided) after

@@ -49,9 +49,13 @@ pub data WaitsRightly (decided : List DecidedFace) (f : FaceOf) : Type 0 where
   nowhere : (f.kind ≡ Twice → ⊥) → All (HasLand decided) (land_of f) → AllBeyond decided f
       → WaitsRightly decided f
 
+-- if it waits, it does so rightly
+abbrev pub MayWait : List DecidedFace → DecidedFace → Type 0
+MayWait decided x = IsTrue (is_waiting x.1) → WaitsRightly decided x.0
+
 -- each face that waits does so rightly
 abbrev pub AllWaitRightly : List DecidedFace → Type 0
-AllWaitRightly decided = All (λ x. IsTrue (is_waiting x.1) → WaitsRightly decided x.0) decided
+AllWaitRightly decided = All (MayWait decided) decided
 
 -- ---- as it is computed
 

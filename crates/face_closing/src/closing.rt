@@ -83,8 +83,8 @@ fn looked_at<A: Allocator + Copy>(
 ) -> Result<Look<A>, CloseFault>
     requires proper { IsProperLayer (polygons_seen owned.polygons.now) }
     requires owned { length owned.owners.now ≡ length owned.polygons.now }
-    ensures look { IfOk result (IsLook (polygons_seen owned.polygons.now) owned.owners.now) }
-    ensures few { OnOk result (sum_by (sum_by length) (polygons_seen owned.polygons.now) ≤ 4000000) }
+    ensures look { IfOk result (IsLook (polygons_seen owned.entry.polygons.now) owned.entry.owners.now) }
+    ensures few { OnOk result (sum_by (sum_by length) (polygons_seen owned.entry.polygons.now) ≤ 4000000) }
 {
     match look_at(alloc, owned.polygons, owned.owners) {
         Ok(look) => Ok(look),
@@ -105,20 +105,20 @@ fn tested<A: Allocator + Copy>(
     requires owned { length before.owners.now ≡ length before.polygons.now }
     requires ascending { IsNonDecreasingBy (λ n. n) before.owners.now }
     requires same { length decided.now.decisions.now ≡ length decided.now.facing.now.look.now.faces.items }
-    ensures made { OnOk result (AreMade (polygons_seen before.polygons.now) (polygons_seen after.polygons.now)) }
-    ensures proper { OnOk result (IsProperLayer (polygons_seen after.polygons.now)) }
-    ensures owned { OnOk result (length after.owners.now ≡ length after.polygons.now) }
-    ensures ascending { OnOk result (IsNonDecreasingBy (λ n. n) after.owners.now) }
-    ensures few { OnOk result (sum_by (sum_by length) (polygons_seen after.polygons.now) ≤ 4000000) }
-    ensures look { IfOk result (IsLook (polygons_seen after.polygons.now) after.owners.now) }
+    ensures made { OnOk result (AreMade (polygons_seen before.entry.polygons.now) (polygons_seen after.entry.polygons.now)) }
+    ensures proper { OnOk result (IsProperLayer (polygons_seen after.entry.polygons.now)) }
+    ensures owned { OnOk result (length after.entry.owners.now ≡ length after.entry.polygons.now) }
+    ensures ascending { OnOk result (IsNonDecreasingBy (λ n. n) after.entry.owners.now) }
+    ensures few { OnOk result (sum_by (sum_by length) (polygons_seen after.entry.polygons.now) ≤ 4000000) }
+    ensures look { IfOk result (IsLook (polygons_seen after.entry.polygons.now) after.entry.owners.now) }
     ensures waits { OnOk result (AllWaitRightly (decided_seen decided.now)) }
     ensures held { IfOk result (λ look. AreHeldSo (decided_seen decided.now) (faces_in look)) }
     ensures remains { IfOk result (λ look. OnlyLeftRemain asked.now (decided_seen decided.now) (faces_in look)) }
-    ensures areas { IfOk result (λ look. AreasAgree before.owners.now (decided_seen decided.now)
+    ensures areas { IfOk result (λ look. AreasAgree before.entry.owners.now (decided_seen decided.now)
         decided.now.facing.now.look.now.sums (faces_in look) look.sums) }
     ensures kept { OnOk result (OthersStay (decided_seen decided.now)
-        before.owners.now (polygons_seen before.polygons.now) after.owners.now (polygons_seen after.polygons.now)) }
-    ensures owners { OnOk result ((n : ℕ) → Contains after.owners.now n → Contains before.owners.now n) }
+        before.entry.owners.now (polygons_seen before.entry.polygons.now) after.entry.owners.now (polygons_seen after.entry.polygons.now)) }
+    ensures owners { OnOk result ((n : ℕ) → Contains after.entry.owners.now n → Contains before.entry.owners.now n) }
 {
     if after.owners.len() != after.polygons.len() {
         return Err(CloseFault::TooLarge);

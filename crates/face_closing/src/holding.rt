@@ -1,10 +1,10 @@
 // Whether the sides after closing are held as it was decided.
-ghost use Rattle.std.specs.Prelude.{◌≡◌, ◌+◌, ◌*◌, if◌then◌else◌, IfSome, OnOk};
+ghost use Rattle.std.specs.Prelude.{◌≡◌, ◌+◌, ◌*◌, if◌then◌else◌, IfSome, IsTrue, OnOk};
 ghost use Rattle.layer_faces.specs.Common.{face_seen, side_at};
 ghost use Rattle.layer_sides.specs.Common.{Left, Right};
 ghost use Rattle.closing_search.specs.Common.{if_held};
 ghost use Rattle.face_closing.specs.Decided.{land_then};
-ghost use Rattle.face_closing.specs.Held.{AreHeldSo, HasSide, IsHeldSo};
+ghost use Rattle.face_closing.specs.Held.{AreHeldSo, HasSide, IsAsDecided, IsHeldSo};
 ghost use Rattle.face_closing.specs.Layer.{borders_in, faces_in};
 ghost use Rattle.face_closing.specs.Seen.{borders_before, decided_seen};
 
@@ -101,6 +101,22 @@ impl<'d, 'l, A: Allocator + Copy> Decided<'d, 'l, A> {
     }
 }
 
+/// Whether a side of a face after closing was one before, and is held as it was decided.
+fn is_held_so<A: Allocator + Copy>(
+    decided: &Decided<'_, '_, A>,
+    after: &Look<A>,
+    face: &Face<A>,
+    side: u32,
+) -> bool
+    ensures { IsTrue result → IsAsDecided (decided_seen decided.now) (side_at (borders_in after.now) side)
+        (if_held face.now.holders.items face.now.features.items) }
+{
+    match decided.face_before(after, side) {
+        Some((before, decision)) => land_after(before, decision) == land_of(face),
+        None => false,
+    }
+}
+
 /// Tests that each side of a face after closing was one before, and is held as it was decided.
 fn test_face<A: Allocator + Copy>(
     decided: &Decided<'_, '_, A>,
@@ -111,10 +127,7 @@ fn test_face<A: Allocator + Copy>(
 {
     let sides = face.sides.as_slice();
     for side in sides {
-        let Some((before, decision)) = decided.face_before(after, *side) else {
-            return Err(unclosed_at(after, *side));
-        };
-        if land_after(before, decision) != land_of(face) {
+        if !is_held_so(decided, after, face, *side) {
             return Err(unclosed_at(after, *side));
         }
     }

@@ -42,8 +42,8 @@ impl<'o, A: Allocator + Copy> Owned<'o, A> {
     /// The polygons that a feature has, from the first on, and those that follow.
     fn cut_off(self, feature: usize) -> (Owned<'o, A>, Owned<'o, A>)
         requires { length self.owners.now ≡ length self.polygons.now }
-        ensures owners { IsCutOff feature self.owners.now result.0.owners.now result.1.owners.now }
-        ensures polygons { polygons_seen self.polygons.now
+        ensures owners { IsCutOff feature self.entry.owners.now result.0.owners.now result.1.owners.now }
+        ensures polygons { polygons_seen self.entry.polygons.now
             ≡ polygons_seen result.0.polygons.now ++ polygons_seen result.1.polygons.now }
         ensures own { length result.0.owners.now ≡ length result.0.polygons.now }
         ensures rest { length result.1.owners.now ≡ length result.1.polygons.now }
@@ -105,6 +105,22 @@ fn are_same<A: Allocator + Copy>(
     polygons == others
 }
 
+/// Whether a feature is among these, which ascend, or has the same polygons.
+fn is_kept<A: Allocator + Copy>(
+    changing: &[usize],
+    feature: usize,
+    own: Owned<'_, A>,
+    new: Owned<'_, A>,
+) -> bool
+    ensures { IsTrue result → (Contains changing.now feature → ⊥)
+        → polygons_seen own.entry.polygons.now ≡ polygons_seen new.entry.polygons.now }
+{
+    if is_among(changing, feature) {
+        return true;
+    }
+    are_same(own.polygons, new.polygons)
+}
+
 /// Whether each feature but these, which ascend, has the same polygons after closing. Where not, a feature that has others.
 fn other_feature<A: Allocator + Copy>(
     changing: &[usize],
@@ -115,16 +131,16 @@ fn other_feature<A: Allocator + Copy>(
     requires owned_after { length after.owners.now ≡ length after.polygons.now }
     requires ascending { IsNonDecreasingBy (λ n. n) before.owners.now }
     ensures kept { IfNone result (AllStay (Contains changing.now)
-        before.owners.now (polygons_seen before.polygons.now) after.owners.now (polygons_seen after.polygons.now)) }
-    ensures ascending { IfNone result (IsNonDecreasingBy (λ n. n) after.owners.now) }
-    ensures owners { IfNone result ((n : ℕ) → Contains after.owners.now n → Contains before.owners.now n) }
+        before.entry.owners.now (polygons_seen before.entry.polygons.now) after.entry.owners.now (polygons_seen after.entry.polygons.now)) }
+    ensures ascending { IfNone result (IsNonDecreasingBy (λ n. n) after.entry.owners.now) }
+    ensures owners { IfNone result ((n : ℕ) → Contains after.entry.owners.now n → Contains before.entry.owners.now n) }
 {
     let (mut rest, mut made) = (before, after);
     while let [first, ..] = rest.owners {
         let feature = *first;
         let (own, rest_after) = rest.cut_off(feature);
         let (new, made_after) = made.cut_off(feature);
-        if !is_among(changing, feature) && !are_same(own.polygons, new.polygons) {
+        if !is_kept(changing, feature, own, new) {
             return Some(feature);
         }
         rest = rest_after;
@@ -146,9 +162,9 @@ pub(crate) fn test_kept<A: Allocator + Copy>(
     requires owned_after { length after.owners.now ≡ length after.polygons.now }
     requires ascending { IsNonDecreasingBy (λ n. n) before.owners.now }
     ensures kept { OnOk result (OthersStay (decided_seen decided.now)
-        before.owners.now (polygons_seen before.polygons.now) after.owners.now (polygons_seen after.polygons.now)) }
-    ensures ascending { OnOk result (IsNonDecreasingBy (λ n. n) after.owners.now) }
-    ensures owners { OnOk result ((n : ℕ) → Contains after.owners.now n → Contains before.owners.now n) }
+        before.entry.owners.now (polygons_seen before.entry.polygons.now) after.entry.owners.now (polygons_seen after.entry.polygons.now)) }
+    ensures ascending { OnOk result (IsNonDecreasingBy (λ n. n) after.entry.owners.now) }
+    ensures owners { OnOk result ((n : ℕ) → Contains after.entry.owners.now n → Contains before.entry.owners.now n) }
 {
     let changing = changing(alloc, decided)?;
     match other_feature(changing.as_slice(), before, after) {

@@ -1,5 +1,5 @@
 // Whether the land of each feature changed by what was closed, and nothing else.
-ghost use Rattle.std.specs.Prelude.{◌≡◌, ◌++◌, ◌∷◌, ◌+ℤ◌, [], ℕ, List, pos, length, slice_index_or, if◌then◌else◌, IfNone, IfOk, IfSome, OnOk};
+ghost use Rattle.std.specs.Prelude.{◌≡◌, ◌≤◌, ◌++◌, ◌∷◌, ◌+ℤ◌, unsigned_abs, [], ℕ, List, pos, length, slice_index_or, if◌then◌else◌, IfNone, IfOk, IfSome, OnOk};
 ghost use Rattle.std.specs.List.Sorted.{IsNonDecreasingBy};
 ghost use Rattle.layer_faces.specs.Common.{is_any};
 ghost use Rattle.face_closing.specs.Areas.{AddsAt, AddsLand, AreOnce, AreasAgree, Held, IsLandFrom, IsLandOf, decided_lands, found_lands, reach_of};
@@ -17,7 +17,11 @@ use std::alloc::Allocator;
 struct Land<A: Allocator + Copy> {
     areas: Vec<i128, A>,
     all: i128,
+    ghost small: { unsigned_abs all ≤ 64000000000000000000000000000000000000 },
 }
+
+/// The greatest area of all land: more than all faces of a layer have together.
+const MAX_LAND: u128 = 64_000_000_000_000_000_000_000_000_000_000_000_000;
 
 /// The number of the first feature.
 fn first_of(owners: &[usize]) -> usize
@@ -43,12 +47,12 @@ fn reach_of(owners: &[usize]) -> Option<usize>
 fn add_at(areas: &mut [i128], place: usize, area: i128) -> Result<(), CloseFault>
     ensures { OnOk result (AddsAt place area areas.old areas.new) }
 {
-    let Some(entry) = areas.get_mut(place) else {
+    if areas.len() <= place {
         return Ok(());
-    };
-    match entry.checked_add(area) {
+    }
+    match areas[place].checked_add(area) {
         Some(sum) => {
-            *entry = sum;
+            areas[place] = sum;
             Ok(())
         }
         None => Err(CloseFault::TooLarge),
@@ -87,14 +91,16 @@ fn add_land(
 
 /// The area of all land, with a face that these features hold.
 fn all_with(all: i128, features: &[usize], area: i128) -> Result<i128, CloseFault>
-    ensures { IfOk result (λ sum. sum ≡ all +ℤ (if is_any features.now then area else pos 0)) }
+    requires { unsigned_abs all ≤ 64000000000000000000000000000000000000 }
+    ensures value { IfOk result (λ sum. sum ≡ all +ℤ (if is_any features.now then area else pos 0)) }
+    ensures small { IfOk result (λ sum. unsigned_abs sum ≤ 64000000000000000000000000000000000000) }
 {
     if features.is_empty() {
         return Ok(all);
     }
     match all.checked_add(area) {
-        Some(sum) => Ok(sum),
-        None => Err(CloseFault::TooLarge),
+        Some(sum) if sum.unsigned_abs() <= MAX_LAND => Ok(sum),
+        _ => Err(CloseFault::TooLarge),
     }
 }
 

@@ -5,9 +5,10 @@ ghost use Rattle.std.specs.List.Sorted.{IsStrictlySortedBy};
 ghost use Rattle.std.specs.Ordering.{nat_cmp};
 ghost use Rattle.layer_sides.specs.Common.{has_number};
 ghost use Rattle.layer_faces.specs.Common.{IsOnce, face_seen, side_at};
+ghost use Rattle.layer_faces.specs.declared.kind.Kind.TheVariants.{Twice};
 ghost use Rattle.face_closing.specs.Areas.{AreOnce};
 ghost use Rattle.face_closing.specs.Seen.{borders_before, decided_seen, faces_before};
-ghost use Rattle.face_closing.specs.Waiting.{AllBeyond, AllWaitRightly, MayHave, NothingBeyond, WaitsRightly, is_waiting, settled_by, settled_of};
+ghost use Rattle.face_closing.specs.Waiting.{AllBeyond, AllWaitRightly, MayHave, MayWait, NothingBeyond, WaitsRightly, is_waiting, settled_by, settled_of};
 
 use crate::fault::CloseFault;
 use crate::holding::{Decided, land_after, unclosed_at};
@@ -66,7 +67,8 @@ fn count_poor(settled: &[usize], features: &[usize]) -> usize
 {
     let mut count = 0usize;
     for feature in features {
-        if !is_among(settled, *feature) {
+        let is_poor = !is_among(settled, *feature);
+        if is_poor {
             count += 1;
         }
     }
@@ -96,12 +98,13 @@ fn is_nothing_beyond<A: Allocator + Copy>(
     ensures { IsTrue result → NothingBeyond (decided_seen decided.now)
         (face_seen (borders_before decided.now) face.now) (side_at (borders_before decided.now) side) }
 {
-    match decided.at(opposite(side)) {
-        Some((beyond, decision)) => {
-            is_waiting(decision) || !may_any(land_of(face), land_after(beyond, decision))
-        }
-        None => false,
+    let Some((beyond, decision)) = decided.at(opposite(side)) else {
+        return false;
+    };
+    if is_waiting(decision) {
+        return true;
     }
+    !may_any(land_of(face), land_after(beyond, decision))
 }
 
 /// Whether that is so of all sides of a face.
@@ -118,6 +121,16 @@ fn is_nowhere<A: Allocator + Copy>(decided: &Decided<'_, '_, A>, face: &Face<A>)
     true
 }
 
+/// Whether two polygons of one feature hold a face of this kind, and no other feature.
+fn is_twice(kind: Kind) -> bool
+    ensures { kind ≡ Twice → IsTrue result }
+{
+    match kind {
+        Kind::Twice => true,
+        Kind::Overlap | Kind::Gap | Kind::Lake | Kind::Land | Kind::Outside => false,
+    }
+}
+
 /// Whether the rule gives a face to nobody, where these features have land, ascending.
 fn waits_rightly<A: Allocator + Copy>(
     decided: &Decided<'_, '_, A>,
@@ -129,14 +142,32 @@ fn waits_rightly<A: Allocator + Copy>(
     ensures { IsTrue result
         → WaitsRightly (decided_seen decided.now) (face_seen (borders_before decided.now) face.now) }
 {
-    if matches!(face.kind, Kind::Twice) {
+    if is_twice(face.kind) {
         return false;
     }
-    match count_poor(settled, land_of(face)) {
-        0 => is_nowhere(decided, face),
-        1 => false,
-        _ => true,
+    let poor = count_poor(settled, land_of(face));
+    if poor == 0 {
+        return is_nowhere(decided, face);
     }
+    poor > 1
+}
+
+/// Whether a face does not wait, or does so rightly, where these features have land, ascending.
+fn may_wait<A: Allocator + Copy>(
+    decided: &Decided<'_, '_, A>,
+    settled: &[usize],
+    face: &Face<A>,
+    decision: &Decision,
+) -> bool
+    requires settled { IsOnce (flat_map settled_of (decided_seen decided.now)) settled.now }
+    requires ascending { IsStrictlySortedBy nat_cmp face.now.features.items }
+    ensures { IsTrue result
+        → MayWait (decided_seen decided.now) (face_seen (borders_before decided.now) face.now, decision.now) }
+{
+    if !is_waiting(decision) {
+        return true;
+    }
+    waits_rightly(decided, settled, face)
 }
 
 /// Tests that the rule gives each face that waits to nobody.
@@ -152,7 +183,7 @@ pub(crate) fn test_waiting<A: Allocator + Copy>(
     let faces = decided.facing.look.faces.as_slice();
     let decisions = decided.decisions;
     for (place, face) in faces.iter().enumerate() {
-        if is_waiting(&decisions[place]) && !waits_rightly(decided, settled.as_slice(), face) {
+        if !may_wait(decided, settled.as_slice(), face, &decisions[place]) {
             return Err(unclosed_at(decided.facing.look, face.first));
         }
     }

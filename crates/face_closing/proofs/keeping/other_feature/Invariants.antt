@@ -1,6 +1,6 @@
 use Rattle.kit_words.proofs.Common.{◌≡◌, length, Contains}
 use Rattle.ring_parts.specs.Common.{polygons_seen}
-use Rattle.face_closing.proofs.Keeping.{GoneOver}
+use Rattle.face_closing.proofs.Runs.{GoneOver}
 use Rattle.face_closing.proofs.keeping.other_feature.Given as goal
 
 -- the features so far that are none of these have the same polygons

@@ -1,13 +1,11 @@
 use Rattle.kit_words.proofs.Common.{take, All}
-use Rattle.std.specs.Prelude.{IsTrue}
 use Rattle.layer_faces.specs.Common.{faces_seen}
-use Rattle.closing_search.specs.Common.{is_asked}
 use Rattle.face_closing.specs.Layer.{borders_in}
-use Rattle.face_closing.specs.Remaining.{IsLeft}
+use Rattle.face_closing.specs.Remaining.{MayBeThere}
 use Rattle.face_closing.specs.Seen.{decided_seen}
 use Rattle.face_closing.proofs.remaining.test_remaining.Given as goal
 
 -- what is asked for of the faces so far is left
 abbrev pub invariant-loop-face : goal.invariant-loop-face
 invariant-loop-face g l =
-    All (λ f. IsTrue (is_asked l.asked f) → IsLeft (decided_seen l.decided) f) (faces_seen (borders_in l.after) (take l.face-index l.faces))
+    All (MayBeThere l.asked (decided_seen l.decided)) (faces_seen (borders_in l.after) (take l.face-index l.faces))

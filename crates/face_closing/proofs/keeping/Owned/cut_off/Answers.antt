@@ -1,5 +1,5 @@
 use Rattle.kit_words.proofs.Common.{arith}
-use Rattle.face_closing.proofs.Keeping.{cut_is, seen_cut}
+use Rattle.face_closing.proofs.Runs.{cut_is, seen_cut}
 use Rattle.face_closing.proofs.keeping.Owned.cut_off.Goals as goal
 
 pub returns-clause-owners : goal.returns-clause-owners
