@@ -299,6 +299,12 @@ def check_shared(checks):
     for names, rounds in ROUNDS:
         edits = {str(number): changes_at([("", name)]) for number, name in enumerate(names)}
         checks.check(f"rounds of {names}", together.in_rounds(edits), rounds)
+    # (one is told when no other is tried with it that is not told yet, and lost never)
+    edits, tries = {name: changes_at([("", name)]) for name in ("one", "other", "lost")}, []
+    found = together.told_in_passes(edits, lambda left, names: tries.append(sorted(left)) or {
+        name: "refused" for name in names if name == "other" or name == "one" and "other" not in left})
+    checks.check("what passes tell", (found, tries), ({"one": "refused", "other": "refused"}, [
+        ["lost", "one", "other"], ["lost", "one"], ["lost"]]))
     sources = {"src/lib.rt": "fn add() {\n    1\n}\n\nfn put() {\n    2\n}\n", "src/a/b.rt": "fn new() {\n    2\n}\n"}
     with tempfile.TemporaryDirectory() as folder:
         edit = pathlib.Path(folder, "it.edit")

@@ -2,8 +2,8 @@
 
 A check with --allow-holes goes on past what is not proved, and has a line for each function. An edit is refused where
 the line of its function says that it isn't proved, by its own clauses and not by those of a function that it calls. So
-a check is shared by as many edits as stand in different functions. What can't be told so is left to a try of its own,
-as where the function calls one that another edit has spoilt.
+a check is shared by as many edits as stand in different functions. Where a function calls one that another edit has
+spoilt, its own edit is told by a further check without that one. What can't be told so is left to a try of its own.
 """
 import collections
 import re
@@ -144,15 +144,23 @@ def try_round(crate, folder, edits, names, sources):
     return found
 
 
+def told_in_passes(edits, try_names):
+    """The verdicts of edits that are tried by rounds, and those that a pass did not tell in a further one, without
+    what is told by then, until a pass tells nothing. `try_names` tries the edits of a round."""
+    found, told = {}, True
+    while told:
+        left, told = {name: changes for name, changes in edits.items() if name not in found}, {}
+        for names in in_rounds(left):
+            told |= try_names(left, names)
+            for name in names:
+                print(f"{name}: {told.get(name, 'not told')}", flush=True)
+        found |= told
+    return found
+
+
 def tried(crate, folder, names):
     """The verdicts of edits of a crate in a copy, tried together; those that are missing need a try of their own."""
     sources = {str(path.relative_to(folder)): path.read_text() for path in (folder / "src").rglob("*.rt")}
     edits = {name: changes_of(folder / "inner-edits" / f"{name}.edit", sources) for name in names}
-    edits = {name: changes for name, changes in edits.items() if changes}
-    found = {}
-    for round_names in in_rounds(edits):
-        verdicts = try_round(crate, folder, edits, round_names, sources)
-        for name in round_names:
-            print(f"{crate}/{name}: {verdicts.get(name, 'not told')}", flush=True)
-        found |= verdicts
-    return found
+    return told_in_passes({name: changes for name, changes in edits.items() if changes},
+                          lambda left, names: try_round(crate, folder, left, names, sources))
