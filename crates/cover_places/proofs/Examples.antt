@@ -3,7 +3,7 @@ use Rattle.kit_words.proofs.Common.{◌≡◌, ℕ, refl, pos, [], ◌∷◌, �
 use Rattle.grid_geometry.specs.Common.{Position, position}
 use Rattle.layer_faces.specs.declared.kind.Kind.TheVariants.{Overlap, Lake}
 use Rattle.cover_report.specs.Common.{FaceTold, Wants}
-use Rattle.cover_places.specs.Places.{PlaceOf, place_of, places_of}
+use Rattle.cover_places.specs.Places.{place_of, places_of}
 use Rattle.cover_places.specs.Text.{border_text, point_text, topology_text}
 
 abbrev at : ℕ → ℕ → Position

@@ -1,5 +1,5 @@
 -- Places that are asked for, or not.
-use Rattle.kit_words.proofs.Common.{◌≡◌, true, false, Bool, not, ap, ◌∙◌, sym, Option, Some, None, IfSome, is_some, false≢true}
+use Rattle.kit_words.proofs.Common.{◌≡◌, true, Bool, not, ap, ◌∙◌, sym, Option, Some, None, IfSome, is_some, false≢true}
 
 -- where nothing is asked for, all that is asked for holds
 pub none_holds : {X : Type 0} (o : Option X) (none : Bool) (P : X → Type 0) → is_some o ≡ not none → none ≡ true → IfSome o P

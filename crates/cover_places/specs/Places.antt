@@ -1,7 +1,6 @@
 -- The faces that are told, as a report has them.
 use Rattle.std.specs.Prelude.{ℕ, List, [], ◌∷◌, ◌++◌}
 use Rattle.walk_faults.specs.Common.{flat_map_at}
-use Rattle.layer_faces.specs.declared.kind.Kind.{Kind}
 use Rattle.layer_faces.specs.declared.kind.Kind.TheVariants.{Overlap, Twice, Gap, Lake}
 use Rattle.cover_report.specs.Common.{FaceTold, Wants, told, view_told}
 use Rattle.cover_places.specs.declared.places.Place.{Place}

@@ -1,5 +1,5 @@
 // The objects of a topology of places, and its arcs, appended to a text.
-ghost use Rattle.std.specs.Prelude.{◌≡◌, ◌≤◌, ◌++◌, length, OnOk};
+ghost use Rattle.std.specs.Prelude.{◌≡◌, ◌≤◌, ◌++◌, OnOk};
 ghost use Rattle.map_text.specs.Common.{arc_text};
 ghost use Rattle.place_text.specs.Common.{features_text};
 ghost use Rattle.cover_places.specs.Places.{place_seen};
