@@ -29,7 +29,7 @@ module _ (names : List Text) (asked : Closing) (whole : List LayerText) (all : L
   closed_turn first features l ls done done' before before' e few at adds goes = λ after ks h.
       let n = length (leaves_in l.pieces) in
       let is = subst (λ (m : ℕ). IsClosedTo asked (layer_of l.name first (take n features)) (layer_of l.name m adds.added) adds.layer) at adds.closed in
-      let here = closed e (length-take-le n features few) adds.counted is h in
+      let here = closed (take n features) adds.added (drop n features) after e (length-take-le n features few) adds.counted is h in
       let there = goes (adds.added ++ after) (adds.layer ∷ ks)
       (subst (λ (fs : List (List Polygon)). AreClosings names asked first (l ∷ ls) fs (adds.added ++ after) (adds.layer ∷ ks)) (take-append-drop n features) here) in
       let all_layers : before' ++ ks ≡ before ++ adds.layer ∷ ks = ap (λ (z : List ClosedLayer). z ++ ks) adds.layers ∙ append_assoc before (adds.layer ∷ []) ks in
@@ -45,7 +45,7 @@ module _ (names : List Text) (asked : Closing) (whole : List LayerText) (all : L
       → GoesOn (first + length (leaves_in l.pieces)) (drop (length (leaves_in l.pieces)) features) ls done' before'
   stays_turn first features l ls done done' before before' e few same behind goes = λ after ks h.
       let n = length (leaves_in l.pieces) in
-      let here = stays e (length-take-le n features few) h in
+      let here = stays (take n features) (drop n features) after e (length-take-le n features few) h in
       let there = goes (take n features ++ after) ks
       (subst (λ (fs : List (List Polygon)). AreClosings names asked first (l ∷ ls) fs (take n features ++ after) ks) (take-append-drop n features) here) in
       subst (λ (z : List ClosedLayer). AreClosings names asked 0 whole all (done' ++ after) (z ++ ks)) (sym same)

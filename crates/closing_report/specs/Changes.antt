@@ -1,6 +1,6 @@
 -- Which features change.
 use Rattle.std.specs.Prelude.{ℕ, ℤ, suc, Bool, not, ◌==◌, List, [], ◌∷◌, ◌++◌, length, if◌then◌else◌}
-use Rattle.std.specs.List.{list_eq}
+use Rattle.std.specs.Cmp.Lexicographic.{pointwise}
 use Rattle.grid_geometry.specs.Common.{position_eq}
 use Rattle.ring_machine.specs.Common.{polygon_area}
 use Rattle.layer_sides.specs.Common.{Polygon}
@@ -14,7 +14,7 @@ feature_area polygons = total polygon_area polygons
 
 -- the features are the same, ring by ring and position by position
 abbrev pub is_same : List Polygon → List Polygon → Bool
-is_same one other = list_eq (list_eq (list_eq position_eq)) one other
+is_same one other = pointwise (pointwise (pointwise position_eq)) one other
 
 -- feature n stands as another number of polygons than it did
 abbrev pub parts_change : ℕ → List Polygon → List Polygon → List PartsChange

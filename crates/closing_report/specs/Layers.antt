@@ -52,13 +52,13 @@ pub record IsClosedTo (asked : Closing) (l after : LayerOf) (k : ClosedLayer) : 
 pub data AreClosings (names : List Text) (asked : Closing) : ℕ → List LayerText → List (List Polygon) → List (List Polygon)
     → List ClosedLayer → Type 0 where
   none : {n : ℕ} → AreClosings names asked n [] [] [] []
-  closed : {n : ℕ} {l : LayerText} {ls : List LayerText} {old new before after : List (List Polygon)} {k : ClosedLayer} {ks : List ClosedLayer}
+  closed : {n : ℕ} {l : LayerText} {ls : List LayerText} (old new before after : List (List Polygon)) {k : ClosedLayer} {ks : List ClosedLayer}
       → is_asked names l.name ≡ true
       → length old ≡ length (leaves_in l.pieces) → length new ≡ length (leaves_in l.pieces)
       → IsClosedTo asked (layer_of l.name n old) (layer_of l.name n new) k
       → AreClosings names asked (n + length (leaves_in l.pieces)) ls before after ks
       → AreClosings names asked n (l ∷ ls) (old ++ before) (new ++ after) (k ∷ ks)
-  stays : {n : ℕ} {l : LayerText} {ls : List LayerText} {old before after : List (List Polygon)} {ks : List ClosedLayer}
+  stays : {n : ℕ} {l : LayerText} {ls : List LayerText} (old before after : List (List Polygon)) {ks : List ClosedLayer}
       → is_asked names l.name ≡ false
       → length old ≡ length (leaves_in l.pieces)
       → AreClosings names asked (n + length (leaves_in l.pieces)) ls before after ks
