@@ -65,7 +65,7 @@ def with_text(ended, changed):
     return ended._replace(text=saved_text(with_features(read(ended.text), changed)))
 
 
-def chosen(draw, ended, test=lambda feature: feature.polygons):
+def chosen(draw, ended, test=lambda feature: any(feature.polygons)):
     """A number of a feature that passes a test."""
     return draw.choice([n for n, feature in enumerate(read(ended.text).features) if test(feature)] or [None])
 
@@ -87,7 +87,7 @@ def on_own_ring(draw, ended, made):
 
     def changed(n, feature):
         if n == number:
-            rings = draw.choice(feature.polygons)
+            rings = draw.choice(list(filter(None, feature.polygons)))
             at = draw.randrange(len(rings))
             rings[at] = from_least(made(rings[at]))
     return with_text(ended, changed)
