@@ -1,5 +1,5 @@
 -- What clap found is what the arguments ask for.
-use Rattle.kit_words.proofs.Common.{◌≡◌, ◌∙◌, ap, refl, subst, sym, ℕ, List, [], Option, Some, None, map, option_map, Bor}
+use Rattle.kit_words.proofs.Common.{◌≡◌, ◌∙◌, ap, refl, subst, ℕ, List, [], Option, Some, None, map, option_map, Bor}
 use Rattle.std.specs.Prelude.{unwrap_or}
 use Rattle.clap.specs.Words.{App, HasMatchesOf, Row, Text, all_of, first_of, first_value, found_of, is_simple, matched_of, matches_of, raw_values, rows_of}
 use Rattle.clap.specs.declared.parser.matches.ArgMatches.{ArgMatches}
