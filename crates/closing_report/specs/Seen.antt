@@ -17,7 +17,7 @@ abbrev pub closed_seen : {A : Type 0} → Looked A → DecidedLayer A → Closed
 closed_seen looked decided = record {
   found = view_looked looked;
   decided = zip (view_looked looked).faces decided.decisions.items;
-  now = decided.now;
+  now = decided.sums;
 }
 
 -- the layers in their order

@@ -32,7 +32,8 @@ use topo_outline::RawLayer;
 pub(crate) struct DecidedLayer<A: Allocator + Copy> {
     /// Of each face that may be told.
     pub(crate) decisions: Vec<Decision, A>,
-    pub(crate) now: Sums,
+    /// What the areas add up to now.
+    pub(crate) sums: Sums,
 }
 
 /// The layers that were closed, and those that were not come to yet.
@@ -223,7 +224,7 @@ impl<'a, A: Allocator + Copy> Closings<'a, A> {
         let decisions = told_decisions(alloc, &look, decisions.as_slice())?;
         self.decided.push(DecidedLayer {
             decisions,
-            now: after.sums,
+            sums: after.sums,
         })?;
         or_return!(self.push_features(alloc, count, polygons, owners.as_slice()));
         self.looks.push(told_at(alloc, name, &owned, look)?)?;

@@ -69,9 +69,9 @@ fn push_now<A: Allocator, B: Allocator + Copy>(
     looked: &Looked<'_, B>,
     decided: &DecidedLayer<B>,
 ) -> Result<(), AllocError>
-    ensures { OnOk result (text.new.items ≡ text.old.items ++ now_line (looked.now.name.now, decided.now.now)) }
+    ensures { OnOk result (text.new.items ≡ text.old.items ++ now_line (looked.now.name.now, decided.now.sums)) }
 {
-    let sums = decided.now;
+    let sums = decided.sums;
     append!(text; b"now " push_number(sums.polygons) b" over " push_number(sums.over)
         b" covered " push_number(sums.covered) b" gaps " push_number(sums.gaps)
         b" within " push_number(sums.within) b" " push_bytes(looked.name) b"\n")
@@ -85,7 +85,7 @@ pub(crate) fn push_all_now<A: Allocator, B: Allocator + Copy>(
 ) -> Result<(), AllocError>
     requires even { length looks.now ≡ length decided.now }
     ensures { OnOk result (text.new.items ≡ text.old.items ++ flat_map now_line
-        (zip (map (λ l. l.name.now) looks.now) (map (λ d. d.now) decided.now))) }
+        (zip (map (λ l. l.name.now) looks.now) (map (λ d. d.sums) decided.now))) }
 {
     for (place, looked) in looks.iter().enumerate() {
         push_now(text, looked, &decided[place])?;
