@@ -10,6 +10,7 @@ use Rattle.topo_outline.specs.declared.fault.OpenFault.TheVariants as opening
 use Rattle.arc_store.specs.declared.fault.BuildFault.{BuildFault}
 use Rattle.arc_store.specs.declared.fault.BuildFault.TheVariants as build
 use Rattle.script_runner.specs.Devices.{Devices, Reader, Writer, devices}
+use Rattle.script_runner.specs.Language.{Language}
 use Rattle.script_runner.specs.Outcome.{IsUnopened, AnswersAll, AnswersLines, AnswersPart, SavesPart, RunsOutOfMemory}
 use Rattle.script_runner.specs.declared.runner.Summary.{Summary}
 use Rattle.script_runner.specs.declared.fault.RunFault.{RunFault}
@@ -17,39 +18,39 @@ use Rattle.script_runner.specs.declared.fault.RunFault.TheVariants as fault
 
 -- a script was answered, from the reader `coming` and into the writer `taken` as they were before,
 -- whatever is saved besides
-abbrev pub Answers : ℕ → Document → Document → Reader → Reader → Writer → Writer → Summary → Type 0
-Answers depth d e coming left taken given summary =
+abbrev pub Answers : Language → ℕ → Document → Document → Reader → Reader → Writer → Writer → Summary → Type 0
+Answers its depth d e coming left taken given summary =
     (held holds : Writer)
-    → AnswersAll depth d e (devices coming taken held) (devices left given holds) summary
+    → AnswersAll its depth d e (devices coming taken held) (devices left given holds) summary
 
 -- how far the answers came where the answering ended early
-abbrev pub Halts : RunFault → ℕ → Document → Reader → Reader → Writer → Writer → Type 0
-Halts (fault.Open f) depth d coming left taken given = ⊥
-Halts fault.Read depth d coming left taken given =
-    (held : Writer) → AnswersLines depth d (devices coming taken held) (devices left given held)
-Halts fault.Write depth d coming left taken given =
-    ((held : Writer) → AnswersPart depth d (devices coming taken held) (devices left given held))
+abbrev pub Halts : Language → RunFault → ℕ → Document → Reader → Reader → Writer → Writer → Type 0
+Halts its (fault.Open f) depth d coming left taken given = ⊥
+Halts its fault.Read depth d coming left taken given =
+    (held : Writer) → AnswersLines its depth d (devices coming taken held) (devices left given held)
+Halts its fault.Write depth d coming left taken given =
+    ((held : Writer) → AnswersPart its depth d (devices coming taken held) (devices left given held))
     × (given.failed ≡ true)
-Halts fault.Save depth d coming left taken given = ⊥
-Halts fault.OutOfMemory depth d coming left taken given =
-    (held : Writer) → AnswersPart depth d (devices coming taken held) (devices left given held)
+Halts its fault.Save depth d coming left taken given = ⊥
+Halts its fault.OutOfMemory depth d coming left taken given =
+    (held : Writer) → AnswersPart its depth d (devices coming taken held) (devices left given held)
 
 -- the script was answered, and the text of the last document was saved and sent on
-pub record AnswersAndSaves (depth : ℕ) (d : Document) (before after : Devices) (summary : Summary) : Type 0 where
+pub record AnswersAndSaves (its : Language) (depth : ℕ) (d : Document) (before after : Devices) (summary : Summary) : Type 0 where
   pub last : Document
-  pub answers : AnswersAll depth d last before after summary
+  pub answers : AnswersAll its depth d last before after summary
   pub wrote : Appends before.saved.taken after.saved.taken (text_of last)
   pub sent : after.saved.flushed ≡ true
   pub saved : Saved (text_of last) last
 
 -- how far the answers or the saving came, where either ended early
-abbrev pub RunFails : RunFault → ℕ → Document → Devices → Devices → Type 0
-RunFails (fault.Open f) depth d before after = ⊥
-RunFails fault.Read depth d before after = AnswersLines depth d before after × (after.saved ≡ before.saved)
-RunFails fault.Write depth d before after =
-    AnswersPart depth d before after × (after.answers.failed ≡ true) × (after.saved ≡ before.saved)
-RunFails fault.Save depth d before after = SavesPart depth d before after × (after.saved.failed ≡ true)
-RunFails fault.OutOfMemory depth d before after = RunsOutOfMemory depth d before after
+abbrev pub RunFails : Language → RunFault → ℕ → Document → Devices → Devices → Type 0
+RunFails its (fault.Open f) depth d before after = ⊥
+RunFails its fault.Read depth d before after = AnswersLines its depth d before after × (after.saved ≡ before.saved)
+RunFails its fault.Write depth d before after =
+    AnswersPart its depth d before after × (after.answers.failed ≡ true) × (after.saved ≡ before.saved)
+RunFails its fault.Save depth d before after = SavesPart its depth d before after × (after.saved.failed ≡ true)
+RunFails its fault.OutOfMemory depth d before after = RunsOutOfMemory its depth d before after
 
 -- the end of a run whose answers were not all written
 abbrev pub IsAnswerEnd : WriteFault → RunFault → Type 0

@@ -1,12 +1,13 @@
 -- The end of a script.
 use Rattle.std.specs.Prelude.{◌≡◌, ◌≢◌, ℕ, List, [], length, ◌==◌, MatchBool, false, Option, ◌⊎◌}
 use Rattle.ring_machine.specs.Common.{Document}
+use Rattle.script_runner.specs.Language.{Language}
 use Rattle.script_runner.specs.Progress.{RunProgress, LineStep, Told, IsReplyFront}
 use Rattle.script_runner.specs.declared.runner.Summary.{Summary}
 
 -- a kept line is answered, as the last
-abbrev pub LastStep : RunProgress → List ℕ → RunProgress → Type 0
-LastStep p text q = MatchBool (length p.line == 0) ((text ≡ []) × (q ≡ p)) (LineStep false p text q)
+abbrev pub LastStep : Language → RunProgress → List ℕ → RunProgress → Type 0
+LastStep its p text q = MatchBool (length p.line == 0) ((text ≡ []) × (q ≡ p)) (LineStep its false p text q)
 
 -- the summary has the counts
 pub record Counts (p : RunProgress) (s : Summary) : Type 0 where
@@ -14,10 +15,10 @@ pub record Counts (p : RunProgress) (s : Summary) : Type 0 where
   pub refused : s.refused ≡ p.refused
 
 -- the last line is answered, and these are the counts and the document after it
-abbrev pub Finishes : RunProgress → List ℕ → Summary → Document → Type 0
-Finishes p text s last = (q : RunProgress) × LastStep p text q × Counts q s × (last ≡ q.state.doc)
+abbrev pub Finishes : Language → RunProgress → List ℕ → Summary → Document → Type 0
+Finishes its p text s last = (q : RunProgress) × LastStep its p text q × Counts q s × (last ≡ q.state.doc)
 
 -- nothing was put, or some of the reply to the last line, which is not empty
-abbrev pub PutsLast : RunProgress → Option (List ℕ) → Option (List ℕ) → Type 0
-PutsLast p old new =
-    Told old new (λ part. (part ≡ []) ⊎ ((p.line ≢ []) × IsReplyFront false p part))
+abbrev pub PutsLast : Language → RunProgress → Option (List ℕ) → Option (List ℕ) → Type 0
+PutsLast its p old new =
+    Told old new (λ part. (part ≡ []) ⊎ ((p.line ≢ []) × IsReplyFront its false p part))

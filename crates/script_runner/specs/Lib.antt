@@ -1,9 +1,11 @@
 pub mod Devices
 pub mod Answers
+pub mod Language
 pub mod Runs
 pub mod Outcome
 pub mod Progress
 pub mod Replies
+pub mod Answering
 pub mod Finish
 pub mod Ended
 pub mod Common

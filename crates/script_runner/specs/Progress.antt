@@ -1,7 +1,8 @@
 -- What a runner keeps between two bytes of a script, and what one more byte does.
-use Rattle.std.specs.Prelude.{◌≡◌, ℕ, ◌+◌, ◌≤◌, ◌==◌, List, [], ◌∷◌, ◌++◌, length, take, nat_lt, Bool, true, false, not, ◌||◌, if◌then◌else◌, Option, MatchBool, ◌⊎◌}
+use Rattle.std.specs.Prelude.{◌≡◌, ℕ, ◌+◌, ◌≤◌, ◌==◌, List, [], ◌∷◌, ◌++◌, length, take, nat_lt, Bool, true, false, not, ◌||◌, if◌then◌else◌, Option, None, Some, MatchBool, ◌⊎◌}
 use Rattle.std.specs.Io.KnownBytes.{Appends}
 use Rattle.ring_machine.specs.Common.{Document, State}
+use Rattle.script_runner.specs.Language.{Language}
 use Rattle.script_runner.specs.Runs.{ScriptLine, ended_line, open_line, Meaning, Bad, LineMeans, reply_text, state_after_line, answered_by, refused_by, ShowsSaved, opened_state}
 
 -- the machine's state and how many changes it keeps at most, the bytes of the line so far, whether more than are kept came, and the counts
@@ -36,24 +37,28 @@ abbrev pub line_at : Bool → List ℕ → ScriptLine
 line_at true l = ended_line l
 line_at false l = open_line l
 
+-- the text of the kept line; none of a line over the limit
+abbrev pub text_kept : Bool → Bool → List ℕ → Option (List ℕ)
+text_kept over ended l = if over then None else Some (line_at ended l).text
+
 -- what the kept line means
-abbrev pub KeptMeans : Bool → Bool → List ℕ → Meaning → Type 0
-KeptMeans over ended line m = MatchBool over (m ≡ Bad) (LineMeans (line_at ended line) m)
+abbrev pub KeptMeans : (its : Language) → Bool → Bool → List ℕ → Meaning its.Asking → Type 0
+KeptMeans its over ended line m = MatchBool over (m ≡ Bad) (LineMeans its (line_at ended line) m)
 
 -- the kept line, of this meaning, is answered
-pub record IsAnswered (p : RunProgress) (m : Meaning) (text : List ℕ) (q : RunProgress) : Type 0 where
-  pub told : text ≡ reply_text p.depth p.state m
-  pub shown : ShowsSaved p.state m
-  pub after : q.state ≡ state_after_line p.depth p.state m
+pub record IsAnswered (its : Language) (p : RunProgress) (m : Meaning its.Asking) (text : List ℕ) (q : RunProgress) : Type 0 where
+  pub told : text ≡ reply_text its p.depth p.state m
+  pub shown : ShowsSaved its p.state m
+  pub after : q.state ≡ state_after_line its p.depth p.state m
   pub depth : q.depth ≡ p.depth
   pub line : q.line ≡ []
   pub over : q.over ≡ false
   pub answered : q.answered ≡ p.answered + answered_by m
-  pub refused : q.refused ≡ p.refused + refused_by p.depth p.state m
+  pub refused : q.refused ≡ p.refused + refused_by its p.depth p.state m
 
 -- the kept line is answered by this text
-abbrev pub LineStep : Bool → RunProgress → List ℕ → RunProgress → Type 0
-LineStep ended p text q = (m : Meaning) × KeptMeans p.over ended p.line m × IsAnswered p m text q
+abbrev pub LineStep : Language → Bool → RunProgress → List ℕ → RunProgress → Type 0
+LineStep its ended p text q = (m : Meaning its.Asking) × KeptMeans its p.over ended p.line m × IsAnswered its p m text q
 
 -- a byte that ends no line
 abbrev pub more : RunProgress → ℕ → RunProgress
@@ -63,16 +68,16 @@ more p b = record p {
   bytes = p.bytes + 1;
 }
 
-abbrev pub ByteStep : RunProgress → ℕ → List ℕ → RunProgress → Type 0
-ByteStep p b text q =
+abbrev pub ByteStep : Language → RunProgress → ℕ → List ℕ → RunProgress → Type 0
+ByteStep its p b text q =
     MatchBool (b == 10)
-    (LineStep true p text q × (q.bytes ≡ p.bytes + 1))
+    (LineStep its true p text q × (q.bytes ≡ p.bytes + 1))
     ((text ≡ []) × (q ≡ more p b))
 
-abbrev pub Feeds : RunProgress → List ℕ → List ℕ → RunProgress → Type 0
-Feeds p [] text q = (text ≡ []) × (q ≡ p)
-Feeds p (b ∷ bs) text q =
-    (mid : RunProgress) × (first rest : List ℕ) × ByteStep p b first mid × Feeds mid bs rest q
+abbrev pub Feeds : Language → RunProgress → List ℕ → List ℕ → RunProgress → Type 0
+Feeds its p [] text q = (text ≡ []) × (q ≡ p)
+Feeds its p (b ∷ bs) text q =
+    (mid : RunProgress) × (first rest : List ℕ) × ByteStep its p b first mid × Feeds its mid bs rest q
     × (text ≡ first ++ rest)
 
 -- a text that this holds of was put
@@ -80,21 +85,21 @@ abbrev pub Told : Option (List ℕ) → Option (List ℕ) → (List ℕ → Type
 Told old new P = (text : List ℕ) × Appends old new text × P text
 
 -- the prefix of the reply to the kept line
-abbrev pub IsReplyFront : Bool → RunProgress → List ℕ → Type 0
-IsReplyFront ended p part =
-    (m : Meaning) × (k : ℕ) × KeptMeans p.over ended p.line m
-    × (part ≡ take k (reply_text p.depth p.state m))
+abbrev pub IsReplyFront : Language → Bool → RunProgress → List ℕ → Type 0
+IsReplyFront its ended p part =
+    (m : Meaning its.Asking) × (k : ℕ) × KeptMeans its p.over ended p.line m
+    × (part ≡ take k (reply_text its p.depth p.state m))
 
 -- nothing was put, or some of the reply to the kept line
-abbrev pub PutsPart : Bool → RunProgress → Option (List ℕ) → Option (List ℕ) → Type 0
-PutsPart ended p old new = Told old new (λ part. (part ≡ []) ⊎ IsReplyFront ended p part)
+abbrev pub PutsPart : Language → Bool → RunProgress → Option (List ℕ) → Option (List ℕ) → Type 0
+PutsPart its ended p old new = Told old new (λ part. (part ≡ []) ⊎ IsReplyFront its ended p part)
 
 -- nothing, or, where this byte is a line feed, the prefix of the reply to the line that it ends
-abbrev pub IsPartAt : ℕ → RunProgress → List ℕ → Type 0
-IsPartAt b p part = (part ≡ []) ⊎ ((b ≡ 10) × IsReplyFront true p part)
+abbrev pub IsPartAt : Language → ℕ → RunProgress → List ℕ → Type 0
+IsPartAt its b p part = (part ≡ []) ⊎ ((b ≡ 10) × IsReplyFront its true p part)
 
 -- the first bytes were fed, and then a byte of which no more was put than that
-pub record FeedsPart (old new : Option (List ℕ)) (p : RunProgress) (bs : List ℕ) : Type 0 where
+pub record FeedsPart (its : Language) (old new : Option (List ℕ)) (p : RunProgress) (bs : List ℕ) : Type 0 where
   pub front : List ℕ
   pub byte : ℕ
   pub rest : List ℕ
@@ -102,6 +107,6 @@ pub record FeedsPart (old new : Option (List ℕ)) (p : RunProgress) (bs : List 
   pub before : List ℕ
   pub part : List ℕ
   pub whole : bs ≡ front ++ byte ∷ rest
-  pub fed : Feeds p front before mid
-  pub is : IsPartAt byte mid part
+  pub fed : Feeds its p front before mid
+  pub is : IsPartAt its byte mid part
   pub put : Appends old new (before ++ part)

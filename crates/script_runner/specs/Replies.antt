@@ -4,7 +4,8 @@ use Rattle.ring_machine.specs.Common.{Document, Command, step}
 use Rattle.undo_ring.specs.Common.{refusal_of, Edited, machine_of}
 use Rattle.map_text.specs.Common.{text_of, Saved}
 use Rattle.script_runner.specs.Answers.{answer_text, refusal_text}
-use Rattle.script_runner.specs.Runs.{Meaning, Bad, meaning_of, state_after_line, refused_by, refusals}
+use Rattle.script_runner.specs.Language.{plain, refusals}
+use Rattle.script_runner.specs.Runs.{Meaning, Bad, meaning_of, state_after_line, refused_by}
 use Rattle.script_lines.specs.Common.{says_of}
 use Rattle.arc_store.specs.declared.fault.EditFault.{EditFault}
 use Rattle.script_lines.specs.declared.lines.Line.{Line}
@@ -20,17 +21,17 @@ pub record Replied (was is : Edited) (c : Command) (old new : List ℕ) (refuses
   pub counts : (if refuses then 1 else 0) ≡ refusals (step was.depth (machine_of was) c).0
 
 -- the line is answered: the state after it is the machine's, and the answer refuses or not
-pub record RepliedLine (was is : Edited) (m : Meaning) (refuses : Bool) : Type 0 where
-  pub stands : machine_of is ≡ state_after_line was.depth (machine_of was) m
+pub record RepliedLine (was is : Edited) (m : Meaning Command) (refuses : Bool) : Type 0 where
+  pub stands : machine_of is ≡ state_after_line plain was.depth (machine_of was) m
   pub depth : is.depth ≡ was.depth
-  pub counts : (if refuses then 1 else 0) ≡ refused_by was.depth (machine_of was) m
+  pub counts : (if refuses then 1 else 0) ≡ refused_by plain was.depth (machine_of was) m
 
 -- a question is answered, which changes nothing, whatever there is beside the document d
 abbrev pub IsShown : Document → Command → List ℕ → List ℕ → Bool → Type 0
 IsShown d c old new refuses = (e : Edited) → e.map.doc ≡ d → Replied e e c old new refuses
 
 -- what a line means that says this, or nothing that is taken
-abbrev pub meaning_of_said : Option Line → Meaning
+abbrev pub meaning_of_said : Option Line → Meaning Command
 meaning_of_said None = Bad
 meaning_of_said (Some l) = meaning_of (says_of l)
 

@@ -1,7 +1,9 @@
 //! Lines in, answers out: a script is run on a map, and what it makes of the map is saved.
 #![tactic(auto)]
 
+mod answerer;
 mod fault;
+mod plain_answerer;
 mod questions;
 mod replies;
 mod ring_lists;
@@ -10,9 +12,11 @@ mod running;
 mod sending;
 mod texts;
 
+pub use answerer::{Answerer, Counted};
 pub use edit_records::Command;
 pub use fault::RunFault;
+pub use plain_answerer::PlainAnswerer;
 pub use runner::Summary;
-pub use running::run;
+pub use running::{open_editor, run, run_lines};
 pub use script_lines::{Line, LineFault, parse_line};
 pub use undo_ring::Answer;

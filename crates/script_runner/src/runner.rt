@@ -1,52 +1,33 @@
 //! What is kept between two bytes of a script.
 ghost use Rattle.std.specs.Prelude.{◌≡◌, ◌≤◌, ◌<◌, ◌+◌, ◌^◌, ◌∷◌, ◌++◌, if◌then◌else◌};
-ghost use Rattle.std.specs.Prelude.{[], length, false, true, OnOk, OnErr, IfOk};
-ghost use Rattle.device_io.specs.Common.{Stands};
-ghost use Rattle.script_runner.specs.Runs.{answered_by, NoFeed};
-ghost use Rattle.script_runner.specs.Replies.{meaning_of_said};
+ghost use Rattle.std.specs.Prelude.{[], length, false, true, OnOk, OnErr, IfOk, IfSome, option_map};
+ghost use Rattle.device_io.specs.Common.{Sends, Stands};
+ghost use Rattle.map_text.specs.Common.{text_of, Saved};
+ghost use Rattle.script_runner.specs.Runs.{opened_state, NoFeed};
 ghost use Rattle.topo_writer.specs.Common.{of_device};
-ghost use Rattle.script_lines.specs.Common.{SaysSound};
-ghost use Rattle.ring_machine.specs.Common.{features};
-ghost use Rattle.script_runner.specs.Progress.{KeptMeans, LineStep, Feeds, FeedsPart, PutsPart};
-ghost use Rattle.script_runner.specs.Progress.{Told, start};
+ghost use Rattle.script_runner.specs.Progress.{LineStep, Feeds, FeedsPart, PutsPart};
+ghost use Rattle.script_runner.specs.Progress.{Told, start, text_kept};
 
-use crate::sending::send_reply;
-use arc_store::Map;
+use crate::answerer::Answerer;
 use device_io::Sink;
 use memchr::memchr;
-use script_lines::{Line, LineFault, parse_line, without_return};
-use segment_index::TreeIndex;
-use std::alloc::{AllocError, Allocator, Global};
+use script_lines::without_return;
+use std::alloc::{AllocError, Allocator};
 use std::marker::Model;
 use topo_writer::WriteFault;
-use undo_ring::Editor;
 
 /// The most bytes of a line that are kept.
 const MAX_LINE: usize = 8192;
 
-/// What the kept line says; nothing for a bad line. Fails where there is no memory for an id or a
-/// path.
-fn said(heap: Global, line: &[u8], over: bool, ended: bool) -> Result<Option<Line>, AllocError>
-    requires { length line.now ≤ 8192 }
-    ensures means { IfOk result (λ said. KeptMeans over ended line.now (meaning_of_said said)) }
-    ensures sound { IfOk result (λ said. SaysSound said) }
+/// The text of the kept line, which a line feed ends or which is the last; none of a line over the limit.
+fn kept_text(line: &[u8], over: bool, ended: bool) -> Option<&[u8]>
+    ensures text { option_map (λ line. line.now) result ≡ text_kept over ended line.now }
+    ensures short { length line.now ≤ 8192 → IfSome result (λ line. length line.now ≤ 8192) }
 {
     if over {
-        return Ok(None);
+        return None;
     }
-    let text = if ended { without_return(line) } else { line };
-    match parse_line(heap, text) {
-        Ok(said) => Ok(Some(said)),
-        Err(LineFault::BadLine) => Ok(None),
-        Err(LineFault::OutOfMemory) => Err(AllocError),
-    }
-}
-
-/// Whether the line has an answer.
-fn is_answered(said: &Option<Line>) -> bool
-    ensures { (if result then 1 else 0) ≡ answered_by (meaning_of_said said.now) }
-{
-    !matches!(said, Some(Line::Skip))
+    Some(if ended { without_return(line) } else { line })
 }
 
 /// One where the test holds.
@@ -64,31 +45,26 @@ pub struct Summary {
     pub refused: u64,
 }
 
-/// The map with its history, the line so far, and the counts.
+/// What answers the lines, the line so far, and the counts.
 #[derive(Drop)]
-pub(crate) struct Runner<'a, A: Allocator + Copy> {
-    /// Holds the id and the path of a line while it is answered.
-    heap: Global,
-    editor: Editor<'a, TreeIndex<A>, A>,
+pub(crate) struct Runner<L: Answerer + Drop, A: Allocator + Copy> {
+    lines: L,
     line: Vec<u8, A>,
     over: bool,
-    /// Holds the answer to a line while it is sent.
-    text: Vec<u8, A>,
     answered: u64,
     refused: u64,
     bytes: u64,
 }
 
-impl<'a, A: Allocator + Copy> Model for Runner<'a, A> {
+impl<L: Answerer + Drop, A: Allocator + Copy> Model for Runner<L, A> {
     ghost use Rattle.std.specs.Prelude.{◌≤◌, ◌+◌, length};
     ghost use Rattle.script_runner.specs.Progress.{RunProgress, InBounds};
-    ghost use Rattle.undo_ring.specs.Edited.{machine_of};
 
     ghost Value = { RunProgress };
 
     ghost view = { λ r. record {
-      state = machine_of r.editor;
-      depth = r.editor.depth;
+      state = L.state r.lines;
+      depth = L.depth r.lines;
       line = r.line.items;
       over = r.over;
       answered = r.answered;
@@ -99,19 +75,16 @@ impl<'a, A: Allocator + Copy> Model for Runner<'a, A> {
     ghost invariant = { λ r. InBounds (length r.line.items) r.answered r.refused r.bytes };
 }
 
-impl<'a, A: Allocator + Copy> Runner<'a, A> {
+impl<L: Answerer + Drop, A: Allocator + Copy> Runner<L, A> {
     /// Nothing was fed.
-    pub(crate) fn new(alloc: A, heap: Global, editor: Editor<'a, TreeIndex<A>, A>) -> Self
-        requires numbered { editor.map.next ≡ length (features editor.map.doc) }
-        requires fresh { editor.past ≡ [] }
-        ensures { result ≡ start editor.entry.depth editor.entry.map.doc }
+    pub(crate) fn new(alloc: A, lines: L) -> Self
+        requires opened { L.state lines ≡ opened_state (L.state lines).doc }
+        ensures { result ≡ start (L.depth lines.entry) (L.state lines.entry).doc }
     {
         Runner {
-            heap,
-            editor,
+            lines,
             line: Vec::new(alloc),
             over: false,
-            text: Vec::new(alloc),
             answered: 0,
             refused: 0,
             bytes: 0,
@@ -124,17 +97,17 @@ impl<'a, A: Allocator + Copy> Runner<'a, A> {
         requires room { self.old.answered < self.old.bytes }
         requires bytes { self.old.bytes < 2 ^ 63 }
         ensures ok { OnOk result (Told (W.taken out.old) (W.taken out.new)
-            (λ text. LineStep ended self.old text self.new)) }
+            (λ text. LineStep L.its ended self.old text self.new)) }
         ensures bytes { OnOk result (self.new.bytes ≡ self.old.bytes) }
-        ensures cut { OnErr result (PutsPart ended self.old (W.taken out.old) (W.taken out.new)) }
+        ensures cut { OnErr result
+            (PutsPart L.its ended self.old (W.taken out.old) (W.taken out.new)) }
         ensures stands { Stands W.Sink of_device out.new result }
     {
         let over = self.over;
-        let said = said(self.heap, self.line.as_slice(), over, ended)?;
-        let counts = is_answered(&said);
-        let refuses = send_reply(&mut self.editor, said, &mut self.text, out)?;
-        self.answered += one_if(counts);
-        self.refused += one_if(refuses);
+        let text = kept_text(self.line.as_slice(), over, ended);
+        let counted = self.lines.answer(text, out)?;
+        self.answered += one_if(counted.is_answered);
+        self.refused += one_if(counted.is_refused);
         self.line.clear();
         self.over = false;
         Ok(())
@@ -144,7 +117,7 @@ impl<'a, A: Allocator + Copy> Runner<'a, A> {
     fn keep(&mut self, bytes: &[u8]) -> Result<(), AllocError>
         requires feeds { NoFeed bytes.now }
         requires bytes { self.old.bytes + length bytes.now < 2 ^ 62 }
-        ensures ok { OnOk result (Feeds self.old bytes.now [] self.new) }
+        ensures ok { OnOk result (Feeds L.its self.old bytes.now [] self.new) }
         ensures bytes { OnOk result (self.new.bytes ≡ self.old.bytes + length bytes.now) }
         ensures some { OnErr result (0 < length bytes.now) }
     {
@@ -161,10 +134,10 @@ impl<'a, A: Allocator + Copy> Runner<'a, A> {
         requires feeds { NoFeed line.now }
         requires bytes { self.old.bytes + length line.now + 1 < 2 ^ 62 }
         ensures ok { OnOk result (Told (W.taken out.old) (W.taken out.new)
-            (λ text. Feeds self.old (line.now ++ 10 ∷ []) text self.new)) }
+            (λ text. Feeds L.its self.old (line.now ++ 10 ∷ []) text self.new)) }
         ensures bytes { OnOk result (self.new.bytes ≡ self.old.bytes + length line.now + 1) }
         ensures cut { OnErr result
-            (FeedsPart (W.taken out.old) (W.taken out.new) self.old (line.now ++ 10 ∷ [])) }
+            (FeedsPart L.its (W.taken out.old) (W.taken out.new) self.old (line.now ++ 10 ∷ [])) }
         ensures stands { Stands W.Sink of_device out.new result }
     {
         self.keep(line)?;
@@ -178,10 +151,10 @@ impl<'a, A: Allocator + Copy> Runner<'a, A> {
         requires works { W.has_failed out.old ≡ false }
         requires bytes { self.old.bytes + length piece.now < 2 ^ 62 }
         ensures ok { OnOk result (Told (W.taken out.old) (W.taken out.new)
-            (λ text. Feeds self.old piece.now text self.new)) }
+            (λ text. Feeds L.its self.old piece.now text self.new)) }
         ensures bytes { OnOk result (self.new.bytes ≡ self.old.bytes + length piece.now) }
         ensures cut { OnErr result
-            (FeedsPart (W.taken out.old) (W.taken out.new) self.old piece.now) }
+            (FeedsPart L.its (W.taken out.old) (W.taken out.new) self.old piece.now) }
         ensures stands { Stands W.Sink of_device out.new result }
     {
         let mut rest = piece;
@@ -205,11 +178,11 @@ impl<'a, A: Allocator + Copy> Runner<'a, A> {
         requires some { 0 < length piece.now }
         requires bytes { self.old.bytes + length piece.now < 2 ^ 62 }
         ensures ok { OnOk result (Told (W.taken out.old) (W.taken out.new)
-            (λ text. Feeds self.old piece.now text self.new)) }
+            (λ text. Feeds L.its self.old piece.now text self.new)) }
         ensures bytes { OnOk result (self.new.bytes ≡ self.old.bytes + length piece.now) }
         ensures sent { OnOk result (W.is_flushed out.new ≡ true) }
         ensures cut { OnErr result
-            (FeedsPart (W.taken out.old) (W.taken out.new) self.old piece.now) }
+            (FeedsPart L.its (W.taken out.old) (W.taken out.new) self.old piece.now) }
         ensures stands { Stands W.Sink of_device out.new result }
     {
         self.feed(piece, out)?;
@@ -224,8 +197,8 @@ impl<'a, A: Allocator + Copy> Runner<'a, A> {
         requires works { W.has_failed out.old ≡ false }
         requires bytes { self.old.bytes < 2 ^ 63 }
         ensures ok { OnOk result (Told (W.taken out.old) (W.taken out.new)
-            (λ text. LastStep self.old text self.new)) }
-        ensures cut { OnErr result (PutsLast self.old (W.taken out.old) (W.taken out.new)) }
+            (λ text. LastStep L.its self.old text self.new)) }
+        ensures cut { OnErr result (PutsLast L.its self.old (W.taken out.old) (W.taken out.new)) }
         ensures stands { Stands W.Sink of_device out.new result }
     {
         if self.line.as_slice().is_empty() {
@@ -239,8 +212,8 @@ impl<'a, A: Allocator + Copy> Runner<'a, A> {
         requires works { W.has_failed out.old ≡ false }
         requires bytes { self.old.bytes < 2 ^ 63 }
         ensures ok { IfOk result (λ summary. Told (W.taken out.old) (W.taken out.new)
-            (λ text. Finishes self.old text summary self.new.state.doc)) }
-        ensures cut { OnErr result (PutsLast self.old (W.taken out.old) (W.taken out.new)) }
+            (λ text. Finishes L.its self.old text summary self.new.state.doc)) }
+        ensures cut { OnErr result (PutsLast L.its self.old (W.taken out.old) (W.taken out.new)) }
         ensures sent { OnOk result (W.is_flushed out.new ≡ true) }
         ensures stands { Stands W.Sink of_device out.new result }
     {
@@ -252,10 +225,14 @@ impl<'a, A: Allocator + Copy> Runner<'a, A> {
         })
     }
 
-    /// The map as it is now.
-    pub(crate) fn map(&self) -> &Map<'a, TreeIndex<A>, A>
-        ensures { result.now.doc ≡ self.now.state.doc }
+    /// Writes the text of the map as it is now, and sends it on.
+    pub(crate) fn save<V: Sink>(&self, saved: &mut V) -> Result<(), WriteFault>
+        requires { V.has_failed saved.old ≡ false }
+        ensures sends { Sends V.Sink of_device saved.old saved.new result
+            (text_of self.now.state.doc) }
+        ensures sent { OnOk result (V.is_flushed saved.new ≡ true) }
+        ensures saved { Saved (text_of self.now.state.doc) self.now.state.doc }
     {
-        self.editor.map()
+        self.lines.save(saved)
     }
 }

@@ -1,15 +1,16 @@
-ghost use Rattle.std.specs.Prelude.{◌≡◌, ◌≤◌, length, false, true, OnOk, IfOk, IfErr, None};
+ghost use Rattle.std.specs.Prelude.{◌≡◌, ◌≤◌, length, false, IfOk, IfErr, None};
 ghost use Rattle.ring_machine.specs.Common.{features};
-ghost use Rattle.device_io.specs.Common.{Sends};
-ghost use Rattle.map_text.specs.Common.{text_of, Saved};
-ghost use Rattle.topo_writer.specs.Common.{of_device};
+ghost use Rattle.undo_ring.specs.Common.{machine_of};
 ghost use Rattle.script_runner.specs.Devices.{reader_of, writer_of, devices_of};
 ghost use Rattle.script_runner.specs.Outcome.{OpensAs, Completes, RunEnds};
 ghost use Rattle.script_runner.specs.Progress.{start};
+ghost use Rattle.script_runner.specs.Runs.{opened_state};
 ghost use Rattle.script_runner.specs.Ended.{Answers, AnswersAndSaves, Halts, RunFails};
 ghost use Rattle.script_runner.specs.Ended.{IsOpenEnd, IsBuildEnd, IsAnswerEnd, IsSaveEnd};
 
+use crate::answerer::Answerer;
 use crate::fault::RunFault;
+use crate::plain_answerer::PlainAnswerer;
 use crate::runner::{Runner, Summary};
 use arc_store::{BuildFault, Map};
 use device_io::{Sink, Source};
@@ -18,7 +19,7 @@ use std::alloc::{Allocator, Global};
 use std::hash::RandomState;
 use topo_outline::OpenFault;
 use topo_reader::read;
-use topo_writer::{WriteFault, write};
+use topo_writer::WriteFault;
 use undo_ring::Editor;
 
 /// The most bytes of a script.
@@ -84,18 +85,19 @@ fn open<'a, A: Allocator + Copy>(
 
 /// Answers each line of a script, piece by piece as it comes, and sends the answers on before the next
 /// piece is read. Answers the counts.
-fn answer_script<'a, A: Allocator + Copy, R: Source, W: Sink>(
-    runner: &mut Runner<'_, A>,
+fn answer_script<'a, L: Answerer + Drop, A: Allocator + Copy, R: Source, W: Sink>(
+    runner: &mut Runner<L, A>,
     script: &mut R,
     out: &mut W,
 ) -> Result<Summary, RunFault<'a>>
     requires begins { runner.old ≡ start runner.old.depth runner.old.state.doc }
     requires reader { R.has_failed script.old ≡ false }
     requires writer { W.has_failed out.old ≡ false }
-    ensures done { IfOk result (λ summary. Answers runner.old.depth runner.old.state.doc
+    ensures done { IfOk result (λ summary. Answers L.its runner.old.depth runner.old.state.doc
         runner.new.state.doc (reader_of R.Source script.old) (reader_of R.Source script.new)
         (writer_of W.Sink out.old) (writer_of W.Sink out.new) summary) }
-    ensures halted { IfErr result (λ fault. Halts fault runner.old.depth runner.old.state.doc
+    ensures halted { IfErr result (λ fault. Halts L.its fault runner.old.depth
+        runner.old.state.doc
         (reader_of R.Source script.old) (reader_of R.Source script.new)
         (writer_of W.Sink out.old) (writer_of W.Sink out.new)) }
 {
@@ -127,26 +129,9 @@ fn answer_script<'a, A: Allocator + Copy, R: Source, W: Sink>(
     }
 }
 
-/// Writes the text of a map, and sends it on.
-fn save<A: Allocator + Copy, V: Sink>(
-    alloc: A,
-    map: &Map<'_, TreeIndex<A>, A>,
-    saved: &mut V,
-) -> Result<(), WriteFault>
-    requires { V.has_failed saved.old ≡ false }
-    ensures sends { Sends V.Sink of_device saved.old saved.new result (text_of map.now.doc) }
-    ensures sent { OnOk result (V.is_flushed saved.new ≡ true) }
-    ensures saved { Saved (text_of map.now.doc) map.now.doc }
-{
-    write(alloc, map, saved)?;
-    saved.flush()?;
-    Ok(())
-}
-
 /// Answers each line of a script, and saves the map after it.
-fn answer_and_save<'a, A: Allocator + Copy, R: Source, W: Sink, V: Sink>(
-    alloc: A,
-    runner: &mut Runner<'_, A>,
+fn answer_and_save<'a, L: Answerer + Drop, A: Allocator + Copy, R: Source, W: Sink, V: Sink>(
+    runner: &mut Runner<L, A>,
     script: &mut R,
     out: &mut W,
     saved: &mut V,
@@ -155,10 +140,12 @@ fn answer_and_save<'a, A: Allocator + Copy, R: Source, W: Sink, V: Sink>(
     requires reader { R.has_failed script.old ≡ false }
     requires writer { W.has_failed out.old ≡ false }
     requires saver { V.has_failed saved.old ≡ false }
-    ensures done { IfOk result (λ summary. AnswersAndSaves runner.old.depth runner.old.state.doc
+    ensures done { IfOk result (λ summary. AnswersAndSaves L.its runner.old.depth
+        runner.old.state.doc
         (devices_of R.Source W.Sink V.Sink script.old out.old saved.old)
         (devices_of R.Source W.Sink V.Sink script.new out.new saved.new) summary) }
-    ensures fault { IfErr result (λ fault. RunFails fault runner.old.depth runner.old.state.doc
+    ensures fault { IfErr result (λ fault. RunFails L.its fault runner.old.depth
+        runner.old.state.doc
         (devices_of R.Source W.Sink V.Sink script.old out.old saved.old)
         (devices_of R.Source W.Sink V.Sink script.new out.new saved.new)) }
 {
@@ -166,9 +153,63 @@ fn answer_and_save<'a, A: Allocator + Copy, R: Source, W: Sink, V: Sink>(
         Ok(summary) => summary,
         Err(fault) => return Err(fault),
     };
-    match save(alloc, runner.map(), saved) {
+    match runner.save(saved) {
         Ok(()) => Ok(summary),
         Err(fault) => Err(not_saved(fault)),
+    }
+}
+
+/// Answers each line of a script by what answers them, piece by piece as the script comes, and saves the map:
+/// as `run` does on a map that was opened. `alloc` holds the line that comes.
+pub fn run_lines<'a, L: Answerer + Drop, A: Allocator + Copy, R: Source, W: Sink, V: Sink>(
+    alloc: A,
+    lines: L,
+    script: &mut R,
+    out: &mut W,
+    saved: &mut V,
+) -> Result<Summary, RunFault<'a>>
+    requires opened { L.state lines ≡ opened_state (L.state lines).doc }
+    requires reader { R.has_failed script.old ≡ false }
+    requires writer { W.has_failed out.old ≡ false }
+    requires saver { V.has_failed saved.old ≡ false }
+    ensures done { IfOk result (λ summary. AnswersAndSaves L.its (L.depth lines.entry)
+        (L.state lines.entry).doc
+        (devices_of R.Source W.Sink V.Sink script.old out.old saved.old)
+        (devices_of R.Source W.Sink V.Sink script.new out.new saved.new) summary) }
+    ensures fault { IfErr result (λ fault. RunFails L.its fault (L.depth lines.entry)
+        (L.state lines.entry).doc
+        (devices_of R.Source W.Sink V.Sink script.old out.old saved.old)
+        (devices_of R.Source W.Sink V.Sink script.new out.new saved.new)) }
+{
+    let mut runner = Runner::new(alloc, lines);
+    answer_and_save(&mut runner, script, out, saved)
+}
+
+/// Opens a map for a script of which so many changes can be taken back, with no history yet.
+///
+/// Fails with `Open` where the map's bytes mean no document that opens, and with `OutOfMemory`.
+pub fn open_editor<'a, A: Allocator + Copy>(
+    alloc: A,
+    heap: Global,
+    seed: RandomState,
+    map: &'a [u8],
+    depth: usize,
+) -> Result<Editor<'a, TreeIndex<A>, A>, RunFault<'a>>
+    requires least { 1 ≤ depth }
+    requires most { depth ≤ 1000 }
+    ensures opened { IfOk result (λ editor. OpensAs map.now editor.map.doc) }
+    ensures begun { IfOk result (λ editor.
+        machine_of editor ≡ opened_state editor.map.doc) }
+    ensures depth { IfOk result (λ editor. editor.depth ≡ depth) }
+    ensures refused { IfErr result (λ fault. IsOpenEnd fault map.now) }
+{
+    let opened = match open(alloc, heap, seed, map) {
+        Ok(opened) => opened,
+        Err(fault) => return Err(fault),
+    };
+    match Editor::new(alloc, opened, depth) {
+        Ok(editor) => Ok(editor),
+        Err(_) => Err(RunFault::OutOfMemory),
     }
 }
 
@@ -204,14 +245,11 @@ pub fn run<'a, A: Allocator + Copy, R: Source, W: Sink, V: Sink>(
         (devices_of R.Source W.Sink V.Sink script.old out.old saved.old)
         (devices_of R.Source W.Sink V.Sink script.new out.new saved.new)) }
 {
-    let opened = match open(alloc, heap, seed, map) {
-        Ok(opened) => opened,
-        Err(fault) => return Err(fault),
-    };
-    let editor = match Editor::new(alloc, opened, depth) {
-        Ok(editor) => editor,
-        Err(_) => return Err(RunFault::OutOfMemory),
-    };
-    let mut runner = Runner::new(alloc, heap, editor);
-    answer_and_save(alloc, &mut runner, script, out, saved)
+    match open_editor(alloc, heap, seed, map, depth) {
+        Ok(editor) => {
+            let lines = PlainAnswerer::new(alloc, heap, editor);
+            run_lines(alloc, lines, script, out, saved)
+        }
+        Err(fault) => Err(fault),
+    }
 }

@@ -3,6 +3,7 @@ ghost use Rattle.std.specs.Prelude.{◌≡◌, ◌++◌, codes, false, true, OnO
 ghost use Rattle.device_io.specs.Common.{Sends};
 ghost use Rattle.map_text.specs.Common.{text_of, Saved};
 ghost use Rattle.undo_ring.specs.Common.{machine_of};
+ghost use Rattle.script_runner.specs.Language.{plain};
 ghost use Rattle.script_runner.specs.Runs.{reply_text};
 ghost use Rattle.script_runner.specs.Replies.{RepliedLine, IsShownSaved, meaning_of_said};
 ghost use Rattle.topo_writer.specs.Common.{of_device};
@@ -55,7 +56,7 @@ pub(crate) fn send_reply<A: Allocator + Copy, W: Sink>(
     requires sound { SaysSound said }
     requires works { W.has_failed out.old ≡ false }
     ensures sends { Sends W.Sink of_device out.old out.new result
-        (reply_text editor.old.depth (machine_of editor.old) (meaning_of_said said)) }
+        (reply_text plain editor.old.depth (machine_of editor.old) (meaning_of_said said)) }
     ensures replied { IfOk result (λ refuses.
         RepliedLine editor.old editor.new (meaning_of_said said) refuses) }
     ensures shown { OnOk result (IsShownSaved editor.old.map.doc said) }

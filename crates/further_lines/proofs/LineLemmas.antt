@@ -1,0 +1,1 @@
+-- Which further command a line asks for, by its word.

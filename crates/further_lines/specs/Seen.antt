@@ -1,0 +1,16 @@
+-- The further lines of the code as the machine's commands.
+use Rattle.std.specs.Prelude.{string_bytes}
+use Rattle.further_lines.specs.Further as machine
+use Rattle.further_lines.specs.declared.wanted.Wanted.{Wanted}
+use Rattle.further_lines.specs.declared.wanted.Wanted.TheVariants as wanted
+use Rattle.further_lines.specs.declared.further_line.FurtherLine.{FurtherLine}
+use Rattle.further_lines.specs.declared.further_line.FurtherLine.TheVariants as line
+
+abbrev pub wanted_seen : Wanted → machine.Wanted
+wanted_seen (wanted.Text text) = machine.TextWanted (string_bytes text)
+wanted_seen (wanted.Number number) = machine.NumberWanted number.items
+
+abbrev pub further_of : FurtherLine → machine.Further
+further_of (line.Find w) = machine.Find (wanted_seen w)
+further_of (line.Id n) = machine.IdOf n
+further_of (line.Near p) = machine.Near p
