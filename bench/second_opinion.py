@@ -16,6 +16,8 @@ taken back that are kept. Compared are
 The program has to stand already (`rt ci` leaves it). There is one line a run; the status is 0 where
 nothing differs. A script that differs is left beside the maps that bench.py makes, in bench/out.
 
+With `--extended` the scripts have further lines too.
+
 With `--store FOLDER` no program is run. The model answers scripts that are drawn on the maps of
 FOLDER, which is crates/stored_runs/data, and histories that are fixed: the files drawn_*.txt,
 real_maps.txt, histories.txt and squares.json there are written, the same bytes each time, for `stored_runs` to compare. There is one line a file. They
@@ -406,6 +408,23 @@ class Model:
         inside = [n for n, it in sorted(self.features.items()) if n not in border and any(holds(rings, p) for rings in it)]
         return "inside:{} border:{}".format(*("".join(f" {n}" for n in some) for some in (inside, border)))
 
+    def find(self, token):
+        def is_found(number):
+            text = self.ids[number] or "null"
+            is_text = token.startswith('"') and text.startswith('"')
+            return json.loads(text) == json.loads(token) if is_text else text == token
+
+        return "features:" + "".join(f" {n}" for n in sorted(self.features) if is_found(n))
+
+    def id(self, number):
+        self.polygons(number)
+        return self.ids[number] or "none"
+
+    def near(self, p):
+        refuse_if(not self.places, "no vertex")
+        squared, q = min(((q[0] - p[0]) ** 2 + (q[1] - p[1]) ** 2, q) for q in self.places)
+        return f"{q[0]} {q[1]} {squared}"
+
     def document(self):
         return saved_text(self.frame, self.features, self.ids, self.is_junction)
 
@@ -415,6 +434,10 @@ class Model:
 
 # ---- drawn commands
 
+class Token(str):
+    """A JSON text that a line has as it is."""
+
+
 class Drawing:
     """Draws commands that a map may take, and some that it must refuse."""
 
@@ -422,6 +445,7 @@ class Drawing:
     WORDS = {"split": 30, "merge": 18, "delete": 2, "rename": 2, "move": 20, "insert": 12, "remove": 12, "undo": 24,
              "thin": 1, "area": 4, "neighbours": 3, "rings": 3, "at": 3, "count": 1}
     BOUNDS = (0, 10**6, 10**12, 10**14)
+    FURTHER = {**WORDS, "find": 20, "id": 10, "near": 40}
 
     def __init__(self, model, rand, words=None):
         self.model, self.rand = model, rand
@@ -474,6 +498,24 @@ class Drawing:
         a, b = self.edge()
         return (a if self.rand.random() < 0.2 else self.near(a, b),)
 
+    def far(self):
+        """A position near a border, beside the map, or anywhere."""
+        way = self.rand.random()
+        if way < 0.6:
+            return self.at()
+        if way < 0.8:
+            (x, y), = self.at()
+            return ((x + self.rand.randint(-10**6, 10**6), y + self.rand.randint(-10**6, 10**6)),)
+        return (tuple(self.rand.randint(-10**12, 10**12) for _ in "xy"),)
+
+    def token(self):
+        """The id of a feature, as it is written or with another escape; or an id that few have."""
+        text = self.model.ids.get(self.feature()) or "null"
+        if text.startswith('"') and self.rand.random() < 0.5:
+            return Token('"' + "".join(f"\\u{ord(c):04x}" if ord(c) < 0xD800 else c for c in json.loads(text)) + '"')
+        is_wanted = text[0] in '"-0123456789' and self.rand.random() < 0.9
+        return Token(text if is_wanted else self.rand.choice(("7", '"7"', "-0", "1.50", '""', '"n 1"')))
+
     def split(self):
         number = self.feature()
         return number, self.name(), self.path(self.outer(number))
@@ -492,7 +534,7 @@ class Drawing:
         given = {
             "split": self.split, "merge": self.merge, "move": self.move, "insert": self.insert, "at": self.at, "count": tuple,
             "undo": tuple, "remove": lambda: (self.edge()[0],), "rename": lambda: (self.feature(), self.name()),
-            "thin": lambda: (self.rand.choice(self.BOUNDS),),
+            "thin": lambda: (self.rand.choice(self.BOUNDS),), "find": lambda: (self.token(),), "near": self.far,
         }
         return word, given.get(word, lambda: (self.feature(),))()
 
@@ -524,6 +566,8 @@ def line_of(word, given):
     def text(it):
         if isinstance(it, list):
             return " ".join(map(text, it))
+        if isinstance(it, Token):
+            return it
         return f"{it[0]} {it[1]}" if isinstance(it, tuple) else json.dumps(it) if isinstance(it, str) else str(it)
 
     return " ".join([word, *map(text, given)])
@@ -595,10 +639,11 @@ class Script:
                 self.give("rings", number)
 
 
-def drawn_script(path, seed, count, depth):
+def drawn_script(path, seed, count, depth, is_extended):
     """A drawn script, and the model after it."""
     model = Model(path.read_text(encoding="utf-8"), depth)
-    drawing, script = Drawing(model, random.Random(seed)), Script(model)
+    drawing = Drawing(model, random.Random(seed), Drawing.FURTHER if is_extended else None)
+    script = Script(model)
     for _ in range(count):
         if len(model.features) < 2:
             break
@@ -617,13 +662,13 @@ def drawn_depth(seed):
     return random.Random(f"depth {seed}").choice([1, 2, 3, 10, 50, 100, 1000])
 
 
-def compared(program, path, seed, count, depth):
+def compared(program, path, seed, count, depth, is_extended):
     """Runs the program on what the model was given; a line that tells what came of it, and whether that is well."""
-    lines, answers, model = drawn_script(path, seed, count, depth)
+    lines, answers, model = drawn_script(path, seed, count, depth, is_extended)
     with tempfile.TemporaryDirectory() as folder:
         script, saved = pathlib.Path(folder, "script"), pathlib.Path(folder, "saved.json")
         script.write_text("".join(f"{line}\n" for line in lines))
-        words = [program, path, script, "--out", saved, "--undo", str(depth)]
+        words = [program, path, script, "--out", saved, "--undo", str(depth), *["--extended"] * is_extended]
         done = subprocess.run(words, capture_output=True, text=True)
         told = done.stdout.splitlines()
         fault = done.stderr.strip() or saved_fault(model, saved.read_text(encoding="utf-8"))
@@ -648,6 +693,8 @@ def compared(program, path, seed, count, depth):
 VERTICES = {"move": 36, "insert": 24, "remove": 24, "thin": 2, "area": 2, "neighbours": 2, "rings": 2, "count": 1}
 FEATURES = {"split": 56, "merge": 40, "delete": 3}
 QUESTIONS = {"area": 4, "neighbours": 4, "at": 8}
+FURTHER_SMALL = {**VERTICES, "rename": 20, "undo": 10, "find": 40, "id": 10, "near": 60}
+FURTHER_QUESTIONS = {"find": 8, "id": 4, "near": 20}
 
 # A drawn case: the map, the seed, how many commands, how many changes are kept, and how they are drawn.
 Case = collections.namedtuple("Case", "map seed count depth words kind", defaults=(None, Drawing))
@@ -662,6 +709,11 @@ STORED = {
     "drawn_features.txt": [Case("squares.json", 1, 1000, 100, FEATURES, CornerDrawing)],
     "drawn_undos.txt": [Case("columbus.json", 2, 1100, 50)],
     "drawn_commands.txt": [Case(name, seed, 300, 10) for name in REAL_MAPS[:3] for seed in (3, 4)],
+    "drawn_further.txt": [
+        *(Case(name, 6, 200, 100, FURTHER_SMALL, SmallDrawing) for name in SMALL_MAPS),
+        *(Case(name, 6, 120, 10, Drawing.FURTHER) for name in REAL_MAPS[:3]),
+        Case("ne-countries50.json", 6, 40, 1, FURTHER_QUESTIONS),
+    ],
     "real_maps.txt": [Case(name, 5, 20, 1, QUESTIONS) for name in REAL_MAPS],
 }
 
@@ -762,6 +814,7 @@ def stored_case(case, script):
     saved = script.model.document()
     name = case.name if isinstance(case, History) else f"{case.map}, seed {case.seed}"
     rows = [f"# {name}", f"map: {case.map}", f"keeps: {case.depth}"]
+    rows += ["extended: find, id, near"] * ("find" in (getattr(case, "words", None) or ()))
     rows += [f"{line} => {answer}" for line, answer in zip(script.lines, script.answers)]
     rows += [f"saved: {saved}"] if len(saved) <= LONGEST_STORED else []
     rows += [f"sum: {len(saved.encode())} bytes, {sum_of(saved):016x}"]
@@ -799,6 +852,7 @@ def main():
     parser.add_argument("--seeds", type=int, default=4, help="how many scripts are drawn for each map (%(default)s)")
     parser.add_argument("--lines", type=int, default=600, help="how many commands a script has (%(default)s)")
     parser.add_argument("--undo", type=int, help="how many changes are kept; drawn for each script where it is not given")
+    parser.add_argument("--extended", action="store_true", help="draw further lines too")
     parser.add_argument("--store", type=pathlib.Path, metavar="FOLDER", help="write the stored runs; no program is run")
     options = parser.parse_args()
     if options.store:
@@ -809,7 +863,7 @@ def main():
     for path in options.map:
         for seed in range(options.seeds):
             depth = options.undo or drawn_depth(seed)
-            told, is_well = compared(options.program, path, seed, options.lines, depth)
+            told, is_well = compared(options.program, path, seed, options.lines, depth, options.extended)
             print(told, flush=True)
             all_well = all_well and is_well
     return 0 if all_well else 1

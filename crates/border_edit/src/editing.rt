@@ -4,6 +4,7 @@ ghost use Rattle.std.specs.Prelude.{◌≡◌, false, []};
 use crate::ending::{ending_of_run, strict_ending};
 use device_io::{FromReader, Sink, Source, ToWriter};
 use edit_program::{NotedAnswers, NotedScript, RefusedLines, ScriptTail, Words, whole_rows};
+use further_runner::run_extended;
 use program_ends::{Ending, Errors, Paths, Stop, hash_seed, map_bytes, replace_file};
 use script_runner::{RunFault, Summary, run};
 use std::alloc::Allocator;
@@ -99,7 +100,31 @@ fn ending_of<'a>(
     }
 }
 
-impl Editing<'_> {
+impl<'a> Editing<'a> {
+    /// Answers a script on the map, with further lines where the words ask for them.
+    fn answer<R: Source, W: Sink, V: Sink>(
+        &self,
+        script: &mut R,
+        answers: &mut W,
+        saved: &mut V,
+    ) -> Result<Summary, RunFault<'a>>
+        requires reader { R.has_failed script.old ≡ false }
+        requires writer { W.has_failed answers.old ≡ false }
+        requires saver { V.has_failed saved.old ≡ false }
+    {
+        let alloc = self.rt.alloc();
+        let depth = self.words.depth;
+        if self.words.extended {
+            run_extended(
+                alloc, alloc, self.seed, self.map, script, depth, answers, saved,
+            )
+        } else {
+            run(
+                alloc, alloc, self.seed, self.map, script, depth, answers, saved,
+            )
+        }
+    }
+
     /// Runs a script on the map, and writes FILE.
     fn run_script<R: Source, W: Sink, E: Write>(
         &self,
@@ -112,10 +137,7 @@ impl Editing<'_> {
     {
         let alloc = self.rt.alloc();
         let mut saved = ToWriter::new(room_for_saved(alloc, self.map.len()));
-        let depth = self.words.depth;
-        let outcome = run(
-            alloc, alloc, self.seed, self.map, script, depth, answers, &mut saved,
-        );
+        let outcome = self.answer(script, answers, &mut saved);
         let saved = saved.writer.as_slice();
         let ending = ending_of(self.words, &outcome, saved, script.is_whole());
         let ending = save(self.rt, self.words, ending, errors);
@@ -138,17 +160,7 @@ impl Editing<'_> {
         let mut script = NotedScript::new(&lines, script);
         let mut answers = NotedAnswers::new(&lines, answers);
         let mut saved = ToWriter::new(room_for_saved(alloc, self.map.len()));
-        let depth = self.words.depth;
-        let outcome = run(
-            alloc,
-            alloc,
-            self.seed,
-            self.map,
-            &mut script,
-            depth,
-            &mut answers,
-            &mut saved,
-        );
+        let outcome = self.answer(&mut script, &mut answers, &mut saved);
         let saved = saved.writer.as_slice();
         let ending = ending_of(self.words, &outcome, saved, script.source().is_whole());
         let rows = whole_rows(&lines, &script, &answers);

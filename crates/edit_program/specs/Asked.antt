@@ -29,12 +29,13 @@ abbrev pub out_rule : Rule
 out_rule = record (option_rule (codes "out")) { required = true }
 
 -- MAP and SCRIPT stand in their places, and --out FILE is required too; --undo N, --refused FILE2,
--- --progress and --strict are not
+-- --progress, --strict and --extended are not
 abbrev pub program : App
 program =
-    with_rule (with_rule (with_rule (with_rule (with_rule (with_rule (with_rule (with_version (new_app (codes "border_edit")))
+    with_rule (with_rule (with_rule (with_rule (with_rule (with_rule (with_rule (with_rule (with_version (new_app (codes "border_edit")))
     (placed_rule (codes "MAP"))) (placed_rule (codes "SCRIPT"))) out_rule) (option_rule (codes "undo")))
-    (option_rule (codes "refused"))) (flag_rule (codes "progress"))) (flag_rule (codes "strict"))
+    (option_rule (codes "refused"))) (flag_rule (codes "progress"))) (flag_rule (codes "strict")))
+    (flag_rule (codes "extended"))
 
 -- the value that clap finds for an argument among the words, the program's name first
 abbrev pub argument_of : List ℕ → List (List ℕ) → Option (List ℕ)

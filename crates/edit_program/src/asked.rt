@@ -19,6 +19,8 @@ pub struct Words {
     /// Whether the map is saved only where no line was refused or bad, and the script's last line has
     /// its line feed.
     pub strict: bool,
+    /// Whether further lines are taken.
+    pub extended: bool,
     ghost least: { 1 ≤ depth },
     ghost most: { depth ≤ 1000 },
 }

@@ -67,7 +67,8 @@ fn command<'a>(alloc: Global) -> Result<Command<'a>, clap::Error>
         .arg(option(alloc, "undo", "N", help::UNDO))?
         .arg(option(alloc, "refused", "FILE2", help::REFUSED))?
         .arg(flag(alloc, "progress", help::PROGRESS))?
-        .arg(flag(alloc, "strict", help::STRICT))?;
+        .arg(flag(alloc, "strict", help::STRICT))?
+        .arg(flag(alloc, "extended", help::EXTENDED))?;
     Ok(command)
 }
 
@@ -96,6 +97,7 @@ struct Said<'m> {
     refused: Option<&'m str>,
     progress: bool,
     strict: bool,
+    extended: bool,
 }
 
 /// What is wrong with words that parse.
@@ -128,6 +130,7 @@ fn words_of(alloc: Global, said: &Said<'_>) -> Result<Words, Wrong>
         option_map string_bytes words.refused ≢ Some (string_bytes words.out)) }
     ensures progress { IfOk result (λ words. words.progress ≡ said.now.progress) }
     ensures strict { IfOk result (λ words. words.strict ≡ said.now.strict) }
+    ensures extended { IfOk result (λ words. words.extended ≡ said.now.extended) }
 {
     let Some(depth) = depth_of(said.undo) else {
         return Err(Wrong::Depth);
@@ -143,6 +146,7 @@ fn words_of(alloc: Global, said: &Said<'_>) -> Result<Words, Wrong>
         refused: copied(alloc, said.refused)?,
         progress: said.progress,
         strict: said.strict,
+        extended: said.extended,
     })
 }
 
@@ -184,6 +188,8 @@ pub fn words(alloc: Global, given: &[String]) -> Result<Words, clap::Error>
         IsFlag (flag_of (codes "progress") (map string_bytes given.now)) words.progress) }
     ensures strict { IfOk result (λ words.
         IsFlag (flag_of (codes "strict") (map string_bytes given.now)) words.strict) }
+    ensures extended { IfOk result (λ words.
+        IsFlag (flag_of (codes "extended") (map string_bytes given.now)) words.extended) }
 {
     let mut command = command(alloc)?;
     let matches = command.try_get_matches_from_mut(given)?;
@@ -196,6 +202,7 @@ pub fn words(alloc: Global, given: &[String]) -> Result<Words, clap::Error>
         refused: matches.get_str("refused"),
         progress: matches.get_flag("progress"),
         strict: matches.get_flag("strict"),
+        extended: matches.get_flag("extended"),
     };
     match words_of(alloc, &said) {
         Ok(words) => Ok(words),

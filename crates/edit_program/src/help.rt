@@ -25,6 +25,11 @@ Lines of SCRIPT (f and g are features, numbered from 0; id is a JSON string):
   document                   The map as TopoJSON
   # ..                       A comment; it has no answer, nor has an empty line
 
+With --extended also (id is a JSON string or a JSON number):
+  find id                    The features with the id
+  id f                       The id of feature f
+  near x y                   The nearest vertex, and the square of its distance
+
 The answers are sent before more of SCRIPT is read, so with SCRIPT - a program can ask line by line.
 
 Status: 0 all lines were accepted; 1 some were refused or bad, or --strict did not save; 2 the map
@@ -50,3 +55,5 @@ pub(crate) const PROGRESS: &str = "Report progress on standard error if it is a 
 
 pub(crate) const STRICT: &str =
     "Save FILE only if no line was refused or bad and the last one ends with a line feed";
+
+pub(crate) const EXTENDED: &str = "Also take the lines find, id and near";

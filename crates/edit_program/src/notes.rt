@@ -8,7 +8,7 @@ enum Place {
     Start,
     /// In a refusal, or in `bad line`.
     Refusal,
-    /// In the text of a map, inside so many objects and lists of it.
+    /// In the text of a map, or of an id, inside so many objects and lists of it.
     Text { depth: u64 },
     /// In a string of that text.
     Quoted { depth: u64 },
@@ -23,9 +23,10 @@ impl Place {
     fn behind_first(byte: u8) -> Place {
         match byte {
             b'\n' => Place::Start,
-            // `refused` and `bad line` alone begin so, and the text of a map alone begins with `{`.
+            // `refused` and `bad line` alone begin so; the text of a map begins with `{`, and an id may be an
+            // object or a list.
             b'r' | b'b' => Place::Refusal,
-            b'{' => Place::Text { depth: 1 },
+            b'{' | b'[' => Place::Text { depth: 1 },
             _ => Place::Other,
         }
     }

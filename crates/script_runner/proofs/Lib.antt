@@ -3,6 +3,7 @@ pub mod ListLemmas
 pub mod LineLemmas
 pub mod SendLemmas
 pub mod StepLemmas
+pub mod PlainLemmas
 pub mod FeedLemmas
 pub mod RunLemmas
 pub mod OpenLemmas

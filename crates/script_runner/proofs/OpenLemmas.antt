@@ -9,7 +9,7 @@ use Rattle.arc_store.specs.declared.fault.BuildFault.{BuildFault}
 use Rattle.arc_store.specs.declared.fault.BuildFault.TheVariants as build
 use Rattle.script_runner.specs.declared.fault.RunFault.{RunFault}
 use Rattle.script_runner.specs.declared.fault.RunFault.TheVariants as fault
-use Rattle.script_runner.specs.Common.{Devices, OpensAs, IsUnopened, RunEnds, IsOpenEnd, IsBuildEnd}
+use Rattle.script_runner.specs.Common.{Devices, Language, OpensAs, IsUnopened, EndsBy, IsOpenEnd, IsBuildEnd}
 
 pub opens_as : (bytes : List ℕ) (read d : Document) → ((reading : Reads bytes read) × Fits reading) → d ≡ read → Proper d → OpensAs bytes d
 opens_as bytes read d is e proper = subst (λ z. Proper z → OpensAs bytes z) (sym e) (λ p. record { reads = is.0; fits = is.1; proper = p }) proper
@@ -33,9 +33,9 @@ not_built bytes o (build.Conflict s t) end a pair is = subst (λ z. IsOpenEnd z 
 not_built bytes o build.OutOfMemory end a pair is = subst (λ z. IsOpenEnd z bytes) (sym is) tt
 
 -- a run that ends with its opening leaves its devices as they were
-pub ends_unopened : (end : RunFault) (bytes : List ℕ) (depth : ℕ) (at : Devices) → IsOpenEnd end bytes → RunEnds end bytes depth at at
-ends_unopened (fault.Open f) bytes depth at h = (h.0, h.1, h.2, refl)
-ends_unopened fault.Read bytes depth at h = absurd h
-ends_unopened fault.Write bytes depth at h = absurd h
-ends_unopened fault.Save bytes depth at h = absurd h
-ends_unopened fault.OutOfMemory bytes depth at h = inl refl
+pub ends_unopened : (its : Language) (end : RunFault) (bytes : List ℕ) (depth : ℕ) (at : Devices) → IsOpenEnd end bytes → EndsBy its end bytes depth at at
+ends_unopened its (fault.Open f) bytes depth at h = (h.0, h.1, h.2, refl)
+ends_unopened its fault.Read bytes depth at h = absurd h
+ends_unopened its fault.Write bytes depth at h = absurd h
+ends_unopened its fault.Save bytes depth at h = absurd h
+ends_unopened its fault.OutOfMemory bytes depth at h = inl refl

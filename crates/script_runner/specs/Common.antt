@@ -12,8 +12,9 @@ pub use Rattle.script_runner.specs.Outcome.{IsFront, IsNextLine, IsUnopened, Run
 pub use Rattle.script_runner.specs.Progress.{ByteStep, Feeds, FeedsPart, IsPartAt, IsReplyFront, KeptMeans, LineStep}
 pub use Rattle.script_runner.specs.Progress.{RunProgress, PutsPart, Told, line_at, more, start, text_kept}
 pub use Rattle.script_runner.specs.Replies.{IsShown, IsShownSaved, Replied, RepliedLine, TellsFault, meaning_of_said}
-pub use Rattle.script_runner.specs.Runs.{AllMean, AllShowSaved, AreLines, Asked, Bad, Meaning, LineMeans, NoFeed, NoFeeds}
+pub use Rattle.script_runner.specs.Runs.{AllMean, AllShowSaved, AreLines, Asked, Bad, Meaning, LineMeans, NoFeed, NoFeeds, Skipped}
 pub use Rattle.script_runner.specs.Runs.{ScriptLine, ShowsSaved, answered, answered_by, ended_line, all_lines, open_line}
 pub use Rattle.script_runner.specs.Runs.{TextMeans, opened_state, refused, refused_by, replies, reply_text, state_after_line}
 pub use Rattle.script_runner.specs.Runs.{state_after_all, with_feeds}
+pub use Rattle.script_runner.specs.declared.answerer.Counted.{Counted}
 pub use Rattle.script_runner.specs.declared.runner.Summary.{Summary}

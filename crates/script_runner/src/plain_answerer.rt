@@ -7,8 +7,8 @@ ghost use Rattle.script_lines.specs.Common.{SaysSound};
 ghost use Rattle.undo_ring.specs.Common.{machine_of};
 ghost use Rattle.script_runner.specs.Answering.{GivenMeans};
 ghost use Rattle.script_runner.specs.Language.{plain};
-ghost use Rattle.script_runner.specs.Runs.{answered_by, TextMeans};
-ghost use Rattle.script_runner.specs.Replies.{meaning_of_said};
+ghost use Rattle.script_runner.specs.Runs.{answered_by, reply_text, TextMeans};
+ghost use Rattle.script_runner.specs.Replies.{meaning_of_said, IsShownSaved, RepliedLine};
 
 use crate::answerer::{Answerer, Counted};
 use crate::sending::send_reply;
@@ -21,8 +21,8 @@ use std::marker::Model;
 use topo_writer::{WriteFault, write};
 use undo_ring::Editor;
 
-/// What a line says; nothing for a bad line. Fails where there is no memory for an id or a path.
-fn said(heap: Global, line: &[u8]) -> Result<Option<Line>, AllocError>
+/// What the text of a line says; nothing for a bad line. Fails where there is no memory for an id or a path.
+fn text_said(heap: Global, line: &[u8]) -> Result<Option<Line>, AllocError>
     ensures means { IfOk result (λ said. TextMeans plain line.now (meaning_of_said said)) }
     ensures sound { IfOk result (λ said. SaysSound said) }
 {
@@ -33,14 +33,15 @@ fn said(heap: Global, line: &[u8]) -> Result<Option<Line>, AllocError>
     }
 }
 
-/// What a line that was given says; nothing where none was.
-fn said_by(heap: Global, line: Option<&[u8]>) -> Result<Option<Line>, AllocError>
-    ensures means { IfOk result (λ said. GivenMeans plain (option_map (λ line. line.now) line.entry)
-        (meaning_of_said said)) }
+/// What a line says; nothing for a bad line, or where none is given, since it is over the limit. `heap` holds
+/// an id and a path; fails only where it has no room.
+pub fn said(heap: Global, line: Option<&[u8]>) -> Result<Option<Line>, AllocError>
+    ensures means { IfOk result (λ said. GivenMeans plain
+        (option_map (λ line. line.now) line.entry) (meaning_of_said said)) }
     ensures sound { IfOk result (λ said. SaysSound said) }
 {
     match line {
-        Some(line) => said(heap, line),
+        Some(line) => text_said(heap, line),
         None => Ok(None),
     }
 }
@@ -102,6 +103,31 @@ impl<'a, A: Allocator + Copy> PlainAnswerer<'a, A> {
         }
     }
 
+    /// Sends the answer to what a line says, with a line feed: nothing where it is skipped, `bad line` where it
+    /// says nothing that is taken.
+    pub fn send<W: Sink>(
+        &mut self,
+        said: Option<Line>,
+        out: &mut W,
+    ) -> Result<Counted, WriteFault>
+        requires sound { SaysSound said }
+        requires works { W.has_failed out.old ≡ false }
+        ensures sends { Sends W.Sink of_device out.old out.new result
+            (reply_text plain self.old.depth (machine_of self.old) (meaning_of_said said.entry)) }
+        ensures replied { IfOk result (λ counted.
+            RepliedLine self.old self.new (meaning_of_said said.entry) counted.is_refused) }
+        ensures answered { IfOk result (λ counted. (if counted.is_answered then 1 else 0)
+            ≡ answered_by (meaning_of_said said.entry)) }
+        ensures shown { OnOk result (IsShownSaved self.old.map.doc said.entry) }
+    {
+        let is_answered = is_answered(&said);
+        let is_refused = send_reply(&mut self.editor, said, &mut self.text, out)?;
+        Ok(Counted {
+            is_answered,
+            is_refused,
+        })
+    }
+
     /// The map as it is now.
     pub fn map(&self) -> &Map<'a, TreeIndex<A>, A>
         ensures { result.now ≡ self.now.map }
@@ -122,13 +148,8 @@ impl<'a, A: Allocator + Copy> Answerer for PlainAnswerer<'a, A> {
         line: Option<&[u8]>,
         out: &mut W,
     ) -> Result<Counted, WriteFault> {
-        let said = said_by(self.heap, line)?;
-        let is_answered = is_answered(&said);
-        let is_refused = send_reply(&mut self.editor, said, &mut self.text, out)?;
-        Ok(Counted {
-            is_answered,
-            is_refused,
-        })
+        let said = said(self.heap, line)?;
+        self.send(said, out)
     }
 
     fn save<V: Sink>(&self, saved: &mut V) -> Result<(), WriteFault> {

@@ -7,8 +7,8 @@ use itoa::{Buffer, Integer};
 use point_queries::Numbers;
 use std::alloc::{AllocError, Allocator};
 
-/// Appends a number in decimal.
-pub(crate) fn push_number<A: Allocator + Copy, I: Integer>(
+/// Appends a number in decimal. Fails only on allocation failure.
+pub fn push_number<A: Allocator + Copy, I: Integer>(
     text: &mut Vec<u8, A>,
     number: I,
 ) -> Result<(), AllocError>
@@ -18,8 +18,8 @@ pub(crate) fn push_number<A: Allocator + Copy, I: Integer>(
     text.extend_from_slice(buffer.format(number).as_bytes())
 }
 
-/// Appends both numbers with a space between them.
-pub(crate) fn push_position<A: Allocator + Copy>(
+/// Appends both numbers with a space between them. Fails only on allocation failure.
+pub fn push_position<A: Allocator + Copy>(
     text: &mut Vec<u8, A>,
     position: Pos,
 ) -> Result<(), AllocError>
@@ -42,8 +42,8 @@ pub(crate) fn push_segment<A: Allocator + Copy>(
     push_position(text, segment.hi)
 }
 
-/// Appends each number after a space.
-fn push_numbers<A: Allocator + Copy>(
+/// Appends each number after a space. Fails only on allocation failure.
+pub fn push_numbers<A: Allocator + Copy>(
     text: &mut Vec<u8, A>,
     numbers: &[u32],
 ) -> Result<(), AllocError>

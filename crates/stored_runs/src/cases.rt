@@ -15,6 +15,7 @@ const MARKS: &[&str] = &[
     "# ",
     "map: ",
     "keeps: ",
+    "extended: ",
     "unanswered:",
     "saved: ",
     "sum: ",

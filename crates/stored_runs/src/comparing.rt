@@ -1,6 +1,6 @@
 //! Whether a run is as it is stored.
 use crate::cases::{answer, depth, field, odd_line, script_of, text_of};
-use crate::running::{Told, tell};
+use crate::running::{Script, Told, tell};
 use std::alloc::{AllocError, Global};
 use std::hash::RandomState;
 use std::str;
@@ -105,7 +105,12 @@ fn is_saved_again(alloc: Global, seed: RandomState, told: &Told) -> Result<bool,
         return Ok(told.saved.is_empty());
     }
     let saved = told.saved.as_slice();
-    let again = tell(alloc, seed, saved, b"", 1)?;
+    let nothing = Script {
+        lines: b"",
+        depth: 1,
+        is_extended: false,
+    };
+    let again = tell(alloc, seed, saved, &nothing)?;
     Ok(again.saved.as_slice() == saved)
 }
 
@@ -146,7 +151,12 @@ pub(crate) fn verdict(
     let Some(depth) = depth(case) else {
         return String::from_str(alloc, "keeps: is no number from 1 to 1000");
     };
-    let script = script_of(alloc, case)?;
-    let told = tell(alloc, seed, map, script.as_slice(), depth)?;
+    let lines = script_of(alloc, case)?;
+    let script = Script {
+        lines: lines.as_slice(),
+        depth,
+        is_extended: field(case, "extended: ").is_some(),
+    };
+    let told = tell(alloc, seed, map, &script)?;
     said_of(alloc, seed, named, case, &told)
 }

@@ -2,6 +2,7 @@
 ghost use Rattle.std.specs.Prelude.{◌≤◌};
 
 use device_io::{FromReader, ToWriter};
+use further_runner::run_extended;
 use script_runner::{RunFault, Summary, run};
 use std::alloc::{AllocError, Global};
 use std::hash::RandomState;
@@ -24,30 +25,53 @@ fn end_of(alloc: Global, outcome: &Result<Summary, RunFault<'_>>) -> Result<Stri
     }
 }
 
-/// The run of the script on the map, of which so many changes are kept.
+/// A script, and how it is run.
+#[derive(Clone, Copy)]
+pub(crate) struct Script<'s> {
+    /// Its bytes.
+    pub(crate) lines: &'s [u8],
+    /// How many changes are kept.
+    pub(crate) depth: usize,
+    /// Whether it may have further lines.
+    pub(crate) is_extended: bool,
+    ghost least: { 1 ≤ depth },
+    ghost most: { depth ≤ 1000 },
+}
+
+/// The run of a script on the map.
 pub(crate) fn tell(
     alloc: Global,
     seed: RandomState,
     map: &[u8],
-    script: &[u8],
-    depth: usize,
-) -> Result<Told, AllocError>
-    requires least { 1 ≤ depth }
-    requires most { depth ≤ 1000 }
-{
-    let mut source = FromReader::new(script);
+    script: &Script<'_>,
+) -> Result<Told, AllocError> {
+    let mut source = FromReader::new(script.lines);
     let mut sink = ToWriter::new(Vec::new(alloc));
     let mut saved = ToWriter::new(Vec::new(alloc));
-    let outcome = run(
-        alloc,
-        alloc,
-        seed,
-        map,
-        &mut source,
-        depth,
-        &mut sink,
-        &mut saved,
-    );
+    let depth = script.depth;
+    let outcome = if script.is_extended {
+        run_extended(
+            alloc,
+            alloc,
+            seed,
+            map,
+            &mut source,
+            depth,
+            &mut sink,
+            &mut saved,
+        )
+    } else {
+        run(
+            alloc,
+            alloc,
+            seed,
+            map,
+            &mut source,
+            depth,
+            &mut sink,
+            &mut saved,
+        )
+    };
     let end = end_of(alloc, &outcome)?;
     Ok(Told {
         answers: sink.writer,

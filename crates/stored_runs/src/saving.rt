@@ -1,5 +1,5 @@
 //! Whether a map that is saved opens again as the same map.
-use crate::running::{Told, tell};
+use crate::running::{Script, Told, tell};
 use std::alloc::{AllocError, Global};
 use std::hash::RandomState;
 
@@ -50,9 +50,13 @@ pub(crate) fn said_of_saved(
     features: u32,
 ) -> Result<&'static str, AllocError> {
     let counted = format!(in alloc; "features {features} ")?;
-    let script = questions(alloc, features)?;
-    let script = script.as_str().as_bytes();
-    let once = tell(alloc, seed, map, script, 100)?;
-    let again = tell(alloc, seed, once.saved.as_slice(), script, 100)?;
+    let lines = questions(alloc, features)?;
+    let script = Script {
+        lines: lines.as_str().as_bytes(),
+        depth: 100,
+        is_extended: false,
+    };
+    let once = tell(alloc, seed, map, &script)?;
+    let again = tell(alloc, seed, once.saved.as_slice(), &script)?;
     Ok(compared(map, &once, &again, counted.as_str()))
 }

@@ -14,19 +14,21 @@ fn given(alloc: Global, line: &str) -> Result<Vec<String>, AllocError> {
 }
 
 /// Words, and what they are read as: MAP, SCRIPT, FILE, how many changes are kept, FILE2, whether it is
-/// told what is begun, and whether each line is to be accepted; or the status that they stop the program
-/// with.
+/// told what is begun, whether each line is to be accepted, and whether further lines are taken; or the
+/// status that they stop the program with.
 const READ: &str = "\
-border_edit map.json script.txt --out saved.json => map.json script.txt saved.json 100 - false false
-border_edit --out saved.json map.json script.txt => map.json script.txt saved.json 100 - false false
-border_edit map.json --out=saved.json script.txt => map.json script.txt saved.json 100 - false false
-border_edit m s --out f --undo 2 => m s f 2 - false false
-border_edit --undo 1 m s --out f => m s f 1 - false false
-border_edit m --undo=1000 s --out f => m s f 1000 - false false
-border_edit m - --out f --refused list.txt --progress => m - f 100 list.txt true false
-border_edit --progress --refused=list.txt m - --out=f => m - f 100 list.txt true false
-border_edit m s --out f --strict => m s f 100 - false true
-border_edit --strict --progress m - --refused l --out f => m - f 100 l true true
+border_edit map.json script.txt --out saved.json => map.json script.txt saved.json 100 - false false false
+border_edit --out saved.json map.json script.txt => map.json script.txt saved.json 100 - false false false
+border_edit map.json --out=saved.json script.txt => map.json script.txt saved.json 100 - false false false
+border_edit m s --out f --undo 2 => m s f 2 - false false false
+border_edit --undo 1 m s --out f => m s f 1 - false false false
+border_edit m --undo=1000 s --out f => m s f 1000 - false false false
+border_edit m - --out f --refused list.txt --progress => m - f 100 list.txt true false false
+border_edit --progress --refused=list.txt m - --out=f => m - f 100 list.txt true false false
+border_edit m s --out f --strict => m s f 100 - false true false
+border_edit --strict --progress m - --refused l --out f => m - f 100 l true true false
+border_edit m s --out f --extended => m s f 100 - false false true
+border_edit --extended --strict m - --undo 7 --out f => m - f 7 - false true true
 border_edit => 64
 border_edit map.json => 64
 border_edit map.json script.txt => 64
@@ -46,6 +48,8 @@ border_edit m s --out f --refused a --refused b => 64
 border_edit m s --out f --refused f => 64
 border_edit m s --out f --strict yes => 64
 border_edit m s --out f --strict=yes => 64
+border_edit m s --out f --extended yes => 64
+border_edit m s --out f --extended --extended => 64
 border_edit --help => 0
 border_edit --version => 0
 border_edit map.json -h => 0";
@@ -63,7 +67,8 @@ fn read(alloc: Global, line: &str) -> Result<String, AllocError> {
             let script = words.script.as_str();
             let out = words.out.as_str();
             let (depth, progress, strict) = (words.depth, words.progress, words.strict);
-            format!(in alloc; "{map} {script} {out} {depth} {refused} {progress} {strict}")
+            let extended = words.extended;
+            format!(in alloc; "{map} {script} {out} {depth} {refused} {progress} {strict} {extended}")
         }
         Err(error) => {
             let status = Stop::from(error).status();

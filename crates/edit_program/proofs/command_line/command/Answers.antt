@@ -17,16 +17,18 @@ returns c =
     let refused_is : rule_of c.option-3.result ≡ option_rule (codes "refused") = c.option-3.ensures.rule ∙ ap option_rule (search rules) in
     let progress_is : rule_of c.flag.result ≡ flag_rule (codes "progress") = c.flag.ensures.rule ∙ ap flag_rule (search rules) in
     let strict_is : rule_of c.flag-2.result ≡ flag_rule (codes "strict") = c.flag-2.ensures.rule ∙ ap flag_rule (search rules) in
+    let extended_is : rule_of c.flag-3.result ≡ flag_rule (codes "extended") = c.flag-3.ensures.rule ∙ ap flag_rule (search rules) in
     let new_is : app_of c.new.result ≡ new_app (codes "border_edit") = search rules in
     let about_is : app_of c.about.result ≡ new_app (codes "border_edit") = ap app_of_fields c.about.ensures ∙ new_is in
     let version_is : app_of c.version.result ≡ with_version (new_app (codes "border_edit")) =
     ap app_of_fields c.version.ensures ∙ ap with_version about_is in
     let after_is : app_of c.after_help.result ≡ with_version (new_app (codes "border_edit")) =
     ap app_of_fields c.after_help.ensures ∙ version_is in
-    c.in_ok-command.ensures.shape c.flag-2.ensures.local
+    c.in_ok-command.ensures.shape c.flag-3.ensures.local
+    ∙ ap₂ with_rule (c.in_ok-arg-7.ensures.shape c.flag-2.ensures.local
     ∙ ap₂ with_rule (c.in_ok-arg-6.ensures.shape c.flag.ensures.local
     ∙ ap₂ with_rule (c.in_ok-arg-5.ensures.shape c.option-3.ensures.local
     ∙ ap₂ with_rule (c.in_ok-arg-4.ensures.shape c.option-2.ensures.local
     ∙ ap₂ with_rule (c.in_ok-arg-3.ensures.shape out_local
     ∙ ap₂ with_rule (c.in_ok-arg-2.ensures.shape c.placed-2.ensures.local
-    ∙ ap₂ with_rule (c.in_ok-arg.ensures.shape c.placed.ensures.local ∙ ap₂ with_rule after_is map_is) script_is) out_is) undo_is) refused_is) progress_is) strict_is
+    ∙ ap₂ with_rule (c.in_ok-arg.ensures.shape c.placed.ensures.local ∙ ap₂ with_rule after_is map_is) script_is) out_is) undo_is) refused_is) progress_is) strict_is) extended_is

@@ -40,3 +40,9 @@ returns-in-Ok-clause-strict c =
     subst (λ (b : Bool). IsFlag (flag_of (codes "strict") (map string_bytes c.args.given.now)) b) (sym c.in-Ok.ensures.strict)
     (flag_is _ c.in_ok-matches.matches _ (codes "strict") _ c.get_flag-2.result
     c.in_ok-command.ensures c.in_ok-matches.ensures.ok.2 (search rules) c.get_flag-2.ensures.none c.get_flag-2.ensures.value c.get_flag-2.ensures.other)
+
+pub returns-in-Ok-clause-extended : goal.returns-in-Ok-clause-extended
+returns-in-Ok-clause-extended c =
+    subst (λ (b : Bool). IsFlag (flag_of (codes "extended") (map string_bytes c.args.given.now)) b) (sym c.in-Ok.ensures.extended)
+    (flag_is _ c.in_ok-matches.matches _ (codes "extended") _ c.get_flag-3.result
+    c.in_ok-command.ensures c.in_ok-matches.ensures.ok.2 (search rules) c.get_flag-3.ensures.none c.get_flag-3.ensures.value c.get_flag-3.ensures.other)

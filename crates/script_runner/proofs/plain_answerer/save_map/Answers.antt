@@ -3,7 +3,7 @@ use Rattle.map_text.specs.Common.{text_of}
 use Rattle.topo_writer.specs.Common.{of_device}
 use Rattle.topo_writer.specs.declared.fault.WriteFault.TheVariants.{Device}
 use Rattle.script_runner.proofs.SendLemmas.{prefix_kept}
-use Rattle.script_runner.proofs.running.save.Goals as goal
+use Rattle.script_runner.proofs.plain_answerer.save_map.Goals as goal
 
 pub returns-in_err-flush-clause-sends : goal.returns-in_err-flush-clause-sends
 returns-in_err-flush-clause-sends g c =

@@ -1,0 +1,135 @@
+//! The vertex that is nearest to a position.
+ghost use Rattle.std.specs.Prelude.{◌≡◌, IfOk};
+ghost use Rattle.further_queries.specs.Nearest.{IsNearest};
+
+use crate::best::{Best, best_end};
+use crate::boxes::{WHOLE, around, beside, put_into, root};
+use arc_store::Map;
+use grid_geometry::{Pos, Rect, Seg};
+use segment_index::SegIndex;
+use std::alloc::{AllocError, Allocator};
+
+/// The box of all vertices of a map; `None` where it has none. Goes through the map. Fails only on
+/// allocation failure.
+pub fn extent<I: SegIndex, A: Allocator + Copy>(
+    map: &Map<'_, I, A>,
+) -> Result<Option<Rect>, AllocError> {
+    let vertices = map.vertices()?;
+    let mut extent = None;
+    for p in vertices.as_slice() {
+        extent = Some(widened(extent, *p));
+    }
+    Ok(extent)
+}
+
+/// The least box of a position and of what there was before.
+fn widened(extent: Option<Rect>, p: Pos) -> Rect {
+    let (x, y) = (p.x(), p.y());
+    match extent {
+        Some(rect) => Rect {
+            x0: rect.x0.min(x),
+            y0: rect.y0.min(y),
+            x1: rect.x1.max(x),
+            y1: rect.y1.max(y),
+        },
+        None => Rect {
+            x0: x,
+            y0: y,
+            x1: x,
+            y1: y,
+        },
+    }
+}
+
+/// A map of which is asked what is nearest to p.
+struct Looking<'m, 'a, I: SegIndex, A: Allocator + Copy> {
+    map: &'m Map<'a, I, A>,
+    p: Pos,
+    /// The segments near the box that was asked last.
+    room: Vec<Seg, A>,
+}
+
+impl<I: SegIndex, A: Allocator + Copy> Looking<'_, '_, I, A> {
+    /// The best of the vertices near a box and of the best so far.
+    fn look(&mut self, rect: Rect, best: Option<Best>) -> Result<Option<Best>, AllocError> {
+        self.room.clear();
+        self.map.candidates(rect, &mut self.room)?;
+        Ok(best_end(self.p, self.room.as_slice(), best))
+    }
+
+    /// Some vertex near the position c and how far round c was looked, twice as far each time; `None` where there is
+    /// no vertex.
+    fn some_near(&mut self, c: Pos, first: i64) -> Result<(Option<Best>, i64), AllocError> {
+        let mut far = first;
+        loop {
+            let best = self.look(around(c, far, far), None)?;
+            if best.is_some() || far == WHOLE {
+                return Ok((best, far));
+            }
+            far = (2 * far).min(WHOLE);
+        }
+    }
+
+    /// The best of the vertices that are as near as the best so far.
+    fn all_as_near(
+        &mut self,
+        c: Pos,
+        extent: Rect,
+        best: Best,
+    ) -> Result<Option<Best>, AllocError> {
+        let p = self.p;
+        let (x, y) = (
+            u128::from(p.x().abs_diff(c.x())),
+            u128::from(p.y().abs_diff(c.y())),
+        );
+        let wide = root(best.squared.saturating_sub(y * y));
+        let high = root(best.squared.saturating_sub(x * x));
+        let far = root(best.squared);
+        let mut best = self.look(around(p, wide, high), Some(best))?;
+        for rect in beside(around(p, far, far), extent) {
+            if let Some(rect) = rect {
+                best = self.look(rect, best)?;
+            }
+        }
+        Ok(best)
+    }
+}
+
+/// How far is looked first: as far as vertices would be apart that lay in a square lattice.
+fn first_step(extent: Rect, vertices: usize) -> i64 {
+    let longer = (extent.x1 - extent.x0).max(extent.y1 - extent.y0);
+    let rows = root(vertices as u128).max(1);
+    (longer / rows + 1).min(WHOLE)
+}
+
+/// The vertex that is nearest to p, with the square of its distance; of several the least. `None` where the
+/// map has no vertex. Fails only on allocation failure.
+///
+/// The vertices are looked for around the position of `extent` that is nearest to p. If that is a box of all
+/// vertices, as `extent` gives, few segments are looked at; the answer does not depend on it.
+pub fn nearest<I: SegIndex, A: Allocator + Copy>(
+    alloc: A,
+    map: &Map<'_, I, A>,
+    extent: Rect,
+    p: Pos,
+) -> Result<Option<Best>, AllocError>
+    ensures { IfOk result (λ found. IsNearest map.now.doc p found) }
+{
+    let Some(c) = put_into(p, extent) else {
+        return Ok(None);
+    };
+    let mut looking = Looking {
+        map,
+        p,
+        room: Vec::new(alloc),
+    };
+    let (best, far) = looking.some_near(c, first_step(extent, map.vertex_count()))?;
+    let Some(best) = best else {
+        return Ok(None);
+    };
+    let reach = u128::from(far as u64);
+    if c == p && best.squared <= reach * reach {
+        return Ok(Some(best));
+    }
+    looking.all_as_near(c, extent, best)
+}

@@ -1,0 +1,3 @@
+pub mod Answers
+pub mod Language
+pub mod Kept

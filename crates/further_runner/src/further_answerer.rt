@@ -1,0 +1,208 @@
+//! The answers to the lines of a script that may have further ones.
+ghost use Rattle.std.specs.Prelude.{◌≡◌, ◌++◌, false, codes, IfOk, OnOk, if◌then◌else◌};
+ghost use Rattle.undo_ring.specs.Common.{machine_of};
+ghost use Rattle.further_runner.specs.Language.{further};
+
+use crate::answers::{push_found, push_kept, push_near};
+use arc_store::Map;
+use device_io::{Sink, put_all};
+use edit_records::Command;
+use further_lines::{FurtherLine, Wanted, parse_further};
+use further_queries::{Best, Ids, extent, nearest};
+use grid_geometry::{Pos, Rect};
+use script_runner::{Answerer, Counted, Line, PlainAnswerer, said};
+use segment_index::TreeIndex;
+use std::alloc::{AllocError, Allocator, Global};
+use std::hash::RandomState;
+use std::marker::Model;
+use topo_writer::WriteFault;
+use undo_ring::Editor;
+
+/// Whether a line may give features other ids, or take features out or in.
+fn changes_ids(said: &Option<Line>) -> bool {
+    match said {
+        Some(Line::Undo) => true,
+        Some(Line::Edit(command)) => matches!(
+            command,
+            Command::Split(..) | Command::Merge(..) | Command::Rename(..) | Command::Delete(..)
+        ),
+        Some(Line::Skip | Line::Rings(_) | Line::Count | Line::Document) | None => false,
+    }
+}
+
+/// Answers the lines of every script, and further ones. It is seen as the editor of its map.
+#[derive(Drop)]
+pub struct FurtherAnswerer<'a, A: Allocator + Copy> {
+    alloc: A,
+    /// Holds what a line asks for while it is answered, and the ids.
+    heap: Global,
+    seed: RandomState,
+    plain: PlainAnswerer<'a, A>,
+    /// The ids of the map, from the first question for one to the next change of one.
+    ids: Option<Ids<A>>,
+    /// The box of the vertices that there were at the first question for the nearest one.
+    extent: Option<Rect>,
+    /// Holds the answer to a further line while it is sent.
+    text: Vec<u8, A>,
+}
+
+impl<'a, A: Allocator + Copy> Model for FurtherAnswerer<'a, A> {
+    ghost use Rattle.undo_ring.specs.Edited.{Edited};
+
+    ghost Value = { Edited };
+
+    ghost view = { λ f. f.plain };
+
+    ghost use Rattle.further_runner.specs.Kept.{AreKept};
+
+    ghost invariant = { λ f. AreKept f.plain f.ids };
+}
+
+impl<'a, A: Allocator + Copy> FurtherAnswerer<'a, A> {
+    /// What answers lines on the map of an editor. `heap` holds what a line asks for, and ids, which are
+    /// hashed by the seed; `alloc` the answers.
+    pub fn new(
+        alloc: A,
+        heap: Global,
+        seed: RandomState,
+        editor: Editor<'a, TreeIndex<A>, A>,
+    ) -> Self
+        ensures { result ≡ editor.entry }
+    {
+        FurtherAnswerer {
+            alloc,
+            heap,
+            seed,
+            plain: PlainAnswerer::new(alloc, heap, editor),
+            ids: None,
+            extent: None,
+            text: Vec::new(alloc),
+        }
+    }
+
+    /// Appends the features with an id. The first question walks over the features.
+    fn push_features(&mut self, wanted: &Wanted) -> Result<(), AllocError> {
+        if self.ids.is_none() {
+            self.ids = Some(Ids::new(self.alloc, self.heap, self.seed, self.plain.map())?);
+        }
+        match &self.ids {
+            Some(ids) => push_found(&mut self.text, ids.find(wanted)),
+            None => Ok(()),
+        }
+    }
+
+    /// Appends the id of a feature. Answers whether it was refused.
+    fn push_id(&mut self, number: u32) -> Result<bool, AllocError> {
+        match self.plain.map().feature(number) {
+            Some(feature) => {
+                push_kept(&mut self.text, feature.id())?;
+                Ok(false)
+            }
+            None => {
+                self.text.extend_from_slice(b"refused no feature")?;
+                Ok(true)
+            }
+        }
+    }
+
+    /// The vertex that is nearest to a position. The first question walks over the vertices.
+    fn nearest_to(&mut self, p: Pos) -> Result<Option<Best>, AllocError> {
+        if self.extent.is_none() {
+            self.extent = extent(self.plain.map())?;
+        }
+        match self.extent {
+            Some(extent) => nearest(self.alloc, self.plain.map(), extent, p),
+            None => Ok(None),
+        }
+    }
+
+    /// Appends the vertex that is nearest to a position. Answers whether it was refused.
+    fn push_nearest(&mut self, p: Pos) -> Result<bool, AllocError> {
+        match self.nearest_to(p)? {
+            Some(best) => {
+                push_near(&mut self.text, best)?;
+                Ok(false)
+            }
+            None => {
+                self.text.extend_from_slice(b"refused no vertex")?;
+                Ok(true)
+            }
+        }
+    }
+
+    /// Appends the answer to a further line. Answers whether it was refused.
+    fn push_answer(&mut self, said: &FurtherLine) -> Result<bool, AllocError> {
+        match said {
+            FurtherLine::Find(wanted) => {
+                self.push_features(wanted)?;
+                Ok(false)
+            }
+            FurtherLine::Id(number) => self.push_id(*number),
+            FurtherLine::Near(p) => self.push_nearest(*p),
+        }
+    }
+
+    /// Sends the answer to a further line, with a line feed.
+    fn send_further<W: Sink>(
+        &mut self,
+        said: &FurtherLine,
+        out: &mut W,
+    ) -> Result<Counted, WriteFault>
+        requires works { W.has_failed out.old ≡ false }
+    {
+        self.text.clear();
+        let is_refused = self.push_answer(said)?;
+        self.text.extend_from_slice(b"\n")?;
+        put_all(out, self.text.as_slice())?;
+        Ok(Counted {
+            is_answered: true,
+            is_refused,
+        })
+    }
+
+    /// Sends the answer to a line of every script. The ids are made anew where they may have changed.
+    fn send_plain<W: Sink>(
+        &mut self,
+        line: Option<&[u8]>,
+        out: &mut W,
+    ) -> Result<Counted, WriteFault>
+        requires works { W.has_failed out.old ≡ false }
+    {
+        let said = said(self.heap, line)?;
+        if changes_ids(&said) {
+            self.ids = None;
+        }
+        self.plain.send(said, out)
+    }
+
+    /// What a line asks for that is given, where it is a further one.
+    fn further_said(&self, line: Option<&[u8]>) -> Result<Option<FurtherLine>, AllocError> {
+        match line {
+            Some(line) => parse_further(self.heap, line),
+            None => Ok(None),
+        }
+    }
+}
+
+impl<'a, A: Allocator + Copy> Answerer for FurtherAnswerer<'a, A> {
+    ghost its = { further };
+
+    ghost state = { machine_of };
+
+    ghost depth = { λ e. e.depth };
+
+    fn answer<W: Sink>(
+        &mut self,
+        line: Option<&[u8]>,
+        out: &mut W,
+    ) -> Result<Counted, WriteFault> {
+        match self.further_said(line)? {
+            Some(said) => self.send_further(&said, out),
+            None => self.send_plain(line, out),
+        }
+    }
+
+    fn save<V: Sink>(&self, saved: &mut V) -> Result<(), WriteFault> {
+        self.plain.save(saved)
+    }
+}
