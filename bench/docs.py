@@ -3,7 +3,7 @@
 
     links    each relative link names a file that is there, and a heading of it where it names one
     lines    `--help` and docs/FORMATS.md list the same lines of a script, and they begin with the words that
-             crates/script_lines takes
+             crates/script_lines takes; so do docs/FURTHER.md and crates/further_lines the further ones
     edits    each must-fail edit that a table names after the word gate or inner is there, and is one of these
     sizes    no page of docs/ has over 250 lines, or a line over 120 columns but in a table or a block of code
     runs     each block that begins with ```sh run, in README.md, docs/TUTORIAL.md and docs/TESTED.md, is run
@@ -90,19 +90,23 @@ def size_faults(page):
 
 def line_faults():
     """Where the lists of the lines of a script differ."""
-    def found(pattern, name):
-        return re.findall(pattern, (TOP / name).read_text(), re.M)
+    plain, further = (TOP / "crates/edit_program/src/help.rt").read_text().split("\nWith --extended also", 1)
+    yield from list_faults(plain, "docs/FORMATS.md", "script_lines", r'(?:word|line) == b"(\w+)"')
+    yield from list_faults(further, "docs/FURTHER.md", "further_lines", r'strip_prefix\(b"(\w+) ?"\)')
 
-    table = (TOP / "docs/FORMATS.md").read_text().split("\n| Line | Answer | What it does |\n", 1)[1].split("\n\n", 1)[0]
+
+def list_faults(help_text, page, crate, takes):
+    """Where the help, the table of a page and the words that a crate takes differ."""
+    table = (TOP / page).read_text().split("\n| Line | Answer | What it does |\n", 1)[1].split("\n\n", 1)[0]
     listed = [line for row in table.splitlines()[1:] for line in re.findall("`([^`]*)`", row.split("|")[1])]
-    helped = found(r"^  ([a-z]\S*(?: \S+)*) {2,}\S", "crates/edit_program/src/help.rt")
+    helped = re.findall(r"^  ([a-z]\S*(?: \S+)*) {2,}\S", help_text, re.M)
     # positions may be numbered in one list and not in the other
     told, helped = ([re.sub(r"\b([xy])[0-9]\b", r"\1", line) for line in lines] for lines in (listed, helped))
-    taken = found(r'(?:word|line) == b"(\w+)"', "crates/script_lines/src/parsing.rt")
+    taken = re.findall(takes, (TOP / "crates" / crate / "src/parsing.rt").read_text(), re.M)
     if helped != told:
-        yield f"help.rt has the lines {helped}, and docs/FORMATS.md {told}"
+        yield f"help.rt has the lines {helped}, and {page} {told}"
     if sorted(taken) != sorted(line.split()[0] for line in told):
-        yield f"parsing.rt takes the words {taken}, and docs/FORMATS.md has the lines {told}"
+        yield f"parsing.rt of {crate} takes the words {taken}, and {page} has the lines {told}"
 
 
 def typed(page):

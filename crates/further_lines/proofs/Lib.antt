@@ -1,1 +1,3 @@
+pub mod IdLemmas
 pub mod LineLemmas
+pub mod Examples

@@ -1,13 +1,14 @@
 //! A further line, from its bytes.
-ghost use Rattle.std.specs.Prelude.{◌≡◌, ◌∷◌, [], ◌≤◌, ◌++◌, length, IfOk, MatchOption};
-ghost use Rattle.grid_geometry.specs.Common.{Position};
-ghost use Rattle.script_lines.specs.Common.{AreFeatures, AreSpaced, Finds};
+ghost use Rattle.std.specs.Prelude.{◌≡◌, ◌∷◌, [], ◌≤◌, ◌++◌, length, Some, IfOk, MatchOption};
+ghost use Rattle.edit_records.specs.declared.command.Command.{Command};
+ghost use Rattle.edit_records.specs.Common.{command_of};
+ghost use Rattle.script_lines.specs.Common.{AreFeatures, AreSpaced, Finds, Says};
 ghost use Rattle.further_lines.specs.Further as further;
 ghost use Rattle.further_lines.specs.Lines.{AsksFurther};
-ghost use Rattle.further_lines.specs.Seen.{further_of, wanted_seen};
+ghost use Rattle.further_lines.specs.Seen.{further_of};
 
 use crate::further_line::FurtherLine;
-use crate::wanted::{Wanted, wanted_of};
+use crate::wanted::wanted_of;
 use edit_records::Command;
 use grid_geometry::Pos;
 use script_lines::{Line, LineFault, parse_line};
@@ -15,7 +16,11 @@ use std::alloc::{AllocError, Global};
 
 /// What a line of this word and the bytes behind it asks for, where it is an edit or a question about a
 /// feature or a position.
-fn asked(heap: Global, word: &[u8], tail: &[u8]) -> Result<Option<Command>, AllocError> {
+fn asked(heap: Global, word: &[u8], tail: &[u8]) -> Result<Option<Command>, AllocError>
+    ensures { IfOk result (λ found. MatchOption found
+        ((c : Command) → ¬ Says (word.now ++ tail.now) (Some (command_of c)))
+        (λ c. Says (word.now ++ tail.now) (Some (command_of c)))) }
+{
     let mut line = Vec::new(heap);
     line.extend_from_slice(word)?;
     line.extend_from_slice(tail)?;

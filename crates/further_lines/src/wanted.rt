@@ -1,7 +1,6 @@
 //! What an id is found by.
-ghost use Rattle.std.specs.Prelude.{◌≡◌, IfOk, MatchOption, OnOk};
-ghost use Rattle.std.specs.Prelude.{IfSome, string_bytes};
-ghost use Rattle.json_spans.specs.Common.{IsNumber, IsText, node};
+ghost use Rattle.std.specs.Prelude.{◌≡◌, IfOk, MatchOption, option_map};
+ghost use Rattle.json_spans.specs.Common.{IsValue, decoded, node};
 ghost use Rattle.further_lines.specs.Ids.{Stands};
 ghost use Rattle.further_lines.specs.Further as further;
 ghost use Rattle.further_lines.specs.Seen.{wanted_seen};
@@ -18,8 +17,13 @@ pub enum Wanted {
     Number(Vec<u8>),
 }
 
-/// The value that all of these bytes are, with no space round it; `None` where they are no JSON.
-fn value_of<'a>(heap: Global, token: &'a [u8]) -> Result<Option<Span<'a>>, AllocError> {
+/// The value that all of these bytes are, with no space round it; `None` where they are none.
+#[tactic(auto, using(crate::proofs::IdLemmas::whole_value, crate::proofs::IdLemmas::no_value, crate::proofs::IdLemmas::spaced_value))]
+fn value_of<'a>(heap: Global, token: &'a [u8]) -> Result<Option<Span<'a>>, AllocError>
+    ensures { IfOk result (λ found. MatchOption found
+        (¬ IsValue 100 token.now)
+        (λ span. ((node span).bytes ≡ token.now) × IsValue 100 token.now)) }
+{
     match scan(heap, token) {
         Ok(root) => {
             let span = root.span();
@@ -35,7 +39,10 @@ fn value_of<'a>(heap: Global, token: &'a [u8]) -> Result<Option<Span<'a>>, Alloc
 }
 
 /// The text that a string stands for; `None` where half of a surrogate pair stands in it.
-fn text_wanted(heap: Global, span: Span<'_>) -> Result<Option<Wanted>, AllocError> {
+fn text_wanted(heap: Global, span: Span<'_>) -> Result<Option<Wanted>, AllocError>
+    ensures { IfOk result (λ found. option_map wanted_seen found
+        ≡ option_map further.TextWanted (decoded (node span.entry).bytes)) }
+{
     match text(heap, span) {
         Ok(text) => Ok(Some(Wanted::Text(text))),
         Err(TextFault::OutOfMemory) => Err(AllocError),
@@ -44,7 +51,9 @@ fn text_wanted(heap: Global, span: Span<'_>) -> Result<Option<Wanted>, AllocErro
 }
 
 /// The number, as it is written.
-fn number_wanted(heap: Global, number: &[u8]) -> Result<Wanted, AllocError> {
+fn number_wanted(heap: Global, number: &[u8]) -> Result<Wanted, AllocError>
+    ensures { IfOk result (λ wanted. wanted_seen wanted ≡ further.NumberWanted number.now) }
+{
     let mut copy = Vec::with_capacity(heap, number.len())?;
     copy.extend_from_slice(number)?;
     Ok(Wanted::Number(copy))
@@ -53,6 +62,7 @@ fn number_wanted(heap: Global, number: &[u8]) -> Result<Wanted, AllocError> {
 /// What an id is found by that is this JSON text (RFC 8259): a string by the text that it stands for, a
 /// number by its bytes. `None` where the bytes are neither, with nothing round it: a string with half of a
 /// surrogate pair is never found. Fails only on allocation failure.
+#[tactic(auto, using(crate::proofs::IdLemmas::text_stands, crate::proofs::IdLemmas::number_stands, crate::proofs::IdLemmas::none_stands, crate::proofs::IdLemmas::other_stands))]
 pub fn wanted_of(heap: Global, token: &[u8]) -> Result<Option<Wanted>, AllocError>
     ensures { IfOk result (λ found. MatchOption found
         ((w : further.Wanted) → ¬ Stands token.now w)

@@ -49,7 +49,6 @@ border_edit m s --out f --refused f => 64
 border_edit m s --out f --strict yes => 64
 border_edit m s --out f --strict=yes => 64
 border_edit m s --out f --extended yes => 64
-border_edit m s --out f --extended --extended => 64
 border_edit --help => 0
 border_edit --version => 0
 border_edit map.json -h => 0";
