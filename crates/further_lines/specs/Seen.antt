@@ -1,6 +1,8 @@
 -- The further lines of the code as the machine's commands.
-use Rattle.std.specs.Prelude.{string_bytes}
+use Rattle.std.specs.Prelude.{Option, MatchOption, string_bytes}
+use Rattle.ring_machine.specs.Common.{Text}
 use Rattle.further_lines.specs.Further as machine
+use Rattle.further_lines.specs.Ids.{Stands}
 use Rattle.further_lines.specs.declared.wanted.Wanted.{Wanted}
 use Rattle.further_lines.specs.declared.wanted.Wanted.TheVariants as wanted
 use Rattle.further_lines.specs.declared.further_line.FurtherLine.{FurtherLine}
@@ -14,3 +16,8 @@ abbrev pub further_of : FurtherLine → machine.Further
 further_of (line.Find w) = machine.Find (wanted_seen w)
 further_of (line.Id n) = machine.IdOf n
 further_of (line.Near p) = machine.Near p
+
+-- what is found stands for the JSON text, and where nothing is found nothing does
+abbrev pub IsStanding : Text → Option Wanted → Type 0
+IsStanding token found =
+    MatchOption found ((w : machine.Wanted) → ¬ Stands token w) (λ w. Stands token (wanted_seen w))

@@ -1,9 +1,8 @@
 //! What an id is found by.
 ghost use Rattle.std.specs.Prelude.{◌≡◌, IfOk, MatchOption, option_map};
 ghost use Rattle.json_spans.specs.Common.{IsValue, decoded, node};
-ghost use Rattle.further_lines.specs.Ids.{Stands};
 ghost use Rattle.further_lines.specs.Further as further;
-ghost use Rattle.further_lines.specs.Seen.{wanted_seen};
+ghost use Rattle.further_lines.specs.Seen.{IsStanding, wanted_seen};
 
 use json_spans::{Kind, ScanFault, Span, TextFault, bytes, kind, scan, text};
 use std::alloc::{AllocError, Global};
@@ -62,11 +61,9 @@ fn number_wanted(heap: Global, number: &[u8]) -> Result<Wanted, AllocError>
 /// What an id is found by that is this JSON text (RFC 8259): a string by the text that it stands for, a
 /// number by its bytes. `None` where the bytes are neither, with nothing round it: a string with half of a
 /// surrogate pair is never found. Fails only on allocation failure.
-#[tactic(auto, using(crate::proofs::IdLemmas::text_stands, crate::proofs::IdLemmas::number_stands, crate::proofs::IdLemmas::none_stands, crate::proofs::IdLemmas::other_stands))]
+#[tactic(auto, using(crate::proofs::IdLemmas::text_stands, crate::proofs::IdLemmas::number_stands, crate::proofs::IdLemmas::other_stands, crate::proofs::IdLemmas::none_stands))]
 pub fn wanted_of(heap: Global, token: &[u8]) -> Result<Option<Wanted>, AllocError>
-    ensures { IfOk result (λ found. MatchOption found
-        ((w : further.Wanted) → ¬ Stands token.now w)
-        (λ w. Stands token.now (wanted_seen w))) }
+    ensures { IfOk result (λ found. IsStanding token.now found) }
 {
     let Some(span) = value_of(heap, token)? else {
         return Ok(None);
@@ -74,6 +71,6 @@ pub fn wanted_of(heap: Global, token: &[u8]) -> Result<Option<Wanted>, AllocErro
     match kind(span) {
         Kind::Text => text_wanted(heap, span),
         Kind::Number => Ok(Some(number_wanted(heap, token)?)),
-        Kind::Null | Kind::Bool | Kind::List | Kind::Object => Ok(None),
+        _ => Ok(None),
     }
 }

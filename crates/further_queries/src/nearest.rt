@@ -42,6 +42,7 @@ fn widened(extent: Option<Rect>, p: Pos) -> Rect {
 }
 
 /// A map of which is asked what is nearest to p.
+#[derive(Drop)]
 struct Looking<'m, 'a, I: SegIndex, A: Allocator + Copy> {
     map: &'m Map<'a, I, A>,
     p: Pos,

@@ -1,3 +1,4 @@
 pub mod Answers
 pub mod Language
 pub mod Kept
+pub mod Replies

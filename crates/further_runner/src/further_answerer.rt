@@ -1,6 +1,12 @@
 //! The answers to the lines of a script that may have further ones.
-ghost use Rattle.std.specs.Prelude.{◌≡◌, ◌++◌, false, codes, IfOk, OnOk, if◌then◌else◌};
+ghost use Rattle.std.specs.Prelude.{◌≡◌, ◌≤◌, false, length, IfOk, OnOk, OnErr, IfSome, option_map};
+ghost use Rattle.device_io.specs.Common.{Sends, Stands};
+ghost use Rattle.topo_writer.specs.Common.{of_device};
 ghost use Rattle.undo_ring.specs.Common.{machine_of};
+ghost use Rattle.further_lines.specs.Common.{Find, IdOf, Near, further_of, wanted_seen};
+ghost use Rattle.further_queries.specs.Nearest.{IsNearest};
+ghost use Rattle.script_runner.specs.Common.{AnswersLine, Asked, IsLinePart, Told, plain, reply_text};
+ghost use Rattle.further_runner.specs.Replies.{Counts, SaysSome, ShowsFurther};
 ghost use Rattle.further_runner.specs.Language.{further};
 
 use crate::answers::{push_found, push_kept, push_near};
@@ -42,8 +48,6 @@ pub struct FurtherAnswerer<'a, A: Allocator + Copy> {
     ids: Option<Ids<A>>,
     /// The box of the vertices that there were at the first question for the nearest one.
     extent: Option<Rect>,
-    /// Holds the answer to a further line while it is sent.
-    text: Vec<u8, A>,
 }
 
 impl<'a, A: Allocator + Copy> Model for FurtherAnswerer<'a, A> {
@@ -76,37 +80,50 @@ impl<'a, A: Allocator + Copy> FurtherAnswerer<'a, A> {
             plain: PlainAnswerer::new(alloc, heap, editor),
             ids: None,
             extent: None,
-            text: Vec::new(alloc),
         }
     }
 
     /// Appends the features with an id. The first question walks over the features.
-    fn push_features(&mut self, wanted: &Wanted) -> Result<(), AllocError> {
+    fn push_features(
+        &mut self,
+        wanted: &Wanted,
+        text: &mut Vec<u8, A>,
+    ) -> Result<(), AllocError>
+        ensures same { self.new ≡ self.old }
+        ensures shows { OnOk result (ShowsFurther self.old (Find (wanted_seen wanted.now))
+            text.old.items text.new.items false) }
+    {
         if self.ids.is_none() {
             self.ids = Some(Ids::new(self.alloc, self.heap, self.seed, self.plain.map())?);
         }
         match &self.ids {
-            Some(ids) => push_found(&mut self.text, ids.find(wanted)),
-            None => Ok(()),
+            Some(ids) => push_found(text, ids.find(wanted)),
+            None => Err(AllocError),
         }
     }
 
     /// Appends the id of a feature. Answers whether it was refused.
-    fn push_id(&mut self, number: u32) -> Result<bool, AllocError> {
+    fn push_id(&self, number: u32, text: &mut Vec<u8, A>) -> Result<bool, AllocError>
+        ensures { IfOk result (λ refuses. ShowsFurther self.now (IdOf number)
+            text.old.items text.new.items refuses) }
+    {
         match self.plain.map().feature(number) {
             Some(feature) => {
-                push_kept(&mut self.text, feature.id())?;
+                push_kept(text, feature.id())?;
                 Ok(false)
             }
             None => {
-                self.text.extend_from_slice(b"refused no feature")?;
+                text.extend_from_slice(b"refused no feature")?;
                 Ok(true)
             }
         }
     }
 
     /// The vertex that is nearest to a position. The first question walks over the vertices.
-    fn nearest_to(&mut self, p: Pos) -> Result<Option<Best>, AllocError> {
+    fn nearest_to(&mut self, p: Pos) -> Result<Option<Best>, AllocError>
+        ensures same { self.new ≡ self.old }
+        ensures nearest { IfOk result (λ found. IsNearest self.old.map.doc p found) }
+    {
         if self.extent.is_none() {
             self.extent = extent(self.plain.map())?;
         }
@@ -117,28 +134,40 @@ impl<'a, A: Allocator + Copy> FurtherAnswerer<'a, A> {
     }
 
     /// Appends the vertex that is nearest to a position. Answers whether it was refused.
-    fn push_nearest(&mut self, p: Pos) -> Result<bool, AllocError> {
+    fn push_nearest(&mut self, p: Pos, text: &mut Vec<u8, A>) -> Result<bool, AllocError>
+        ensures same { self.new ≡ self.old }
+        ensures shows { IfOk result (λ refuses. ShowsFurther self.old (Near p)
+            text.old.items text.new.items refuses) }
+    {
         match self.nearest_to(p)? {
             Some(best) => {
-                push_near(&mut self.text, best)?;
+                push_near(text, best)?;
                 Ok(false)
             }
             None => {
-                self.text.extend_from_slice(b"refused no vertex")?;
+                text.extend_from_slice(b"refused no vertex")?;
                 Ok(true)
             }
         }
     }
 
     /// Appends the answer to a further line. Answers whether it was refused.
-    fn push_answer(&mut self, said: &FurtherLine) -> Result<bool, AllocError> {
+    fn push_answer(
+        &mut self,
+        said: &FurtherLine,
+        text: &mut Vec<u8, A>,
+    ) -> Result<bool, AllocError>
+        ensures same { self.new ≡ self.old }
+        ensures shows { IfOk result (λ refuses. ShowsFurther self.old (further_of said.now)
+            text.old.items text.new.items refuses) }
+    {
         match said {
             FurtherLine::Find(wanted) => {
-                self.push_features(wanted)?;
+                self.push_features(wanted, text)?;
                 Ok(false)
             }
-            FurtherLine::Id(number) => self.push_id(*number),
-            FurtherLine::Near(p) => self.push_nearest(*p),
+            FurtherLine::Id(number) => self.push_id(*number, text),
+            FurtherLine::Near(p) => self.push_nearest(*p, text),
         }
     }
 
@@ -149,11 +178,17 @@ impl<'a, A: Allocator + Copy> FurtherAnswerer<'a, A> {
         out: &mut W,
     ) -> Result<Counted, WriteFault>
         requires works { W.has_failed out.old ≡ false }
+        ensures same { self.new ≡ self.old }
+        ensures sends { Sends W.Sink of_device out.old out.new result
+            (reply_text further self.old.depth (machine_of self.old)
+            (Asked (further_of said.now))) }
+        ensures counts { IfOk result (λ counted.
+            Counts self.old (further_of said.now) counted) }
     {
-        self.text.clear();
-        let is_refused = self.push_answer(said)?;
-        self.text.extend_from_slice(b"\n")?;
-        put_all(out, self.text.as_slice())?;
+        let mut text = Vec::new(self.alloc);
+        let is_refused = self.push_answer(said, &mut text)?;
+        text.extend_from_slice(b"\n")?;
+        put_all(out, text.as_slice())?;
         Ok(Counted {
             is_answered: true,
             is_refused,
@@ -167,6 +202,14 @@ impl<'a, A: Allocator + Copy> FurtherAnswerer<'a, A> {
         out: &mut W,
     ) -> Result<Counted, WriteFault>
         requires works { W.has_failed out.old ≡ false }
+        ensures ok { IfOk result (λ counted. Told (W.taken out.old) (W.taken out.new)
+            (λ text. AnswersLine plain self.old.depth (machine_of self.old)
+            (option_map (λ line. line.now) line.entry) text (machine_of self.new) counted)) }
+        ensures kept { OnOk result (self.new.depth ≡ self.old.depth) }
+        ensures cut { OnErr result (Told (W.taken out.old) (W.taken out.new)
+            (IsLinePart plain self.old.depth (machine_of self.old)
+            (option_map (λ line. line.now) line.entry))) }
+        ensures stands { Stands W.Sink of_device out.new result }
     {
         let said = said(self.heap, line)?;
         if changes_ids(&said) {
@@ -176,7 +219,11 @@ impl<'a, A: Allocator + Copy> FurtherAnswerer<'a, A> {
     }
 
     /// What a line asks for that is given, where it is a further one.
-    fn further_said(&self, line: Option<&[u8]>) -> Result<Option<FurtherLine>, AllocError> {
+    fn further_said(&self, line: Option<&[u8]>) -> Result<Option<FurtherLine>, AllocError>
+        requires short { IfSome line.entry (λ line. length line.now ≤ 8192) }
+        ensures { IfOk result (λ found.
+            SaysSome (option_map (λ line. line.now) line.entry) found) }
+    {
         match line {
             Some(line) => parse_further(self.heap, line),
             None => Ok(None),
