@@ -1,3 +1,4 @@
 pub mod IdLemmas
 pub mod LineLemmas
 pub mod Examples
+pub mod KeptIds

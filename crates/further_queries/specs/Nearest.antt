@@ -1,5 +1,5 @@
 -- What is nearest to a position.
-use Rattle.std.specs.Prelude.{◌≡◌, ℕ, ◌||◌, ◌&&◌, ◌==◌, nat_lt, Bool, if◌then◌else◌, List, [], ◌∷◌, Option, None, Some, option_map}
+use Rattle.std.specs.Prelude.{◌≡◌, ℕ, ◌≤◌, ◌||◌, ◌&&◌, ◌==◌, nat_lt, Bool, if◌then◌else◌, List, [], ◌∷◌, Option, None, Some, option_map}
 use Rattle.std.specs.List.{flat_map}
 use Rattle.grid_geometry.specs.Common.{Position, position_lt, Segment}
 use Rattle.ring_machine.specs.Common.{Document}
@@ -36,3 +36,9 @@ at_best best = option_map (λ b. b.at) best
 abbrev pub IsMeasured : Position → Option Best → Type 0
 IsMeasured p None = Unit {0}
 IsMeasured p (Some best) = best.squared ≡ squared p best.at
+
+-- the second is at least as near, if there is a first
+abbrev pub IsNoWorse : Option Best → Option Best → Type 0
+IsNoWorse None found = Unit {0}
+IsNoWorse (Some best) None = ⊥
+IsNoWorse (Some best) (Some found) = found.squared ≤ best.squared

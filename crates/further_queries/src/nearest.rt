@@ -1,9 +1,12 @@
 //! The vertex that is nearest to a position.
-ghost use Rattle.std.specs.Prelude.{◌≡◌, IfOk};
-ghost use Rattle.further_queries.specs.Nearest.{IsNearest};
+ghost use Rattle.std.specs.Prelude.{◌≡◌, ◌∷◌, [], List, IfOk, IfNone};
+ghost use Rattle.ring_machine.specs.Common.{vertices};
+ghost use Rattle.grid_geometry.specs.Common.{Box};
+ghost use Rattle.further_queries.specs.Boxes.{IsBestIn};
+ghost use Rattle.further_queries.specs.Nearest.{IsMeasured, IsNearest, IsNoWorse, at_best};
 
 use crate::best::{Best, best_end};
-use crate::boxes::{WHOLE, around, beside, put_into, root};
+use crate::boxes::{WHOLE, above, around, below, left_of, put_into, right_of, root};
 use arc_store::Map;
 use grid_geometry::{Pos, Rect, Seg};
 use segment_index::SegIndex;
@@ -13,7 +16,9 @@ use std::alloc::{AllocError, Allocator};
 /// allocation failure.
 pub fn extent<I: SegIndex, A: Allocator + Copy>(
     map: &Map<'_, I, A>,
-) -> Result<Option<Rect>, AllocError> {
+) -> Result<Option<Rect>, AllocError>
+    ensures { IfOk result (λ found. IfNone found (vertices map.now.doc ≡ [])) }
+{
     let vertices = map.vertices()?;
     let mut extent = None;
     for p in vertices.as_slice() {
@@ -51,33 +56,50 @@ struct Looking<'m, 'a, I: SegIndex, A: Allocator + Copy> {
 }
 
 impl<I: SegIndex, A: Allocator + Copy> Looking<'_, '_, I, A> {
-    /// The best of the vertices near a box and of the best so far.
-    fn look(&mut self, rect: Rect, best: Option<Best>) -> Result<Option<Best>, AllocError> {
+    /// The best of the vertices in a box, of some vertices beside it, and of the best so far.
+    fn look(&mut self, rect: Rect, best: Option<Best>) -> Result<Option<Best>, AllocError>
+        requires { IsMeasured self.old.p best }
+        ensures same { self.new.p ≡ self.old.p }
+        ensures map { self.new.map.now ≡ self.old.map.now }
+        ensures measured { IfOk result (λ found. IsMeasured self.old.p found) }
+        ensures best { IfOk result (λ found. (boxes : List Box)
+            → IsBestIn self.old.map.now.doc self.old.p boxes (at_best best.entry)
+            → IsBestIn self.old.map.now.doc self.old.p (rect ∷ boxes) (at_best found)) }
+        ensures no_worse { IfOk result (λ found. IsNoWorse best.entry found) }
+    {
         self.room.clear();
         self.map.candidates(rect, &mut self.room)?;
         Ok(best_end(self.p, self.room.as_slice(), best))
     }
 
-    /// Some vertex near the position c and how far round c was looked, twice as far each time; `None` where there is
-    /// no vertex.
-    fn some_near(&mut self, c: Pos, first: i64) -> Result<(Option<Best>, i64), AllocError> {
+    /// The same where there is a box.
+    fn look_in(
+        &mut self,
+        rect: Option<Rect>,
+        best: Option<Best>,
+    ) -> Result<Option<Best>, AllocError> {
+        match rect {
+            Some(rect) => self.look(rect, best),
+            None => Ok(best),
+        }
+    }
+
+    /// Some vertex near the position c and how far round c was looked, twice as far each time; `None` where
+    /// there is no vertex.
+    fn some_near(&mut self, c: Pos, first: u64) -> Result<(Option<Best>, u64), AllocError> {
         let mut far = first;
         loop {
             let best = self.look(around(c, far, far), None)?;
-            if best.is_some() || far == WHOLE {
+            if best.is_some() || far >= WHOLE {
                 return Ok((best, far));
             }
             far = (2 * far).min(WHOLE);
         }
     }
 
-    /// The best of the vertices that are as near as the best so far.
-    fn all_as_near(
-        &mut self,
-        c: Pos,
-        extent: Rect,
-        best: Best,
-    ) -> Result<Option<Best>, AllocError> {
+    /// The best of the vertices that are as near as the best so far: in a box, within the way that is left when
+    /// c, the position of the box that is nearest to p, is reached in the other direction; and beside the box.
+    fn all_as_near(&mut self, c: Pos, extent: Rect, best: Best) -> Result<Option<Best>, AllocError> {
         let p = self.p;
         let (x, y) = (
             u128::from(p.x().abs_diff(c.x())),
@@ -86,19 +108,21 @@ impl<I: SegIndex, A: Allocator + Copy> Looking<'_, '_, I, A> {
         let wide = root(best.squared.saturating_sub(y * y));
         let high = root(best.squared.saturating_sub(x * x));
         let far = root(best.squared);
-        let mut best = self.look(around(p, wide, high), Some(best))?;
-        for rect in beside(around(p, far, far), extent) {
-            if let Some(rect) = rect {
-                best = self.look(rect, best)?;
-            }
-        }
-        Ok(best)
+        let whole = around(p, far, far);
+        let best = self.look(around(p, wide, high), Some(best))?;
+        let best = self.look_in(left_of(whole, extent), best)?;
+        let best = self.look_in(right_of(whole, extent), best)?;
+        let best = self.look_in(below(whole, extent), best)?;
+        self.look_in(above(whole, extent), best)
     }
 }
 
 /// How far is looked first: as far as vertices would be apart that lay in a square lattice.
-fn first_step(extent: Rect, vertices: usize) -> i64 {
-    let longer = (extent.x1 - extent.x0).max(extent.y1 - extent.y0);
+fn first_step(extent: Rect, vertices: usize) -> u64 {
+    let longer = extent
+        .x1
+        .abs_diff(extent.x0)
+        .max(extent.y1.abs_diff(extent.y0));
     let rows = root(vertices as u128).max(1);
     (longer / rows + 1).min(WHOLE)
 }
@@ -116,9 +140,7 @@ pub fn nearest<I: SegIndex, A: Allocator + Copy>(
 ) -> Result<Option<Best>, AllocError>
     ensures { IfOk result (λ found. IsNearest map.now.doc p found) }
 {
-    let Some(c) = put_into(p, extent) else {
-        return Ok(None);
-    };
+    let c = put_into(p, extent);
     let mut looking = Looking {
         map,
         p,
@@ -128,7 +150,7 @@ pub fn nearest<I: SegIndex, A: Allocator + Copy>(
     let Some(best) = best else {
         return Ok(None);
     };
-    let reach = u128::from(far as u64);
+    let reach = u128::from(far);
     if c == p && best.squared <= reach * reach {
         return Ok(Some(best));
     }

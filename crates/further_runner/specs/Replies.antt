@@ -1,8 +1,9 @@
 -- What is replied to a further line, and which line is one.
 use Rattle.std.specs.Prelude.{◌≡◌, ℕ, List, ◌++◌, Bool, true, if◌then◌else◌, Option, None, Some}
 use Rattle.undo_ring.specs.Common.{Edited, machine_of}
-use Rattle.script_runner.specs.Common.{Counted}
-use Rattle.further_lines.specs.Common.{Further, AsksFurther, further_of, further_step}
+use Rattle.ring_machine.specs.Common.{Command, State}
+use Rattle.script_runner.specs.Common.{Counted, Meaning, plain, state_after_line}
+use Rattle.further_lines.specs.Common.{Further, Wanted, AsksFurther, found, further_of, further_step}
 use Rattle.further_lines.specs.declared.further_line.FurtherLine.{FurtherLine}
 use Rattle.further_runner.specs.Answers.{further_text, further_refusals}
 
@@ -22,3 +23,8 @@ SaysSome None None = Unit {0}
 SaysSome None (Some said) = ⊥
 SaysSome (Some line) None = (c : Further) → ¬ AsksFurther line c
 SaysSome (Some line) (Some said) = AsksFurther line (further_of said)
+
+-- whatever the state, a line of this meaning leaves the ids
+abbrev pub KeepsIds : Meaning Command → Type 0
+KeepsIds m =
+    (depth : ℕ) (st : State) (w : Wanted) → found (state_after_line plain depth st m).doc w ≡ found st.doc w

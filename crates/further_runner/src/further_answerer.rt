@@ -1,12 +1,12 @@
 //! The answers to the lines of a script that may have further ones.
-ghost use Rattle.std.specs.Prelude.{◌≡◌, ◌≤◌, false, length, IfOk, OnOk, OnErr, IfSome, option_map};
+ghost use Rattle.std.specs.Prelude.{◌≡◌, ◌≤◌, false, length, IfOk, OnOk, OnErr, IfSome, IsTrue, option_map};
 ghost use Rattle.device_io.specs.Common.{Sends, Stands};
 ghost use Rattle.topo_writer.specs.Common.{of_device};
 ghost use Rattle.undo_ring.specs.Common.{machine_of};
 ghost use Rattle.further_lines.specs.Common.{Find, IdOf, Near, further_of, wanted_seen};
 ghost use Rattle.further_queries.specs.Nearest.{IsNearest};
-ghost use Rattle.script_runner.specs.Common.{AnswersLine, Asked, IsLinePart, Told, plain, reply_text};
-ghost use Rattle.further_runner.specs.Replies.{Counts, SaysSome, ShowsFurther};
+ghost use Rattle.script_runner.specs.Common.{AnswersLine, Asked, IsLinePart, Told, meaning_of_said, plain, reply_text};
+ghost use Rattle.further_runner.specs.Replies.{Counts, KeepsIds, SaysSome, ShowsFurther};
 ghost use Rattle.further_runner.specs.Language.{further};
 
 use crate::answers::{push_found, push_kept, push_near};
@@ -24,15 +24,17 @@ use std::marker::Model;
 use topo_writer::WriteFault;
 use undo_ring::Editor;
 
-/// Whether a line may give features other ids, or take features out or in.
-fn changes_ids(said: &Option<Line>) -> bool {
+/// Whether a line leaves the ids of the map: it is a question, or an edit of vertices.
+fn leaves_ids(said: &Option<Line>) -> bool
+    ensures { IsTrue result → KeepsIds (meaning_of_said said.now) }
+{
     match said {
-        Some(Line::Undo) => true,
-        Some(Line::Edit(command)) => matches!(
+        Some(Line::Undo) => false,
+        Some(Line::Edit(command)) => !matches!(
             command,
             Command::Split(..) | Command::Merge(..) | Command::Rename(..) | Command::Delete(..)
         ),
-        Some(Line::Skip | Line::Rings(_) | Line::Count | Line::Document) | None => false,
+        Some(Line::Skip | Line::Rings(_) | Line::Count | Line::Document) | None => true,
     }
 }
 
@@ -212,10 +214,13 @@ impl<'a, A: Allocator + Copy> FurtherAnswerer<'a, A> {
         ensures stands { Stands W.Sink of_device out.new result }
     {
         let said = said(self.heap, line)?;
-        if changes_ids(&said) {
-            self.ids = None;
+        let is_kept = leaves_ids(&said);
+        let ids = self.ids.take();
+        let counted = self.plain.send(said, out)?;
+        if is_kept {
+            self.ids = ids;
         }
-        self.plain.send(said, out)
+        Ok(counted)
     }
 
     /// What a line asks for that is given, where it is a further one.

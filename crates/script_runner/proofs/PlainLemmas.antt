@@ -1,13 +1,17 @@
 -- The answers to the lines of every script, as those of an answerer.
-use Rattle.kit_words.proofs.Common.{◌≡◌, ℕ, List, [], take, cond, refl, Bool, Option, None, Some, ◌⊎◌, inl, inr}
-use Rattle.ring_machine.specs.Common.{Show}
+use Rattle.kit_words.proofs.Common.{◌≡◌, ℕ, List, [], take, cond, refl, Option, None, Some, inl, inr, Result, Ok, Err, IfOk, OnOk, OnErr}
+use Rattle.kit_words.proofs.Common.{Appends-nil}
+use Rattle.ring_machine.specs.Common.{Show, State}
 use Rattle.undo_ring.specs.Common.{Edited, machine_of}
 use Rattle.edit_records.specs.Common.{command_of}
 use Rattle.edit_records.specs.declared.command.Command.{Command}
 use Rattle.edit_records.specs.declared.command.Command.TheVariants as command
 use Rattle.script_lines.specs.declared.lines.Line.{Line}
 use Rattle.script_lines.specs.declared.lines.Line.TheVariants as said
-use Rattle.device_io.specs.Common.{AppendsPrefix}
+use Rattle.device_io.specs.Common.{AppendsPrefix, Sends, Stands}
+use Rattle.device_io.specs.declared.Sink as sink
+use Rattle.topo_writer.specs.Common.{of_device}
+use Rattle.topo_writer.specs.declared.fault.WriteFault.{WriteFault}
 use Rattle.script_runner.specs.Common.{plain, Meaning, Asked, reply_text, answered_by, ShowsSaved, GivenMeans, AnswersLine}
 use Rattle.script_runner.specs.Common.{IsLinePart, RepliedLine, IsShownSaved, meaning_of_said, Told, Counted}
 
@@ -55,3 +59,31 @@ pub plain_part : (e : Edited) (given : Option (List ℕ)) (m : Meaning plain.Ask
 plain_part e given m old new means h =
     let (n, within, put) = h in
     (take n (reply_text plain e.depth (machine_of e) m), put, inr (m, n, means, refl))
+
+-- ---- as the reply was sent
+
+module _ {W : Type 0} (sinks : sink.Ghosts W) (old new : W) (was is : Edited) (given : Option (List ℕ)) (l : Option Line) (means : GivenMeans plain given (meaning_of_said l)) where
+  abbrev reply : List ℕ
+  reply = reply_text plain was.depth (machine_of was) (meaning_of_said l)
+
+  pub sent_ok : (r : Result Counted WriteFault) → Sends sinks of_device old new r reply → IfOk r (λ n. RepliedLine was is (meaning_of_said l) n.is_refused)
+      → IfOk r (λ n. cond n.is_answered 1 0 ≡ answered_by (meaning_of_said l)) → OnOk r (IsShownSaved was.map.doc l)
+      → IfOk r (λ n. Told (sinks.taken old) (sinks.taken new) (λ text. AnswersLine plain was.depth (machine_of was) given text (machine_of is) n))
+  sent_ok (Ok n) s r a h = (reply, s.taken, plain_answered was is given l n means r a h)
+  sent_ok (Err f) s r a h = tt
+
+  pub sent_kept : (r : Result Counted WriteFault) → IfOk r (λ n. RepliedLine was is (meaning_of_said l) n.is_refused) → OnOk r (is.depth ≡ was.depth)
+  sent_kept (Ok n) h = h.depth
+  sent_kept (Err f) h = tt
+
+  pub sent_cut : (r : Result Counted WriteFault) → Sends sinks of_device old new r reply → OnErr r (Told (sinks.taken old) (sinks.taken new) (IsLinePart plain was.depth (machine_of was) given))
+  sent_cut (Ok n) s = tt
+  sent_cut (Err f) s = plain_part was given (meaning_of_said l) (sinks.taken old) (sinks.taken new) means s.taken
+
+  pub sent_stands : (r : Result Counted WriteFault) → Sends sinks of_device old new r reply → Stands sinks of_device new r
+  sent_stands (Ok n) s = s.works
+  sent_stands (Err f) s = s.stands
+
+-- nothing was sent
+pub sent_nothing : (a : Option (List ℕ)) (depth : ℕ) (st : State) (given : Option (List ℕ)) → Told a a (IsLinePart plain depth st given)
+sent_nothing a depth st given = ([], Appends-nil a, inl refl)
