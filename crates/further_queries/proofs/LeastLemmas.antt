@@ -35,6 +35,36 @@ not_less m n a b e = by (nat_lt m n) refl (m == n) refl
     by false k true l = inr (grind (arith, nat_tests), rw (k, l) at e)
     by false k false l = inl (grind (arith, nat_tests))
 
+pub better_told : (p a b : Position) → is_better p a b ≡ true → Better p a b
+better_told p a b = told_less (squared p a) (squared p b) a b
+
+less_tells : (m n : ℕ) (a b : Position) → (m < n) ⊎ ((m ≡ n) × (position_lt a b ≡ true)) → less m n a b ≡ true
+less_tells m n a b (inl l) = grind (arith, nat_tests)
+less_tells m n a b (inr h) =
+    let l = h.1 in
+    let e = h.0 in
+    let equal : (m == n) ≡ true = grind (arith, nat_tests) in
+    by (nat_lt m n) equal l
+  where
+    by : (t : Bool) → (m == n) ≡ true → position_lt a b ≡ true → (t || ((m == n) && position_lt a b)) ≡ true
+    by true e l = refl
+    by false e l = rw (e, l) refl
+
+pub better_tells : (p a b : Position) → Better p a b → is_better p a b ≡ true
+better_tells p a b = less_tells (squared p a) (squared p b) a b
+
+-- where the first is not better, the second is, or they are one
+pub not_better : (p a b : Position) → is_better p a b ≡ false → (b ≡ a) ⊎ (is_better p b a ≡ true)
+not_better p a b e = by (not_less (squared p a) (squared p b) a b e)
+  where
+    by : (squared p b < squared p a) ⊎ ((squared p a ≡ squared p b) × (position_lt a b ≡ false)) → (b ≡ a) ⊎ (is_better p b a ≡ true)
+    by (inl l) = inr (better_tells p b a (inl l))
+    by (inr h) = tied (position_lt b a) refl
+      where
+        tied : (t : Bool) → position_lt b a ≡ t → (b ≡ a) ⊎ (is_better p b a ≡ true)
+        tied true l = inr (better_tells p b a (inr (sym h.0, l)))
+        tied false l = inl (position_lt-total b a l h.1)
+
 -- ---- an order
 
 better-trans : (p a b c : Position) → Better p a b → Better p b c → Better p a c
