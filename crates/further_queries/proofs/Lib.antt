@@ -1,2 +1,3 @@
 pub mod LeastLemmas
 pub mod SeenLemmas
+pub mod BoxLemmas

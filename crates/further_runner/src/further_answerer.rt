@@ -95,13 +95,13 @@ impl<'a, A: Allocator + Copy> FurtherAnswerer<'a, A> {
         ensures shows { OnOk result (ShowsFurther self.old (Find (wanted_seen wanted.now))
             text.old.items text.new.items false) }
     {
-        if self.ids.is_none() {
-            self.ids = Some(Ids::new(self.alloc, self.heap, self.seed, self.plain.map())?);
-        }
-        match &self.ids {
-            Some(ids) => push_found(text, ids.find(wanted)),
-            None => Err(AllocError),
-        }
+        let ids = match self.ids.take() {
+            Some(ids) => ids,
+            None => Ids::new(self.alloc, self.heap, self.seed, self.plain.map())?,
+        };
+        let pushed = push_found(text, ids.find(wanted));
+        self.ids = Some(ids);
+        pushed
     }
 
     /// Appends the id of a feature. Answers whether it was refused.
