@@ -9,7 +9,7 @@ use Rattle.json_spans.specs.declared.kinds.Kind.{Kind}
 use Rattle.json_spans.specs.declared.kinds.Kind.TheVariants as kind
 use Rattle.json_spans.proofs.Common.{padded_root, number_kind, text_told, number_told, text_kind}
 use Rattle.topo_outline.specs.Common.{IsName}
-use Rattle.further_lines.specs.Common.{Wanted, TextWanted, NumberWanted, Stands, IsStanding, wanted_seen}
+use Rattle.further_lines.specs.Common.{Wanted, TextWanted, NumberWanted, Stands, IsSought, IsStanding, wanted_seen}
 use Rattle.further_lines.specs.declared.wanted.Wanted.{Wanted as Found}
 
 -- ---- a value with nothing round it
@@ -92,3 +92,8 @@ text_stands token found v k e = by found (decoded token) refl e
     by (Some w) (Some name) d e = subst (Stands token) (sym (seen_some (wanted_seen w) (TextWanted name) e)) (record { string = text_told v k; says = d })
     by None (Some name) d e = absurd cc
     by (Some w) None d e = absurd cc
+
+-- what a JSON text stands for may be sought
+pub sought : (token : List ℕ) (w : Wanted) → Stands token w → IsSought w
+sought token (TextWanted name) h = tt
+sought token (NumberWanted n) h = subst IsNumber (sym h.1) h.0

@@ -4,4 +4,4 @@ pub use Rattle.further_lines.specs.Further.{Plain, TextIs, TextWanted, Told, Wan
 pub use Rattle.further_lines.specs.Ids.{Stands, found, is_found, is_id, is_text, nearer, nearest, squared}
 pub use Rattle.further_lines.specs.Lines.{AsksFurther, FurtherWith, SaysFurther, further_word}
 pub use Rattle.further_lines.specs.Machine.{further_step, id_answer, near_answer}
-pub use Rattle.further_lines.specs.Seen.{IsStanding, further_of, wanted_seen}
+pub use Rattle.further_lines.specs.Seen.{IsSought, IsSoundFurther, IsStanding, further_of, wanted_seen}

@@ -1,3 +1,4 @@
 pub mod LeastLemmas
 pub mod SeenLemmas
 pub mod BoxLemmas
+pub mod IdLemmas

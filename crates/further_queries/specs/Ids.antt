@@ -2,7 +2,7 @@
 use Rattle.std.specs.Prelude.{◌≡◌, ℕ, List, [], ◌∷◌, Bool, false, if◌then◌else◌, Option, None, Some}
 use Rattle.std.specs.Str.{bytes_eq}
 use Rattle.ring_machine.specs.Common.{Document, Text}
-use Rattle.further_lines.specs.Common.{Wanted, TextWanted, NumberWanted, found, IsStanding}
+use Rattle.further_lines.specs.Common.{Wanted, TextWanted, NumberWanted, found, IsSought, IsStanding}
 use Rattle.further_lines.specs.declared.wanted.Wanted.{Wanted as Found}
 
 -- the numbers for what may be wanted
@@ -11,7 +11,7 @@ IdTable = Wanted → List ℕ
 
 -- for each id the features that have it
 abbrev pub ListsIds : IdTable → Document → Type 0
-ListsIds ids d = (w : Wanted) → ids w ≡ found d w
+ListsIds ids d = (w : Wanted) → IsSought w → ids w ≡ found d w
 
 -- the same is wanted
 abbrev pub wanted_eq : Wanted → Wanted → Bool

@@ -34,7 +34,7 @@ impl<A: Allocator + Copy> Ids<A> {
     /// One more feature with an id.
     fn add(&mut self, wanted: Wanted, number: u32) -> Result<(), AllocError>
         ensures { OnOk result ((w : further.Wanted) → self.new w
-            ≡ (if wanted_eq (wanted_seen wanted.entry) w
+            ≡ (if wanted_eq (wanted_seen wanted) w
             then self.old w ++ number ∷ [] else self.old w)) }
     {
         if let Some(numbers) = self.numbers.get_mut(&wanted) {

@@ -63,9 +63,9 @@ impl<I: SegIndex, A: Allocator + Copy> Looking<'_, '_, I, A> {
         ensures map { self.new.map.now ≡ self.old.map.now }
         ensures measured { IfOk result (λ found. IsMeasured self.old.p found) }
         ensures best { IfOk result (λ found. (boxes : List Box)
-            → IsBestIn self.old.map.now.doc self.old.p boxes (at_best best.entry)
+            → IsBestIn self.old.map.now.doc self.old.p boxes (at_best best)
             → IsBestIn self.old.map.now.doc self.old.p (rect ∷ boxes) (at_best found)) }
-        ensures no_worse { IfOk result (λ found. IsNoWorse best.entry found) }
+        ensures no_worse { IfOk result (λ found. IsNoWorse best found) }
     {
         self.room.clear();
         self.map.candidates(rect, &mut self.room)?;

@@ -4,9 +4,10 @@ use Rattle.ring_machine.specs.Common.{Document, Show, State, has_feature, featur
 use Rattle.undo_ring.specs.Common.{Edited, machine_of}
 use Rattle.device_io.specs.Common.{AppendsPrefix}
 use Rattle.script_runner.specs.Common.{Asked, GivenMeans, AnswersLine, IsLinePart, Counted, Told, reply_text, state_after_line, ShowsSaved}
-use Rattle.further_lines.specs.Common.{Further, Plain, Find, IdOf, Near, AsksFurther, further_of, further_step}
+use Rattle.further_lines.specs.Common.{Further, Plain, Find, IdOf, Near, AsksFurther, IsSoundFurther, further_of, further_step, wanted_seen}
 use Rattle.further_lines.specs.declared.further_line.FurtherLine.{FurtherLine}
 use Rattle.further_lines.specs.declared.further_line.FurtherLine.TheVariants as line
+use Rattle.further_lines.proofs.IdLemmas.{sought}
 use Rattle.further_runner.specs.Language.{further}
 use Rattle.further_runner.specs.Replies.{Counts}
 
@@ -43,3 +44,9 @@ module _ (e : Edited) (text : List ℕ) (short : length text ≤ 8192) where
   further_part said old new h put =
       let (n, within, took) = put in
       (take n (reply_text further e.depth (machine_of e) (Asked (further_of said))), took, inr (Asked (further_of said), n, says said h, refl))
+
+-- what is found of a line may be sought
+pub sound_line : (text : List ℕ) (said : FurtherLine) → AsksFurther text (further_of said) → IsSoundFurther said
+sound_line text (line.Find w) h = sought h.asked.0 (wanted_seen w) h.asked.2
+sound_line text (line.Id n) h = tt
+sound_line text (line.Near p) h = tt

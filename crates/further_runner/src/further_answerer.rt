@@ -3,7 +3,7 @@ ghost use Rattle.std.specs.Prelude.{◌≡◌, ◌≤◌, false, length, IfOk, O
 ghost use Rattle.device_io.specs.Common.{Sends, Stands};
 ghost use Rattle.topo_writer.specs.Common.{of_device};
 ghost use Rattle.undo_ring.specs.Common.{machine_of};
-ghost use Rattle.further_lines.specs.Common.{Find, IdOf, Near, further_of, wanted_seen};
+ghost use Rattle.further_lines.specs.Common.{Find, IdOf, IsSought, IsSoundFurther, Near, further_of, wanted_seen};
 ghost use Rattle.further_queries.specs.Nearest.{IsNearest};
 ghost use Rattle.script_runner.specs.Common.{AnswersLine, Asked, IsLinePart, Told, meaning_of_said, plain, reply_text};
 ghost use Rattle.further_runner.specs.Replies.{Counts, KeepsIds, SaysSome, ShowsFurther};
@@ -91,6 +91,7 @@ impl<'a, A: Allocator + Copy> FurtherAnswerer<'a, A> {
         wanted: &Wanted,
         text: &mut Vec<u8, A>,
     ) -> Result<(), AllocError>
+        requires { IsSought (wanted_seen wanted.now) }
         ensures same { self.new ≡ self.old }
         ensures shows { OnOk result (ShowsFurther self.old (Find (wanted_seen wanted.now))
             text.old.items text.new.items false) }
@@ -159,6 +160,7 @@ impl<'a, A: Allocator + Copy> FurtherAnswerer<'a, A> {
         said: &FurtherLine,
         text: &mut Vec<u8, A>,
     ) -> Result<bool, AllocError>
+        requires { IsSoundFurther said.now }
         ensures same { self.new ≡ self.old }
         ensures shows { IfOk result (λ refuses. ShowsFurther self.old (further_of said.now)
             text.old.items text.new.items refuses) }
@@ -180,6 +182,7 @@ impl<'a, A: Allocator + Copy> FurtherAnswerer<'a, A> {
         out: &mut W,
     ) -> Result<Counted, WriteFault>
         requires works { W.has_failed out.old ≡ false }
+        requires sound { IsSoundFurther said.now }
         ensures same { self.new ≡ self.old }
         ensures sends { Sends W.Sink of_device out.old out.new result
             (reply_text further self.old.depth (machine_of self.old)
@@ -225,7 +228,7 @@ impl<'a, A: Allocator + Copy> FurtherAnswerer<'a, A> {
 
     /// What a line asks for that is given, where it is a further one.
     fn further_said(&self, line: Option<&[u8]>) -> Result<Option<FurtherLine>, AllocError>
-        requires short { IfSome line.entry (λ line. length line.now ≤ 8192) }
+        requires short { IfSome line (λ line. length line.now ≤ 8192) }
         ensures { IfOk result (λ found.
             SaysSome (option_map (λ line. line.now) line.entry) found) }
     {

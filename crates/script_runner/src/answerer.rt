@@ -39,7 +39,7 @@ pub trait Answerer {
         out: &mut W,
     ) -> Result<Counted, WriteFault>
         requires works { W.has_failed out.old ≡ false }
-        requires short { IfSome line.entry (λ line. length line.now ≤ 8192) }
+        requires short { IfSome line (λ line. length line.now ≤ 8192) }
         ensures ok { IfOk result (λ counted. Told (W.taken out.old) (W.taken out.new)
             (λ text. AnswersLine its (depth self.old) (state self.old)
             (option_map (λ line. line.now) line.entry) text (state self.new) counted)) }

@@ -113,12 +113,12 @@ impl<'a, A: Allocator + Copy> PlainAnswerer<'a, A> {
         requires sound { SaysSound said }
         requires works { W.has_failed out.old ≡ false }
         ensures sends { Sends W.Sink of_device out.old out.new result
-            (reply_text plain self.old.depth (machine_of self.old) (meaning_of_said said.entry)) }
+            (reply_text plain self.old.depth (machine_of self.old) (meaning_of_said said)) }
         ensures replied { IfOk result (λ counted.
-            RepliedLine self.old self.new (meaning_of_said said.entry) counted.is_refused) }
+            RepliedLine self.old self.new (meaning_of_said said) counted.is_refused) }
         ensures answered { IfOk result (λ counted. (if counted.is_answered then 1 else 0)
-            ≡ answered_by (meaning_of_said said.entry)) }
-        ensures shown { OnOk result (IsShownSaved self.old.map.doc said.entry) }
+            ≡ answered_by (meaning_of_said said)) }
+        ensures shown { OnOk result (IsShownSaved self.old.map.doc said) }
     {
         let is_answered = is_answered(&said);
         let is_refused = send_reply(&mut self.editor, said, &mut self.text, out)?;

@@ -79,7 +79,7 @@ impl<L: Answerer + Drop, A: Allocator + Copy> Runner<L, A> {
     /// Nothing was fed.
     pub(crate) fn new(alloc: A, lines: L) -> Self
         requires opened { L.state lines ≡ opened_state (L.state lines).doc }
-        ensures { result ≡ start (L.depth lines.entry) (L.state lines.entry).doc }
+        ensures { result ≡ start (L.depth lines) (L.state lines).doc }
     {
         Runner {
             lines,

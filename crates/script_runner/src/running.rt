@@ -172,12 +172,12 @@ pub fn run_lines<'a, L: Answerer + Drop, A: Allocator + Copy, R: Source, W: Sink
     requires reader { R.has_failed script.old ≡ false }
     requires writer { W.has_failed out.old ≡ false }
     requires saver { V.has_failed saved.old ≡ false }
-    ensures done { IfOk result (λ summary. AnswersAndSaves L.its (L.depth lines.entry)
-        (L.state lines.entry).doc
+    ensures done { IfOk result (λ summary. AnswersAndSaves L.its (L.depth lines)
+        (L.state lines).doc
         (devices_of R.Source W.Sink V.Sink script.old out.old saved.old)
         (devices_of R.Source W.Sink V.Sink script.new out.new saved.new) summary) }
-    ensures fault { IfErr result (λ fault. RunFails L.its fault (L.depth lines.entry)
-        (L.state lines.entry).doc
+    ensures fault { IfErr result (λ fault. RunFails L.its fault (L.depth lines)
+        (L.state lines).doc
         (devices_of R.Source W.Sink V.Sink script.old out.old saved.old)
         (devices_of R.Source W.Sink V.Sink script.new out.new saved.new)) }
 {

@@ -2,7 +2,7 @@ use Rattle.script_runner.proofs.StepLemmas.{OnErr-by}
 use Rattle.script_runner.proofs.PlainLemmas.{sent_ok, sent_kept, sent_cut, sent_stands, sent_nothing}
 use Rattle.kit_words.proofs.Common.{option_map}
 use Rattle.undo_ring.specs.Common.{machine_of}
-use Rattle.script_runner.proofs.plain_answerer.PlainAnswerer.answer.Goals as goal
+use Rattle.script_runner.proofs.plain_answerer.PlainAnswererAnswerer.answer.Goals as goal
 
 pub returns-clause-ok : goal.returns-clause-ok
 returns-clause-ok g c =
