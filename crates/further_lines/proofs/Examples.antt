@@ -2,6 +2,7 @@
 use Rattle.kit_words.proofs.Common.{refl, ◌≡◌, ℕ, pos, negsuc, List, [], ◌∷◌, None, Some, codes}
 use Rattle.grid_geometry.specs.Common.{position}
 use Rattle.ring_machine.specs.Common.{Document, Refused, NoFeature, NoVertex, Delete, Undo, Rename, Done}
+use Rattle.json_spans.specs.Common.{decoded}
 use Rattle.ring_machine.proofs.Worked.{at, M, Q, letter, opened}
 use Rattle.further_lines.specs.Common.{Further, FurtherAnswer, Plain, Find, IdOf, Near, Told, FeaturesAre, TextIs, NearIs}
 use Rattle.further_lines.specs.Common.{TextWanted, NumberWanted, further_step}
@@ -22,7 +23,8 @@ ids : answers (opened M 2) (IdOf 0 ∷ IdOf 2 ∷ Find (NumberWanted (codes "7")
     ≡ (TextIs (Some (letter 65)) ∷ Told (Refused NoFeature) ∷ FeaturesAre [] ∷ [])
 ids = refl
 
--- however a string is escaped, and of no feature
-found_ones : answers (opened M 2) (Find (TextWanted (codes "A")) ∷ Find (TextWanted (codes "B")) ∷ Find (TextWanted (codes "C")) ∷ [])
+-- a string by the text that it stands for, and of no feature
+found_ones : decoded (letter 65) ≡ Some (codes "A") → decoded (letter 66) ≡ Some (codes "B")
+    → answers (opened M 2) (Find (TextWanted (codes "A")) ∷ Find (TextWanted (codes "B")) ∷ Find (TextWanted (codes "C")) ∷ [])
     ≡ (FeaturesAre (0 ∷ []) ∷ FeaturesAre (1 ∷ []) ∷ FeaturesAre [] ∷ [])
-found_ones = refl
+found_ones a b = rw (a, b) refl

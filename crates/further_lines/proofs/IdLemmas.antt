@@ -16,8 +16,10 @@ use Rattle.further_lines.specs.declared.wanted.Wanted.{Wanted as Found}
 
 padded_alone : (n : ℕ) (token : List ℕ) → IsValue n token → (root : Node) × Padded (IsValue n) 0 token root × (root.bytes ≡ token)
 padded_alone n token v =
-    let alone = padded {A = IsValue n} {place = 0} {front = []} {bytes = token} {back = []} no_space v no_space in
-    (record { at_byte = 0 + length (let none : List ℕ = [] in none); bytes = token }, subst (λ xs. Padded (IsValue n) 0 xs (record { at_byte = 0 + length (let none : List ℕ = [] in none); bytes = token })) (append-nil token) alone, refl)
+    let none : List ℕ = [] in
+    let root : Node = record { at_byte = 0 + length none; bytes = token } in
+    let alone : Padded (IsValue n) 0 (none ++ (token ++ none)) root = padded no_space v no_space in
+    (root, subst (λ xs. Padded (IsValue n) 0 xs root) (append-nil token) alone, refl)
 
 -- the value of a text that is a value is the whole of it
 trimmed_value : (n : ℕ) (token : List ℕ) → IsValue n token → (trimmed (record { at_byte = 0; bytes = token })).bytes ≡ token
@@ -26,7 +28,7 @@ trimmed_value n token v =
     ap (λ (m : Node). m.bytes) (sym (padded_root there)) ∙ same
 
 pub no_value : (token : List ℕ) → (Json 100 token → ⊥) → IsValue 100 token → ⊥
-no_value token no v = no (json no_space v no_space)
+no_value token never v = never (json no_space v no_space)
 
 -- where something stands round it the value is shorter
 pub spaced_value : (token bytes : List ℕ) → bytes ≡ (trimmed (record { at_byte = 0; bytes = token })).bytes → (length bytes ≡ length token → ⊥) → IsValue 100 token → ⊥
@@ -58,14 +60,14 @@ differ : kind.Text ≡ kind.Number → ⊥
 differ e = absurd cc
 
 pub none_stands : (token : List ℕ) → (IsValue 100 token → ⊥) → IsStanding token None
-none_stands token no = λ w. by w
+none_stands token never = λ w. by w
   where
     by : (w : Wanted) → Stands token w → ⊥
     by (TextWanted name) h = of_text h.string
       where
         of_text : IsText token → ⊥
-        of_text (quoted k) = no (text k)
-    by (NumberWanted n) h = no (number h.0)
+        of_text (quoted k) = never (text k)
+    by (NumberWanted n) h = never (number h.0)
 
 pub other_stands : (token : List ℕ) → (kind_of token ≡ kind.Text → ⊥) → (kind_of token ≡ kind.Number → ⊥) → IsStanding token None
 other_stands token no_text no_number = λ w. by w

@@ -1,7 +1,7 @@
 -- What leaves the ids of a map: questions, and edits of vertices.
 use Rattle.kit_words.proofs.Common.{◌≡◌, ℕ, ℤ, refl, sym, ap, ◌∙◌, List, [], ◌∷◌, map, Bool, true, false, cond, Option, None, Some, fold, filter, not, ◌&&◌, ◌==◌}
 use Rattle.ring_machine.specs.Common.{Document, Feature, in_feature, in_rings, features, numbers, add_number, State, step, edit, changed, first_of, Refusal, Answer}
-use Rattle.ring_machine.specs.Common.{put, ins, del, put_ring, ins_ring, del_ring, Thinning, thin_at, thinned_over, thinned, thin_step, is_junction, is_flat, remove_refusals, without, vertices}
+use Rattle.ring_machine.specs.Common.{put, ins, del, put_ring, ins_ring, del_ring, Thinning, thin_at, thinned_over, thinned, thin_step, is_junction, is_flat, move_refusals, insert_refusals, remove_refusals, feature_refusals, feature_at, area_of, neighbours_of, without, vertices, Done, AreaIs, NeighboursAre, RingsAre}
 use Rattle.ring_machine.specs.Command.{Command, Move, Insert, Remove, Thin, Area, At, Neighbours, Rings, Count, Show}
 use Rattle.ring_machine.proofs.Common.{features-in_rings}
 use Rattle.grid_geometry.specs.Common.{Position}
@@ -16,11 +16,13 @@ module _ (w : Wanted) where
 
   same_numbers : (g : List Position → List Position) (fs : List Feature) (ns : List ℕ) → fold counted ns (filter has (map (in_feature g) fs)) ≡ fold counted ns (filter has fs)
   same_numbers g [] ns = refl
-  same_numbers g (f ∷ fs) ns = by (is_id w f.id) refl
+  same_numbers g (f ∷ fs) ns = by (is_id w f.id) refl (same_numbers g fs (add_number f.number ns)) (same_numbers g fs ns)
     where
-      by : (b : Bool) → is_id w f.id ≡ b → fold counted ns (filter has (map (in_feature g) (f ∷ fs))) ≡ fold counted ns (filter has (f ∷ fs))
-      by true e = rw e (same_numbers g fs (add_number f.number ns))
-      by false e = rw e (same_numbers g fs ns)
+      by : (b : Bool) → is_id w f.id ≡ b → fold counted (add_number f.number ns) (filter has (map (in_feature g) fs)) ≡ fold counted (add_number f.number ns) (filter has fs)
+          → fold counted ns (filter has (map (in_feature g) fs)) ≡ fold counted ns (filter has fs)
+          → fold counted ns (filter has (map (in_feature g) (f ∷ fs))) ≡ fold counted ns (filter has (f ∷ fs))
+      by true e more rest = rw e more
+      by false e more rest = rw e rest
 
   -- a change of rings leaves the ids
   found-in_rings : (g : List Position → List Position) (d : Document) → found (in_rings g d) w ≡ found d w
@@ -75,14 +77,14 @@ LeavesIds _ = ⊥
 
 pub ids_left : (depth : ℕ) (st : State) (c : Command) → LeavesIds c → (w : Wanted) → found (step depth st c).1.doc w ≡ found st.doc w
 unfolding step
-ids_left depth st (Move p q) h w = found-edit w st (changed depth st (put st.doc p q)) _ _ (found-in_rings w (put_ring p q) st.doc)
-ids_left depth st (Insert a b q) h w = found-edit w st (changed depth st (ins st.doc a b q)) _ _ (found-in_rings w (ins_ring a b q) st.doc)
-ids_left depth st (Remove p) h w = found-edit w st (changed depth st (del st.doc p)) _ _ (found-in_rings w (del_ring p) st.doc)
+ids_left depth st (Move p q) h w = found-edit w st (changed depth st (put st.doc p q)) (move_refusals st.doc p q) Done (found-in_rings w (put_ring p q) st.doc)
+ids_left depth st (Insert a b q) h w = found-edit w st (changed depth st (ins st.doc a b q)) (insert_refusals st.doc a b q) Done (found-in_rings w (ins_ring a b q) st.doc)
+ids_left depth st (Remove p) h w = found-edit w st (changed depth st (del st.doc p)) (remove_refusals st.doc p) Done (found-in_rings w (del_ring p) st.doc)
 ids_left depth st (Thin t) h w = found-thin_step w depth st t
-ids_left depth st (Area n) h w = found-edit w st st _ _ refl
+ids_left depth st (Area n) h w = found-edit w st st (feature_refusals st.doc n) (AreaIs (area_of (feature_at st.doc n))) refl
 ids_left depth st (At p) h w = refl
-ids_left depth st (Neighbours n) h w = found-edit w st st _ _ refl
-ids_left depth st (Rings n) h w = found-edit w st st _ _ refl
+ids_left depth st (Neighbours n) h w = found-edit w st st (feature_refusals st.doc n) (NeighboursAre (neighbours_of st.doc (feature_at st.doc n))) refl
+ids_left depth st (Rings n) h w = found-edit w st st (feature_refusals st.doc n) (RingsAre (feature_at st.doc n).polygons) refl
 ids_left depth st Count h w = refl
 ids_left depth st Show h w = refl
 ids_left depth st _ h w = absurd h

@@ -3,13 +3,13 @@ use Rattle.kit_words.proofs.Common.{◌≡◌, ℕ, ◌<◌, ◌≤◌, ◌^◌,
 use Rattle.kit_words.proofs.Common.{None, Some, MatchOption, take_while, false≢true, false, arith}
 use Rattle.std.specs.Fmt.{decimal}
 use Rattle.std.proofs.Common.{length-append}
-use Rattle.core.proofs.Fmt.{length-decimal-le}
+use Rattle.std.proofs.lemmas.Fmt.{length-decimal-le}
 use Rattle.grid_geometry.specs.Common.{Position}
 use Rattle.ring_machine.specs.Command as machine
 use Rattle.edit_records.specs.Common.{command_of}
 use Rattle.edit_records.specs.declared.command.Command.{Command}
 use Rattle.edit_records.specs.declared.command.Command.TheVariants as command
-use Rattle.script_lines.specs.Common.{AreFeatures, AreSpaced, Asks, Says, asking_word, is_letter, says_of, Line}
+use Rattle.script_lines.specs.Common.{AreFeatures, AreSpaced, Asks, Finds, Says, asking_word, is_letter, says_of, Line}
 use Rattle.script_lines.specs.Lines.{is_comment}
 use Rattle.script_lines.specs.declared.lines.Line.TheVariants as said
 use Rattle.script_lines.proofs.WordLemmas.{rest_of, same_behind}
@@ -84,22 +84,26 @@ module _ (tail : List ℕ) where
   feature_says n h = (omega (arith, feature_short n h), record { tail = tail; whole = refl; asked = h })
 
 -- what is found of the line, as what follows the word
-pub found_position : (tail : List ℕ) → length tail ≤ 8190 → (found : Option Command) → MatchOption found ((c : Command) → ¬ Says (at_line tail) (Some (command_of c))) (λ c. Says (at_line tail) (Some (command_of c)))
-    → ((p : Position) → found ≡ Some (command.At p) → ⊥) → (p : Position) → AreSpaced tail (p ∷ []) → ⊥
-found_position tail short None h none p k = h (command.At p) (position_says tail p short k)
-found_position tail short (Some c) h none p k = by c h (one_word (at_line tail) (command_of c) (machine.At p) h.1 (position_says tail p short k).1) none
-  where
-    by : (c : Command) → Says (at_line tail) (Some (command_of c)) → asking_word (command_of c) ≡ codes "at" → ((q : Position) → Some c ≡ Some (command.At q) → ⊥) → ⊥
-    by (command.At q) s e no = no q refl
-    by (command.Move q r) s e no = absurd cc
-    by _ s e no = absurd cc
+pub no_position : (tail : List ℕ) → length tail ≤ 8190 → ((c : Command) → ¬ Says (at_line tail) (Some (command_of c))) → (p : Position) → AreSpaced tail (p ∷ []) → ⊥
+no_position tail short h p k = h (command.At p) (position_says tail p short k)
 
-pub found_feature : (tail : List ℕ) → (found : Option Command) → MatchOption found ((c : Command) → ¬ Says (area_line tail) (Some (command_of c))) (λ c. Says (area_line tail) (Some (command_of c)))
-    → ((n : ℕ) → found ≡ Some (command.Area n) → ⊥) → (n : ℕ) → AreFeatures tail (n ∷ []) → ⊥
-found_feature tail None h none n k = h (command.Area n) (feature_says tail n k)
-found_feature tail (Some c) h none n k = by c h (one_word (area_line tail) (command_of c) (machine.Area n) h.1 (feature_says tail n k).1) none
+pub found_position : (tail : List ℕ) → length tail ≤ 8190 → (c : Command) (found : Option Position) → Says (at_line tail) (Some (command_of c)) → Finds found (λ p. c ≡ command.At p) → Finds found (λ p. AreSpaced tail (p ∷ []))
+found_position tail short c (Some p) h e = position_said tail p (subst (λ d. Says (at_line tail) (Some (command_of d))) e h)
+found_position tail short c None h e = λ p k. by c (one_word (at_line tail) (command_of c) (machine.At p) h.1 (position_says tail p short k).1) e
   where
-    by : (c : Command) → Says (area_line tail) (Some (command_of c)) → asking_word (command_of c) ≡ codes "area" → ((m : ℕ) → Some c ≡ Some (command.Area m) → ⊥) → ⊥
-    by (command.Area m) s e no = no m refl
-    by (command.Move q r) s e no = absurd cc
-    by _ s e no = absurd cc
+    by : (c : Command) → asking_word (command_of c) ≡ codes "at" → ((q : Position) → c ≡ command.At q → ⊥) → ⊥
+    by (command.At q) e none = none q refl
+    by (command.Move q r) e none = absurd cc
+    by _ e none = absurd cc
+
+pub no_feature : (tail : List ℕ) → ((c : Command) → ¬ Says (area_line tail) (Some (command_of c))) → (n : ℕ) → AreFeatures tail (n ∷ []) → ⊥
+no_feature tail h n k = h (command.Area n) (feature_says tail n k)
+
+pub found_feature : (tail : List ℕ) (c : Command) (found : Option ℕ) → Says (area_line tail) (Some (command_of c)) → Finds found (λ n. c ≡ command.Area n) → Finds found (λ n. AreFeatures tail (n ∷ []))
+found_feature tail c (Some n) h e = feature_said tail n (subst (λ d. Says (area_line tail) (Some (command_of d))) e h)
+found_feature tail c None h e = λ n k. by c (one_word (area_line tail) (command_of c) (machine.Area n) h.1 (feature_says tail n k).1) e
+  where
+    by : (c : Command) → asking_word (command_of c) ≡ codes "area" → ((m : ℕ) → c ≡ command.Area m → ⊥) → ⊥
+    by (command.Area m) e none = none m refl
+    by (command.Move q r) e none = absurd cc
+    by _ e none = absurd cc

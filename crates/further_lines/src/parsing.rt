@@ -1,6 +1,7 @@
 //! A further line, from its bytes.
 ghost use Rattle.std.specs.Prelude.{◌≡◌, ◌∷◌, [], ◌≤◌, ◌++◌, length, Some, IfOk, MatchOption};
 ghost use Rattle.edit_records.specs.declared.command.Command.{Command};
+ghost use Rattle.edit_records.specs.declared.command.Command.TheVariants as asking;
 ghost use Rattle.edit_records.specs.Common.{command_of};
 ghost use Rattle.script_lines.specs.Common.{AreFeatures, AreSpaced, Finds, Says};
 ghost use Rattle.further_lines.specs.Further as further;
@@ -26,8 +27,29 @@ fn asked(heap: Global, word: &[u8], tail: &[u8]) -> Result<Option<Command>, Allo
     line.extend_from_slice(tail)?;
     match parse_line(heap, line.as_slice()) {
         Ok(Line::Edit(command)) => Ok(Some(command)),
+        Ok(_) => Ok(None),
+        Err(LineFault::BadLine) => Ok(None),
         Err(LineFault::OutOfMemory) => Err(AllocError),
-        Ok(_) | Err(LineFault::BadLine) => Ok(None),
+    }
+}
+
+/// The position that `at` asks for.
+fn position_of(command: &Command) -> Option<Pos>
+    ensures { Finds result (λ p. command.now ≡ asking.At p) }
+{
+    match command {
+        Command::At(position) => Some(*position),
+        _ => None,
+    }
+}
+
+/// The feature that `area` asks for.
+fn feature_of(command: &Command) -> Option<u32>
+    ensures { Finds result (λ n. command.now ≡ asking.Area n) }
+{
+    match command {
+        Command::Area(feature) => Some(*feature),
+        _ => None,
     }
 }
 
@@ -37,8 +59,8 @@ fn position_behind(heap: Global, tail: &[u8]) -> Result<Option<Pos>, AllocError>
     ensures { IfOk result (λ found. Finds found (λ p. AreSpaced tail.now (p ∷ []))) }
 {
     match asked(heap, b"at", tail)? {
-        Some(Command::At(position)) => Ok(Some(position)),
-        _ => Ok(None),
+        Some(command) => Ok(position_of(&command)),
+        None => Ok(None),
     }
 }
 
@@ -47,8 +69,8 @@ fn feature_behind(heap: Global, tail: &[u8]) -> Result<Option<u32>, AllocError>
     ensures { IfOk result (λ found. Finds found (λ n. AreFeatures tail.now (n ∷ []))) }
 {
     match asked(heap, b"area", tail)? {
-        Some(Command::Area(feature)) => Ok(Some(feature)),
-        _ => Ok(None),
+        Some(command) => Ok(feature_of(&command)),
+        None => Ok(None),
     }
 }
 

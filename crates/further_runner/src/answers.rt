@@ -16,7 +16,8 @@ pub(crate) fn push_found<A: Allocator + Copy>(
         (text.new.items ≡ text.old.items ++ further_text (FeaturesAre numbers.now)) }
 {
     text.extend_from_slice(b"features:")?;
-    push_numbers(text, numbers)
+    push_numbers(text, numbers)?;
+    Ok(())
 }
 
 /// Appends a kept text, or that there is none.
@@ -28,9 +29,10 @@ pub(crate) fn push_kept<A: Allocator + Copy>(
         ≡ text.old.items ++ further_text (TextIs (option_map (λ t. t.now) kept.entry))) }
 {
     match kept {
-        Some(kept) => text.extend_from_slice(kept),
-        None => text.extend_from_slice(b"none"),
+        Some(kept) => text.extend_from_slice(kept)?,
+        None => text.extend_from_slice(b"none")?,
     }
+    Ok(())
 }
 
 /// Appends the nearest vertex and the square of its distance.
@@ -42,5 +44,6 @@ pub(crate) fn push_near<A: Allocator + Copy>(
 {
     push_position(text, best.at)?;
     text.extend_from_slice(b" ")?;
-    push_number(text, best.squared)
+    push_number(text, best.squared)?;
+    Ok(())
 }

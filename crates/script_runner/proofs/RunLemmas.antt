@@ -210,7 +210,7 @@ module _ (its : Language) where
   pub lines_before : (depth : ℕ) (d : Document) (before after : Devices) (read text room : List ℕ) (n left : ℕ) (p : RunProgress) (mid : Option (List ℕ)) → Feeds its (start depth d) read text p
       → Consumes before.script.coming mid read → Consumes mid after.script.coming (take n room) → n ≤ length room → length room ≡ 4096 → n ≢ 0 → left ≡ 0 → length read + left ≡ 1073741824
       → Appends before.answers.taken after.answers.taken text → (after.answers ≡ before.answers) ⊎ (after.answers.flushed ≡ true) → AnswersLines its depth d before after
-  lines_before depth d before after read text room n left p mid fed came more within whole some none counted its put sent =
+  lines_before depth d before after read text room n left p mid fed came more within whole some none tally put sent =
       let long = length-take-le n room within in
       lines_answered depth d before after read text (take n room) p fed (Consumes-trans before.script.coming mid after.script.coming read (take n room) came more)
       (omega arith) (inr (omega arith, omega (arith, some))) put sent

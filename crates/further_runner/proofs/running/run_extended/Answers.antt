@@ -1,22 +1,29 @@
-use Rattle.kit_words.proofs.Common.{IfOk-weaker, IfErr-weaker}
-use Rattle.script_runner.specs.Common.{devices_of}
+use Rattle.kit_words.proofs.Common.{IfOk-weaker, IfErr-weaker, sym, ap, ◌∙◌, subst}
+use Rattle.undo_ring.specs.Common.{Edited}
+use Rattle.script_runner.specs.Common.{devices_of, OpensAs}
+use Rattle.further_runner.specs.Language.{further}
 use Rattle.script_runner.proofs.OpenLemmas.{ends_unopened}
 use Rattle.script_runner.proofs.RunLemmas.{completes, ends}
-use Rattle.further_runner.specs.Language.{further}
 use Rattle.further_runner.proofs.running.run_extended.Goals as goal
 
 pub returns-in-Ok-clause-done : goal.returns-in-Ok-clause-done
 returns-in-Ok-clause-done g c =
+    let lines = c.new-lines.result in
+    let same = ap (λ (e : Edited). e.depth) c.new-lines.ensures ∙ c.in-Ok.ensures.depth in
+    let opens = subst (λ (e : Edited). OpensAs c.args.map.now e.map.doc) (sym c.new-lines.ensures) c.in-Ok.ensures.opened in
     IfOk-weaker c.run_lines.result _ _
-    (λ summary h. completes further c.args.map.now c.args.depth c.in-Ok.editor.depth c.in-Ok.editor.map.doc c.in-Ok.ensures.depth c.in-Ok.ensures.opened
+    (λ summary h. completes further c.args.map.now c.args.depth lines.depth lines.map.doc same opens
     (devices_of g.R.Source g.W.Sink g.V.Sink c.args.script.now c.args.out.now c.args.saved.now)
     (devices_of g.R.Source g.W.Sink g.V.Sink c.run_lines.new.script c.run_lines.new.out c.run_lines.new.saved) summary h)
     c.run_lines.ensures.done
 
 pub returns-in-Ok-clause-fault : goal.returns-in-Ok-clause-fault
 returns-in-Ok-clause-fault g c =
+    let lines = c.new-lines.result in
+    let same = ap (λ (e : Edited). e.depth) c.new-lines.ensures ∙ c.in-Ok.ensures.depth in
+    let opens = subst (λ (e : Edited). OpensAs c.args.map.now e.map.doc) (sym c.new-lines.ensures) c.in-Ok.ensures.opened in
     IfErr-weaker c.run_lines.result _ _
-    (λ fault h. ends further c.args.map.now c.args.depth c.in-Ok.editor.depth c.in-Ok.editor.map.doc c.in-Ok.ensures.depth c.in-Ok.ensures.opened
+    (λ fault h. ends further c.args.map.now c.args.depth lines.depth lines.map.doc same opens
     (devices_of g.R.Source g.W.Sink g.V.Sink c.args.script.now c.args.out.now c.args.saved.now)
     (devices_of g.R.Source g.W.Sink g.V.Sink c.run_lines.new.script c.run_lines.new.out c.run_lines.new.saved) fault h)
     c.run_lines.ensures.fault

@@ -5,8 +5,8 @@ use Rattle.script_runner.proofs.runner.Runner.answer.Goals as goal
 
 pub returns-in_err-counted-clause-cut : goal.returns-in_err-counted-clause-cut
 returns-in_err-counted-clause-cut g c =
-    on_part g.L.Answerer.its c.from_residual.result (g.W.Sink.taken c.args.out.now) (g.W.Sink.taken c.answer-counted.new.out) c.args.ended c.args.self.now
-    (part_given g.L.Answerer.its c.args.ended c.args.self.now (g.W.Sink.taken c.args.out.now) (g.W.Sink.taken c.answer-counted.new.out) _ _ _
+    on_part g.L.Answerer.its c.from_residual.result (g.W.Sink.taken c.args.out.now) (g.W.Sink.taken c.answer.new.out) c.args.ended c.args.self.now
+    (part_given g.L.Answerer.its c.args.ended c.args.self.now (g.W.Sink.taken c.args.out.now) (g.W.Sink.taken c.answer.new.out) _ _ _
     (ap (λ p. p.depth) c.self.view_is) (ap (λ p. p.state) c.self.view_is) (subst (λ p. length p.line ≤ 8192) c.self.view_is c.self.invariant.short)
     (c.kept_text-text.ensures.text ∙ ap₂ (λ o l. text_kept o c.args.ended l) (ap (λ p. p.over) c.self.view_is) (c.as_slice.ensures.value ∙ ap (λ p. p.line) c.self.view_is))
     c.in_err-counted.ensures.cut)
