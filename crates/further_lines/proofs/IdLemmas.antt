@@ -59,14 +59,14 @@ whole_value token bytes e same = e ∙ kept_whole (spaces_before token) token (a
 differ : kind.Text ≡ kind.Number → ⊥
 differ e = absurd cc
 
+text_value : (token : List ℕ) → IsText token → IsValue 100 token
+text_value token (quoted k) = text k
+
 pub none_stands : (token : List ℕ) → (IsValue 100 token → ⊥) → IsStanding token None
 none_stands token never = λ w. by w
   where
     by : (w : Wanted) → Stands token w → ⊥
-    by (TextWanted name) h = of_text h.string
-      where
-        of_text : IsText token → ⊥
-        of_text (quoted k) = never (text k)
+    by (TextWanted name) h = never (text_value token h.string)
     by (NumberWanted n) h = never (number h.0)
 
 pub other_stands : (token : List ℕ) → (kind_of token ≡ kind.Text → ⊥) → (kind_of token ≡ kind.Number → ⊥) → IsStanding token None

@@ -1,4 +1,5 @@
 pub mod IdLemmas
 pub mod LineLemmas
+pub mod FoundLemmas
 pub mod Examples
 pub mod KeptIds

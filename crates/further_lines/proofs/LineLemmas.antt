@@ -1,6 +1,6 @@
 -- Which further command a line asks for, by its word.
 use Rattle.kit_words.proofs.Common.{◌≡◌, ℕ, ◌<◌, ◌≤◌, ◌^◌, refl, sym, ap, ◌∙◌, subst, List, [], ◌∷◌, ◌++◌, length, codes, Option}
-use Rattle.kit_words.proofs.Common.{None, Some, MatchOption, take_while, false≢true, false, arith}
+use Rattle.kit_words.proofs.Common.{None, Some, MatchOption, take_while, false≢true, false, arith, bytes_eq}
 use Rattle.std.specs.Fmt.{decimal}
 use Rattle.std.proofs.Common.{length-append}
 use Rattle.std.proofs.lemmas.Fmt.{length-decimal-le}
@@ -9,9 +9,12 @@ use Rattle.ring_machine.specs.Command as machine
 use Rattle.edit_records.specs.Common.{command_of}
 use Rattle.edit_records.specs.declared.command.Command.{Command}
 use Rattle.edit_records.specs.declared.command.Command.TheVariants as command
-use Rattle.script_lines.specs.Common.{AreFeatures, AreSpaced, Asks, Finds, Says, asking_word, is_letter, says_of, Line}
+use Rattle.script_lines.specs.Common.{AreFeatures, AreSpaced, Asks, Finds, IsRefused, Says, asking_word, is_letter, says_of}
+use Rattle.script_lines.specs.declared.lines.Line.{Line}
 use Rattle.script_lines.specs.Lines.{is_comment}
 use Rattle.script_lines.specs.declared.lines.Line.TheVariants as said
+use Rattle.script_lines.specs.declared.lines.LineFault.{LineFault}
+use Rattle.script_lines.specs.declared.lines.LineFault.TheVariants as fault
 use Rattle.script_lines.proofs.WordLemmas.{rest_of, same_behind}
 use Rattle.script_lines.proofs.CommandLemmas.{asked_by}
 
@@ -22,20 +25,20 @@ one_word line c d a b =
     ∙ sym (asked_by line (take_while is_letter line) (rest_of line) refl refl d b).0
 
 not_rings : (c : Command) → codes "rings" ≡ asking_word (command_of c) → ⊥
-not_rings (command.Move p q) e = absurd cc
-not_rings _ e = absurd cc
+not_rings (command.Move p q) e = false≢true (sym (ap (bytes_eq (codes "rings")) e))
+not_rings _ e = false≢true (sym (ap (bytes_eq (codes "rings")) e))
 
 not_count : (c : Command) → codes "count" ≡ asking_word (command_of c) → ⊥
-not_count (command.Move p q) e = absurd cc
-not_count _ e = absurd cc
+not_count (command.Move p q) e = false≢true (sym (ap (bytes_eq (codes "count")) e))
+not_count _ e = false≢true (sym (ap (bytes_eq (codes "count")) e))
 
 not_show : (c : Command) → codes "document" ≡ asking_word (command_of c) → ⊥
-not_show (command.Move p q) e = absurd cc
-not_show _ e = absurd cc
+not_show (command.Move p q) e = false≢true (sym (ap (bytes_eq (codes "document")) e))
+not_show _ e = false≢true (sym (ap (bytes_eq (codes "document")) e))
 
 not_undo : (c : Command) → codes "undo" ≡ asking_word (command_of c) → ⊥
-not_undo (command.Move p q) e = absurd cc
-not_undo _ e = absurd cc
+not_undo (command.Move p q) e = false≢true (sym (ap (bytes_eq (codes "undo")) e))
+not_undo _ e = false≢true (sym (ap (bytes_eq (codes "undo")) e))
 
 unmarked : (c : Command) (tail : List ℕ) → is_comment (asking_word (command_of c) ++ tail) ≡ false
 unmarked (command.Move p q) tail = refl
@@ -54,6 +57,10 @@ no_edit line (said.Rings n) c not h k = not_rings c (one_word line (machine.Ring
 no_edit line said.Count c not h k = not_count c (one_word line machine.Count (command_of c) h.1 k.1)
 no_edit line said.Document c not h k = not_show c (one_word line machine.Show (command_of c) h.1 k.1)
 no_edit line said.Undo c not h k = not_undo c (one_word line machine.Undo (command_of c) h.1 k.1)
+
+-- nothing is asked for by a line that is refused
+pub refused_line : (f : LineFault) (line : List ℕ) → f ≡ fault.BadLine → IsRefused f line → (said : Option machine.Command) → Says line said → ⊥
+refused_line f line e h = subst (λ g. IsRefused g line) e h
 
 -- ---- a position and a feature, as other lines have them
 
@@ -93,8 +100,8 @@ found_position tail short c None h e = λ p k. by c (one_word (at_line tail) (co
   where
     by : (c : Command) → asking_word (command_of c) ≡ codes "at" → ((q : Position) → c ≡ command.At q → ⊥) → ⊥
     by (command.At q) e none = none q refl
-    by (command.Move q r) e none = absurd cc
-    by _ e none = absurd cc
+    by (command.Move q r) e none = false≢true (ap (bytes_eq (codes "at")) e)
+    by _ e none = false≢true (ap (bytes_eq (codes "at")) e)
 
 pub no_feature : (tail : List ℕ) → ((c : Command) → ¬ Says (area_line tail) (Some (command_of c))) → (n : ℕ) → AreFeatures tail (n ∷ []) → ⊥
 no_feature tail h n k = h (command.Area n) (feature_says tail n k)
@@ -105,5 +112,5 @@ found_feature tail c None h e = λ n k. by c (one_word (area_line tail) (command
   where
     by : (c : Command) → asking_word (command_of c) ≡ codes "area" → ((m : ℕ) → c ≡ command.Area m → ⊥) → ⊥
     by (command.Area m) e none = none m refl
-    by (command.Move q r) e none = absurd cc
-    by _ e none = absurd cc
+    by (command.Move q r) e none = false≢true (ap (bytes_eq (codes "area")) e)
+    by _ e none = false≢true (ap (bytes_eq (codes "area")) e)

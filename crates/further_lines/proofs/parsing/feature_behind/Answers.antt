@@ -1,0 +1,5 @@
+use Rattle.further_lines.proofs.LineLemmas.{no_feature}
+use Rattle.further_lines.proofs.parsing.feature_behind.Goals as goal
+
+pub returns-in-None : goal.returns-in-None
+returns-in-None c = no_feature c.args.tail.now c.in-None.ensures

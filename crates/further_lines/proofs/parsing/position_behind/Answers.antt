@@ -1,0 +1,5 @@
+use Rattle.further_lines.proofs.LineLemmas.{no_position}
+use Rattle.further_lines.proofs.parsing.position_behind.Goals as goal
+
+pub returns-in-None : goal.returns-in-None
+returns-in-None c = no_position c.args.tail.now c.requires c.in-None.ensures
