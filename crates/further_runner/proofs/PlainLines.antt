@@ -1,8 +1,9 @@
 -- A line that asks for nothing further is answered as in every script.
-use Rattle.kit_words.proofs.Common.{◌≡◌, ℕ, List, [], take, refl, sym, ap, ◌∙◌, Option, None, Some, ◌⊎◌, inl, inr}
+use Rattle.kit_words.proofs.Common.{◌≡◌, ℕ, List, [], take, refl, sym, ap, ◌∙◌, Option, None, Some, inl, inr, Result, Ok, Err, IfOk, OnErr}
 use Rattle.ring_machine.specs.Common.{Command, Show, State}
-use Rattle.script_runner.specs.Common.{Language, plain, Meaning, Skipped, Asked, Bad, GivenMeans, AnswersLine, IsLinePart, Counted}
+use Rattle.script_runner.specs.Common.{Language, plain, Meaning, Skipped, Asked, Bad, GivenMeans, AnswersLine, IsLinePart, Counted, Told}
 use Rattle.script_runner.specs.Common.{reply_text, state_after_line, answered_by, refused_by, ShowsSaved}
+use Rattle.topo_writer.specs.declared.fault.WriteFault.{WriteFault}
 use Rattle.further_lines.specs.Common.{Further, Plain, Find, IdOf, Near, SaysFurther}
 use Rattle.further_runner.specs.Language.{further}
 use Rattle.further_runner.specs.Replies.{SaysSome}
@@ -79,3 +80,15 @@ pub part_here : (depth : ℕ) (st : State) (given : Option (List ℕ)) (part : L
 part_here depth st given part none (inl e) = inl e
 part_here depth st given part none (inr h) =
     inr (here h.0, h.1, means_here given h.0 none h.2, h.3 ∙ ap (take h.1) (reply_here depth st h.0))
+
+-- ---- as the reply was sent
+
+pub here_ok : (r : Result Counted WriteFault) (a b : Option (List ℕ)) (depth : ℕ) (st : State) (given : Option (List ℕ)) (after : State) → SaysSome given None
+    → IfOk r (λ n. Told a b (λ t. AnswersLine plain depth st given t after n)) → IfOk r (λ n. Told a b (λ t. AnswersLine further depth st given t after n))
+here_ok (Ok n) a b depth st given after none h = (h.0, h.1, line_here depth st given h.0 after n none h.2)
+here_ok (Err f) a b depth st given after none h = tt
+
+pub here_cut : (r : Result Counted WriteFault) (a b : Option (List ℕ)) (depth : ℕ) (st : State) (given : Option (List ℕ)) → SaysSome given None
+    → OnErr r (Told a b (IsLinePart plain depth st given)) → OnErr r (Told a b (IsLinePart further depth st given))
+here_cut (Ok n) a b depth st given none h = tt
+here_cut (Err f) a b depth st given none h = (h.0, h.1, part_here depth st given h.0 none h.2)
