@@ -23,6 +23,7 @@ pub struct Ids<A: Allocator + Copy> {
 
 impl<A: Allocator + Copy> Model for Ids<A> {
     ghost use Rattle.std.specs.Prelude.{map};
+    ghost use Rattle.further_lines.specs.Common.{wanted_seen};
     ghost use Rattle.further_queries.specs.Ids.{IdTable, listed};
 
     ghost Value = { IdTable };

@@ -1,2 +1,3 @@
 pub mod PlainLines
 pub mod FurtherLines
+pub mod ShownLines
