@@ -91,8 +91,10 @@ module _ (tail : List ℕ) where
   feature_says n h = (omega (arith, feature_short n h), record { tail = tail; whole = refl; asked = h })
 
 -- what is found of the line, as what follows the word
-pub no_position : (tail : List ℕ) → length tail ≤ 8190 → ((c : Command) → ¬ Says (at_line tail) (Some (command_of c))) → (p : Position) → AreSpaced tail (p ∷ []) → ⊥
-no_position tail short h p k = h (command.At p) (position_says tail p short k)
+pub no_position : (tail : List ℕ) → length tail ≤ 8190 → (found : Option Command) → found ≡ None → MatchOption found ((c : Command) → ¬ Says (at_line tail) (Some (command_of c))) (λ c. Says (at_line tail) (Some (command_of c)))
+    → (p : Position) → AreSpaced tail (p ∷ []) → ⊥
+no_position tail short None e h p k = h (command.At p) (position_says tail p short k)
+no_position tail short (Some c) e h p k = absurd cc
 
 pub found_position : (tail : List ℕ) → length tail ≤ 8190 → (c : Command) (found : Option Position) → Says (at_line tail) (Some (command_of c)) → Finds found (λ p. c ≡ command.At p) → Finds found (λ p. AreSpaced tail (p ∷ []))
 found_position tail short c (Some p) h e = position_said tail p (subst (λ d. Says (at_line tail) (Some (command_of d))) e h)
@@ -103,8 +105,10 @@ found_position tail short c None h e = λ p k. by c (one_word (at_line tail) (co
     by (command.Move q r) e none = false≢true (ap (bytes_eq (codes "at")) e)
     by _ e none = false≢true (ap (bytes_eq (codes "at")) e)
 
-pub no_feature : (tail : List ℕ) → ((c : Command) → ¬ Says (area_line tail) (Some (command_of c))) → (n : ℕ) → AreFeatures tail (n ∷ []) → ⊥
-no_feature tail h n k = h (command.Area n) (feature_says tail n k)
+pub no_feature : (tail : List ℕ) → (found : Option Command) → found ≡ None → MatchOption found ((c : Command) → ¬ Says (area_line tail) (Some (command_of c))) (λ c. Says (area_line tail) (Some (command_of c)))
+    → (n : ℕ) → AreFeatures tail (n ∷ []) → ⊥
+no_feature tail None e h n k = h (command.Area n) (feature_says tail n k)
+no_feature tail (Some c) e h n k = absurd cc
 
 pub found_feature : (tail : List ℕ) (c : Command) (found : Option ℕ) → Says (area_line tail) (Some (command_of c)) → Finds found (λ n. c ≡ command.Area n) → Finds found (λ n. AreFeatures tail (n ∷ []))
 found_feature tail c (Some n) h e = feature_said tail n (subst (λ d. Says (area_line tail) (Some (command_of d))) e h)
