@@ -67,26 +67,46 @@ pub(crate) fn put_into(p: Pos, rect: Rect) -> Pos
 pub(crate) fn left_of(whole: Rect, part: Rect) -> Option<Rect>
     ensures { (v : Position) → IsIn v whole → v.x <ℤ part.x0 → IsSomeAnd result (IsIn v) }
 {
-    Rect::new(whole.x0, whole.y0, whole.x1.min(part.x0.saturating_sub(1)), whole.y1)
+    Rect::new(
+        whole.x0,
+        whole.y0,
+        whole.x1.min(part.x0.saturating_sub(1)),
+        whole.y1,
+    )
 }
 
 /// What of a box is to the right of another one.
 pub(crate) fn right_of(whole: Rect, part: Rect) -> Option<Rect>
     ensures { (v : Position) → IsIn v whole → part.x1 <ℤ v.x → IsSomeAnd result (IsIn v) }
 {
-    Rect::new(whole.x0.max(part.x1.saturating_add(1)), whole.y0, whole.x1, whole.y1)
+    Rect::new(
+        whole.x0.max(part.x1.saturating_add(1)),
+        whole.y0,
+        whole.x1,
+        whole.y1,
+    )
 }
 
 /// What of a box is below another one.
 pub(crate) fn below(whole: Rect, part: Rect) -> Option<Rect>
     ensures { (v : Position) → IsIn v whole → v.y <ℤ part.y0 → IsSomeAnd result (IsIn v) }
 {
-    Rect::new(whole.x0, whole.y0, whole.x1, whole.y1.min(part.y0.saturating_sub(1)))
+    Rect::new(
+        whole.x0,
+        whole.y0,
+        whole.x1,
+        whole.y1.min(part.y0.saturating_sub(1)),
+    )
 }
 
 /// What of a box is above another one.
 pub(crate) fn above(whole: Rect, part: Rect) -> Option<Rect>
     ensures { (v : Position) → IsIn v whole → part.y1 <ℤ v.y → IsSomeAnd result (IsIn v) }
 {
-    Rect::new(whole.x0, whole.y0.max(part.y1.saturating_add(1)), whole.x1, whole.y1)
+    Rect::new(
+        whole.x0,
+        whole.y0.max(part.y1.saturating_add(1)),
+        whole.x1,
+        whole.y1,
+    )
 }

@@ -99,7 +99,12 @@ impl<I: SegIndex, A: Allocator + Copy> Looking<'_, '_, I, A> {
 
     /// The best of the vertices that are as near as the best so far: in a box, within the way that is left when
     /// c, the position of the box that is nearest to p, is reached in the other direction; and beside the box.
-    fn all_as_near(&mut self, c: Pos, extent: Rect, best: Best) -> Result<Option<Best>, AllocError> {
+    fn all_as_near(
+        &mut self,
+        c: Pos,
+        extent: Rect,
+        best: Best,
+    ) -> Result<Option<Best>, AllocError> {
         let p = self.p;
         let (x, y) = (
             u128::from(p.x().abs_diff(c.x())),

@@ -86,11 +86,7 @@ impl<'a, A: Allocator + Copy> FurtherAnswerer<'a, A> {
     }
 
     /// Appends the features with an id. The first question walks over the features.
-    fn push_features(
-        &mut self,
-        wanted: &Wanted,
-        text: &mut Vec<u8, A>,
-    ) -> Result<(), AllocError>
+    fn push_features(&mut self, wanted: &Wanted, text: &mut Vec<u8, A>) -> Result<(), AllocError>
         requires { IsSought (wanted_seen wanted.now) }
         ensures same { self.new ≡ self.old }
         ensures shows { OnOk result (ShowsFurther self.old (Find (wanted_seen wanted.now))
@@ -155,11 +151,7 @@ impl<'a, A: Allocator + Copy> FurtherAnswerer<'a, A> {
     }
 
     /// Appends the answer to a further line. Answers whether it was refused.
-    fn push_answer(
-        &mut self,
-        said: &FurtherLine,
-        text: &mut Vec<u8, A>,
-    ) -> Result<bool, AllocError>
+    fn push_answer(&mut self, said: &FurtherLine, text: &mut Vec<u8, A>) -> Result<bool, AllocError>
         requires { IsSoundFurther said.now }
         ensures same { self.new ≡ self.old }
         ensures shows { IfOk result (λ refuses. ShowsFurther self.old (further_of said.now)
@@ -246,11 +238,7 @@ impl<'a, A: Allocator + Copy> Answerer for FurtherAnswerer<'a, A> {
 
     ghost depth = { λ e. e.depth };
 
-    fn answer<W: Sink>(
-        &mut self,
-        line: Option<&[u8]>,
-        out: &mut W,
-    ) -> Result<Counted, WriteFault> {
+    fn answer<W: Sink>(&mut self, line: Option<&[u8]>, out: &mut W) -> Result<Counted, WriteFault> {
         match self.further_said(line)? {
             Some(said) => self.send_further(&said, out),
             None => self.send_plain(line, out),

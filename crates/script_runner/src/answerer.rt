@@ -33,11 +33,7 @@ pub trait Answerer {
 
     /// Sends the answer to a line, with a line feed: nothing where it is empty or a comment, `bad line`
     /// where it says nothing that is taken, or where none is given, since it is over the limit.
-    fn answer<W: Sink>(
-        &mut self,
-        line: Option<&[u8]>,
-        out: &mut W,
-    ) -> Result<Counted, WriteFault>
+    fn answer<W: Sink>(&mut self, line: Option<&[u8]>, out: &mut W) -> Result<Counted, WriteFault>
         requires works { W.has_failed out.old ≡ false }
         requires short { IfSome line (λ line. length line.now ≤ 8192) }
         ensures ok { IfOk result (λ counted. Told (W.taken out.old) (W.taken out.new)

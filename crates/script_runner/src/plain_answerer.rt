@@ -105,11 +105,7 @@ impl<'a, A: Allocator + Copy> PlainAnswerer<'a, A> {
 
     /// Sends the answer to what a line says, with a line feed: nothing where it is skipped, `bad line` where it
     /// says nothing that is taken.
-    pub fn send<W: Sink>(
-        &mut self,
-        said: Option<Line>,
-        out: &mut W,
-    ) -> Result<Counted, WriteFault>
+    pub fn send<W: Sink>(&mut self, said: Option<Line>, out: &mut W) -> Result<Counted, WriteFault>
         requires sound { SaysSound said }
         requires works { W.has_failed out.old ≡ false }
         ensures sends { Sends W.Sink of_device out.old out.new result
@@ -143,11 +139,7 @@ impl<'a, A: Allocator + Copy> Answerer for PlainAnswerer<'a, A> {
 
     ghost depth = { λ e. e.depth };
 
-    fn answer<W: Sink>(
-        &mut self,
-        line: Option<&[u8]>,
-        out: &mut W,
-    ) -> Result<Counted, WriteFault> {
+    fn answer<W: Sink>(&mut self, line: Option<&[u8]>, out: &mut W) -> Result<Counted, WriteFault> {
         let said = said(self.heap, line)?;
         self.send(said, out)
     }

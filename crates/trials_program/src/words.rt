@@ -67,7 +67,9 @@ fn read(alloc: Global, line: &str) -> Result<String, AllocError> {
             let out = words.out.as_str();
             let (depth, progress, strict) = (words.depth, words.progress, words.strict);
             let extended = words.extended;
-            format!(in alloc; "{map} {script} {out} {depth} {refused} {progress} {strict} {extended}")
+            format!(in alloc;
+                "{map} {script} {out} {depth} {refused} {progress} {strict} {extended}"
+            )
         }
         Err(error) => {
             let status = Stop::from(error).status();

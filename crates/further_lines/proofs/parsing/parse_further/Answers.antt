@@ -6,14 +6,14 @@ use Rattle.further_lines.proofs.parsing.parse_further.Goals as goal
 pub returns-in-Some : goal.returns-in-Some
 returns-in-Some c =
     find_found c.args.line.now c.in-Some.token.now c.in_ok-wanted_of.field-0
-    (behind_found (codes "find ") c.args.line.now c.in-Some.token.now c.in-Some.ensures.0 c.in-Some.ensures.1) c.in_ok-wanted_of.ensures
+    (behind_found (codes "find ") c.args.line.now c.in-Some.token.now c.in-Some.ensures.cases.0 c.in-Some.ensures.cases.1) c.in_ok-wanted_of.ensures
 
 pub returns-in-Some-strip_prefix : goal.returns-in-Some-strip_prefix
 returns-in-Some-strip_prefix c =
     id_found c.args.line.now c.in-Some-strip_prefix.tail.now c.in_ok-feature_behind.field-0
-    (behind_found (codes "id") c.args.line.now c.in-Some-strip_prefix.tail.now c.in-Some-strip_prefix.ensures.0 c.in-Some-strip_prefix.ensures.1) c.in_ok-feature_behind.ensures
+    (behind_found (codes "id") c.args.line.now c.in-Some-strip_prefix.tail.now c.in-Some-strip_prefix.ensures.cases.0 c.in-Some-strip_prefix.ensures.cases.1) c.in_ok-feature_behind.ensures
 
 pub returns-in-Some-strip_prefix-2 : goal.returns-in-Some-strip_prefix-2
 returns-in-Some-strip_prefix-2 c =
     near_found c.args.line.now c.in-Some-strip_prefix-2.tail.now c.in_ok-position_behind.field-0
-    (behind_found (codes "near") c.args.line.now c.in-Some-strip_prefix-2.tail.now c.in-Some-strip_prefix-2.ensures.0 c.in-Some-strip_prefix-2.ensures.1) c.in_ok-position_behind.ensures
+    (behind_found (codes "near") c.args.line.now c.in-Some-strip_prefix-2.tail.now c.in-Some-strip_prefix-2.ensures.cases.0 c.in-Some-strip_prefix-2.ensures.cases.1) c.in_ok-position_behind.ensures
