@@ -1,5 +1,5 @@
 -- What is found of a line is what it asks for.
-use Rattle.kit_words.proofs.Common.{◌≡◌, ℕ, refl, sym, ap, ◌∙◌, subst, List, [], ◌∷◌, ◌++◌, take, codes, Option, None, Some, option_map, MatchOption, false≢true, bytes_eq}
+use Rattle.kit_words.proofs.Common.{◌≡◌, ℕ, refl, sym, ap, ◌∙◌, subst, List, [], ◌∷◌, ◌++◌, take, codes, Option, None, Some, option_map, MatchOption, IsSomeAnd, false≢true, bytes_eq}
 use Rattle.grid_geometry.specs.Common.{Position}
 use Rattle.script_lines.specs.Common.{AreFeatures, AreSpaced, Finds}
 use Rattle.script_lines.proofs.WordLemmas.{same_behind}
@@ -12,6 +12,13 @@ use Rattle.further_lines.specs.declared.further_line.FurtherLine.TheVariants as 
 abbrev pub IsAsked : List ℕ → Option FurtherLine → Type 0
 IsAsked text found =
     MatchOption found ((c : Further) → ¬ AsksFurther text c) (λ said. AsksFurther text (further_of said))
+
+-- what is made of what is found
+pub made : {X : Type 0} (text : List ℕ) (found : Option X) (o : Option FurtherLine) (line_of : X → FurtherLine) → MatchOption found (o ≡ None) (λ x. IsSomeAnd o (λ l. l ≡ line_of x))
+    → IsAsked text (option_map line_of found) → IsAsked text o
+made text None o line_of e h = subst (IsAsked text) (sym e) h
+made text (Some x) None line_of e h = absurd e
+made text (Some x) (Some l) line_of e h = subst (IsAsked text) (ap (λ z. Some z) (sym e)) h
 
 -- the first two bytes of a line tell its word
 module _ (text : List ℕ) where
