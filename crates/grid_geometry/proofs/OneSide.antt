@@ -45,7 +45,7 @@ meets u1 u2 v1 v2 w1 w2 e a b h =
 moved_between : (a b z : ℤ) → is_between a b z ≡ true → is_between (a -ℤ z) (b -ℤ z) (pos 0) ≡ true
 moved_between a b z h = grind (arith, ints)
 
-is_zero : (z : ℤ) → int_eq z (pos 0) ≡ true → z ≡ pos 0
+pub is_zero : (z : ℤ) → int_eq z (pos 0) ≡ true → z ≡ pos 0
 is_zero z h = grind (arith, ints)
 
 from_start : (a b c : Position) → orientation a b c ≡ turn (b.x -ℤ a.x) (b.y -ℤ a.y) (c.x -ℤ a.x) (c.y -ℤ a.y)
@@ -57,7 +57,7 @@ unfolding orientation
 from_end a b c = simp expand (omega (arith, ints))
 
 -- a position on t has not both ends of t on one side of a line through it
-off : (u1 u2 : ℤ) (p : Position) (t : Segment)
+pub off : (u1 u2 : ℤ) (p : Position) (t : Segment)
     → are_alike (turn u1 u2 (t.lo.x -ℤ p.x) (t.lo.y -ℤ p.y)) (turn u1 u2 (t.hi.x -ℤ p.x) (t.hi.y -ℤ p.y)) ≡ true
     → is_within p t ≡ false
 unfolding is_within is_on

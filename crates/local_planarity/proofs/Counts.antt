@@ -58,15 +58,15 @@ module _ (q : Segment → Bool) (s : Segment) (ts : List Segment) (k : ℕ) (t :
 -- ---- the tests of an edit
 
 -- as many as the first k of the added segments take at least
-abbrev pub fewest_so_far : List Segment → List Segment → ℕ → ℕ
-fewest_so_far ts added k = sum_by (count_near ts) (take k added) + pair_count k
+abbrev pub fewest_so_far : (Segment → Segment → Bool) → List Segment → List Segment → ℕ → ℕ
+fewest_so_far close ts added k = sum_by (count_near close ts) (take k added) + pair_count k
 
-pub one_more_counted : (ts added : List Segment) (k : ℕ) (s : Segment) (a b c d n : ℕ) → k < length added → s ≡ get_or added k s
-    → min (n + fewest_so_far ts added k) greatest ≤ a → count_near ts s ≤ b → min (a + b) greatest ≤ c → min (c + length (take k added)) greatest ≤ d
-    → min (n + fewest_so_far ts added (k + 1)) greatest ≤ d
-one_more_counted ts added k s a b c d n l here h i j m =
-    let g : count_near ts (get_or added k s) ≡ count_near ts s = ap (count_near ts) (sym here) in
-    omega (arith, sum_by_more (count_near ts) added k s l, g, pairs-one k, length-take-le k added (omega (arith, l)))
+pub one_more_counted : (close : Segment → Segment → Bool) (ts added : List Segment) (k : ℕ) (s : Segment) (a b c d n : ℕ) → k < length added → s ≡ get_or added k s
+    → min (n + fewest_so_far close ts added k) greatest ≤ a → count_near close ts s ≤ b → min (a + b) greatest ≤ c → min (c + length (take k added)) greatest ≤ d
+    → min (n + fewest_so_far close ts added (k + 1)) greatest ≤ d
+one_more_counted close ts added k s a b c d n l here h i j m =
+    let g : count_near close ts (get_or added k s) ≡ count_near close ts s = ap (count_near close ts) (sym here) in
+    omega (arith, sum_by_more (count_near close ts) added k s l, g, pairs-one k, length-take-le k added (omega (arith, l)))
 
-pub all_counted : (ts added : List Segment) (k a n : ℕ) → k ≡ length added → min (n + fewest_so_far ts added k) greatest ≤ a → min (n + fewest_tests ts added) greatest ≤ a
-all_counted ts added k a n e h = omega (arith, h, ap (sum_by (count_near ts)) (take_all k added (omega (arith, e))), ap pair_count e)
+pub all_counted : (close : Segment → Segment → Bool) (ts added : List Segment) (k a n : ℕ) → k ≡ length added → min (n + fewest_so_far close ts added k) greatest ≤ a → min (n + fewest_tests close ts added) greatest ≤ a
+all_counted close ts added k a n e h = omega (arith, h, ap (sum_by (count_near close ts)) (take_all k added (omega (arith, e))), ap pair_count e)

@@ -7,7 +7,7 @@ use Rattle.ring_machine.proofs.Common.{at, M}
 use Rattle.segment_index.specs.Covers.{line}
 use Rattle.segment_index.specs.Common.{Frame, times_by}
 use Rattle.local_planarity.specs.Common.{Nothing, EndingAt, One, goes_away, ordered, lesser, tests_to_conflict}
-use Rattle.local_planarity.specs.Common.{box_of_three, pair_count, most_tests, fewest_tests, added, most_for, most_for_move}
+use Rattle.local_planarity.specs.Common.{box_of_three, pair_count, most_tests, are_near, fewest_tests, added, most_for, most_for_move}
 
 -- 0 0 to 10 0, and 10 0 to 10 10
 abbrev lower : Segment
@@ -82,8 +82,18 @@ abbrev far : Segment
 far = segment (position (pos 20) (pos 0)) (position (pos 20) (pos 10))
 
 -- of two added ones one has its box at the segment that stays, and they are tested against each other
-one_and_one : fewest_tests (lower ∷ []) (right ∷ far ∷ []) ≡ 2
+one_and_one : fewest_tests are_near (lower ∷ []) (right ∷ far ∷ []) ≡ 2
 one_and_one = refl
+
+-- it is in no conflict with either of them
+none_and_one : fewest_tests conflict (lower ∷ []) (right ∷ far ∷ []) ≡ 1
+unfolding conflict cross is_within is_on are_split orientation
+none_and_one = refl
+
+-- with one that goes across it, and that one is near both
+across_it : fewest_tests conflict (lower ∷ []) (across ∷ []) ≡ 1
+unfolding conflict cross is_within is_on are_split orientation
+across_it = refl
 
 -- ---- two squares with a common side, which have seven segments
 

@@ -1,13 +1,12 @@
 -- An index that is filled segment by segment: one segment more, be it new or held before.
-use Rattle.kit_words.proofs.Common.{◌≡◌, ℕ, ℤ, int_le, Bool, true, false, refl, sym, ap, ◌∙◌, List, [], ◌∷◌, ◌++◌, ◌||◌}
-use Rattle.kit_words.proofs.Common.{Option, None, arith, int_min, int_max, list_any, list_any-append, ints, clamps}
+use Rattle.kit_words.proofs.Common.{◌≡◌, ℕ, Bool, true, false, refl, sym, ap, ◌∙◌, List, [], ◌∷◌, ◌++◌, ◌||◌}
+use Rattle.kit_words.proofs.Common.{Option, None, list_any, list_any-append, or_right}
 use Rattle.std.specs.FinSet as set
-use Rattle.grid_geometry.specs.Common.{Segment, Box, box_of, boxes_meet, segment_eq}
-use Rattle.grid_geometry.proofs.Boxes.{and4}
+use Rattle.grid_geometry.specs.Common.{Segment, Box, conflict, segment_eq}
 use Rattle.ring_machine.specs.Common.{least_conflict}
 use Rattle.ring_machine.proofs.Common.{same_answer}
 use Rattle.segment_index.specs.Common.{SegmentSet, has, segment_is}
-use Rattle.segment_index.proofs.Common.{same_segment, segment_total, segment_eq-is, contains_none}
+use Rattle.segment_index.proofs.Common.{is-itself, same_segment, segment_total, segment_eq-is, contains_none}
 use Rattle.local_planarity.specs.Common.{Nothing, IsFilled, IsHeld, NoneConflict, IsNear}
 use Rattle.local_planarity.proofs.Least.{same_least_conflict, apart_if_none}
 use Rattle.local_planarity.proofs.Nearby.{stays_all}
@@ -16,19 +15,13 @@ use Rattle.local_planarity.proofs.Nearby.{stays_all}
 pub contained : (ss : List Segment) (s : Segment) → list_any (λ t. segment_eq t s) ss ≡ has ss s
 contained ss s = λ i. list_any (λ t. segment_eq-is s t i) ss
 
-meets_itself : (s : Segment) → boxes_meet (box_of s) (box_of s) ≡ true
-meets_itself s = and4 _ _ _ _ (side s.lo.x s.hi.x) (side s.lo.x s.hi.x) (side s.lo.y s.hi.y) (side s.lo.y s.hi.y)
-  where
-    side : (a b : ℤ) → int_le (int_min a b) (int_max a b) ≡ true
-    side a b = grind (arith, ints, clamps)
-
 -- a segment is held where it is near itself
 pub held_near : (held : SegmentSet) (times : Segment → Box → ℕ) (s : Segment) (near : List Segment)
     → IsNear held times Nothing s near → list_any (λ t. segment_eq t s) near ≡ set.contains held s
 held_near held times s near n =
     contained near s ∙ same_answer (has near s) (set.contains held s)
     (λ h. sym (stays_all held s) ∙ n.among s h)
-    (λ h. n.covers s (stays_all held s ∙ h) (meets_itself s))
+    (λ h. n.covers s (stays_all held s ∙ h) (or_right (conflict s s) (segment_is s s) (is-itself s)))
 
 or_turned : (a b : Bool) → (a || (b || false)) ≡ (b || a)
 or_turned true true = refl

@@ -1,10 +1,10 @@
 -- The least pair in conflict of a set of segments, found by one segment after another.
 use Rattle.kit_words.proofs.Common.{◌≡◌, ℕ, ◌+◌, ◌<◌, Bool, true, false, refl, sym, ap, ◌∙◌, subst, cond, List, [], ◌∷◌}
 use Rattle.kit_words.proofs.Common.{length, take, get_or, ◌||◌, ◌⊎◌, inl, inr, Option, None, Some, ◌≤◌, false≢true}
-use Rattle.kit_words.proofs.Common.{take_all, list_any_more, and_parts, or_cases, or_right, same_Some, by_bool}
+use Rattle.kit_words.proofs.Common.{take_all, list_any_more, and_parts, or_cases, or_left, or_right, same_Some, by_bool}
 use Rattle.std.specs.FinSet as set
 use Rattle.grid_geometry.specs.Common.{Segment, Box, segment_lt, conflict}
-use Rattle.grid_geometry.proofs.Common.{conflict-boxes_meet, conflict-comm, conflict-same}
+use Rattle.grid_geometry.proofs.Common.{conflict-comm, conflict-same}
 use Rattle.ring_machine.specs.Common.{pair_lt, least_conflict}
 use Rattle.ring_machine.proofs.Common.{segment_ordered, pair_ordered, Bad, IsLeast}
 use Rattle.ring_machine.proofs.Common.{same_least, In, least_conflict_is, least_conflict_unique}
@@ -279,7 +279,7 @@ near_stays : (held : SegmentSet) (times : Segment → Box → ℕ) (leaving : Le
     → IsFirst (λ u. (f ≡ Some u) ⊎ PairWith s (stays_held held leaving) u) (first_against s near f)
 near_stays held times leaving s near f n = same_others s (has near) (stays_held held leaving) f (first_against s near f)
     n.among
-    (λ t h m. n.covers t h (conflict-boxes_meet t s (conflict-comm t s ∙ m)))
+    (λ t h m. n.covers t h (or_left (conflict s t) (segment_is t s) m))
     (first_against_is s near f)
 
 -- one added segment more

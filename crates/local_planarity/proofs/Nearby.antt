@@ -2,14 +2,14 @@
 use Rattle.kit_words.proofs.Common.{◌≡◌, ◌≤◌, ◌<◌, ◌+◌, ◌-◌, inl, inr, ℕ, zero, suc, Bool, true, false, not, refl, sym}
 use Rattle.kit_words.proofs.Common.{ap, ◌∙◌, cond, subst, None, List, [], ◌∷◌, ◌++◌, length, take, get_or, ◌&&◌, ◌||◌}
 use Rattle.kit_words.proofs.Common.{arith, filter, sum_by, false≢true, sum_by-cons, sum_by_more, sum_by-take-le}
-use Rattle.kit_words.proofs.Common.{length-filter, and_parts, or_cases}
+use Rattle.kit_words.proofs.Common.{length-filter, and_parts, or_cases, false_from_ne_true, Option}
 use Rattle.std.specs.FinSet as set
-use Rattle.grid_geometry.specs.Common.{Segment, Box, box_of, boxes_meet}
-use Rattle.segment_index.specs.Common.{SegmentSet, AreAmong, AreSingle, AtMostTimes, Covers, Gives, has, segment_is}
+use Rattle.grid_geometry.specs.Common.{Position, Segment, Box, box_of, boxes_meet}
+use Rattle.segment_index.specs.Common.{SegmentSet, AreAmong, AreSingle, AtMostTimes, GivesAlong, ends_at, has, is_passed, segment_is}
 use Rattle.segment_index.specs.Common.{set_of, times_in, times_by}
-use Rattle.segment_index.proofs.Common.{same_segment, contains-set_of, is-itself, times-filter, times-none}
+use Rattle.segment_index.proofs.Common.{same_segment, contains-set_of, is-itself, passed_near, times-filter, times-none}
 use Rattle.local_planarity.specs.Common.{Leaving, Nothing, goes_away, stays_held, AreStaying, IsAfter, IsHeld, IsNear, is_tried}
-use Rattle.local_planarity.specs.Common.{tried, count_near, most_given, most_tests, pair_count}
+use Rattle.local_planarity.specs.Common.{are_near, tried, count_near, most_given, most_tests, pair_count}
 
 -- ---- near a segment
 
@@ -29,9 +29,10 @@ has-filter q (x ∷ xs) t = by (q x) (segment_is t x) refl refl (has-filter q xs
         h ∙ ap (λ j. has xs t && j) out ∙ never (has xs t) ∙ sym (ap (λ j. (j || has xs t) && q t) f ∙ out)
     by false false e f h = h ∙ sym (ap (λ j. (j || has xs t) && q t) f)
 
--- of held segments, among them every one whose box meets that of s, those that are tried
+-- of held segments, among them every one that stays and that s passes, those that are tried
 module _ (held : SegmentSet) (times : Segment → Box → ℕ) (leaving : Leaving) (s : Segment) where
-  near_tried : (items : List Segment) → AreAmong held items → AtMostTimes times (box_of s) (tried leaving s items) → Covers held (box_of s) items
+  near_tried : (items : List Segment) → AreAmong held items → AtMostTimes times (box_of s) (tried leaving s items)
+      → ((t : Segment) → stays_held held leaving t ≡ true → is_passed s t ≡ true → has items t ≡ true)
       → IsNear held times leaving s (tried leaving s items)
   near_tried items among few covers = record {
     among = λ t h.
@@ -41,21 +42,26 @@ module _ (held : SegmentSet) (times : Segment → Box → ℕ) (leaving : Leavin
     few = few;
     covers = λ t h m.
         let both = and_parts (set.contains held t) (not (goes_away leaving t)) h in
-        has-filter (is_tried leaving s) items t ∙ (λ i. covers t both.0 m i && (m i && both.1 i));
+        has-filter (is_tried leaving s) items t ∙ (λ i. covers t h m i && (passed_near s t m i && both.1 i));
   }
 
-  -- of what an index gave
-  pub near_given : (old new : List Segment) → old ≡ [] → Gives held times (box_of s) old new true
+  -- of what an index gave along s
+  pub near_given : (but : Option Position) → ((t : Segment) → ends_at but t ≡ true → goes_away leaving t ≡ true)
+      → (old new : List Segment) → old ≡ [] → GivesAlong held times s but old new true
       → IsNear held times leaving s (tried leaving s new)
-  near_given old new empty g =
+  near_given but leave old new empty g =
       subst (λ items. IsNear held times leaving s (tried leaving s items)) (sym (g.appended ∙ ap (λ z. z ++ g.found) empty))
-      (near_tried g.found g.among (λ t. omega (arith, times-filter (is_tried leaving s) g.found t, g.few t)) (g.covers refl))
+      (near_tried g.found g.among (λ t. omega (arith, times-filter (is_tried leaving s) g.found t, g.few t))
+      (λ t h m.
+      let both = and_parts (set.contains held t) (not (goes_away leaving t)) h in
+      g.covers refl t both.0 m (false_from_ne_true (ends_at but t) (λ e. false≢true (ap not (sym (leave t e)) ∙ both.1)))))
 
 -- of a list of all that are held
 pub near_listed : (held : SegmentSet) (leaving : Leaving) (s : Segment) (items : List Segment) → set_of items ≡ held → AreSingle items
     → IsNear held (times_by None) leaving s (tried leaving s items)
 near_listed held leaving s items all single =
-    near_tried held (times_by None) leaving s items (λ t h. sym (same t) ∙ h) (λ t. at_most t (boxes_meet (box_of t) (box_of s)) refl) (λ t h m. same t ∙ h)
+    near_tried held (times_by None) leaving s items (λ t h. sym (same t) ∙ h) (λ t. at_most t (boxes_meet (box_of t) (box_of s)) refl)
+    (λ t h m. same t ∙ (and_parts (set.contains held t) (not (goes_away leaving t)) h).0)
   where
     same : (t : Segment) → has items t ≡ set.contains held t
     same t = sym (contains-set_of items t) ∙ ap (λ z. set.contains z t) all
@@ -69,6 +75,14 @@ near_listed held leaving s items all single =
     at_most t false e =
         omega (arith, times-none (tried leaving s items) t (has-filter (is_tried leaving s) items t ∙ ap (λ b. has items t && (b && not (goes_away leaving t))) e ∙ never (has items t)))
 
+-- and all of them whose boxes meet that of s
+pub near_boxes : (held : SegmentSet) (leaving : Leaving) (s : Segment) (items : List Segment) → set_of items ≡ held
+    → (t : Segment) → stays_held held leaving t ≡ true → are_near s t ≡ true → has (tried leaving s items) t ≡ true
+near_boxes held leaving s items all t h m =
+    let both = and_parts (set.contains held t) (not (goes_away leaving t)) h in
+    let here : has items t ≡ true = sym (contains-set_of items t) ∙ ap (λ z. set.contains z t) all ∙ both.0 in
+    has-filter (is_tried leaving s) items t ∙ (λ i. here i && (m i && both.1 i))
+
 -- where nothing leaves, all that is held stays
 pub stays_all : (held : SegmentSet) (t : Segment) → stays_held held Nothing t ≡ set.contains held t
 stays_all held t = alone (set.contains held t)
@@ -77,13 +91,13 @@ stays_all held t = alone (set.contains held t)
     alone true = refl
     alone false = refl
 
--- all candidates, where nothing leaves
-pub near_all : (held : SegmentSet) (times : Segment → Box → ℕ) (s : Segment) (old near : List Segment) → old ≡ [] → Gives held times (box_of s) old near true
+-- all that an index gives along s, where nothing leaves
+pub near_all : (held : SegmentSet) (times : Segment → Box → ℕ) (s : Segment) (old near : List Segment) → old ≡ [] → GivesAlong held times s None old near true
     → IsNear held times Nothing s near
 near_all held times s old near empty g = record {
   among = λ t h. stays_all held t ∙ g.among t (sym (ap (λ z. has z t) is_found) ∙ h);
   few = λ t. omega (arith, ap (λ z. times_in z t) is_found, g.few t);
-  covers = λ t h m. ap (λ z. has z t) is_found ∙ g.covers refl t (sym (stays_all held t) ∙ h) m;
+  covers = λ t h m. ap (λ z. has z t) is_found ∙ g.covers refl t (sym (stays_all held t) ∙ h) m refl;
 }
   where
     is_found : near ≡ g.found
@@ -124,17 +138,17 @@ pub ones : (ss : List Segment) → sum_by (λ s. 1) ss ≡ length ss
 ones [] = refl
 ones (s ∷ ss) = omega (arith, sum_by-cons (λ t. 1) s ss, ones ss)
 
--- of segments that stay, those whose boxes meet that of s are all among what is near it
-pub near_many : (held : SegmentSet) (times : Segment → Box → ℕ) (leaving : Leaving) (s : Segment) (near ts : List Segment) → IsNear held times leaving s near → AreStaying held leaving ts
-    → count_near ts s ≤ length near
-near_many held times leaving s near ts n staying =
-    let meets : Segment → Bool = λ t. boxes_meet (box_of t) (box_of s) in
-    let found = length_at_most (λ t. 1) near (filter meets ts)
-    (λ t. omega (arith, times-filter meets ts t, staying.once t))
+-- of segments that stay, those that s has to be tested against are all among what is near it
+pub near_many : (held : SegmentSet) (leaving : Leaving) (s : Segment) (close : Segment → Segment → Bool) (near ts : List Segment)
+    → ((t : Segment) → stays_held held leaving t ≡ true → close s t ≡ true → has near t ≡ true) → AreStaying held leaving ts
+    → count_near close ts s ≤ length near
+near_many held leaving s close near ts covers staying =
+    let found = length_at_most (λ t. 1) near (filter (close s) ts)
+    (λ t. omega (arith, times-filter (close s) ts t, staying.once t))
     (λ t h.
-    let both = and_parts (has ts t) (meets t) (sym (has-filter meets ts t) ∙ h) in
-    n.covers t (staying.each t both.0) both.1) in
-    omega (arith, found, length-filter meets ts, ones near)
+    let both = and_parts (has ts t) (close s t) (sym (has-filter (close s) ts t) ∙ h) in
+    covers t (staying.each t both.0) both.1) in
+    omega (arith, found, length-filter (close s) ts, ones near)
 
 -- all that stays is there after the edit
 pub after_has : (held : SegmentSet) (leaving : Leaving) (added ss : List Segment) → IsAfter held leaving added ss → (t : Segment) → stays_held held leaving t ≡ true → has ss t ≡ true

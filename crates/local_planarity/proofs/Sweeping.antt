@@ -1,13 +1,12 @@
 -- What the candidates say of all held segments.
 use Rattle.kit_words.proofs.Common.{◌≡◌, ℕ, Bool, true, not, sym, ap, ◌∙◌, List, ◌&&◌, ◌||◌, inl, inr, list_any}
-use Rattle.kit_words.proofs.Common.{and_parts, or_cases, or_right}
+use Rattle.kit_words.proofs.Common.{and_parts, or_cases, or_left, or_right}
 use Rattle.std.specs.FinSet as set
 use Rattle.grid_geometry.specs.Common.{Position, position_eq, Segment, Box, is_end, conflict, is_held}
-use Rattle.grid_geometry.proofs.Common.{conflict-boxes_meet, conflict-comm}
 use Rattle.ring_machine.specs.Ring as machine
 use Rattle.ring_machine.proofs.Common.{position_eq-true, position_eq-refl, any_in, in_any, same_answer}
 use Rattle.ring_machine.proofs.Common.{has-in as in-has_position, in-has as has_position-in}
-use Rattle.segment_index.specs.Common.{AreAmong, Covers, SegmentSet, has}
+use Rattle.segment_index.specs.Common.{AreAmong, Covers, SegmentSet, has, segment_is}
 use Rattle.local_planarity.specs.Common.{EndingAt, IsHeld, IsEnds, IsNear, box_of_three}
 use Rattle.local_planarity.proofs.Lists.{in-has, has-in, same_any}
 use Rattle.local_planarity.proofs.Spans.{held_end_meets}
@@ -23,7 +22,7 @@ crosses_is held times p way near ss r n is e =
     (e t ∙ both.0, λ i. both.1 i && k i))
     (λ t h k.
     let both = and_parts (not (is_end p t)) (conflict way t) k in
-    (n.covers t (λ i. (sym (e t) ∙ h) i && both.0 i) (conflict-boxes_meet t way (conflict-comm t way ∙ both.1)), both.1))
+    (n.covers t (λ i. (sym (e t) ∙ h) i && both.0 i) (or_left (conflict way t) (segment_is t way) both.1), both.1))
 
 -- a triangle holds an end of one of the segments near it where it holds one of a held segment
 pub ends_held : (held : SegmentSet) (these : List Position) (a b c : Position) (items : List Segment) (ps : List Position) (r : Bool)

@@ -5,7 +5,7 @@ pub use Rattle.local_planarity.specs.NearMove.{HasNearMove}
 pub use Rattle.local_planarity.specs.Pairs.{after_test, first_against, is_tried, lesser, ordered, tests_to_conflict}
 pub use Rattle.local_planarity.specs.Pairs.{tried}
 pub use Rattle.local_planarity.specs.Spans.{box_of_three, least_of, most_of}
-pub use Rattle.local_planarity.specs.Tests.{added, count_near, fewest_tests, most_given, most_tests, pair_count}
+pub use Rattle.local_planarity.specs.Tests.{added, are_near, count_near, fewest_tests, most_given, most_tests, pair_count}
 unfoldable pub use Rattle.local_planarity.specs.Tests.{most_for, most_for_move}
 pub use Rattle.local_planarity.specs.declared.leaving.Leaving.{Leaving}
 pub use Rattle.local_planarity.specs.declared.leaving.Leaving.TheVariants.{EndingAt, Nothing, One}

@@ -1,5 +1,5 @@
 -- How many tests of two segments an edit takes at most, and at least.
-use Rattle.std.specs.Prelude.{ℕ, zero, suc, ◌+◌, not, List, length}
+use Rattle.std.specs.Prelude.{Bool, ℕ, zero, suc, ◌+◌, not, List, length}
 use Rattle.std.specs.List.{filter, sum_by, count_by}
 use Rattle.grid_geometry.specs.Common.{Position, Segment, Box, box_of, boxes_meet, segment}
 use Rattle.ring_machine.specs.Common.{Document, is_segment, distinct_segments, put}
@@ -18,14 +18,18 @@ pair_count (suc n) = n + pair_count n
 abbrev pub most_tests : (Segment → Box → ℕ) → List Segment → List Segment → ℕ
 most_tests times ss added = sum_by (most_given times ss) added + pair_count (length added)
 
--- how many of the segments have a box that meets that of s
-abbrev pub count_near : List Segment → Segment → ℕ
-count_near ts s = count_by (λ t. boxes_meet (box_of t) (box_of s)) ts
+-- the boxes of two segments meet
+abbrev pub are_near : Segment → Segment → Bool
+are_near s t = boxes_meet (box_of t) (box_of s)
 
--- each added segment against those of the others that are near it, and the added ones against each
--- other
-abbrev pub fewest_tests : List Segment → List Segment → ℕ
-fewest_tests ts added = sum_by (count_near ts) added + pair_count (length added)
+-- how many of the segments s has to be tested against, by what is said of it and them
+abbrev pub count_near : (Segment → Segment → Bool) → List Segment → Segment → ℕ
+count_near close ts s = count_by (close s) ts
+
+-- each added segment against those of the others that it has to be tested against, and the added ones
+-- against each other
+abbrev pub fewest_tests : (Segment → Segment → Bool) → List Segment → List Segment → ℕ
+fewest_tests close ts added = sum_by (count_near close ts) added + pair_count (length added)
 
 -- ---- over documents
 

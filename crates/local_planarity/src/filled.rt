@@ -27,7 +27,7 @@ pub fn fill<I: SegIndex, A: Allocator>(
     ensures cells { I.cells index.new ≡ I.cells index.old }
 {
     near.clear();
-    index.candidates(s.rect(), near)?;
+    index.along(s, None, near)?;
     if near.as_slice().contains(&s) {
         return Ok(());
     }

@@ -1,5 +1,7 @@
-ghost use Rattle.std.specs.Prelude.{◌≡◌};
+ghost use Rattle.std.specs.Prelude.{◌≡◌, true};
+ghost use Rattle.grid_geometry.specs.Common.{Segment};
 ghost use Rattle.local_planarity.specs.Edits.{goes_away};
+ghost use Rattle.segment_index.specs.Common.{ends_at};
 
 use grid_geometry::{Pos, Seg};
 
@@ -12,6 +14,17 @@ pub enum Leaving {
     EndingAt(Pos),
     /// This one.
     One(Seg),
+}
+
+/// The position whose segments go away, if it is one.
+pub(crate) fn end_of(leaving: Leaving) -> Option<Pos>
+    ensures { (t : Segment) → ends_at result t ≡ true → goes_away leaving t ≡ true }
+{
+    match leaving {
+        Leaving::Nothing => None,
+        Leaving::EndingAt(p) => Some(p),
+        Leaving::One(_) => None,
+    }
 }
 
 /// Whether a segment goes away.

@@ -3,7 +3,7 @@ ghost use Rattle.segment_index.specs.Common.{Frame, SegmentSet};
 ghost use Rattle.std.specs.FinSet as set;
 
 use crate::borders::Borders;
-use grid_geometry::{Rect, Seg};
+use grid_geometry::{Pos, Rect, Seg};
 use segment_index::SegIndex;
 use std::alloc::{AllocError, Allocator, Global};
 use std::marker::Model;
@@ -78,6 +78,15 @@ impl<I: SegIndex> SegIndex for Counted<I> {
         out: &mut Vec<Seg, B>,
     ) -> Result<(), AllocError> {
         self.index.candidates(rect, out)
+    }
+
+    fn along<B: Allocator>(
+        &self,
+        s: Seg,
+        but: Option<Pos>,
+        out: &mut Vec<Seg, B>,
+    ) -> Result<(), AllocError> {
+        self.index.along(s, but, out)
     }
 
     fn gives_once(&self) -> bool {

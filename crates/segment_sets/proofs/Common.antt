@@ -1,4 +1,5 @@
 -- The words of this crate that others cite most, passed on from one place. Declares nothing.
+pub use Rattle.segment_sets.proofs.Along.{along-given, gives-along, passed_near}
 pub use Rattle.segment_sets.proofs.Branches.{le_from, meet_parts, put-added, put-single, put-unchanged}
 pub use Rattle.segment_sets.proofs.Gathering.{gathers-next, gathers-none, gathers-stop}
 pub use Rattle.segment_sets.proofs.Lines.{line-is, line-mono}

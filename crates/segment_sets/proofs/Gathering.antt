@@ -1,9 +1,10 @@
 -- Walks over cells, one after another.
 use Rattle.kit_words.proofs.Common.{◌≡◌, ◌≤◌, ◌<◌, ◌+◌, ◌-◌, ℕ, zero, suc, append_assoc, take, Bool, true, false, List}
 use Rattle.kit_words.proofs.Common.{[], ◌∷◌, ◌++◌, refl, sym, ap, ◌∙◌, arith, Result, Ok, Err, OnOk, is_ok}
-use Rattle.kit_words.proofs.Common.{common_steps}
+use Rattle.kit_words.proofs.Common.{common_steps, and_parts, ◌&&◌}
 use Rattle.grid_geometry.specs.Common.{Segment, Box, box_of, boxes_meet}
-use Rattle.segment_sets.specs.Common.{segment_is, times_in, meeting, Gathers, counted}
+use Rattle.segment_sets.specs.Common.{segment_is, times_in, meeting, Gathers, counted, by_box, is_asked, is_wanted}
+use Rattle.segment_sets.specs.declared.asked.Asked.{Asked}
 use Rattle.segment_sets.proofs.Singles.{same_segment, times-append, times-filter, times-take}
 use Rattle.segment_sets.proofs.Steps.{by_is}
 
@@ -24,13 +25,17 @@ times-apart rect (x ∷ xs) t h =
     let same : segment_is t x ≡ true → boxes_meet (box_of x) rect ≡ false = λ e. ap (λ u. boxes_meet (box_of u) rect) (sym (same_segment t x e)) ∙ h in
     grind (arith, times-apart rect xs t h, same)
 
-pub gathers-cell : (xs old new : List Segment) (rect : Box) (n : ℕ) (all : Bool) → new ≡ old ++ meeting rect (take n xs) → (all ≡ true → new ≡ old ++ meeting rect xs) → Gathers (times_in xs) rect old new all
+-- what is asked for has a box that meets the asked one
+pub asked_near : (asked : Asked) (t : Segment) → is_asked asked t ≡ true → boxes_meet (box_of t) asked.rect ≡ true
+asked_near asked t h = (and_parts (boxes_meet (box_of t) asked.rect) (is_wanted asked.along asked.but t) h).0
+
+pub gathers-cell : (xs old new : List Segment) (rect : Box) (n : ℕ) (all : Bool) → new ≡ old ++ meeting rect (take n xs) → (all ≡ true → new ≡ old ++ meeting rect xs) → Gathers (times_in xs) (by_box rect) old new all
 gathers-cell xs old new rect n true part whole = record {
   found = meeting rect xs;
   appended = whole refl;
   few = λ t. times-filter (λ u. boxes_meet (box_of u) rect) xs t;
   near = λ t h. times-apart rect xs t h;
-  full = λ e t h. times-meeting rect xs t h;
+  full = λ e t h. times-meeting rect xs t (asked_near (by_box rect) t h);
 }
 gathers-cell xs old new rect n false part whole = record {
   found = meeting rect (take n xs);
@@ -40,8 +45,18 @@ gathers-cell xs old new rect n false part whole = record {
   full = λ e t h. absurd (cc);
 }
 
-pub gathers-then : (f g : Segment → ℕ) (rect : Box) (a b c : List Segment) (all : Bool) → Gathers f rect a b true → Gathers g rect b c all → Gathers (λ t. f t + g t) rect a c all
-gathers-then f g rect a b c all p q = record {
+-- what is given for a box alone serves for all that is asked of it
+pub gathers-for_box : (f : Segment → ℕ) (asked : Asked) (a b : List Segment) (all : Bool) → Gathers f (by_box asked.rect) a b all → Gathers f asked a b all
+gathers-for_box f asked a b all p = record {
+  found = p.found;
+  appended = p.appended;
+  few = p.few;
+  near = p.near;
+  full = λ e t h. p.full e t (λ i. asked_near asked t h i && true);
+}
+
+pub gathers-then : (f g : Segment → ℕ) (asked : Asked) (a b c : List Segment) (all : Bool) → Gathers f asked a b true → Gathers g asked b c all → Gathers (λ t. f t + g t) asked a c all
+gathers-then f g asked a b c all p q = record {
   found = p.found ++ q.found;
   appended = q.appended ∙ ap (λ x. x ++ q.found) p.appended ∙ append_assoc a p.found q.found;
   few = λ t. omega (arith, times-append p.found q.found t, p.few t, q.few t);
@@ -49,8 +64,8 @@ gathers-then f g rect a b c all p q = record {
   full = λ e t h. omega (arith, times-append p.found q.found t, p.full refl t h, q.full e t h);
 }
 
-pub gathers-less : (f g : Segment → ℕ) (rect : Box) (a b : List Segment) → ((t : Segment) → f t ≤ g t) → Gathers f rect a b false → Gathers g rect a b false
-gathers-less f g rect a b h p = record {
+pub gathers-less : (f g : Segment → ℕ) (asked : Asked) (a b : List Segment) → ((t : Segment) → f t ≤ g t) → Gathers f asked a b false → Gathers g asked a b false
+gathers-less f g asked a b h p = record {
   found = p.found;
   appended = p.appended;
   few = λ t. omega (arith, p.few t, h t);
@@ -58,8 +73,8 @@ gathers-less f g rect a b h p = record {
   full = λ e t m. absurd (cc);
 }
 
-pub gathers-same : (f g : Segment → ℕ) (rect : Box) (a b : List Segment) (all : Bool) → ((t : Segment) → f t ≡ g t) → Gathers f rect a b all → Gathers g rect a b all
-gathers-same f g rect a b all h p = record {
+pub gathers-same : (f g : Segment → ℕ) (asked : Asked) (a b : List Segment) (all : Bool) → ((t : Segment) → f t ≡ g t) → Gathers f asked a b all → Gathers g asked a b all
+gathers-same f g asked a b all h p = record {
   found = p.found;
   appended = p.appended;
   few = λ t. omega (arith, p.few t, h t);
@@ -80,8 +95,8 @@ counted-grow f low n (suc m) h = by_is n (suc m) (λ e. rw e (omega arith)) (λ 
 pub counted-none : (f : ℕ → ℕ) (low : ℕ) → counted f low (low - low) ≡ 0
 counted-none f low = let e : low - low ≡ 0 = omega arith in ap (counted f low) e
 
-pub gathers-nothing : (f : Segment → ℕ) (rect : Box) (a : List Segment) → ((t : Segment) → boxes_meet (box_of t) rect ≡ true → f t ≡ 0) → Gathers f rect a a true
-gathers-nothing f rect a none = record {
+pub gathers-nothing : (f : Segment → ℕ) (asked : Asked) (a : List Segment) → ((t : Segment) → is_asked asked t ≡ true → f t ≡ 0) → Gathers f asked a a true
+gathers-nothing f asked a none = record {
   found = [];
   appended = grind (arith, common_steps);
   few = λ t. omega arith;
@@ -89,11 +104,11 @@ gathers-nothing f rect a none = record {
   full = λ e t m. omega (arith, none t m);
 }
 
-pub gathers-none : (f : ℕ → Segment → ℕ) (rect : Box) (low : ℕ) (a : List Segment) → Gathers (λ t. counted (λ j. f j t) low (low - low)) rect a a true
-gathers-none f rect low a = gathers-nothing (λ t. counted (λ j. f j t) low (low - low)) rect a (λ t m. counted-none (λ j. f j t) low)
+pub gathers-none : (f : ℕ → Segment → ℕ) (asked : Asked) (low : ℕ) (a : List Segment) → Gathers (λ t. counted (λ j. f j t) low (low - low)) asked a a true
+gathers-none f asked low a = gathers-nothing (λ t. counted (λ j. f j t) low (low - low)) asked a (λ t m. counted-none (λ j. f j t) low)
 
-pub gathers-next : (f : ℕ → Segment → ℕ) (g : Segment → ℕ) (rect : Box) (low j : ℕ) (a b c : List Segment) → low ≤ j → ((t : Segment) → g t ≡ f j t) → Gathers (λ t. counted (λ k. f k t) low (j - low)) rect a b true → Gathers g rect b c true → Gathers (λ t. counted (λ k. f k t) low (j + 1 - low)) rect a c true
-gathers-next f g rect low j a b c h e p q = gathers-same _ (λ t. counted (λ k. f k t) low (j + 1 - low)) rect a c true (λ t. omega (arith, e t, counted-next (λ k. f k t) low j h)) (gathers-then (λ t. counted (λ k. f k t) low (j - low)) g rect a b c true p q)
+pub gathers-next : (f : ℕ → Segment → ℕ) (g : Segment → ℕ) (asked : Asked) (low j : ℕ) (a b c : List Segment) → low ≤ j → ((t : Segment) → g t ≡ f j t) → Gathers (λ t. counted (λ k. f k t) low (j - low)) asked a b true → Gathers g asked b c true → Gathers (λ t. counted (λ k. f k t) low (j + 1 - low)) asked a c true
+gathers-next f g asked low j a b c h e p q = gathers-same _ (λ t. counted (λ k. f k t) low (j + 1 - low)) asked a c true (λ t. omega (arith, e t, counted-next (λ k. f k t) low j h)) (gathers-then (λ t. counted (λ k. f k t) low (j - low)) g asked a b c true p q)
 
-pub gathers-stop : (f : ℕ → Segment → ℕ) (g : Segment → ℕ) (rect : Box) (low j high : ℕ) (a b c : List Segment) → low ≤ j → j < high → ((t : Segment) → g t ≡ f j t) → Gathers (λ t. counted (λ k. f k t) low (j - low)) rect a b true → Gathers g rect b c false → Gathers (λ t. counted (λ k. f k t) low (high - low)) rect a c false
-gathers-stop f g rect low j high a b c h l e p q = gathers-less _ (λ t. counted (λ k. f k t) low (high - low)) rect a c (λ t. omega (arith, e t, counted-next (λ k. f k t) low j h, counted-grow (λ k. f k t) low (j + 1 - low) (high - low) (omega arith))) (gathers-then (λ t. counted (λ k. f k t) low (j - low)) g rect a b c false p q)
+pub gathers-stop : (f : ℕ → Segment → ℕ) (g : Segment → ℕ) (asked : Asked) (low j high : ℕ) (a b c : List Segment) → low ≤ j → j < high → ((t : Segment) → g t ≡ f j t) → Gathers (λ t. counted (λ k. f k t) low (j - low)) asked a b true → Gathers g asked b c false → Gathers (λ t. counted (λ k. f k t) low (high - low)) asked a c false
+gathers-stop f g asked low j high a b c h l e p q = gathers-less _ (λ t. counted (λ k. f k t) low (high - low)) asked a c (λ t. omega (arith, e t, counted-next (λ k. f k t) low j h, counted-grow (λ k. f k t) low (j + 1 - low) (high - low) (omega arith))) (gathers-then (λ t. counted (λ k. f k t) low (j - low)) g asked a b c false p q)

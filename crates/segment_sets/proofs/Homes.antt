@@ -4,13 +4,15 @@ use Rattle.kit_words.proofs.Common.{List, [], ◌∷◌, ◌++◌, length, set, 
 use Rattle.kit_words.proofs.Common.{Option, Some, None, Result, Ok, Err, OnOk, OnErr, on_ok_weaker, on_err_weaker}
 use Rattle.std.proofs.Common.{unwrap_or}
 use Rattle.grid_geometry.specs.Common.{Segment, Box, box_of, boxes_meet}
-use Rattle.segment_sets.specs.Bounds.{joined as joined_boxes}
+use Rattle.segment_sets.specs.Spans.{joined as joined_spans}
 use Rattle.segment_sets.specs.Common.{segment_is, has, times_in, cell, column, every, Lines, AreMonotone, has_cell}
 use Rattle.segment_sets.specs.Common.{within, counted, total, is_short, home_of, block_of, AreAtHome, ChangesAt}
-use Rattle.segment_sets.specs.Common.{Gathers, Loses, Gains, IsSame, LiesIn}
+use Rattle.segment_sets.specs.Common.{Gathers, Loses, Gains, IsSame, HaveEnds, MayHaveEnds, has_ends, is_asked, span_of}
+use Rattle.segment_sets.specs.declared.asked.Asked.{Asked}
+use Rattle.segment_sets.specs.declared.span.Span.{Span}
 use Rattle.segment_sets.specs.Cells.{joined}
-use Rattle.segment_sets.proofs.Branches.{lies-put, lies-less, none-meets, some-at, meet_parts, le_from}
-use Rattle.segment_sets.proofs.Gathering.{gathers-nothing}
+use Rattle.segment_sets.proofs.Branches.{ends-put, ends-less, none-asked, some-at, meet_parts, le_from}
+use Rattle.segment_sets.proofs.Gathering.{gathers-nothing, asked_near}
 use Rattle.segment_sets.proofs.Sums.{counted-zero, total-one}
 use Rattle.segment_sets.proofs.Singles.{same_segment, times-append, times-none, loses-none, has-no}
 use Rattle.segment_sets.proofs.Steps.{at-set, empty-cells}
@@ -75,23 +77,23 @@ counted-every (x ∷ columns) zero zero from m t = omega arith
 counted-every (x ∷ columns) zero (suc n) from m t = omega (arith, times-append (joined x) (every columns) t, counted-front (λ i. counted (λ j. times_in (cell (column (x ∷ columns) i) j) t) from m) n, counted-joined x from m t, counted-every columns 0 n from m t)
 counted-every (x ∷ columns) (suc low) n from m t = omega (arith, times-append (joined x) (every columns) t, counted-past (λ i. counted (λ j. times_in (cell (column (x ∷ columns) i) j) t) from m) low n, counted-every columns low n from m t)
 
--- ---- the box of a strip
+-- ---- the boxes of a strip
 
-pub strip-put : {T E : Type 0} (r : Result T E) (b : Option Box) (s : Segment) (cells : List (List Segment)) (j : ℕ) (c : List Segment) → j < length cells → LiesIn b (joined cells) → OnOk r (Gains s (cell cells j) c) → OnErr r (IsSame (cell cells j) c) → LiesIn (joined_boxes b (Some (box_of s))) (joined (set cells j c))
-strip-put (Ok v) b s cells j c here lies ok err = lies-put b s (joined cells) (joined (set cells j c)) lies (λ t. omega (arith, joined-set cells j c t here, ok t))
-strip-put (Err e) b s cells j c here lies ok err = lies-put b s (joined cells) (joined (set cells j c)) lies (λ t. omega (arith, joined-set cells j c t here, err t))
+pub strip-put : {T E : Type 0} (r : Result T E) (b : Option Span) (s : Segment) (cells : List (List Segment)) (j : ℕ) (c : List Segment) → j < length cells → MayHaveEnds b (joined cells) → OnOk r (Gains s (cell cells j) c) → OnErr r (IsSame (cell cells j) c) → MayHaveEnds (joined_spans b (Some (span_of s))) (joined (set cells j c))
+strip-put (Ok v) b s cells j c here lies ok err = ends-put b s (joined cells) (joined (set cells j c)) lies (λ t. omega (arith, joined-set cells j c t here, ok t))
+strip-put (Err e) b s cells j c here lies ok err = ends-put b s (joined cells) (joined (set cells j c)) lies (λ t. omega (arith, joined-set cells j c t here, err t))
 
-pub strip-lost : (b : Option Box) (s : Segment) (cells : List (List Segment)) (j : ℕ) (c : List Segment) → j < length cells → LiesIn b (joined cells) → Loses s (cell cells j) c → LiesIn b (joined (set cells j c))
-strip-lost b s cells j c here lies lost = lies-less b (joined cells) (joined (set cells j c)) lies (λ t. omega (arith, joined-set cells j c t here, lost t))
+pub strip-lost : (b : Option Span) (s : Segment) (cells : List (List Segment)) (j : ℕ) (c : List Segment) → j < length cells → MayHaveEnds b (joined cells) → Loses s (cell cells j) c → MayHaveEnds b (joined (set cells j c))
+strip-lost b s cells j c here lies lost = ends-less b (joined cells) (joined (set cells j c)) lies (λ t. omega (arith, joined-set cells j c t here, lost t))
 
 pub strip-empty : (n : ℕ) (cells : List (List Segment)) (t : Segment) → cells ≡ replicate n [] → times_in (joined cells) t ≡ 0
 strip-empty n cells t e = rw e (joined-none (replicate n []) t (λ j. ap (λ c. times_in c t) (empty-cells 1 n 0 j)))
 
-pub gathers-apart : (b : Box) (cells : List (List Segment)) (rect : Box) (low n : ℕ) (a : List Segment) → LiesIn (Some b) (joined cells) → boxes_meet b rect ≡ false → Gathers (λ t. counted (λ j. times_in (cell cells j) t) low n) rect a a true
-gathers-apart b cells rect low n a lies apart = gathers-nothing (λ t. counted (λ j. times_in (cell cells j) t) low n) rect a (λ t m. omega (arith, counted-joined cells low n t, none-meets b (joined cells) rect t lies apart m))
+pub gathers-apart : (b : Span) (cells : List (List Segment)) (asked : Asked) (low n : ℕ) (a : List Segment) → HaveEnds b (joined cells) → ((t : Segment) → has_ends b t ≡ true → is_asked asked t ≡ false) → Gathers (λ t. counted (λ j. times_in (cell cells j) t) low n) asked a a true
+gathers-apart b cells asked low n a ends out = gathers-nothing (λ t. counted (λ j. times_in (cell cells j) t) low n) asked a (λ t h. omega (arith, counted-joined cells low n t, none-asked b (joined cells) asked t ends out h))
 
-pub gathers-unheld : (cells : List (List Segment)) (rect : Box) (low n : ℕ) (a : List Segment) → ((t : Segment) → times_in (joined cells) t ≡ 0) → Gathers (λ t. counted (λ j. times_in (cell cells j) t) low n) rect a a true
-gathers-unheld cells rect low n a none = gathers-nothing (λ t. counted (λ j. times_in (cell cells j) t) low n) rect a (λ t m. omega (arith, counted-joined cells low n t, none t))
+pub gathers-unheld : (cells : List (List Segment)) (asked : Asked) (low n : ℕ) (a : List Segment) → ((t : Segment) → times_in (joined cells) t ≡ 0) → Gathers (λ t. counted (λ j. times_in (cell cells j) t) low n) asked a a true
+gathers-unheld cells asked low n a none = gathers-nothing (λ t. counted (λ j. times_in (cell cells j) t) low n) asked a (λ t h. omega (arith, counted-joined cells low n t, none t))
 
 -- ---- homes
 
@@ -231,11 +233,11 @@ block-full l mono columns rect t at_home m = step (times_in (cell (column column
         (mono.upward _ _ (le_from _ _ p.2)) (mono.upward _ _ (le_from _ _ p.3)) short.1 (mono.across _ _ (le_from _ _ p.0)) (mono.across _ _ (le_from _ _ p.1)) short.0 in
         omega (arith, every-home l columns (l.row b.y0) (l.column b.x0) t at_home home, total-one (λ i j. times_in (cell (column columns i) j) t) (block_of l rect) (l.row b.y0) (l.column b.x0) here)
 
-pub gathers-block : (l : Lines) → AreMonotone l → (columns : List (List (List Segment))) (rect : Box) (a b : List Segment) (all : Bool) → AreAtHome l columns → Gathers (λ t. total (λ i j. times_in (cell (column columns i) j) t) (block_of l rect)) rect a b all → Gathers (times_in (every columns)) rect a b all
-gathers-block l mono columns rect a b all at_home p = record {
+pub gathers-block : (l : Lines) → AreMonotone l → (columns : List (List (List Segment))) (asked : Asked) (a b : List Segment) (all : Bool) → AreAtHome l columns → Gathers (λ t. total (λ i j. times_in (cell (column columns i) j) t) (block_of l asked.rect)) asked a b all → Gathers (times_in (every columns)) asked a b all
+gathers-block l mono columns asked a b all at_home p = record {
   found = p.found;
   appended = p.appended;
-  few = λ t. omega (arith, p.few t, counted-every columns (block_of l rect).left ((block_of l rect).right - (block_of l rect).left) (block_of l rect).low ((block_of l rect).high - (block_of l rect).low) t);
+  few = λ t. omega (arith, p.few t, counted-every columns (block_of l asked.rect).left ((block_of l asked.rect).right - (block_of l asked.rect).left) (block_of l asked.rect).low ((block_of l asked.rect).high - (block_of l asked.rect).low) t);
   near = p.near;
-  full = λ e t m. omega (arith, p.full e t m, block-full l mono columns rect t at_home m);
+  full = λ e t h. omega (arith, p.full e t h, block-full l mono columns asked.rect t at_home (asked_near asked t h));
 }

@@ -6,4 +6,6 @@ pub mod Steps
 pub mod Sums
 mod Reaching
 mod Homes
+pub mod Along
+pub mod Furthest
 pub mod Common

@@ -10,7 +10,7 @@ use Rattle.grid_geometry.specs.Common.{Position, position_cmp, Segment, Box, box
 use Rattle.grid_geometry.specs.Common.{segment_eq}
 use Rattle.grid_geometry.proofs.Common.{position_cmp-exact}
 use Rattle.segment_sets.specs.Common.{segment_is, set_of, has, AreSingle, times_in, SegmentSet, Gives, HasNear}
-use Rattle.segment_sets.specs.Common.{Gathers, Loses, Gains}
+use Rattle.segment_sets.specs.Common.{Gathers, Loses, Gains, by_box}
 
 position_total : IsTotalOrder position_cmp
 position_total = then_total (on_total (λ (p : Position). p.x) int_cmp_total) (on_total (λ (p : Position). p.y) int_cmp_total)
@@ -136,13 +136,13 @@ set_of-lost xs ys s single lost = same_sets _ _ (λ t.
     step b n h = grind arith
 
 -- what a walk over a list without repeats gives
-pub gives-list : (xs old new : List Segment) (rect : Box) (all : Bool) → AreSingle xs → Gathers (times_in xs) rect old new all → Gives (set_of xs) (λ t r. cond (boxes_meet (box_of t) r) 1 0) rect old new all
+pub gives-list : (xs old new : List Segment) (rect : Box) (all : Bool) → AreSingle xs → Gathers (times_in xs) (by_box rect) old new all → Gives (set_of xs) (λ t r. cond (boxes_meet (box_of t) r) 1 0) rect old new all
 gives-list xs old new rect all single g = record {
   found = g.found;
   appended = g.appended;
   among = λ t h. contains-set_of xs t ∙ has-some xs t (omega (arith, g.few t, times-some g.found t h));
   few = λ t. grind (arith, g.few t, g.near t, single t);
-  covers = λ e t h m. has-some g.found t (omega (arith, g.full e t m, times-some xs t (sym (contains-set_of xs t) ∙ h)));
+  covers = λ e t h m. has-some g.found t (omega (arith, g.full e t (λ i. m i && true), times-some xs t (sym (contains-set_of xs t) ∙ h)));
 }
 
 -- an add that may have failed

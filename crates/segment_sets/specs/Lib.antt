@@ -1,8 +1,10 @@
 pub mod Candidates
+pub mod Asked
 pub mod Gathers
 pub mod Covers
 pub mod Cells
 pub mod Bounds
+pub mod Spans
 pub mod Trees
 pub mod Directories
 pub mod Frames

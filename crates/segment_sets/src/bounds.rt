@@ -2,9 +2,63 @@
 ghost use Rattle.std.specs.Prelude.{◌≡◌, ◌&&◌, int_le};
 ghost use Rattle.std.specs.Int.{int_min, int_max};
 ghost use Rattle.grid_geometry.specs.Common.{box_of, boxes_meet};
-ghost use Rattle.segment_sets.specs.Bounds.{box_around, is_within, joined};
+ghost use Rattle.segment_sets.specs.Bounds.{box_around, box_at, is_within};
 
-use grid_geometry::{Rect, Seg};
+use grid_geometry::{Pos, Rect, Seg};
+
+/// The box of one position.
+pub(crate) fn box_at(p: Pos) -> Rect
+    ensures { result ≡ box_at p }
+{
+    Rect {
+        x0: p.x(),
+        y0: p.y(),
+        x1: p.x(),
+        y1: p.y(),
+    }
+}
+
+/// Whether a box has the x of a position.
+fn has_across(rect: Rect, p: Pos) -> bool
+    ensures { result ≡ (int_le rect.x0 p.x && int_le p.x rect.x1) }
+{
+    rect.x0 <= p.x() && p.x() <= rect.x1
+}
+
+/// Whether a box has the y of a position.
+fn has_upward(rect: Rect, p: Pos) -> bool
+    ensures { result ≡ (int_le rect.y0 p.y && int_le p.y rect.y1) }
+{
+    rect.y0 <= p.y() && p.y() <= rect.y1
+}
+
+/// Whether a box has a position.
+pub(crate) fn has(rect: Rect, p: Pos) -> bool
+    ensures { result ≡ is_within (box_at p) rect }
+{
+    has_across(rect, p) && has_upward(rect, p)
+}
+
+/// Whether a box has at most the x of a position.
+fn is_at_across(rect: Rect, p: Pos) -> bool
+    ensures { result ≡ (int_le p.x rect.x0 && int_le rect.x1 p.x) }
+{
+    p.x() <= rect.x0 && rect.x1 <= p.x()
+}
+
+/// Whether a box has at most the y of a position.
+fn is_at_upward(rect: Rect, p: Pos) -> bool
+    ensures { result ≡ (int_le p.y rect.y0 && int_le rect.y1 p.y) }
+{
+    p.y() <= rect.y0 && rect.y1 <= p.y()
+}
+
+/// Whether a box is one position.
+pub(crate) fn is_at(rect: Rect, p: Pos) -> bool
+    ensures { result ≡ is_within rect (box_at p) }
+{
+    is_at_across(rect, p) && is_at_upward(rect, p)
+}
 
 /// Whether the first box has all x of the other.
 fn holds_across(outer: Rect, inner: Rect) -> bool
@@ -21,14 +75,14 @@ fn holds_upward(outer: Rect, inner: Rect) -> bool
 }
 
 /// Whether the first box has all of the other.
-pub(crate) fn holds(outer: Rect, inner: Rect) -> bool
+fn holds(outer: Rect, inner: Rect) -> bool
     ensures { result ≡ is_within inner outer }
 {
     holds_across(outer, inner) && holds_upward(outer, inner)
 }
 
 /// The least box that has both.
-fn around(a: Rect, b: Rect) -> Rect
+pub(crate) fn around(a: Rect, b: Rect) -> Rect
     ensures { result ≡ box_around a b }
 {
     Rect {
@@ -46,25 +100,6 @@ pub fn widen(bounds: &mut Rect, rect: Rect)
     if !holds(*bounds, rect) {
         *bounds = around(*bounds, rect);
     }
-}
-
-/// The least box that has what either has, where there is one.
-pub(crate) fn joined(a: Option<Rect>, b: Option<Rect>) -> Option<Rect>
-    ensures { result ≡ joined a b }
-{
-    match a {
-        None => b,
-        Some(a) => match b {
-            None => Some(a),
-            Some(b) => Some(around(a, b)),
-        },
-    }
-}
-
-/// Whether a side of the inner box lies on one of the outer, so that the outer may be too large
-/// without it. No answer depends on it.
-pub(crate) fn touches(outer: Rect, inner: Rect) -> bool {
-    inner.x0 <= outer.x0 || inner.y0 <= outer.y0 || outer.x1 <= inner.x1 || outer.y1 <= inner.y1
 }
 
 /// Whether the lesser of two numbers is at most a third.

@@ -3,9 +3,10 @@ ghost use Rattle.segment_sets.specs.Candidates.{times_in, has};
 ghost use Rattle.segment_sets.specs.Gathers.{Gathers, Loses};
 ghost use Rattle.segment_sets.specs.Trees.{Gains, IsSame};
 
+use crate::asked::Asked;
 use crate::entry::Entry;
 use crate::tree::Tree;
-use grid_geometry::{Rect, Seg};
+use grid_geometry::Seg;
 use std::alloc::{AllocError, Allocator, Global};
 use std::marker::Model;
 
@@ -55,15 +56,15 @@ impl<A: Allocator + Copy> Bucket<A> {
         self.tree.take_out(entry)
     }
 
-    /// Appends the segments whose box meets the asked one.
+    /// Appends the segments that are asked for, and maybe others whose box meets the asked one.
     pub(crate) fn gather<B: Allocator>(
         &self,
-        rect: &Rect,
+        asked: &Asked,
         out: &mut Vec<Seg, B>,
     ) -> Result<(), AllocError>
-        ensures { Gathers (times_in self.now) rect.now out.old.items out.new.items (is_ok result) }
+        ensures { Gathers (times_in self.now) asked.now out.old.items out.new.items (is_ok result) }
     {
-        self.tree.gather(rect, out)
+        self.tree.gather(asked, out)
     }
 
     /// Another bucket with the same segments.

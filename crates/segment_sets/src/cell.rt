@@ -3,9 +3,12 @@ ghost use Rattle.std.specs.Prelude.{get_or, OnOk, OnErr, IfOk, IfSome, is_ok};
 ghost use Rattle.grid_geometry.specs.Common.{Segment};
 ghost use Rattle.segment_sets.specs.Candidates.{times_in, has, segment_is, AreSingle};
 ghost use Rattle.segment_sets.specs.Gathers.{Gathers, Loses, meeting};
-ghost use Rattle.segment_sets.specs.Trees.{Gains, IsSame, LiesIn};
+ghost use Rattle.segment_sets.specs.Asked.{by_box};
+ghost use Rattle.segment_sets.specs.Spans.{MayHaveEnds};
+ghost use Rattle.segment_sets.specs.Trees.{Gains, IsSame};
 
-use crate::bounds::{joined, reaches};
+use crate::bounds::reaches;
+use crate::span::{Span, joined};
 use crate::way::Way;
 use grid_geometry::{Rect, Seg};
 use std::alloc::{AllocError, Allocator, Global};
@@ -13,6 +16,9 @@ use std::marker::Model;
 
 /// How many segments a leaf of a tree has before it is parted.
 const ROOM: usize = 32;
+
+/// How many segments a leaf has at most whose boxes tell nothing that is worth asking.
+const SMALL: usize = 8;
 
 /// The segments of one cell, in any order.
 #[derive(Drop)]
@@ -88,9 +94,15 @@ impl<A: Allocator + Copy> Cell<A> {
         self.items.is_empty()
     }
 
-    /// A box that they lie in; none where there are none.
-    pub(crate) fn bounds(&self) -> Option<Rect>
-        ensures { LiesIn result self.now }
+    /// Whether there are so few that looking at each is as cheap as asking whether to. No answer depends
+    /// on it.
+    pub(crate) fn is_small(&self) -> bool {
+        self.items.len() <= SMALL
+    }
+
+    /// Boxes that their ends lie in; none where there are none.
+    pub(crate) fn bounds(&self) -> Option<Span>
+        ensures { MayHaveEnds result self.now }
     {
         bounds_of(&self.items)
     }
@@ -128,7 +140,8 @@ impl<A: Allocator + Copy> Cell<A> {
 
     /// Appends the segments whose box meets the asked one.
     pub fn gather<B: Allocator>(&self, rect: Rect, out: &mut Vec<Seg, B>) -> Result<(), AllocError>
-        ensures { Gathers (times_in self.now) rect out.old.items out.new.items (is_ok result) }
+        ensures { Gathers (times_in self.now) (by_box rect) out.old.items out.new.items
+            (is_ok result) }
     {
         append_meeting(&self.items, rect, out)
     }
@@ -173,13 +186,13 @@ fn put_either<A: Allocator + Copy>(
     if is_along { along.put(s) } else { aside.put(s) }
 }
 
-/// A box that all segments of a list lie in; none where there are none.
-fn bounds_of(items: &[Seg]) -> Option<Rect>
-    ensures { LiesIn result items.now }
+/// Boxes that the ends of all segments of a list lie in; none where there are none.
+fn bounds_of(items: &[Seg]) -> Option<Span>
+    ensures { MayHaveEnds result items.now }
 {
     let mut bounds = None;
     for s in items {
-        bounds = joined(bounds, Some(s.rect()));
+        bounds = joined(bounds, Some(Span::of(*s)));
     }
     bounds
 }

@@ -8,6 +8,7 @@ ghost use Rattle.segment_sets.specs.Directories.{home_of, lines_in};
 ghost use Rattle.segment_sets.specs.Gathers.{Gathers, Loses};
 ghost use Rattle.segment_sets.specs.Trees.{Gains, IsSame};
 
+use crate::asked::Asked;
 use crate::bucket::Bucket;
 use crate::cover::Cover;
 use crate::entry::Entry;
@@ -97,16 +98,16 @@ impl<A: Allocator + Copy> Directory<A> {
         }
     }
 
-    /// Appends the segments whose box meets the asked one.
+    /// Appends the segments that are asked for, and maybe others whose box meets the asked one.
     pub(crate) fn gather<B: Allocator>(
         &self,
-        rect: &Rect,
+        asked: &Asked,
         out: &mut Vec<Seg, B>,
     ) -> Result<(), AllocError>
-        ensures { Gathers (times_in self.now) rect.now out.old.items out.new.items (is_ok result) }
+        ensures { Gathers (times_in self.now) asked.now out.old.items out.new.items (is_ok result) }
     {
-        gather_block(&self.strips, self.region.block(*rect), rect, out)?;
-        self.rest.gather(rect, out)
+        gather_block(&self.strips, self.region.block(asked.rect()), asked, out)?;
+        self.rest.gather(asked, out)
     }
 
     /// Another directory with the same segments.
@@ -155,17 +156,17 @@ fn home_in<A: Allocator + Copy>(
     }
 }
 
-/// Appends the segments of the cells of a block whose box meets the asked one.
+/// Appends the segments that are asked for of the cells of a block, and maybe others there.
 fn gather_block<A: Allocator + Copy, B: Allocator>(
     strips: &Vec<Strip<A>, A>,
     block: Cover,
-    rect: &Rect,
+    asked: &Asked,
     out: &mut Vec<Seg, B>,
 ) -> Result<(), AllocError>
     requires across { block.left ≤ block.right }
     requires upward { block.low ≤ block.high }
     ensures { Gathers (λ t. total (λ i j. times_in (cell (column strips.now.items i) j) t) block)
-        rect.now out.old.items out.new.items (is_ok result) }
+        asked.now out.old.items out.new.items (is_ok result) }
 {
     let Cover {
         left,
@@ -174,27 +175,27 @@ fn gather_block<A: Allocator + Copy, B: Allocator>(
         high,
     } = block;
     for i in left..right {
-        gather_at(strips, i, low, high, rect, out)?;
+        gather_at(strips, i, low, high, asked, out)?;
     }
     Ok(())
 }
 
-/// Appends the segments of a strip, if there is one, from a place up to below another, whose box meets
-/// the asked one.
+/// Appends the segments that are asked for of a strip, if there is one, from a place up to below another,
+/// and maybe others there.
 fn gather_at<A: Allocator + Copy, B: Allocator>(
     strips: &Vec<Strip<A>, A>,
     place: usize,
     low: usize,
     high: usize,
-    rect: &Rect,
+    asked: &Asked,
     out: &mut Vec<Seg, B>,
 ) -> Result<(), AllocError>
     requires { low ≤ high }
     ensures { Gathers (λ t. counted (λ j. times_in (cell (column strips.now.items place) j) t) low
-        (high - low)) rect.now out.old.items out.new.items (is_ok result) }
+        (high - low)) asked.now out.old.items out.new.items (is_ok result) }
 {
     if place < strips.len() {
-        strips[place].gather(low, high, rect, out)
+        strips[place].gather(low, high, asked, out)
     } else {
         Ok(())
     }

@@ -1,11 +1,11 @@
 ghost use Rattle.std.specs.Prelude.{◌≡◌, ◌≤◌, Option, None, true, false, OnOk, OnErr, IfOk, is_ok};
 ghost use Rattle.std.specs.FinSet as set;
 ghost use Rattle.grid_geometry.specs.Common.{Segment, box_of};
-ghost use Rattle.segment_sets.specs.Candidates.{SegmentSet, Gives};
+ghost use Rattle.segment_sets.specs.Candidates.{SegmentSet, Gives, GivesAlong};
 ghost use Rattle.segment_sets.specs.Frames.{Frame};
 ghost use Rattle.segment_sets.specs.Times.{times_by};
 
-use grid_geometry::{Rect, Seg};
+use grid_geometry::{Pos, Rect, Seg};
 use std::alloc::{AllocError, Allocator};
 
 /// A finite set of segments that finds the candidates for a box. A call fails only on allocation
@@ -42,6 +42,18 @@ pub trait SegIndex: Drop {
     /// some of them are appended.
     fn candidates<B: Allocator>(&self, rect: Rect, out: &mut Vec<Seg, B>) -> Result<(), AllocError>
         ensures { Gives (held self.now) (times_by (cells self.now)) rect out.old.items
+            out.new.items (is_ok result) };
+
+    /// Appends held segments whose box meets that of a segment, among them every one that conflicts with
+    /// it, and itself if it is held, but maybe not those that end at a position. Where it fails, some of
+    /// them are appended.
+    fn along<B: Allocator>(
+        &self,
+        s: Seg,
+        but: Option<Pos>,
+        out: &mut Vec<Seg, B>,
+    ) -> Result<(), AllocError>
+        ensures { GivesAlong (held self.now) (times_by (cells self.now)) s but out.old.items
             out.new.items (is_ok result) };
 
     /// Whether no segment is given twice for a box, as by an index without cells. One with cells may

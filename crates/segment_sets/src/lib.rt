@@ -2,15 +2,19 @@
 //! trees of bounding boxes, one for each cell of the plane, and in a list.
 #![tactic(auto)]
 
+mod asked;
 mod bounds;
 mod bucket;
 mod cell;
+mod corners;
 mod cover;
 mod directory;
 mod entry;
 mod index;
 mod list_index;
+mod passing;
 mod region;
+mod span;
 mod strip;
 mod tree;
 mod tree_index;

@@ -6,7 +6,7 @@ ghost use Rattle.segment_sets.specs.Times.{times_by};
 
 use crate::cell::Cell;
 use crate::index::SegIndex;
-use grid_geometry::{Rect, Seg};
+use grid_geometry::{Pos, Rect, Seg};
 use std::alloc::{AllocError, Allocator, Global};
 use std::marker::Model;
 
@@ -94,6 +94,16 @@ impl<A: Allocator + Copy> SegIndex for ListIndex<A> {
         out: &mut Vec<Seg, B>,
     ) -> Result<(), AllocError> {
         self.cell.gather(rect, out)
+    }
+
+    fn along<B: Allocator>(
+        &self,
+        s: Seg,
+        but: Option<Pos>,
+        out: &mut Vec<Seg, B>,
+    ) -> Result<(), AllocError> {
+        let _ = but;
+        self.cell.gather(s.rect(), out)
     }
 
     fn gives_once(&self) -> bool {

@@ -8,19 +8,20 @@ ghost use Rattle.segment_sets.specs.Directories.{ChangesAt};
 ghost use Rattle.segment_sets.specs.Gathers.{Gathers, Loses};
 ghost use Rattle.segment_sets.specs.Trees.{Gains, IsSame};
 
-use crate::bounds::joined;
+use crate::asked::Asked;
 use crate::bucket::Bucket;
 use crate::entry::Entry;
-use grid_geometry::{Rect, Seg};
+use crate::span::{Span, joined};
+use grid_geometry::Seg;
 use std::alloc::{AllocError, Allocator, Global};
 use std::marker::Model;
 
-/// The buckets of one row of a directory, from column to column, and a box that all their segments lie in; none where none
-/// was put.
+/// The buckets of one row of a directory, from column to column, and boxes that the ends of all their segments lie
+/// in; none where none was put.
 #[derive(Drop)]
 pub(crate) struct Strip<A: Allocator + Copy = Global> {
     buckets: Vec<Bucket<A>, A>,
-    bounds: Option<Rect>,
+    bounds: Option<Span>,
 }
 
 impl<A: Allocator + Copy> Model for Strip<A> {
@@ -29,7 +30,7 @@ impl<A: Allocator + Copy> Model for Strip<A> {
     ghost use Rattle.grid_geometry.specs.Segment.{Segment};
     ghost use Rattle.segment_sets.specs.Candidates.{segment_code};
     ghost use Rattle.segment_sets.specs.Cells.{joined};
-    ghost use Rattle.segment_sets.specs.Trees.{LiesIn};
+    ghost use Rattle.segment_sets.specs.Spans.{MayHaveEnds};
 
     ghost Value = { List (List Segment) };
 
@@ -37,7 +38,7 @@ impl<A: Allocator + Copy> Model for Strip<A> {
 
     ghost view = { λ a. a.buckets.items };
 
-    ghost invariant = { λ a. LiesIn a.bounds (joined a.buckets.items) };
+    ghost invariant = { λ a. MayHaveEnds a.bounds (joined a.buckets.items) };
 }
 
 impl<A: Allocator + Copy> Strip<A> {
@@ -64,7 +65,7 @@ impl<A: Allocator + Copy> Strip<A> {
         ensures put { OnOk result (ChangesAt place (Gains entry.now) self.old self.new) }
         ensures unchanged { OnErr result (ChangesAt place IsSame self.old self.new) }
     {
-        self.bounds = joined(self.bounds, Some(entry.rect()));
+        self.bounds = joined(self.bounds, Some(Span::of(entry.segment())));
         self.buckets[place].put(alloc, entry)
     }
 
@@ -77,23 +78,23 @@ impl<A: Allocator + Copy> Strip<A> {
         self.buckets[place].take_out(entry)
     }
 
-    /// Appends the segments of the buckets from a place up to below another whose box meets the asked
-    /// one.
+    /// Appends the segments that are asked for of the buckets from a place up to below another, and maybe
+    /// others there whose box meets the asked one.
     pub(crate) fn gather<B: Allocator>(
         &self,
         low: usize,
         high: usize,
-        rect: &Rect,
+        asked: &Asked,
         out: &mut Vec<Seg, B>,
     ) -> Result<(), AllocError>
         requires { low ≤ high }
         ensures { Gathers (λ t. counted (λ j. times_in (cell self.now j) t) low (high - low))
-            rect.now out.old.items out.new.items (is_ok result) }
+            asked.now out.old.items out.new.items (is_ok result) }
     {
         match self.bounds {
             Some(bounds) => {
-                if bounds.meets(*rect) {
-                    gather_from(&self.buckets, low, high, rect, out)
+                if asked.enters(&bounds, true) {
+                    gather_from(&self.buckets, low, high, asked, out)
                 } else {
                     Ok(())
                 }
@@ -128,36 +129,36 @@ fn empty_buckets<A: Allocator + Copy>(
     Ok(buckets)
 }
 
-/// Appends the segments of the buckets in a range whose box meets the asked one.
+/// Appends the segments that are asked for of the buckets in a range, and maybe others there.
 fn gather_from<A: Allocator + Copy, B: Allocator>(
     buckets: &Vec<Bucket<A>, A>,
     low: usize,
     high: usize,
-    rect: &Rect,
+    asked: &Asked,
     out: &mut Vec<Seg, B>,
 ) -> Result<(), AllocError>
     requires { low ≤ high }
     ensures { Gathers (λ t. counted (λ j. times_in (cell buckets.now.items j) t) low (high - low))
-        rect.now out.old.items out.new.items (is_ok result) }
+        asked.now out.old.items out.new.items (is_ok result) }
 {
     for j in low..high {
-        gather_at(buckets, j, rect, out)?;
+        gather_at(buckets, j, asked, out)?;
     }
     Ok(())
 }
 
-/// Appends the segments of a bucket, if there is one, whose box meets the asked one.
+/// Appends the segments that are asked for of a bucket, if there is one, and maybe others of it.
 fn gather_at<A: Allocator + Copy, B: Allocator>(
     buckets: &Vec<Bucket<A>, A>,
     row: usize,
-    rect: &Rect,
+    asked: &Asked,
     out: &mut Vec<Seg, B>,
 ) -> Result<(), AllocError>
-    ensures { Gathers (times_in (cell buckets.now.items row)) rect.now out.old.items out.new.items
+    ensures { Gathers (times_in (cell buckets.now.items row)) asked.now out.old.items out.new.items
         (is_ok result) }
 {
     if row < buckets.len() {
-        buckets[row].gather(rect, out)
+        buckets[row].gather(asked, out)
     } else {
         Ok(())
     }

@@ -1,13 +1,15 @@
 ghost use Rattle.std.specs.Prelude.{◌≡◌, OnOk, OnErr, IfOk, is_ok, [], ◌++◌, true};
 ghost use Rattle.segment_sets.specs.Candidates.{times_in, has};
 ghost use Rattle.segment_sets.specs.Gathers.{Gathers, Loses};
-ghost use Rattle.segment_sets.specs.Trees.{listed, listed_from, Bounded, Gains, IsSame, LieIn, LiesIn};
+ghost use Rattle.segment_sets.specs.Spans.{HaveEnds, MayHaveEnds};
+ghost use Rattle.segment_sets.specs.Trees.{listed, listed_from, Bounded, Gains, IsSame};
 
-use crate::bounds::{holds, joined, touches, widen};
+use crate::asked::Asked;
 use crate::cell::Cell;
 use crate::entry::Entry;
+use crate::span::{Span, joined, widen_ends};
 use crate::way::Way;
-use grid_geometry::{Rect, Seg};
+use grid_geometry::Seg;
 use std::alloc::{AllocError, Allocator, Global};
 use std::mem;
 
@@ -15,16 +17,16 @@ use std::mem;
 const FIRST_ROOM: usize = 8;
 
 /// An R-tree: segments in leaves of some each. A leaf that is full is parted into the two sides of a fork.
-/// Leaves and forks have a box that all their segments lie in.
+/// Leaves and forks have two boxes that the ends of all their segments lie in.
 #[cycle(tree)]
 #[derive(Drop)]
 pub(crate) enum Tree<A: Allocator + Copy = Global> {
     /// No segment.
     Empty,
-    /// Segments, and the box that they lie in.
-    Leaf(Rect, Cell<A>),
-    /// Two sides, and the box that their segments lie in.
-    Fork(Rect, Box<Sides<A>, A>),
+    /// Segments, and the boxes that their ends lie in.
+    Leaf(Span, Cell<A>),
+    /// Two sides, and the boxes that the ends of their segments lie in.
+    Fork(Span, Box<Sides<A>, A>),
 }
 
 /// The sides of a fork: the segments that go along a way for more than so many steps, and those
@@ -39,16 +41,16 @@ pub(crate) struct Sides<A: Allocator + Copy = Global> {
 }
 
 impl<A: Allocator + Copy> Sides<A> {
-    /// Appends the segments whose box meets the asked one.
+    /// Appends the segments that are asked for, and maybe others whose box meets the asked one.
     #[cycle(gather)]
-    fn gather<B: Allocator>(&self, rect: &Rect, out: &mut Vec<Seg, B>) -> Result<(), AllocError>
+    fn gather<B: Allocator>(&self, asked: &Asked, out: &mut Vec<Seg, B>) -> Result<(), AllocError>
         requires along { Bounded self.now.along }
         requires aside { Bounded self.now.aside }
-        ensures { Gathers (times_in (listed_from self.now)) rect.now out.old.items out.new.items
+        ensures { Gathers (times_in (listed_from self.now)) asked.now out.old.items out.new.items
             (is_ok result) }
     {
-        self.along.gather(rect, out)?;
-        self.aside.gather(rect, out)
+        self.along.gather(asked, out)?;
+        self.aside.gather(asked, out)
     }
 
     /// Takes a segment out, once, if it is there, and answers whether it was. It is looked for on its
@@ -85,28 +87,29 @@ impl<A: Allocator + Copy> Sides<A> {
 }
 
 impl<A: Allocator + Copy> Tree<A> {
-    /// Appends the segments whose box meets the asked one.
+    /// Appends the segments that are asked for, and maybe others whose box meets the asked one.
     #[cycle(gather)]
     pub(crate) fn gather<B: Allocator>(
         &self,
-        rect: &Rect,
+        asked: &Asked,
         out: &mut Vec<Seg, B>,
     ) -> Result<(), AllocError>
         requires { Bounded self.now }
-        ensures { Gathers (times_in (listed self.now)) rect.now out.old.items out.new.items (is_ok result) }
+        ensures { Gathers (times_in (listed self.now)) asked.now out.old.items out.new.items
+            (is_ok result) }
     {
         match self {
             Tree::Empty => Ok(()),
             Tree::Leaf(bounds, cell) => {
-                if bounds.meets(*rect) {
-                    cell.gather(*rect, out)
+                if asked.enters(bounds, cell.is_small()) {
+                    cell.gather(asked.rect(), out)
                 } else {
                     Ok(())
                 }
             }
             Tree::Fork(bounds, sides) => {
-                if bounds.meets(*rect) {
-                    sides.gather(rect, out)
+                if asked.enters(bounds, false) {
+                    sides.gather(asked, out)
                 } else {
                     Ok(())
                 }
@@ -144,7 +147,7 @@ impl<A: Allocator + Copy> Tree<A> {
             }
             Tree::Leaf(bounds, cell) => match cell.parting(entry.way()) {
                 None => {
-                    widen(bounds, entry.rect());
+                    widen_ends(bounds, entry.segment());
                     cell.put(entry.segment())
                 }
                 Some(step) => {
@@ -154,7 +157,7 @@ impl<A: Allocator + Copy> Tree<A> {
             },
             Tree::Fork(bounds, sides) => {
                 let sides = &mut **sides;
-                widen(bounds, entry.rect());
+                widen_ends(bounds, entry.segment());
                 if sides.goes_along(entry.way()) {
                     sides.along.put(alloc, entry)
                 } else {
@@ -173,7 +176,8 @@ impl<A: Allocator + Copy> Tree<A> {
     {
         let way = entry.way();
         let leaf = leaf_of(alloc, entry.segment())?;
-        let bounds = joined(self.bounds(), Some(entry.rect())).unwrap_or(entry.rect());
+        let ends = Some(Span::of(entry.segment()));
+        let bounds = joined(self.bounds(), ends).unwrap_or(Span::of(entry.segment()));
         let (along, aside) = (leaf, Tree::Empty);
         let mut sides = Box::new(
             alloc,
@@ -202,7 +206,7 @@ impl<A: Allocator + Copy> Tree<A> {
         match self {
             Tree::Empty => false,
             Tree::Leaf(bounds, cell) => {
-                if !holds(*bounds, entry.rect()) {
+                if !bounds.has(entry.segment()) {
                     return false;
                 }
                 if !cell.take_out(entry.segment()) {
@@ -211,13 +215,13 @@ impl<A: Allocator + Copy> Tree<A> {
                 if cell.is_empty() {
                     *self = Tree::Empty;
                 } else {
-                    tighten(bounds, entry.rect(), cell);
+                    tighten(bounds, entry.segment(), cell);
                 }
                 true
             }
             Tree::Fork(bounds, sides) => {
                 let sides = &mut **sides;
-                if !holds(*bounds, entry.rect()) {
+                if !bounds.has(entry.segment()) {
                     return false;
                 }
                 if !sides.take_out(entry) {
@@ -226,7 +230,7 @@ impl<A: Allocator + Copy> Tree<A> {
                 if sides.is_bare() {
                     *self = Tree::Empty;
                 } else {
-                    tighten_around(bounds, entry.rect(), sides);
+                    tighten_around(bounds, entry.segment(), sides);
                 }
                 true
             }
@@ -244,10 +248,10 @@ impl<A: Allocator + Copy> Tree<A> {
         }
     }
 
-    /// A box that all segments lie in; none where there are none.
-    fn bounds(&self) -> Option<Rect>
+    /// Boxes that the ends of all segments lie in; none where there are none.
+    fn bounds(&self) -> Option<Span>
         requires { Bounded self.now }
-        ensures { LiesIn result (listed self.now) }
+        ensures { MayHaveEnds result (listed self.now) }
     {
         match self {
             Tree::Empty => None,
@@ -281,26 +285,26 @@ impl<A: Allocator + Copy> Tree<A> {
     }
 }
 
-/// Draws the box of a leaf anew around what is left after a segment was taken out, where that segment
-/// reached to a side of the box.
-fn tighten<A: Allocator + Copy>(bounds: &mut Rect, gone: Rect, cell: &Cell<A>)
-    requires { LieIn bounds.old cell.now }
-    ensures { LieIn bounds.new cell.now }
+/// Draws the boxes of a leaf anew around what is left after a segment was taken out, where that segment
+/// reached to a side of one.
+fn tighten<A: Allocator + Copy>(bounds: &mut Span, gone: Seg, cell: &Cell<A>)
+    requires { HaveEnds bounds.old cell.now }
+    ensures { HaveEnds bounds.new cell.now }
 {
-    if touches(*bounds, gone) {
+    if bounds.touches(gone) {
         *bounds = cell.bounds().unwrap_or(*bounds);
     }
 }
 
-/// Draws the box of a fork anew around its sides after a segment was taken out, where that segment
-/// reached to a side of the box.
-fn tighten_around<A: Allocator + Copy>(bounds: &mut Rect, gone: Rect, sides: &Sides<A>)
+/// Draws the boxes of a fork anew around its sides after a segment was taken out, where that segment
+/// reached to a side of one.
+fn tighten_around<A: Allocator + Copy>(bounds: &mut Span, gone: Seg, sides: &Sides<A>)
     requires along { Bounded sides.now.along }
     requires aside { Bounded sides.now.aside }
-    requires lie { LieIn bounds.old (listed_from sides.now) }
-    ensures { LieIn bounds.new (listed_from sides.now) }
+    requires lie { HaveEnds bounds.old (listed_from sides.now) }
+    ensures { HaveEnds bounds.new (listed_from sides.now) }
 {
-    if touches(*bounds, gone) {
+    if bounds.touches(gone) {
         *bounds = joined(sides.along.bounds(), sides.aside.bounds()).unwrap_or(*bounds);
     }
 }
@@ -312,7 +316,7 @@ fn leaf_of<A: Allocator + Copy>(alloc: A, s: Seg) -> Result<Tree<A>, AllocError>
 {
     let mut cell = Cell::of(Vec::with_capacity(alloc, FIRST_ROOM)?);
     cell.put(s)?;
-    Ok(Tree::Leaf(s.rect(), cell))
+    Ok(Tree::Leaf(Span::of(s), cell))
 }
 
 /// A tree of the segments of a cell.
@@ -344,7 +348,8 @@ fn fork_of<A: Allocator + Copy>(
     along.put(entry.segment())?;
     let along = tree_of(along);
     let aside = tree_of(aside);
-    let bounds = joined(along.bounds(), aside.bounds()).unwrap_or(entry.rect());
+    let ends = Span::of(entry.segment());
+    let bounds = joined(along.bounds(), aside.bounds()).unwrap_or(ends);
     let sides = Sides {
         way,
         step,

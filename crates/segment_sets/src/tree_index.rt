@@ -1,17 +1,18 @@
 ghost use Rattle.std.specs.Prelude.{◌≡◌, None};
 ghost use Rattle.std.specs.FinSet as set;
 
+use crate::asked::Asked;
 use crate::directory::Directory;
 use crate::entry::Entry;
 use crate::index::SegIndex;
-use grid_geometry::{Rect, Seg};
+use grid_geometry::{Pos, Rect, Seg};
 use std::alloc::{AllocError, Allocator, Global};
 use std::marker::Model;
 
 /// The segments in R-trees, each once, wherever they lie: in one tree, and from `prepare` on in
 /// one for each cell of the extent and one beside them. A call for candidates goes into those boxes
-/// that meet the asked one, and gives each segment whose own box does, once, and no other. It is seen
-/// as the set of its segments.
+/// that meet the asked one, and gives each segment whose own box does, once, and no other. A call along a
+/// segment leaves out boxes that a line keeps apart from it. It is seen as the set of its segments.
 #[derive(Drop)]
 pub struct TreeIndex<A: Allocator + Copy = Global> {
     alloc: A,
@@ -72,7 +73,16 @@ impl<A: Allocator + Copy> SegIndex for TreeIndex<A> {
         rect: Rect,
         out: &mut Vec<Seg, B>,
     ) -> Result<(), AllocError> {
-        self.directory.gather(&rect, out)
+        self.directory.gather(&Asked::by_box(rect), out)
+    }
+
+    fn along<B: Allocator>(
+        &self,
+        s: Seg,
+        but: Option<Pos>,
+        out: &mut Vec<Seg, B>,
+    ) -> Result<(), AllocError> {
+        self.directory.gather(&Asked::by_segment(s, but), out)
     }
 
     fn gives_once(&self) -> bool {

@@ -1,6 +1,6 @@
 use Rattle.kit_words.proofs.Common.{take}
-use Rattle.segment_sets.specs.Common.{LiesIn}
+use Rattle.segment_sets.specs.Common.{MayHaveEnds}
 use Rattle.segment_sets.proofs.cell.bounds_of.Given as goal
 
 abbrev pub invariant-loop-s : goal.invariant-loop-s
-invariant-loop-s l = LiesIn l.bounds (take l.s-index l.items)
+invariant-loop-s l = MayHaveEnds l.bounds (take l.s-index l.items)

@@ -6,18 +6,18 @@ use Rattle.segment_sets.proofs.directory.gather_block.Goals as goal
 pub loop-i-init : goal.loop-i-init
 loop-i-init g c =
     let b = c.block.inside in
-    gathers-none (λ i t. counted (λ j. times_in (cell (column c.args.strips.now.items i) j) t) b.low (b.high - b.low)) c.args.rect.now b.left c.args.out.now.items
+    gathers-none (λ i t. counted (λ j. times_in (cell (column c.args.strips.now.items i) j) t) b.low (b.high - b.low)) c.args.asked.now b.left c.args.out.now.items
 
 pub loop-i-preserved : goal.loop-i-preserved
 loop-i-preserved g c =
     let b = c.block.inside in
-    gathers-next (λ i t. counted (λ j. times_in (cell (column c.args.strips.now.items i) j) t) b.low (b.high - b.low)) (λ t. counted (λ j. times_in (cell (column c.args.strips.now.items c.loop-i.i) j) t) b.low (b.high - b.low)) c.args.rect.now b.left c.loop-i.i c.args.out.now.items c.loop-i.out.items c.gather_at.new.out.items c.loop-i.auto.i (λ t. refl) c.loop-i.invariant (rw c.in_ok-gather_at.was at c.gather_at.ensures)
+    gathers-next (λ i t. counted (λ j. times_in (cell (column c.args.strips.now.items i) j) t) b.low (b.high - b.low)) (λ t. counted (λ j. times_in (cell (column c.args.strips.now.items c.loop-i.i) j) t) b.low (b.high - b.low)) c.args.asked.now b.left c.loop-i.i c.args.out.now.items c.loop-i.out.items c.gather_at.new.out.items c.loop-i.auto.i (λ t. refl) c.loop-i.invariant (rw c.in_ok-gather_at.was at c.gather_at.ensures)
 
 pub returns-in_err-gather_at : goal.returns-in_err-gather_at
 returns-in_err-gather_at g c =
     let b = c.block.inside in
     let e : is_ok c.from_residual.result ≡ false = search rules in
-    rw (e, ← c.block.view_is) (gathers-stop (λ i t. counted (λ j. times_in (cell (column c.args.strips.now.items i) j) t) b.low (b.high - b.low)) (λ t. counted (λ j. times_in (cell (column c.args.strips.now.items c.loop-i.i) j) t) b.low (b.high - b.low)) c.args.rect.now b.left c.loop-i.i b.right c.args.out.now.items c.loop-i.out.items c.gather_at.new.out.items c.loop-i.auto.i c.loop-i-test.true (λ t. refl) c.loop-i.invariant (rw c.in_err-gather_at.was at c.gather_at.ensures))
+    rw (e, ← c.block.view_is) (gathers-stop (λ i t. counted (λ j. times_in (cell (column c.args.strips.now.items i) j) t) b.low (b.high - b.low)) (λ t. counted (λ j. times_in (cell (column c.args.strips.now.items c.loop-i.i) j) t) b.low (b.high - b.low)) c.args.asked.now b.left c.loop-i.i b.right c.args.out.now.items c.loop-i.out.items c.gather_at.new.out.items c.loop-i.auto.i c.loop-i-test.true (λ t. refl) c.loop-i.invariant (rw c.in_err-gather_at.was at c.gather_at.ensures))
 
 pub returns : goal.returns
 returns g c =

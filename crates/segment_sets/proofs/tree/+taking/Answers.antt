@@ -1,6 +1,5 @@
 use Rattle.kit_words.proofs.Common.{◌≡◌, ◌++◌, sym, ◌∙◌, true, false}
-use Rattle.grid_geometry.specs.Common.{box_of}
-use Rattle.segment_sets.specs.Common.{is_within, has, listed}
+use Rattle.segment_sets.specs.Common.{has, has_ends, listed}
 use Rattle.segment_sets.proofs.Singles.{loses-none}
 use Rattle.segment_sets.proofs.Branches.{lost-left, lost-right, lost-past_left, lost-past_right, has-apart}
 use Rattle.segment_sets.proofs.tree.+taking.Goals as goal
@@ -29,28 +28,28 @@ Sides::take_out-returns-else-take_out-2-clause-lost g t c =
     let out : has r c.args.entry.now ≡ false = sym c.take_out-else-goes_along.ensures.found ∙ c.if-take_out-2.false in
     lost-past_right c.args.entry.now (listed c.args.self.now.along) (listed c.take_out-else-take_out-2.new.self) r (listed c.take_out-else-goes_along.new.self) out c.take_out-else-take_out-2.ensures.lost c.take_out-else-goes_along.ensures.lost
 
-pub Tree::take_out-returns-then-not-holds-clause-lost : goal.Tree::take_out-returns-then-not-holds-clause-lost
-Tree::take_out-returns-then-not-holds-clause-lost g t c =
-    let lie = rw c.in-Leaf.is at c.requires in
-    let apart : is_within (box_of c.args.entry.now) c.in-Leaf.bounds ≡ false = rw c.rect.ensures at (sym c.holds.ensures ∙ c.if-not-holds.true) in
-    rw c.in-Leaf.is (loses-none c.in-Leaf.cell c.args.entry.now (has-apart c.in-Leaf.bounds c.args.entry.now c.in-Leaf.cell lie apart))
+pub Tree::take_out-returns-then-not-has-clause-lost : goal.Tree::take_out-returns-then-not-has-clause-lost
+Tree::take_out-returns-then-not-has-clause-lost g t c =
+    let ends = rw c.in-Leaf.is at c.requires in
+    let apart : has_ends c.in-Leaf.bounds c.args.entry.now ≡ false = rw c.segment.ensures at (sym c.has.ensures ∙ c.if-not-has.true) in
+    rw c.in-Leaf.is (loses-none c.in-Leaf.cell c.args.entry.now (has-apart c.in-Leaf.bounds c.args.entry.now c.in-Leaf.cell ends apart))
 
-pub Tree::take_out-returns-then-not-holds-clause-found : goal.Tree::take_out-returns-then-not-holds-clause-found
-Tree::take_out-returns-then-not-holds-clause-found g t c =
-    let lie = rw c.in-Leaf.is at c.requires in
-    let apart : is_within (box_of c.args.entry.now) c.in-Leaf.bounds ≡ false = rw c.rect.ensures at (sym c.holds.ensures ∙ c.if-not-holds.true) in
-    rw c.in-Leaf.is (sym (has-apart c.in-Leaf.bounds c.args.entry.now c.in-Leaf.cell lie apart))
+pub Tree::take_out-returns-then-not-has-clause-found : goal.Tree::take_out-returns-then-not-has-clause-found
+Tree::take_out-returns-then-not-has-clause-found g t c =
+    let ends = rw c.in-Leaf.is at c.requires in
+    let apart : has_ends c.in-Leaf.bounds c.args.entry.now ≡ false = rw c.segment.ensures at (sym c.has.ensures ∙ c.if-not-has.true) in
+    rw c.in-Leaf.is (sym (has-apart c.in-Leaf.bounds c.args.entry.now c.in-Leaf.cell ends apart))
 
-pub Tree::take_out-returns-then-not-holds-2-clause-lost : goal.Tree::take_out-returns-then-not-holds-2-clause-lost
-Tree::take_out-returns-then-not-holds-2-clause-lost g t c =
+pub Tree::take_out-returns-then-not-has-2-clause-lost : goal.Tree::take_out-returns-then-not-has-2-clause-lost
+Tree::take_out-returns-then-not-has-2-clause-lost g t c =
     let b = rw c.in-Fork.is at c.requires in
     let all = listed c.in-Fork.sides.value.along ++ listed c.in-Fork.sides.value.aside in
-    let apart : is_within (box_of c.args.entry.now) c.in-Fork.bounds ≡ false = rw c.rect-in-Fork.ensures at (sym c.holds-in-Fork.ensures ∙ c.if-not-holds-2.true) in
+    let apart : has_ends c.in-Fork.bounds c.args.entry.now ≡ false = rw c.segment-in-Fork.ensures at (sym c.has-in-Fork.ensures ∙ c.if-not-has-2.true) in
     rw (c.in-Fork.is, c.deref_mut-sides.ensures.value) (loses-none all c.args.entry.now (has-apart c.in-Fork.bounds c.args.entry.now all b.0 apart))
 
-pub Tree::take_out-returns-then-not-holds-2-clause-found : goal.Tree::take_out-returns-then-not-holds-2-clause-found
-Tree::take_out-returns-then-not-holds-2-clause-found g t c =
+pub Tree::take_out-returns-then-not-has-2-clause-found : goal.Tree::take_out-returns-then-not-has-2-clause-found
+Tree::take_out-returns-then-not-has-2-clause-found g t c =
     let b = rw c.in-Fork.is at c.requires in
     let all = listed c.in-Fork.sides.value.along ++ listed c.in-Fork.sides.value.aside in
-    let apart : is_within (box_of c.args.entry.now) c.in-Fork.bounds ≡ false = rw c.rect-in-Fork.ensures at (sym c.holds-in-Fork.ensures ∙ c.if-not-holds-2.true) in
+    let apart : has_ends c.in-Fork.bounds c.args.entry.now ≡ false = rw c.segment-in-Fork.ensures at (sym c.has-in-Fork.ensures ∙ c.if-not-has-2.true) in
     rw c.in-Fork.is (sym (has-apart c.in-Fork.bounds c.args.entry.now all b.0 apart))

@@ -1,20 +1,19 @@
 use Rattle.kit_words.proofs.Common.{◌≡◌, ◌++◌, ap, ◌∙◌, on_ok_weaker, on_err_weaker}
-use Rattle.grid_geometry.specs.Common.{box_of}
-use Rattle.segment_sets.specs.Common.{box_around, listed}
-use Rattle.segment_sets.proofs.Branches.{put-lies, gains-cell, same-cell, gains-left, same-left, gains-right, same-right}
+use Rattle.segment_sets.specs.Common.{listed, span_around, span_of}
+use Rattle.segment_sets.proofs.Branches.{put-ends, gains-cell, same-cell, gains-left, same-left, gains-right, same-right}
 use Rattle.segment_sets.proofs.tree.Tree.+put.Goals as goal
 
 pub returns-in-None-clause-bounded : goal.returns-in-None-clause-bounded
 returns-in-None-clause-bounded g t c =
-    let lie = rw c.in-Leaf.is at c.requires in
+    let ends = rw c.in-Leaf.is at c.requires in
     let x = c.in-Leaf.cell in
     let y = c.put.new.self in
-    let more : c.widen.new.bounds ≡ box_around c.in-Leaf.bounds (box_of c.args.entry.now) = c.widen.ensures ∙ ap (box_around c.in-Leaf.bounds) c.rect.ensures in
-    rw more (put-lies c.put.result c.in-Leaf.bounds c.args.entry.now x y lie (on_ok_weaker c.put.result (gains-cell c.args.entry.now x y) (rw c.segment-in-None.ensures at c.put.ensures.put)) (on_err_weaker c.put.result (same-cell x y) c.put.ensures.unchanged))
+    let more : c.widen_ends.new.bounds ≡ span_around c.in-Leaf.bounds (span_of c.args.entry.now) = c.widen_ends.ensures ∙ ap (λ s. span_around c.in-Leaf.bounds (span_of s)) c.segment-in-None.ensures in
+    rw more (put-ends c.put.result c.in-Leaf.bounds c.args.entry.now x y ends (on_ok_weaker c.put.result (gains-cell c.args.entry.now x y) (rw c.segment-in-None-2.ensures at c.put.ensures.put)) (on_err_weaker c.put.result (same-cell x y) c.put.ensures.unchanged))
 
 pub returns-in-None-clause-put : goal.returns-in-None-clause-put
 returns-in-None-clause-put g t c =
-    rw c.in-Leaf.is (on_ok_weaker c.put.result (gains-cell c.args.entry.now c.in-Leaf.cell c.put.new.self) (rw c.segment-in-None.ensures at c.put.ensures.put))
+    rw c.in-Leaf.is (on_ok_weaker c.put.result (gains-cell c.args.entry.now c.in-Leaf.cell c.put.new.self) (rw c.segment-in-None-2.ensures at c.put.ensures.put))
 
 pub returns-in-None-clause-unchanged : goal.returns-in-None-clause-unchanged
 returns-in-None-clause-unchanged g t c =
@@ -27,10 +26,10 @@ returns-then-goes_along-clause-bounded g t c =
     let m = listed c.put-then-goes_along.new.self in
     let r = listed c.in-Fork.sides.value.aside in
     let q = c.put-then-goes_along.result in
-    let more : c.widen-in-Fork.new.bounds ≡ box_around c.in-Fork.bounds (box_of c.args.entry.now) = c.widen-in-Fork.ensures ∙ ap (box_around c.in-Fork.bounds) c.rect-in-Fork.ensures in
+    let more : c.widen_ends-in-Fork.new.bounds ≡ span_around c.in-Fork.bounds (span_of c.args.entry.now) = c.widen_ends-in-Fork.ensures ∙ ap (λ s. span_around c.in-Fork.bounds (span_of s)) c.segment-in-Fork.ensures in
     let ok = rw c.deref_mut-sides.ensures.value at c.put-then-goes_along.ensures.put in
     let err = rw c.deref_mut-sides.ensures.value at c.put-then-goes_along.ensures.unchanged in
-    rw (more, c.deref_mut-sides.ensures.value) (put-lies q c.in-Fork.bounds c.args.entry.now (l ++ r) (m ++ r) b.0 (on_ok_weaker q (gains-left c.args.entry.now l m r) ok) (on_err_weaker q (same-left l m r) err), (c.put-then-goes_along.ensures.bounded, b.1.1))
+    rw (more, c.deref_mut-sides.ensures.value) (put-ends q c.in-Fork.bounds c.args.entry.now (l ++ r) (m ++ r) b.0 (on_ok_weaker q (gains-left c.args.entry.now l m r) ok) (on_err_weaker q (same-left l m r) err), (c.put-then-goes_along.ensures.bounded, b.1.1))
 
 pub returns-then-goes_along-clause-put : goal.returns-then-goes_along-clause-put
 returns-then-goes_along-clause-put g t c =
@@ -47,10 +46,10 @@ returns-else-goes_along-clause-bounded g t c =
     let r = listed c.in-Fork.sides.value.aside in
     let m = listed c.put-else-goes_along.new.self in
     let q = c.put-else-goes_along.result in
-    let more : c.widen-in-Fork.new.bounds ≡ box_around c.in-Fork.bounds (box_of c.args.entry.now) = c.widen-in-Fork.ensures ∙ ap (box_around c.in-Fork.bounds) c.rect-in-Fork.ensures in
+    let more : c.widen_ends-in-Fork.new.bounds ≡ span_around c.in-Fork.bounds (span_of c.args.entry.now) = c.widen_ends-in-Fork.ensures ∙ ap (λ s. span_around c.in-Fork.bounds (span_of s)) c.segment-in-Fork.ensures in
     let ok = rw c.deref_mut-sides.ensures.value at c.put-else-goes_along.ensures.put in
     let err = rw c.deref_mut-sides.ensures.value at c.put-else-goes_along.ensures.unchanged in
-    rw (more, c.deref_mut-sides.ensures.value) (put-lies q c.in-Fork.bounds c.args.entry.now (l ++ r) (l ++ m) b.0 (on_ok_weaker q (gains-right c.args.entry.now l r m) ok) (on_err_weaker q (same-right l r m) err), (b.1.0, c.put-else-goes_along.ensures.bounded))
+    rw (more, c.deref_mut-sides.ensures.value) (put-ends q c.in-Fork.bounds c.args.entry.now (l ++ r) (l ++ m) b.0 (on_ok_weaker q (gains-right c.args.entry.now l r m) ok) (on_err_weaker q (same-right l r m) err), (b.1.0, c.put-else-goes_along.ensures.bounded))
 
 pub returns-else-goes_along-clause-put : goal.returns-else-goes_along-clause-put
 returns-else-goes_along-clause-put g t c =

@@ -4,4 +4,4 @@ use Rattle.segment_sets.proofs.tree_index.TreeIndexSegIndex.candidates.Goals as 
 
 pub returns : goal.returns
 returns g c =
-    rw (← c.self.view_is) (gives-list c.self.inside.directory c.args.out.now.items c.gather.new.out.items c.args.rect (is_ok c.gather.result) c.self.invariant c.gather.ensures)
+    rw (← c.self.view_is) (gives-list c.self.inside.directory c.args.out.now.items c.gather.new.out.items c.args.rect (is_ok c.gather.result) c.self.invariant (rw c.by_box.ensures at c.gather.ensures))
