@@ -222,6 +222,40 @@ fn a_tree_in_cells_gives_what_a_list_gives(rt: HostRuntime) {
     fill_and_empty(&rt, rt.alloc(), &mut list, &mut tree);
 }
 
+/// The segment number k of some that lie beside each other, whose boxes all meet.
+fn slanted<R: Abort>(rt: &R, k: u16) -> Seg {
+    let x = i64::from(k) * 10;
+    seg(rt, ((x, 0), (x + 1_000_000, 1_000_000)))
+}
+
+/// Adds the first n of these segments.
+fn add_slanted<R: Abort>(rt: &R, alloc: Global, tree: &mut TreeIndex, n: u16) {
+    for k in 0..n {
+        let s = slanted(rt, k);
+        if !is_held(rt, alloc, tree, s) {
+            tree.add(s).expect(rt, MEMORY);
+        }
+    }
+}
+
+/// How many segments a tree gives along one.
+fn count_along<R: Abort>(rt: &R, alloc: Global, tree: &TreeIndex, s: Seg) -> usize {
+    let mut out = Vec::new(alloc);
+    tree.along(s, None, &mut out).expect(rt, MEMORY);
+    out.len()
+}
+
+// a thousand boxes meet that of a short segment, and few of these segments come near it
+#[test]
+fn a_tree_leaves_out_what_a_line_keeps_apart(rt: HostRuntime) {
+    let mut tree = TreeIndex::new(rt.alloc(), None);
+    add_slanted(&rt, rt.alloc(), &mut tree, 1000);
+    let s = seg(&rt, ((500_000, 495_003), (500_004, 495_005)));
+    let near = given(&rt, rt.alloc(), &tree, s.rect()).len();
+    let along = count_along(&rt, rt.alloc(), &tree, s);
+    holds(&rt, "few are given", near == 1000 && along < 100);
+}
+
 /// Left of this extent there is one more column of cells.
 const BEFORE: Ends = ((-100, 0), (27, 0));
 

@@ -3,6 +3,7 @@ use Rattle.std.specs.List.{list_any}
 use Rattle.grid_geometry.specs.Segment.{Segment, Box, box_of, segment_eq}
 use Rattle.segment_index.specs.Candidates.{SegmentSet, Gives}
 use Rattle.segment_index.specs.Times.{times_by}
+use Rattle.segment_index.proofs.Common.{passed_near}
 use Rattle.local_planarity.specs.declared.leaving.Leaving.TheVariants.{Nothing}
 use Rattle.local_planarity.specs.Near.{IsNear}
 use Rattle.local_planarity.proofs.Nearby.{stays_all}
@@ -15,7 +16,7 @@ all_near : (held : SegmentSet) (times : Segment → Box → ℕ) (s : Segment) (
 all_near held times s near g = subst (IsNear held times Nothing s) (sym g.appended) (record {
   among = λ t h. stays_all held t ∙ g.among t h;
   few = g.few;
-  covers = λ t h. g.covers refl t (sym (stays_all held t) ∙ h);
+  covers = λ t h m. g.covers refl t (sym (stays_all held t) ∙ h) (passed_near s t m);
 })
 
 pub returns : goal.returns
