@@ -5,7 +5,7 @@ use Rattle.grid_geometry.specs.Common.{conflict}
 use Rattle.ring_machine.specs.Common.{put, del}
 use Rattle.ring_machine.proofs.Common.{at, M}
 use Rattle.segment_index.specs.Covers.{line}
-use Rattle.segment_index.specs.Common.{Frame, times_by}
+use Rattle.segment_index.specs.Common.{Frame, is_passed, times_by}
 use Rattle.local_planarity.specs.Common.{Nothing, EndingAt, One, goes_away, ordered, lesser, tests_to_conflict}
 use Rattle.local_planarity.specs.Common.{box_of_three, pair_count, most_tests, are_near, fewest_tests, added, most_for, most_for_move}
 
@@ -53,6 +53,19 @@ least_of_two = refl
 
 keeps_the_least : lesser (Some (lower, lower)) (lower, right) ≡ (lower, lower)
 keeps_the_least = refl
+
+-- a segment passes itself and what goes across it, and not one at a common end
+passes_itself : is_passed lower lower ≡ true
+unfolding conflict cross is_within is_on are_split orientation
+passes_itself = refl
+
+passes_across : is_passed lower across ≡ true
+unfolding conflict cross is_within is_on are_split orientation
+passes_across = refl
+
+passes_not_the_next : is_passed lower right ≡ false
+unfolding conflict cross is_within is_on are_split orientation
+passes_not_the_next = refl
 
 -- the second of three is in conflict; none is
 up_to_the_second : tests_to_conflict lower (right ∷ across ∷ lower ∷ []) ≡ 2
