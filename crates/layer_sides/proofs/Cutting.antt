@@ -38,11 +38,12 @@ last_is list front i place e h = h ∙ ap (λ ks. get_or ks (length ks - 1) plac
 pub first_is : (list back : List ℕ) (i place : ℕ) → list ≡ i ∷ back → place ≡ get_or list 0 place → place ≡ i
 first_is list back i place e h = h ∙ ap (λ ks. get_or ks 0 place) e
 
-pub put_in : (begun found : List ℕ) (k at place d : ℕ) → k < length begun → place ≡ get_or begun k d → IsPermutation (take k begun) found
-    → IsPermutation (take (k + 1) begun) (insert found at place)
-put_in begun found k at place d l e h =
-    subst (λ ks. IsPermutation ks (insert found at place)) (ap (λ p. take k begun ++ p ∷ []) e ∙ sym (take_more begun k d l))
-    (IsPermutation-push_more (take k begun) found (insert found at place) place h (IsPermutation-insert found at place))
+pub put_in : (begun found new : List ℕ) (k at place d : ℕ) → k < length begun → place ≡ get_or begun k d → new ≡ insert found at place
+    → IsPermutation (take k begun) found → IsPermutation (take (k + 1) begun) new
+put_in begun found new k at place d l e is h =
+    subst (IsPermutation (take (k + 1) begun)) (sym is)
+    (subst (λ ks. IsPermutation ks (insert found at place)) (ap (λ p. take k begun ++ p ∷ []) e ∙ sym (take_more begun k d l))
+    (IsPermutation-push_more (take k begun) found (insert found at place) place h (IsPermutation-insert found at place)))
 
 -- ---- places written over others, between those before them and behind
 

@@ -10,11 +10,13 @@ ghost use Rattle.layer_sides.specs.Seen.{borders_seen, segments_seen, vertex_see
 
 use crate::begun::in_order;
 use crate::border::Border;
+use crate::ends::bottom_of;
 use crate::faces::Faces;
 use crate::fault::SideFault;
 use crate::holding::write_sides;
 use crate::under::{ended_at, put_begun};
 use crate::vertices::{Vertex, disordered, vertices_of};
+use grid_geometry::Pos;
 use std::alloc::Allocator;
 
 /// The most borders: so many sides have numbers of 32 bits.
@@ -25,6 +27,9 @@ const MOST_NUMBERS: usize = 16_000_000;
 
 /// The most borders under way, added over all vertices: some minutes of work.
 const MOST_UNDER_WAY: usize = 50_000_000_000;
+
+/// For how many vertices borders are fetched together.
+const FETCHED: usize = 16;
 
 /// How the list of the borders under way changes at a vertex.
 #[derive(Drop)]
@@ -102,6 +107,36 @@ fn go_over<A: Allocator + Copy>(
     Ok(())
 }
 
+/// Whether the border begins at v, and bounds a polygon.
+fn begins_at<A: Allocator + Copy>(border: &Border<A>, v: Pos) -> bool {
+    match border.bounds.first() {
+        Some(number) => *number < u32::MAX && bottom_of(border.segment) == v,
+        None => false,
+    }
+}
+
+/// Whether each border that is noted at a vertex begins there, and bounds a polygon.
+fn is_begun<A: Allocator + Copy>(borders: &[Border<A>], vertex: &Vertex<A>) -> bool {
+    for place in vertex.begun.as_slice() {
+        match borders.get(*place) {
+            Some(border) if begins_at(border, vertex.at) => {}
+            _ => return false,
+        }
+    }
+    true
+}
+
+/// Whether this holds at the next vertices, so many as are fetched. It does of the borders of a layer; but
+/// these lie far from each other in memory, and those that are read one after another come together.
+fn are_begun<A: Allocator + Copy>(borders: &[Border<A>], next: &[Vertex<A>]) -> bool {
+    for vertex in next.iter().take(FETCHED) {
+        if !is_begun(borders, vertex) {
+            return false;
+        }
+    }
+    true
+}
+
 /// Goes over the vertices one by one. Fails on allocation failure, where more is under way than can be
 /// gone over, and at a vertex where the borders are not as those of polygons.
 fn go_over_all<A: Allocator + Copy>(
@@ -121,7 +156,10 @@ fn go_over_all<A: Allocator + Copy>(
     let mut list = Vec::new(alloc);
     let mut room = MOST_NUMBERS;
     let mut steps = MOST_UNDER_WAY;
-    for vertex in vertices {
+    for (number, vertex) in vertices.iter().enumerate() {
+        if number % FETCHED == 0 && !are_begun(borders.as_slice(), &vertices[number..]) {
+            return Err(SideFault::Unswept(vertex.at));
+        }
         go_over(alloc, borders, &mut list, vertex, &mut room, faces)?;
         if steps < list.len() {
             return Err(SideFault::TooLarge);

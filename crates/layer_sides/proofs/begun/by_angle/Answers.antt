@@ -1,4 +1,4 @@
-use Rattle.kit_words.proofs.Common.{◌<◌, ◌+◌, sym, subst, arith, refl, length, get_or, take, All-take, All-permutation, IsPermutation}
+use Rattle.kit_words.proofs.Common.{◌<◌, sym, subst, arith, refl, length, get_or, take, All-take, All-permutation}
 use Rattle.layer_sides.specs.Under.{AreBelow}
 use Rattle.layer_sides.proofs.Cutting.{put_in}
 use Rattle.layer_sides.proofs.begun.by_angle.Goals as goal
@@ -15,5 +15,5 @@ pub loop-place-preserved : goal.loop-place-preserved
 loop-place-preserved g c =
     let k = c.loop-place.place-index in
     let l : k < length c.args.begun.now = omega (arith, c.loop-place-test.true) in
-    subst (IsPermutation (take (k + 1) c.args.begun.now)) (sym c.in_ok-insert.ensures.items)
-    (put_in c.args.begun.now c.loop-place.found.items k c.place_of-at.result (get_or c.args.begun.now k 0) 0 l refl c.loop-place.invariant)
+    put_in c.args.begun.now c.loop-place.found.items c.insert.new.self.items k c.place_of-at.result (get_or c.args.begun.now k 0) 0 l refl
+    c.in_ok-insert.ensures.items c.loop-place.invariant

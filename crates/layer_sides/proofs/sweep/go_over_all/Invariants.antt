@@ -6,9 +6,9 @@ use Rattle.layer_sides.proofs.Going.{StandsAfter}
 use Rattle.layer_sides.proofs.sweep.go_over_all.Given as goal
 
 -- the lists at the vertices so far, and the last of them
-abbrev pub invariant-loop-vertex : goal.invariant-loop-vertex
-invariant-loop-vertex g l =
+abbrev pub invariant-loop-number : goal.invariant-loop-number
+invariant-loop-number g l =
     (segments_seen l.borders.items ≡ segments_seen l.fn.borders.items)
     × (bounds_of (borders_seen l.borders.items) ≡ bounds_of (borders_seen l.fn.borders.items))
-    × StandsAtEach (borders_seen l.borders.items) is_under_way (take l.vertex-index (vertices_seen l.vertices))
-    × StandsAfter (borders_seen l.borders.items) (vertices_seen l.vertices) l.vertex-index l.list.items
+    × StandsAtEach (borders_seen l.borders.items) is_under_way (take l.number (vertices_seen l.vertices))
+    × StandsAfter (borders_seen l.borders.items) (vertices_seen l.vertices) l.number l.list.items
