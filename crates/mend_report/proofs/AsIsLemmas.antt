@@ -21,7 +21,7 @@ use Rattle.mend_report.specs.declared.save_fault.SaveFault.TheVariants.{Conflict
 use Rattle.mend_report.specs.Report.{report_of, mended_report}
 use Rattle.mend_report.proofs.EditorOpens.{rings_of_walks, rings_open}
 use Rattle.mend_report.proofs.Reopened.{in_conflict}
-use Rattle.mend_report.proofs.NothingFound.{found_nothing}
+use Rattle.walk_faults.proofs.Opening.{found_nothing}
 use Rattle.map_mending.proofs.Unmended.{by_no_paths, mended_as_is, parted_as_is, changes_as_is}
 
 -- the walks of the map, of which its rings are made

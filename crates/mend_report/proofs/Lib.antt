@@ -7,7 +7,6 @@ pub mod PlaceLemmas
 pub mod AreaLemmas
 pub mod CopiedWalks
 pub mod EditorOpens
-pub mod NothingFound
 pub mod AsIsLemmas
 pub mod MendEnds
 mod Examples

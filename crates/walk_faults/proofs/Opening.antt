@@ -2,7 +2,7 @@
 use Rattle.kit_words.proofs.Common.{◌≡◌, ◌↔◌, ◌≤◌, ℕ, suc, true, false, refl, sym, ap, ap₂, ◌∙◌, subst, List, [], ◌∷◌}
 use Rattle.kit_words.proofs.Common.{◌++◌, map, length, inl, inr, ◌⊎◌, ◌&&◌, ◌||◌, None, arith, not, nat_le, nat_lt}
 use Rattle.kit_words.proofs.Common.{filter, flat_map, list_all, false≢true, nat_tests, map-append, and_parts, or_cases}
-use Rattle.kit_words.proofs.Common.{or_right, not-true, by_bool}
+use Rattle.kit_words.proofs.Common.{or_right, not-true, by_bool, IsStrictlySortedBy, Contains}
 use Rattle.grid_geometry.specs.Common.{conflict, cross, is_within, Position, position_eq, Segment, segment_lt}
 use Rattle.grid_geometry.proofs.Common.{conflict-comm, conflict-same}
 use Rattle.ring_machine.specs.Common.{least_conflict, has, is_distinct, segments, pair_lt}
@@ -13,7 +13,8 @@ use Rattle.walk_faults.specs.declared.findings.Findings.{Findings}
 use Rattle.walk_faults.specs.Common.{Touch, Crossing, Placed, flat_map_at, placed, walks_in_polygon, walks_in_feature}
 use Rattle.walk_faults.specs.Common.{walks_of, is_short_walk, short_walks, repeated, repeat_at, all_repeats, all_positions}
 use Rattle.walk_faults.specs.Common.{segments_of_walks, walk_segments, IsTouch, IsCrossing, touch_at, crossing_at, Found}
-use Rattle.walk_faults.specs.Common.{is_closed_ring, all_walks, Opens, IsNothing}
+use Rattle.walk_faults.specs.Common.{is_closed_ring, all_walks, Opens, IsNothing, ListsAll, touch_cmp}
+use Rattle.walk_faults.specs.Findings.{crossing_cmp}
 use Rattle.walk_faults.proofs.Neighbours.{times, in_times, times_in, times-same, times-other, times-le, in_repeated, repeated_in}
 use Rattle.walk_faults.proofs.RingEdges.{ring_segments, segment_ends, vertex_side}
 
@@ -250,3 +251,33 @@ nothing_opens features findings f = (
   where
     walks : List Placed
     walks = walks_of features
+
+no_list : {X : Type 0} (x : X) → Contains [] x → ⊥
+no_list x h = contains_in [] x h
+
+-- where every walk is a ring and no two segments conflict, lists of nothing are all findings
+pub found_nothing : {A : Type 0} (features : List (List (List (List Position)))) (findings : Findings A) → IsNothing findings → Opens features
+    → Found features findings
+unfolding IsStrictlySortedBy
+found_nothing features findings n o = record {
+  short = n.short ∙ sym (no_short walks rings);
+  repeats = n.repeats ∙ sym (no_repeats walks rings);
+  touches = subst (ListsAll touch_cmp (IsTouch walks)) (sym n.touches) (record {
+    ascending = tt;
+    all = λ t. (λ h. absurd (no_list t h), λ k. absurd (no_touch walks rings apart t k));
+  });
+  crossings = subst (ListsAll crossing_cmp (IsCrossing walks)) (sym n.crossings) (record {
+    ascending = tt;
+    all = λ c. (λ h. absurd (no_list c h), λ k. absurd (no_crossing walks apart c k));
+  });
+}
+  where
+    walks : List Placed
+    walks = walks_of features
+
+    rings : (w : Placed) → In w walks → is_closed_ring w.1 ≡ true
+    rings w i =
+        all_in is_closed_ring (map (λ w. w.1) walks) w.1 (ap (list_all is_closed_ring) (walks_are features) ∙ o.are_rings) (in-map (λ (v : Placed). v.1) w walks i)
+
+    apart : least_conflict (segments_of_walks walks) ≡ None
+    apart = ap least_conflict (ring_sides walks rings) ∙ ap (λ z. least_conflict (flat_map segments z)) (walks_are features) ∙ o.apart
