@@ -27,6 +27,9 @@ SIZE, PAGE = 4 << 20, 4096
 SEGMENTS, OVERLAPS = 4000, 1000
 OLD = "what stood here before\n" * 100
 LINES = 8000
+# The sides of a square, which cross those of the next one, and the same with a vertex at each crossing, which opens.
+LOOSE = "[15,0],[0,15],[-15,0],[0,-15]"
+NODED = "[5,0],[10,0],[0,10],[0,5],[-5,0],[-10,0],[0,-10],[0,-5]"
 
 # The program, its arguments, its status where all goes well, the line of the fault, and the name that is written.
 Row = collections.namedtuple("Row", "what program words status fault name")
@@ -46,6 +49,8 @@ ROWS = [
     Row("a picture of an edit", "show", "MAP LOOSE --out DISK/old", 0, "save fault", "old"),
     Row("GeoJSON", "export", "MAP --out DISK/old", 0, "save fault", "old"),
     Row("new GeoJSON", "export", "MAP --out DISK/new", 0, "save fault", "new"),
+    Row("places of faces", "cover", "NODED --places DISK/old", 1, "save fault", "old"),
+    Row("new places of faces", "cover", "NODED --places DISK/new", 1, "save fault", "new"),
 ]
 
 
@@ -65,16 +70,15 @@ def mounted(folder):
         subprocess.run(["umount", disk], check=True)
 
 
-def square(number):
+def square(number, steps):
     """A square that has a corner of the next one within it."""
-    at = 10 * number
-    return f"[[{at},{at}],[15,0],[0,15],[-15,0],[0,-15]]"
+    return f"[[{10 * number},{10 * number}],{steps}]"
 
 
-def loose_map():
-    """A map of squares that lie over each other, which border_edit does not open."""
+def squares_map(steps):
+    """A map of squares that lie over each other."""
     features = ",".join(f'{{"type":"Polygon","id":{n},"arcs":[[{n}]]}}' for n in range(OVERLAPS))
-    arcs = ",".join(square(n) for n in range(OVERLAPS))
+    arcs = ",".join(square(n, steps) for n in range(OVERLAPS))
     return ('{"type":"Topology","transform":{"scale":[1,1],"translate":[0,0]},"objects":{"squares":{"type":"GeometryCollection",'
             f'"geometries":[{features}]}}}},"arcs":[{arcs}]}}')
 
@@ -85,7 +89,8 @@ class Disk:
     def __init__(self, disk, folder):
         self.disk, self.folder = disk, folder
         self.files = {
-            "map.json": maps.made_map("bricks", SEGMENTS, 1).path.read_text(), "loose.json": loose_map(),
+            "map.json": maps.made_map("bricks", SEGMENTS, 1).path.read_text(), "loose.json": squares_map(LOOSE),
+            "noded.json": squares_map(NODED),
             "script": "delete 0\n", "refused": "move 1 1 2 2\n" * LINES, "old": OLD,
         }
 
@@ -108,8 +113,8 @@ class Disk:
 
     def ran(self, programs, row):
         """The status of a run, and what it wrote on standard error."""
-        names = {"MAP": self.disk / "map.json", "LOOSE": self.disk / "loose.json", "script": self.disk / "script",
-                 "refused": self.disk / "refused"}
+        names = {"MAP": self.disk / "map.json", "LOOSE": self.disk / "loose.json", "NODED": self.disk / "noded.json",
+                 "script": self.disk / "script", "refused": self.disk / "refused"}
         words = [names.get(word, word.replace("DISK", str(self.disk))) for word in row.words.split()]
         how = {"cwd": self.folder, "stdin": subprocess.DEVNULL, "stdout": subprocess.DEVNULL, "stderr": subprocess.PIPE}
         done = subprocess.run([programs[row.program], *words], text=True, timeout=300, **how)
@@ -186,7 +191,7 @@ def tried(disk, programs):
 def main():
     signal.signal(signal.SIGTERM, lambda number, _: sys.exit(128 + number))  # so that the file system is taken away
     words = argparse.ArgumentParser(description=__doc__, formatter_class=argparse.RawDescriptionHelpFormatter)
-    running.add_programs(words, "edit", "show", "mend", "export")
+    running.add_programs(words, "edit", "show", "mend", "export", "cover")
     programs = vars(words.parse_args())
     with tempfile.TemporaryDirectory() as name:
         folder = pathlib.Path(name)
